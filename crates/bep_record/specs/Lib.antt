@@ -1,0 +1,2 @@
+pub mod RecordError
+pub mod Block
