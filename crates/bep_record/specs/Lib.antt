@@ -1,2 +1,5 @@
-pub mod RecordError
 pub mod Block
+pub mod Content
+pub mod Entry
+pub mod Node
+pub mod RecordError

@@ -3,13 +3,30 @@
 #![tactic(auto)]
 
 mod block;
+mod compare;
+mod content;
 mod device;
+mod entry;
 mod error;
 mod items;
 mod kind;
+mod limits;
+mod name;
+mod node;
+mod record;
+mod target;
+mod vector;
 
-pub use block::{Block, BlockSize};
+pub use block::{Block, BlockSize, cut_whole};
+pub use content::Content;
 pub use device::DeviceId;
+pub use entry::Entry;
 pub use error::RecordError;
 pub use items::Items;
 pub use kind::Kind;
+pub use limits::{HASH_OF_NOTHING, MAX_FILE_SIZE, MAX_NANOSECONDS};
+pub use name::Name;
+pub use node::{Node, NodeParts};
+pub use record::Record;
+pub use target::Target;
+pub use vector::Vector;
