@@ -1,2 +1,3 @@
 pub mod RecordError
 pub mod Block
+pub mod Vector

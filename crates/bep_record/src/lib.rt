@@ -7,9 +7,11 @@ mod device;
 mod error;
 mod items;
 mod kind;
+mod vector;
 
 pub use block::{Block, BlockSize};
 pub use device::DeviceId;
 pub use error::RecordError;
 pub use items::Items;
 pub use kind::Kind;
+pub use vector::{Order, Vector};
