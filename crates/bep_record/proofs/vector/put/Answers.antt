@@ -1,5 +1,6 @@
 use Rattle.std.proofs.Common.{◌≡◌, ℕ, ◌≤◌, List, length, set, ap, sym, ◌∙◌, arith, length-set}
 use Rattle.std.specs.List.{refill}
+use Rattle.std.proofs.lemmas.Grind.{common_steps}
 use Rattle.std.proofs.lemmas.List.{take_at}
 use Rattle.bep_record.specs.Vector.{counter_of}
 use Rattle.bep_record.proofs.VectorFacts.{place_in, place_in-lt, insert_is_put, set_is_put}
@@ -30,7 +31,7 @@ returns-then-counter_at-eq0 c =
     record {
       version = rw (c.insert.ensures.items, place) put.rises;
       put = rw (c.insert.ensures.items, place) put.changed;
-      len = ?;
+      len = grind (arith, common_steps);
     }
 
 pub returns-else-counter_at-eq0 : goal.returns-else-counter_at-eq0
@@ -44,5 +45,5 @@ returns-else-counter_at-eq0 c =
     record {
       version = rw written put.rises;
       put = rw written put.changed;
-      len = ?;
+      len = ap length written ∙ length-set _ _ _ ∙ grind (arith, common_steps);
     }
