@@ -1,2 +1,4 @@
 pub mod RecordError
 pub mod Block
+pub mod Text
+pub mod Name

@@ -7,9 +7,12 @@ mod device;
 mod error;
 mod items;
 mod kind;
+mod name;
+mod text;
 
 pub use block::{Block, BlockSize};
 pub use device::DeviceId;
 pub use error::RecordError;
 pub use items::Items;
 pub use kind::Kind;
+pub use name::Name;
