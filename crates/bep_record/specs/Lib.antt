@@ -2,3 +2,4 @@ pub mod RecordError
 pub mod Block
 pub mod Text
 pub mod Name
+pub mod Target

@@ -8,6 +8,7 @@ mod error;
 mod items;
 mod kind;
 mod name;
+mod target;
 mod text;
 
 pub use block::{Block, BlockSize};
@@ -16,3 +17,4 @@ pub use error::RecordError;
 pub use items::Items;
 pub use kind::Kind;
 pub use name::Name;
+pub use target::Target;

@@ -16,7 +16,7 @@ use std::fmt;
 use std::hash::{Hash, Hasher};
 use std::marker::Model;
 
-/// The most bytes that a name has.
+// The most bytes that a name has.
 const MAX_LEN: usize = 1024;
 
 /// The name of a file in a folder: 1 to 1024 bytes of UTF-8 without NUL, whose parts between slashes are neither empty
@@ -160,7 +160,7 @@ impl Hash for Name {
 
 impl fmt::Debug for Name {
     fn fmt<W: fmt::Write>(&self, f: &mut fmt::Formatter<W>) -> fmt::Result {
-        self.as_str().fmt(f)
+        fmt::Debug::fmt(self.as_str(), f)
     }
 }
 
@@ -169,5 +169,82 @@ impl fmt::Display for Name {
 
     fn fmt<W: fmt::Write>(&self, f: &mut fmt::Formatter<W>) -> fmt::Result {
         f.write_str(self.as_str())
+    }
+}
+
+#[cfg(test)]
+mod tests {
+    use super::*;
+    use std::collections::BTreeMap;
+
+    #[test]
+    fn reads_names_alone(rt: HostRuntime) {
+        // Each with whether it is a name, by BEP's rules for names and this profile's limits.
+        let longest = [b'n'; 1024];
+        let too_long = [b'n'; 1025];
+        for (bytes, is_name) in [
+            (&longest[..], true),
+            (&too_long[..], false),
+            (&b""[..], false),
+            (&b"a"[..], true),
+            (&b"notes.txt"[..], true),
+            (&b"a/b/c"[..], true),
+            (&b"a//b"[..], false),
+            (&b"/a"[..], false),
+            (&b"a/"[..], false),
+            (&b"/"[..], false),
+            (&b"."[..], false),
+            (&b".."[..], false),
+            (&b"a/.."[..], false),
+            (&b"./a"[..], false),
+            (&b"..b"[..], true),
+            (&b"..."[..], true),
+            (&b".profile"[..], true),
+            (&b"a\0b"[..], false),
+            (&[0xff][..], false),
+            // A surrogate's three bytes are no UTF-8.
+            (&[0xed, 0xa0, 0x80][..], false),
+            (&[0xc3, 0xa9, b'/', 0xf0, 0x9f, 0x98, 0x80][..], true),
+        ] {
+            match Name::read(rt.alloc(), bytes) {
+                Ok(name) => {
+                    assert!(rt; is_name);
+                    assert!(rt; name.as_bytes() == bytes);
+                    assert_eq!(rt; name.as_str().len(), bytes.len());
+                }
+                Err(error) => {
+                    assert!(rt; !is_name);
+                    assert_eq!(rt; error, RecordError::NameBad);
+                }
+            }
+        }
+    }
+
+    #[test]
+    fn copies_compares_and_prints(rt: HostRuntime) -> Result<(), RecordError> {
+        let name = Name::read(rt.alloc(), b"a.d/b")?;
+        let copy = name.copy(rt.alloc())?;
+        assert!(rt; copy == name);
+        assert_eq!(rt; copy.as_str(), "a.d/b");
+        assert_eq!(rt; format!(in rt.alloc(); "{copy}")?.as_str(), "a.d/b");
+        assert_eq!(rt; format!(in rt.alloc(); "{copy:?}")?.as_str(), "\"a.d/b\"");
+
+        // By bytes, and not by length.
+        let short = Name::read(rt.alloc(), b"b")?;
+        assert!(rt; name < short);
+        assert_eq!(rt; short.cmp(&name), Ordering::Greater);
+        Ok(())
+    }
+
+    #[test]
+    fn names_are_keys_of_a_map(rt: HostRuntime) -> Result<(), RecordError> {
+        let mut sizes = BTreeMap::new(rt.alloc());
+        sizes.insert(Name::read(rt.alloc(), b"b")?, 1u8)?;
+        sizes.insert(Name::read(rt.alloc(), b"a.d/b")?, 2u8)?;
+        let old = sizes.insert(Name::read(rt.alloc(), b"b")?, 3u8)?;
+        assert_eq!(rt; old, Some(1));
+        assert_eq!(rt; sizes.len(), 2);
+        assert_eq!(rt; sizes.get(&Name::read(rt.alloc(), b"a.d/b")?).copied(), Some(2));
+        Ok(())
     }
 }
