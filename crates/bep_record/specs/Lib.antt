@@ -3,3 +3,4 @@ pub mod Block
 pub mod Text
 pub mod Name
 pub mod Target
+pub mod Conflict

@@ -3,6 +3,7 @@
 #![tactic(auto)]
 
 mod block;
+mod conflict;
 mod device;
 mod error;
 mod items;
