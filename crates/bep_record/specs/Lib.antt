@@ -8,3 +8,4 @@ pub mod RecordError
 pub mod Target
 pub mod Text
 pub mod Vector
+pub mod Conflict

@@ -5,7 +5,7 @@ ghost use Rattle.bep_record.specs.Content.{content_of};
 ghost use Rattle.bep_record.specs.Entry.{SameEntry, SameMarks, SameChange, SameBody};
 ghost use Rattle.bep_record.specs.Node.{IsClean, LooksSame};
 
-use crate::{Block, Entry, Kind, Node, NodeParts, Record};
+use crate::{Block, Entry, Kind, Node, NodeParts, Order, Record};
 
 impl Record {
     /// Whether both records say the same of their names: the same kind with the same blocks or target, or
@@ -94,7 +94,7 @@ impl Entry {
         self.modified_s == other.modified_s
             && self.modified_ns == other.modified_ns
             && self.modified_by == other.modified_by
-            && self.version == other.version
+            && self.version.order(&other.version) == Order::Equal
     }
 
     fn same_body(&self, other: &Entry) -> bool

@@ -40,8 +40,10 @@ impl FolderName {
         if !is_folder_name(bytes) {
             return Err(RecordError::NameBad);
         }
-        let name = Name::read(alloc, bytes)?;
-        Ok(FolderName { name })
+        match Name::read(alloc, bytes) {
+            Ok(name) => Ok(FolderName { name }),
+            Err(error) => Err(error),
+        }
     }
 
     /// The bytes of the name.

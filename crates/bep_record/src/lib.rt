@@ -4,6 +4,7 @@
 
 mod block;
 mod compare;
+mod conflict;
 mod content;
 mod device;
 mod entry;
@@ -20,6 +21,7 @@ mod text;
 mod vector;
 
 pub use block::{Block, BlockSize, cut_whole};
+pub use conflict::conflict_name;
 pub use content::Content;
 pub use device::DeviceId;
 pub use entry::Entry;

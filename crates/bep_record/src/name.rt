@@ -17,7 +17,7 @@ use std::hash::{Hash, Hasher};
 use std::marker::Model;
 
 // The most bytes that a name has.
-const MAX_LEN: usize = 1024;
+pub(crate) const MAX_LEN: usize = 1024;
 
 /// The name of a file in a folder: 1 to 1024 bytes of UTF-8 without NUL, whose parts between slashes are neither empty
 /// nor `.` nor `..`. Names are compared by their bytes.
@@ -82,6 +82,14 @@ impl Name {
         };
         let text = String::from_str(alloc, text)?;
         Ok(Name { text })
+    }
+
+    // The name with this text.
+    pub(crate) fn from_text(text: String) -> Name
+        requires { IsName (string_bytes text) }
+        ensures { result ≡ string_bytes text }
+    {
+        Name { text }
     }
 
     /// The bytes of the name.
@@ -244,7 +252,10 @@ mod tests {
         let old = sizes.insert(Name::read(rt.alloc(), b"b")?, 3u8)?;
         assert_eq!(rt; old, Some(1));
         assert_eq!(rt; sizes.len(), 2);
-        assert_eq!(rt; sizes.get(&Name::read(rt.alloc(), b"a.d/b")?).copied(), Some(2));
+        assert_eq!(rt;
+            sizes.get(&Name::read(rt.alloc(), b"a.d/b")?).copied(),
+            Some(2)
+        );
         Ok(())
     }
 }
