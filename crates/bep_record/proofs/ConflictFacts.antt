@@ -1,10 +1,10 @@
 -- What is known of conflict names: where the stem ends, how long they are, and that they are names.
-use Rattle.std.proofs.Common.{◌≡◌, ◌≢◌, ◌+◌, ◌-◌, ◌*◌, ◌/◌, ◌%◌, ◌^◌, ◌<◌, ◌≤◌, ℕ, zero, suc, ℤ, pos, negsuc, Bool, true, false, cond, not, eqb, ltb, List, [], ◌∷◌, ◌++◌, ◌&&◌, ◌⊎◌, inl, inr, ⊎_elim, All, length, get_or, take, drop, reverse, refl, sym, ap, subst, ◌∙◌, arith, rules, length-append, length-drop}
+use Rattle.std.proofs.Common.{◌≡◌, ◌≢◌, ◌+◌, ◌-◌, ◌/◌, ◌%◌, ◌^◌, ◌<◌, ◌≤◌, ℕ, zero, suc, ℤ, pos, negsuc, Bool, true, false, cond, not, eqb, ltb, List, [], ◌∷◌, ◌++◌, ◌&&◌, ◌⊎◌, inl, inr, ⊎_elim, All, length, get_or, take, drop, reverse, refl, sym, ap, subst, ◌∙◌, arith, length-append, length-drop}
 use Rattle.std.specs.Str.{IsCharBoundary, IsUtf8}
 use Rattle.std.specs.Str.Parse.{AllDigits}
 use Rattle.std.specs.Char.{digit_char}
 use Rattle.std.specs.Fmt.{decimal, signed_decimal}
-use Rattle.std.specs.List.{slice_split, onto_first, suffix_len, prefix_len, list_all}
+use Rattle.std.specs.List.{onto_first, list_all}
 use Rattle.std.proofs.lemmas.Bool.{not-true, not-false, eqb-true, eqb-false, ne_eqb}
 use Rattle.std.proofs.lemmas.Bool.Decides.{nat_tests}
 use Rattle.std.proofs.lemmas.Fmt.{decimal_digit, decimal_step, decimal_nonempty, length-decimal-le, decimal_is_IsNumeral}
@@ -16,9 +16,8 @@ use Rattle.std.proofs.lemmas.List.Splits.{slice_split_none}
 use Rattle.std.proofs.lemmas.List.Sums.{prefix_len_passes, prefix_len_stops, suffix_len-le-length, AllPass-from_list_all}
 use Rattle.std.proofs.lemmas.Str.{IsCharBoundary-end, IsCharBoundary-before_ascii}
 use Rattle.std.proofs.lemmas.Str.Parse.{digit_from_value}
-use Rattle.bep_record.specs.Text.{IsPlainText}
 use Rattle.bep_record.specs.Name.{IsName, IsPart, parts_of, slash}
-use Rattle.bep_record.specs.Conflict.{dot, len_after_last, extension_len, stem_len, hex_digits, conflict_mark, conflict_name_of}
+use Rattle.bep_record.specs.Conflict.{dot, len_after_last, stem_len, hex_digits, conflict_mark, conflict_name_of}
 
 -- ---- digits
 

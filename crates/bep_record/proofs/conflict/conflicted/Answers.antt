@@ -1,11 +1,11 @@
-use Rattle.std.proofs.Common.{◌≡◌, ◌++◌, refl, sym, subst, length, take, drop, arith, rules}
+use Rattle.std.proofs.Common.{◌≡◌, refl, sym, subst, length, arith, rules}
 use Rattle.std.specs.Fmt.{signed_decimal}
 use Rattle.std.specs.Str.{IsUtf8}
 use Rattle.std.specs.String.{string_bytes}
 use Rattle.std.proofs.lemmas.Result.{err_from_is_err_and}
 use Rattle.std.proofs.lemmas.Str.{IsUtf8-string_bytes}
 use Rattle.bep_record.specs.Name.{IsName}
-use Rattle.bep_record.specs.Conflict.{stem_len, conflict_mark, conflict_name_of}
+use Rattle.bep_record.specs.Conflict.{conflict_name_of}
 use Rattle.bep_record.proofs.ConflictFacts.{length_conflict_name, IsName-conflict_name}
 use Rattle.bep_record.proofs.conflict.conflicted.Goals as goal
 
