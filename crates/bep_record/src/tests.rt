@@ -79,170 +79,108 @@ fn record(entry: Entry) -> Result<Record, RecordError> {
     }
 }
 
-#[test]
-fn well_formed_entries_are_records(rt: HostRuntime) -> Result<(), Fail> {
-    let alloc = rt.alloc();
-    assert!(rt; deletion(alloc)?.is_well_formed());
-    assert!(rt; hello(alloc)?.is_well_formed());
-    assert!(rt; other(alloc, Kind::Directory)?.is_well_formed());
-    assert!(rt; other(alloc, Kind::Symlink)?.is_well_formed());
+fn is_record(entry: Entry) -> bool {
+    Record::read(entry).is_ok()
+}
 
+#[test]
+fn a_file_has_the_blocks_of_its_size(rt: HostRuntime) -> Result<(), Fail> {
+    let alloc = rt.alloc();
+    assert!(rt; is_record(hello(alloc)?));
+
+    let mut longer = hello(alloc)?;
+    longer.size = 6;
+    assert!(rt; !is_record(longer));
+
+    let mut late = hello(alloc)?;
+    late.blocks = blocks(alloc, &[block(1, 5, HASH_OF_HELLO)])?;
+    assert!(rt; !is_record(late));
+    Ok(())
+}
+
+#[test]
+fn an_empty_file_has_the_hash_of_nothing(rt: HostRuntime) -> Result<(), Fail> {
+    let alloc = rt.alloc();
     let mut empty = hello(alloc)?;
     empty.size = 0;
     empty.blocks = blocks(alloc, &[block(0, 0, HASH_OF_NOTHING)])?;
-    assert!(rt; empty.is_well_formed());
+    assert!(rt; is_record(empty));
 
-    let mut two_blocks = hello(alloc)?;
-    two_blocks.size = 131073;
-    two_blocks.blocks = blocks(
-        alloc,
-        &[
-            block(0, 131072, HASH_OF_HELLO),
-            block(131072, 1, HASH_OF_HELLO),
-        ],
-    )?;
-    assert!(rt; two_blocks.is_well_formed());
+    let mut wrong = hello(alloc)?;
+    wrong.size = 0;
+    wrong.blocks = blocks(alloc, &[block(0, 0, HASH_OF_HELLO)])?;
+    assert!(rt; !is_record(wrong));
     Ok(())
 }
 
 #[test]
-fn faulty_files_are_refused(rt: HostRuntime) -> Result<(), Fail> {
+fn what_is_no_file_has_no_blocks(rt: HostRuntime) -> Result<(), Fail> {
     let alloc = rt.alloc();
-    let mut without_blocks = hello(alloc)?;
-    without_blocks.blocks = blocks(alloc, &[])?;
-    assert!(rt; Record::read(without_blocks).is_err());
+    assert!(rt; is_record(deletion(alloc)?));
+    assert!(rt; is_record(other(alloc, Kind::Directory)?));
+    assert!(rt; is_record(other(alloc, Kind::Symlink)?));
 
-    let mut other_size = hello(alloc)?;
-    other_size.size = 6;
-    assert!(rt; Record::read(other_size).is_err());
-
-    let mut late_block = hello(alloc)?;
-    late_block.blocks = blocks(alloc, &[block(1, 5, HASH_OF_HELLO)])?;
-    assert!(rt; Record::read(late_block).is_err());
-
-    let mut other_block_size = hello(alloc)?;
-    other_block_size.block_size = 262144;
-    assert!(rt; Record::read(other_block_size).is_err());
-
-    let mut wrongly_empty = hello(alloc)?;
-    wrongly_empty.size = 0;
-    wrongly_empty.blocks = blocks(alloc, &[block(0, 0, HASH_OF_HELLO)])?;
-    assert!(rt; Record::read(wrongly_empty).is_err());
-
-    let mut with_target = hello(alloc)?;
-    with_target.target = Target::read(alloc, b"there")?;
-    assert!(rt; Record::read(with_target).is_err());
-    Ok(())
-}
-
-#[test]
-fn faulty_others_are_refused(rt: HostRuntime) -> Result<(), Fail> {
-    let alloc = rt.alloc();
-    let mut sized_deletion = deletion(alloc)?;
-    sized_deletion.size = 5;
-    assert!(rt; Record::read(sized_deletion).is_err());
-
-    let mut sized_directory = other(alloc, Kind::Directory)?;
-    sized_directory.block_size = 131072;
-    assert!(rt; Record::read(sized_directory).is_err());
+    let mut sized = other(alloc, Kind::Directory)?;
+    sized.block_size = 131072;
+    assert!(rt; !is_record(sized));
 
     let mut aimless = other(alloc, Kind::Symlink)?;
     aimless.target = Target::empty(alloc);
-    assert!(rt; Record::read(aimless).is_err());
-
-    let mut late = deletion(alloc)?;
-    late.modified_ns = 1_000_000_000;
-    assert!(rt; Record::read(late).is_err());
-
-    let mut with_permissions = deletion(alloc)?;
-    with_permissions.no_permissions = false;
-    assert!(rt; Record::read(with_permissions).is_err());
+    assert!(rt; !is_record(aimless));
     Ok(())
 }
 
 #[test]
-fn contents_and_copies(rt: HostRuntime) -> Result<(), Fail> {
+fn copies_are_the_same(rt: HostRuntime) -> Result<(), Fail> {
     let alloc = rt.alloc();
-    let gone = record(deletion(alloc)?)?;
     let file = record(hello(alloc)?)?;
-    let directory = record(other(alloc, Kind::Directory)?)?;
-    let symlink = record(other(alloc, Kind::Symlink)?)?;
-    assert!(rt; matches!(gone.content(), Content::Deleted));
     assert!(rt; matches!(file.content(), Content::File(_)));
-    assert!(rt; matches!(directory.content(), Content::Directory));
-    assert!(rt; matches!(symlink.content(), Content::Symlink(_)));
+    assert!(rt; file.same_entry(&file.copy(alloc)?));
 
-    assert!(rt; file.same_content(&file.copy(alloc)?));
-    assert!(rt; symlink.same_entry(&symlink.copy(alloc)?));
-    assert!(rt; !gone.same_content(&file));
-    assert!(rt; !directory.same_content(&symlink));
-    Ok(())
-}
-
-#[test]
-fn entries_are_the_same_but_for_the_sequence(rt: HostRuntime) -> Result<(), Fail> {
-    let alloc = rt.alloc();
-    let file = record(hello(alloc)?)?;
-    let mut later = file.entry().copy(alloc)?;
-    later.sequence = 2;
-    assert!(rt; file.same_entry(&record(later)?));
-
-    let mut marked = file.entry().copy(alloc)?;
-    marked.invalid = true;
-    assert!(rt; !file.same_entry(&record(marked)?));
-
-    let mut newer = file.entry().copy(alloc)?;
-    newer.version.bump(newer.modified_by)?;
-    let newer = record(newer)?;
-    assert!(rt; !file.same_entry(&newer));
-    assert!(rt; file.same_content(&newer));
-    Ok(())
-}
-
-#[test]
-fn nodes_are_clean_by_kind_size_and_time(rt: HostRuntime) -> Result<(), Fail> {
-    let alloc = rt.alloc();
-    let file = record(hello(alloc)?)?;
     let gone = record(deletion(alloc)?)?;
-    let link = record(other(alloc, Kind::Symlink)?)?;
-    // A change that keeps size and time is missed.
-    let same_size = Node::read(node(alloc, Kind::File, b"hallo", b"")?)?;
-    assert!(rt; file.clean(Some(&same_size)));
-    assert!(rt; !file.clean(None));
-    assert!(rt; gone.clean(None));
-    assert!(rt; !gone.clean(Some(&same_size)));
-    assert!(rt; !link.clean(Some(&same_size)));
-    assert!(rt; link.clean(Some(&Node::read(node(alloc, Kind::Symlink, b"", b"there")?)?)));
-    assert!(rt; !link.clean(Some(&Node::read(node(alloc, Kind::Symlink, b"", b"thence")?)?)));
+    assert!(rt; matches!(gone.content(), Content::Deleted));
+    assert!(rt; !gone.same_content(&file));
+    Ok(())
+}
 
-    let mut later = same_size.copy(alloc)?.into_parts();
+#[test]
+fn a_change_of_equal_size_and_time_is_missed(rt: HostRuntime) -> Result<(), Fail> {
+    let alloc = rt.alloc();
+    let file = record(hello(alloc)?)?;
+    let hallo = Node::read(node(alloc, Kind::File, b"hallo", b"")?)?;
+    assert!(rt; file.clean(Some(&hallo)));
+    assert!(rt; !file.clean(None));
+
+    let mut later = hallo.copy(alloc)?.into_parts();
     later.modified_ns = 500_000_001;
     assert!(rt; !file.clean(Some(&Node::read(later)?)));
-    assert!(rt; !file.clean(Some(&Node::read(node(alloc, Kind::File, b"hello!", b"")?)?)));
     Ok(())
 }
 
 #[test]
-fn nodes_have_parts_that_fit(rt: HostRuntime) -> Result<(), Fail> {
+fn a_deletion_is_clean_where_nothing_is(rt: HostRuntime) -> Result<(), Fail> {
     let alloc = rt.alloc();
-    assert!(rt; Node::read(node(alloc, Kind::Directory, b"", b"")?).is_ok());
-    assert!(rt; Node::read(node(alloc, Kind::Directory, b"x", b"")?).is_err());
-    assert!(rt; Node::read(node(alloc, Kind::Symlink, b"", b"")?).is_err());
-    assert!(rt; Node::read(node(alloc, Kind::File, b"x", b"there")?).is_err());
+    let gone = record(deletion(alloc)?)?;
+    assert!(rt; gone.clean(None));
+    assert!(rt; !gone.clean(Some(&Node::read(node(alloc, Kind::File, b"", b"")?)?)));
+    Ok(())
+}
 
-    let mut late = node(alloc, Kind::File, b"x", b"")?;
-    late.modified_ns = 1_000_000_000;
-    assert!(rt; matches!(Node::read(late), Err(RecordError::NodeBad)));
+#[test]
+fn the_size_of_a_node_is_tested_first(rt: HostRuntime) -> Result<(), Fail> {
+    let alloc = rt.alloc();
+    assert!(rt;
+        Node::read(node(alloc, Kind::Directory, b"x", b"")?).err() == Some(RecordError::NodeBad)
+    );
 
-    // The size is tested first.
     let mut large = node(alloc, Kind::File, b"", b"there")?;
     large.bytes = Items::new(vec![in alloc; 0; 16777217]?);
-    assert!(rt; matches!(Node::read(large), Err(RecordError::FileTooLarge)));
+    assert!(rt; Node::read(large).err() == Some(RecordError::FileTooLarge));
     Ok(())
 }
 
 #[test]
-fn conflict_names_of_records(rt: HostRuntime) -> Result<(), Fail> {
+fn a_losing_record_names_its_copy(rt: HostRuntime) -> Result<(), Fail> {
     let alloc = rt.alloc();
     let mut losing = hello(alloc)?;
     losing.name = Name::read(alloc, b"notes.txt")?;
@@ -256,32 +194,27 @@ fn conflict_names_of_records(rt: HostRuntime) -> Result<(), Fail> {
     Ok(())
 }
 
+fn is_folder(alloc: Global, text: &str) -> bool {
+    match FolderName::read(alloc, text.as_bytes()) {
+        Ok(folder) => folder.as_str() == text,
+        Err(_) => false,
+    }
+}
+
 #[test]
 fn folder_names(rt: HostRuntime) -> Result<(), Fail> {
     let alloc = rt.alloc();
-    let longest = [b'f'; 64];
-    let too_long = [b'f'; 65];
-    for (bytes, good) in [
-        (&b"docs"[..], true),
-        (&b"Az09-_"[..], true),
-        (&longest[..], true),
-        (&too_long[..], false),
-        (&b""[..], false),
-        (&b"my docs"[..], false),
-        (&b"a/b"[..], false),
-        (&b"a.b"[..], false),
-        (&[0xc3, 0xa9][..], false),
-    ] {
-        match FolderName::read(alloc, bytes) {
-            Ok(folder) => {
-                assert!(rt; good);
-                assert!(rt; folder.copy(alloc)?.as_bytes() == bytes);
-            }
-            Err(error) => {
-                assert!(rt; !good);
-                assert_eq!(rt; error, RecordError::NameBad);
-            }
-        }
+    assert!(rt; is_folder(alloc, "Az09-_"));
+    assert!(rt; !is_folder(alloc, ""));
+    assert!(rt; !is_folder(alloc, "a.b"));
+    let mut longest = String::new(alloc);
+    for _ in 0..64 {
+        longest.push('f')?;
     }
+    assert!(rt; is_folder(alloc, longest.as_str()));
+    longest.push('f')?;
+    assert!(rt; !is_folder(alloc, longest.as_str()));
+    let docs = FolderName::read(alloc, b"docs")?;
+    assert!(rt; docs.copy(alloc)? == docs);
     Ok(())
 }
