@@ -1,7 +1,7 @@
 -- A list of blocks that matches a file: one block further along, and the laws on plain lists.
-use Rattle.std.proofs.Common.{◌≡◌, ℕ, zero, suc, ◌+◌, ◌-◌, ◌*◌, ◌/◌, ◌<◌, ◌≤◌, ◌↔◌, min, List, [], ◌∷◌, ◌++◌, length, get_or, take, drop, map, refl, ap, sym, subst, ◌∙◌, add-one, arith}
+use Rattle.std.proofs.Common.{◌≡◌, ℕ, zero, suc, ◌+◌, ◌-◌, ◌*◌, ◌/◌, ◌<◌, ◌≤◌, ◌↔◌, min, List, [], ◌∷◌, length, take, drop, map, refl, ap, sym, ◌∙◌, add-one, arith}
 use Rattle.std.specs.List.{range_with_len}
-use Rattle.std.proofs.lemmas.List.{drop-drop, drop_all, drop_more, length-drop, length-take, take_all, take_min}
+use Rattle.std.proofs.lemmas.List.{drop-drop, drop_all, length-drop, length-take, take_min}
 use Rattle.std.proofs.lemmas.Nat.{div-add-mod', mod_below}
 use Rattle.bep_record.specs.Block.{block_count, cut_at, CutWhole}
 use Rattle.bep_record.specs.declared.block.Block.{Block}
@@ -31,7 +31,7 @@ told_by_cuts bytes [] offset matching = refl
 told_by_cuts bytes (block ∷ more) offset matching =
     let place : block.offset ≡ offset = ap (λ (b : Block). b.offset) matching.0.1 in
     let here : block ≡ block_at_cut bytes (block.offset, block.size) =
-        matching.0.1 ∙ ap (λ start. block_at_cut bytes (start, block.size)) (sym place) in
+    matching.0.1 ∙ ap (λ start. block_at_cut bytes (start, block.size)) (sym place) in
     let rest = rw (drop-drop block.size offset bytes) at matching.1 in
     let later = told_by_cuts bytes more (offset + block.size) rest in
     cc
@@ -70,7 +70,7 @@ begins-plain block_size bytes k positive before =
     let left = drop (k * block_size) bytes in
     let size = length-piece_at block_size bytes k in
     let piece : piece_at block_size bytes k ≡ take (length (piece_at block_size bytes k)) left =
-        sym (ap (λ n. take n left) (length-take block_size left) ∙ take_min block_size left) in
+    sym (ap (λ n. take n left) (length-take block_size left) ∙ take_min block_size left) in
     (omega (arith, size), ap (λ bs. block_of (k * block_size) bs) piece)
 
 MatchesRest-along : (offset start : ℕ) (rest left : List ℕ) (blocks : List Block) → offset ≡ start → rest ≡ left →
@@ -88,7 +88,7 @@ plain-from block_size bytes k zero positive before after =
     (begins-plain block_size bytes k positive (omega arith), drop_all (length (piece_at block_size bytes k)) (drop (k * block_size) bytes) (omega (arith, size, left)))
 plain-from block_size bytes k (suc n) positive before after =
     let size : length (piece_at block_size bytes k) ≡ block_size =
-        length-piece_at block_size bytes k ∙ omega arith in
+    length-piece_at block_size bytes k ∙ omega arith in
     let next : k * block_size + length (piece_at block_size bytes k) ≡ (k + 1) * block_size = omega arith in
     let later = plain-from block_size bytes (k + 1) n positive (omega arith) (omega arith) in
     let left = drop-drop (length (piece_at block_size bytes k)) (k * block_size) bytes ∙ ap (λ m. drop m bytes) next in

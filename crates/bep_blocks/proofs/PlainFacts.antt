@@ -1,7 +1,7 @@
 -- Plain block lists: one block more, no bytes, and how a plain list cuts its file.
 use Rattle.std.proofs.Common.{◌≡◌, ℕ, zero, suc, ◌+◌, ◌-◌, ◌*◌, min, List, [], ◌∷◌, ◌++◌, length, take, drop, map, refl, ap, ◌∙◌, arith}
 use Rattle.std.specs.List.{range_with_len}
-use Rattle.std.proofs.lemmas.List.{drop_all, length-drop, length-take, map_push, take_all}
+use Rattle.std.proofs.lemmas.List.{drop_all, length-drop, length-take, take_all}
 use Rattle.std.proofs.lemmas.List.FromFn.{map-range_with_len_more}
 use Rattle.std.proofs.Math.Nat.{zero-div}
 use Rattle.bep_record.specs.Block.{block_count, cut_at, CutWhole}

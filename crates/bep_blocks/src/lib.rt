@@ -6,9 +6,11 @@ mod hashes;
 mod laws;
 mod matching;
 mod plain;
+#[cfg(test)]
+mod tests;
 
 pub use error::BlocksError;
 pub use hashes::blocks_of_hashes;
-pub use laws::plain_blocks_match;
+pub use laws::{hashes_tell_blocks, plain_blocks_match};
 pub use matching::matches;
 pub use plain::blocks;

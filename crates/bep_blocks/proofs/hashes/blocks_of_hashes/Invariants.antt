@@ -7,6 +7,6 @@ abbrev pub invariant-loop-k : goal.invariant-loop-k
 invariant-loop-k l =
     record {
       cut : map (λ b. (b.offset, b.size)) l.list.items
-        ≡ map (λ k. cut_at l.block_size l.file_len k) (range_with_len 0 l.k);
-      hashes : map (λ b. b.hash) l.list.items ≡ take l.k l.hashes
+          ≡ map (λ k. cut_at l.block_size l.file_len k) (range_with_len 0 l.k);
+      hashes : map (λ b. b.hash) l.list.items ≡ take l.k l.hashes;
     }

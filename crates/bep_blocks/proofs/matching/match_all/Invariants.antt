@@ -7,5 +7,5 @@ invariant-loop-block l =
     record {
       within : l.offset ≤ length l.bytes;
       rest : MatchesRest 0 l.bytes l.blocks
-        ↔ MatchesRest l.offset (drop l.offset l.bytes) (drop l.block-index l.blocks)
+          ↔ MatchesRest l.offset (drop l.offset l.bytes) (drop l.block-index l.blocks);
     }
