@@ -2,8 +2,8 @@ ghost use Rattle.bep_blocks.specs.Laws.{HashesTellBlocks, NothingHasItsHash, Not
 
 /// What holds of plain block lists: a law, which does nothing when it runs.
 ///
-/// A file without bytes has one block, with the hash of nothing. A plain list cuts its file whole and matches it, and no other list cut by the
-/// same size does.
+/// A file without bytes has one block, with the hash of nothing. A plain list cuts its file whole and matches it, and
+/// no other list that is cut by the same size matches it.
 pub fn plain_blocks_match()
     ensures nothing { NothingIsOneBlock }
     ensures nothing_hash { NothingHasItsHash }
