@@ -1,5 +1,5 @@
-ghost use Rattle.std.specs.Prelude.{◌≡◌};
-ghost use Rattle.bep_record.specs.Block.{base_block_size};
+ghost use Rattle.std.specs.Prelude.{◌≡◌, ◌↔◌, ◌+◌, ◌*◌, ◌-◌, ◌<◌, ◌^◌, min, IsTrue};
+ghost use Rattle.bep_record.specs.Block.{base_block_size, CutWhole, cut_at, block_count};
 
 use std::marker::Model;
 
@@ -52,4 +52,35 @@ impl BlockSize {
     {
         self.bytes
     }
+
+    /// The number of blocks of a file of `len` bytes; an empty file has one.
+    pub fn block_count(self, len: u64) -> u64
+        ensures { result ≡ block_count self len }
+    {
+        len.saturating_sub(1) / u64::from(self.bytes) + 1
+    }
+}
+
+/// Whether the blocks cut a file of `len` bytes whole, in order; their hashes aren't looked at.
+pub fn cut_whole(blocks: &[Block], len: u64, size: BlockSize) -> bool
+    ensures { IsTrue result ↔ CutWhole size len blocks.now }
+{
+    if blocks.len() as u64 != size.block_count(len) {
+        return false;
+    }
+    for (place, block) in blocks.iter().enumerate() {
+        if !is_cut_at(block, len, size, place as u64) {
+            return false;
+        }
+    }
+    true
+}
+
+// Whether the block begins and ends as the one at this place does.
+fn is_cut_at(block: &Block, len: u64, size: BlockSize, place: u64) -> bool
+    requires { place < block_count size len }
+    ensures { IsTrue result ↔ ((block.now.offset, block.now.size) ≡ cut_at size len place) }
+{
+    let offset = place * u64::from(size.bytes());
+    block.offset == offset && u64::from(block.size) == (len - offset).min(u64::from(size.bytes()))
 }

@@ -1,0 +1,16 @@
+use crate::{Block, Target};
+
+/// What a name is, apart from its times and its history, lent from a record.
+///
+/// BEP v1, 'FileInfo'; two records of equal content differ in no byte and no target.
+#[derive(Clone, Copy, Debug)]
+pub enum Content<'a> {
+    /// Nothing is there.
+    Deleted,
+    /// A file of these blocks.
+    File(&'a [Block]),
+    /// A directory.
+    Directory,
+    /// A symlink that leads there.
+    Symlink(&'a Target),
+}
