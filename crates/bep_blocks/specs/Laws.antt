@@ -2,6 +2,7 @@
 use Rattle.std.specs.Prelude.{◌≡◌, ℕ, ◌<◌, List, [], ◌∷◌, length, map}
 use Rattle.bep_record.specs.Block.{CutWhole}
 use Rattle.bep_record.specs.declared.block.Block.{Block}
+use Rattle.bep_record.specs.declared.limits.TheConstants.{HASH_OF_NOTHING}
 use Rattle.bep_blocks.specs.Plain.{block_of, hash_of, plain_blocks}
 use Rattle.bep_blocks.specs.Matching.{Matches}
 
@@ -11,11 +12,7 @@ NothingIsOneBlock = (block_size : ℕ) → plain_blocks block_size [] ≡ block_
 
 -- the hash of that block
 abbrev pub NothingHasItsHash : Type 0
-NothingHasItsHash =
-    hash_of [] ≡
-    0xE3 ∷ 0xB0 ∷ 0xC4 ∷ 0x42 ∷ 0x98 ∷ 0xFC ∷ 0x1C ∷ 0x14 ∷ 0x9A ∷ 0xFB ∷ 0xF4 ∷ 0xC8 ∷
-    0x99 ∷ 0x6F ∷ 0xB9 ∷ 0x24 ∷ 0x27 ∷ 0xAE ∷ 0x41 ∷ 0xE4 ∷ 0x64 ∷ 0x9B ∷ 0x93 ∷ 0x4C ∷
-    0xA4 ∷ 0x95 ∷ 0x99 ∷ 0x1B ∷ 0x78 ∷ 0x52 ∷ 0xB8 ∷ 0x55 ∷ []
+NothingHasItsHash = hash_of [] ≡ HASH_OF_NOTHING
 
 -- a plain list cuts its file whole, by its size
 abbrev pub PlainIsCutWhole : Type 0

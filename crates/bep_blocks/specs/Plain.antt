@@ -1,13 +1,9 @@
--- The plain block list of a file's bytes (BEP v1, 'BlockInfo'; the limit is this project's profile).
+-- The plain block list of a file's bytes (BEP v1, 'BlockInfo').
 use Rattle.std.specs.Prelude.{ℕ, ◌*◌, List, length, take, drop, map}
 use Rattle.std.specs.List.{range_with_len}
 use Rattle.sha2.specs.Sha256.{sha256}
 use Rattle.bep_record.specs.Block.{block_count}
 use Rattle.bep_record.specs.declared.block.Block.{Block}
-
--- the most bytes that a file may have
-abbrev pub file_limit : ℕ
-file_limit = 16777216
 
 -- the SHA-256 of these bytes (FIPS 180-4)
 unfoldable pub hash_of : List ℕ → List ℕ

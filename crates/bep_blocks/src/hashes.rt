@@ -1,7 +1,7 @@
 ghost use Rattle.std.specs.Prelude.{◌≡◌, ◌*◌, ◌<◌, ◌≤◌, ◌^◌, ◌↔◌, map, length, IfOk, IfSome, IsSome};
 ghost use Rattle.bep_record.specs.Block.{CutWhole, block_count, cut_at};
 
-use crate::plain::{bytes_of, number_of_blocks};
+use crate::plain::bytes_of;
 use bep_record::{Block, BlockSize, Items};
 use std::alloc::{AllocError, Global};
 
@@ -19,11 +19,11 @@ pub fn blocks_of_hashes(
     ensures cut { IfOk result (λ found. IfSome found (λ list. CutWhole size len list)) }
     ensures hashes { IfOk result (λ found. IfSome found (λ list. map (λ b. b.hash) list ≡ hashes.now)) }
 {
-    let file_len = len as usize;
-    let block_size = bytes_of(size);
-    if hashes.len() != number_of_blocks(file_len, block_size) {
+    if hashes.len() as u64 != size.block_count(len) {
         return Ok(None);
     }
+    let file_len = len as usize;
+    let block_size = bytes_of(size);
     let mut list = Vec::with_capacity(alloc, hashes.len())?;
     for (k, hash) in hashes.iter().enumerate() {
         list.push(block_with(file_len, block_size, k, *hash))?;

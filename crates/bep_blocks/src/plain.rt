@@ -1,9 +1,9 @@
 ghost use Rattle.std.specs.Prelude.{◌≡◌, ◌≢◌, ◌*◌, ◌+◌, ◌<◌, ◌≤◌, ◌↔◌, ◌^◌, length, IfOk, IfErr, IsErrOf};
 ghost use Rattle.bep_record.specs.Block.{block_count};
-ghost use Rattle.bep_blocks.specs.Plain.{block_of, file_limit, hash_of, piece_at, plain_block, plain_blocks};
+ghost use Rattle.bep_blocks.specs.Plain.{block_of, hash_of, piece_at, plain_block, plain_blocks};
 
 use crate::error::BlocksError;
-use bep_record::{Block, BlockSize, Items};
+use bep_record::{Block, BlockSize, Items, MAX_FILE_SIZE};
 use sha2::{Digest, Sha256};
 use std::alloc::{AllocError, AllocFailed, Global};
 
@@ -13,13 +13,13 @@ use std::alloc::{AllocError, AllocFailed, Global};
 /// `FileTooLarge` where there are more than 16777216 bytes, and else only for want of memory.
 pub fn blocks(alloc: Global, bytes: &[u8], size: BlockSize) -> Result<Items<Block>, BlocksError>
     ensures plain { IfOk result (λ list. list ≡ plain_blocks size bytes.now) }
-    ensures too_large { IsErrOf result BlocksError.FileTooLarge ↔ (file_limit < length bytes.now) }
+    ensures too_large { IsErrOf result BlocksError.FileTooLarge ↔ (MAX_FILE_SIZE < length bytes.now) }
     ensures or_memory { IfErr result (λ e. e ≢ BlocksError.FileTooLarge → e ≡ BlocksError.Memory) }
 {
-    if bytes.len() > 16777216 {
+    if bytes.len() as u64 > MAX_FILE_SIZE {
         return Err(BlocksError::FileTooLarge);
     }
-    Ok(Items::new(cut(alloc, bytes, bytes_of(size))?))
+    Ok(Items::new(cut(alloc, bytes, size)?))
 }
 
 /// How many bytes each block but the last has, at least one.
@@ -31,21 +31,12 @@ pub(crate) fn bytes_of(size: BlockSize) -> usize
     size.bytes() as usize
 }
 
-/// How many blocks of this size a file of this length has.
-pub(crate) fn number_of_blocks(len: usize, block_size: usize) -> usize
-    requires { 0 < block_size }
-    ensures { result ≡ block_count block_size len }
-{
-    len.saturating_sub(1) / block_size + 1
-}
-
 // The plain block list of the bytes.
-fn cut(alloc: Global, bytes: &[u8], block_size: usize) -> Result<Vec<Block>, AllocError>
-    requires positive { 0 < block_size }
-    requires small { block_size < 2 ^ 32 }
-    ensures { IfOk result (λ list. list.items ≡ plain_blocks block_size bytes.now) }
+fn cut(alloc: Global, bytes: &[u8], size: BlockSize) -> Result<Vec<Block>, AllocError>
+    ensures { IfOk result (λ list. list.items ≡ plain_blocks size bytes.now) }
 {
-    let count = number_of_blocks(bytes.len(), block_size);
+    let block_size = bytes_of(size);
+    let count = size.block_count(bytes.len() as u64) as usize;
     let mut list = Vec::with_capacity(alloc, count)?;
     for k in 0..count {
         list.push(block_at(bytes, block_size, k))?;
