@@ -3,3 +3,4 @@ pub mod Content
 pub mod Entry
 pub mod Node
 pub mod RecordError
+pub mod Vector

@@ -29,4 +29,4 @@ pub use name::Name;
 pub use node::{Node, NodeParts};
 pub use record::Record;
 pub use target::Target;
-pub use vector::Vector;
+pub use vector::{Order, Vector};
