@@ -1,9 +1,11 @@
 -- A walk over the candidates that are lent, and the first of what is left among those that it has passed.
-use Rattle.std.proofs.Common.{◌≡◌, ◌≢◌, ◌<◌, ◌≤◌, ◌+◌, ◌∙◌, ◌↔◌, ℕ, Option, Some, None, List, All, Contains, IsSomeAnd, IsSome, map, take, length, get_or, refl, sym, ap, subst, ⊎_elim, arith}
+use Rattle.std.proofs.Common.{◌≡◌, ◌≢◌, ◌<◌, ◌≤◌, ◌+◌, ◌∙◌, ◌↔◌, ℕ, Option, Some, None, List, All, Contains, IsSomeAnd, IsSome, IfSome, map, take, length, get_or, refl, sym, ap, subst, ⊎_elim, arith}
 use Rattle.std.specs.Borrow.{Bor}
 use Rattle.std.specs.List.{slice_get}
 use Rattle.std.specs.Option.{option_map}
-use Rattle.std.proofs.lemmas.Bool.{false≢true}
+use Rattle.std.proofs.lemmas.Bool.{false≢true, cases_order}
+use Rattle.std.specs.List.Sorted.{IsStrictlyIncreasing}
+use Rattle.std.proofs.lemmas.List.Kept.{AllPairs-from_increasing}
 use Rattle.std.specs.declared.cmp.Ordering.TheVariants.{Less}
 use Rattle.std.proofs.lemmas.List.{length-map, get_or-map, take_all}
 use Rattle.std.proofs.lemmas.List.Elements.{All-more, All-map, All-same, All-contains, All-weaker}
@@ -11,7 +13,7 @@ use Rattle.std.proofs.lemmas.Option.{slice_get_cases, slice_get-get_or, slice_ge
 use Rattle.bep_record.specs.declared.entry.Entry.{Entry}
 use Rattle.bep_choice.specs.Choice.{Candidate, candidate_of, candidates_of, choice_cmp, IsValidAmong, IsLeft, IsNotBehind, IsChoice, IsChoiceAt}
 use Rattle.bep_choice.proofs.Existence.{left_exists}
-use Rattle.bep_choice.proofs.ChoiceOrder.{not_behind_itself, not_behind_back, not_behind_then}
+use Rattle.bep_choice.proofs.ChoiceOrder.{same_device, not_behind_itself, not_behind_back, not_behind_then}
 
 -- a candidate as it is lent
 abbrev pub Lent : Type 0
@@ -142,3 +144,48 @@ found_exactly chooser lent few all None none =
     (λ some. absurd (false≢true some), λ valid. absurd (none_valid chooser lent few all none valid.0 valid.1))
 found_exactly chooser lent few all (Some held) best =
     (λ _. IsValidAmong-chosen chooser (candidates_of lent) held (IsChoiceAt-best chooser lent few held all best), λ _. refl)
+
+pub choice_held : (chooser : ℕ) (lent : List Lent) (few : ℕ) → length lent ≤ few → (best : Option ℕ) → IsBestSoFar chooser lent few best → IfSome best (IsChoiceAt chooser (candidates_of lent))
+choice_held chooser lent few all None none = tt
+choice_held chooser lent few all (Some held) best = IsChoiceAt-best chooser lent few held all best
+
+-- who stands at the place of a choice
+chosen_at : (chooser : ℕ) (lent : List Lent) (place : ℕ) → IsChoiceAt chooser (candidates_of lent) place → (one : Lent) × (place < length lent) × (one ≡ get_or lent place one) × IsChoice chooser (candidates_of lent) (candidate_of one)
+chosen_at chooser lent place h =
+    let P : Candidate → Type 0 = IsChoice chooser (candidates_of lent) in
+    ⊎_elim
+    (λ there.
+     (there.0,
+      there.1,
+      sym there.3,
+      at-IsSomeAnd P (slice_get (candidates_of lent) place) (candidate_of there.0) (slice_get-map candidate_of lent place ∙ ap (λ o. option_map candidate_of o) there.2) h))
+    (λ past. absurd (subst (λ o. IsSomeAnd o P) (slice_get-map candidate_of lent place ∙ ap (λ o. option_map candidate_of o) past.1) h))
+    (slice_get_cases lent place).1
+
+-- devices rise
+devices_rise : (lent : List Lent) → IsStrictlyIncreasing (map (λ (one : Lent). one.0) lent) → (i j : ℕ) (one other : Lent) → i < j → j < length lent → one ≡ get_or lent i one → other ≡ get_or lent j other → one.0 < other.0
+devices_rise lent rises i j one other before below is is_other =
+    let device : Lent → ℕ = λ one. one.0 in
+    let pairs = AllPairs-from_increasing (map device lent) rises i j 0 before (omega (arith, length-map lent device)) in
+    let first = get_or-map device lent i one 0 (omega arith) ∙ ap device (sym is) in
+    let second = get_or-map device lent j other 0 below ∙ ap device (sym is_other) in
+    omega (arith, pairs, first, second)
+
+only_place : (chooser : ℕ) (lent : List Lent) → IsStrictlyIncreasing (map (λ (one : Lent). one.0) lent) → (held place : ℕ) → IsChoiceAt chooser (candidates_of lent) held → IsChoiceAt chooser (candidates_of lent) place → held ≡ place
+only_place chooser lent rises held place h k =
+    let one = chosen_at chooser lent held h in
+    let other = chosen_at chooser lent place k in
+    let same = same_device chooser (candidate_of one.0) (candidate_of other.0) (one.3.first (candidate_of other.0) other.3.left) (other.3.first (candidate_of one.0) one.3.left) in
+    ⊎_elim
+    (λ e. e)
+    (⊎_elim
+     (λ lt. let rise = devices_rise lent rises held place one.0 other.0 lt other.1 one.2 other.2 in absurd (omega (arith, rise, same)))
+     (λ lt. let rise = devices_rise lent rises place held other.0 one.0 lt one.1 other.2 one.2 in absurd (omega (arith, rise, same))))
+    (cases_order held place)
+
+pub choice_only : (chooser : ℕ) (lent : List Lent) (few : ℕ) → IsStrictlyIncreasing (map (λ (one : Lent). one.0) lent) → length lent ≤ few → (best : Option ℕ) → IsBestSoFar chooser lent few best → (place : ℕ) → IsChoiceAt chooser (candidates_of lent) place → best ≡ Some place
+choice_only chooser lent few rises all None none place h =
+    let valid = IsValidAmong-chosen chooser (candidates_of lent) place h in
+    absurd (none_valid chooser lent few all none valid.0 valid.1)
+choice_only chooser lent few rises all (Some held) best place h =
+    ap Some (only_place chooser lent rises held place (IsChoiceAt-best chooser lent few held all best) h)

@@ -23,8 +23,9 @@ pub fn choose(me: DeviceId, candidates: &[(DeviceId, &Record)]) -> Option<usize>
     for (place, one) in candidates.iter().enumerate() {
         if is_left(candidates, one) {
             best = match best {
-                Some(held) if compare(me, one, &candidates[held]) != Ordering::Less => Some(held),
-                _ => Some(place),
+                None => Some(place),
+                Some(held) if is_before(me, one, &candidates[held]) => Some(place),
+                Some(held) => Some(held),
             };
         }
     }
@@ -60,13 +61,13 @@ fn is_below(one: &Record, other: &Record) -> bool
     one.entry().version.order(&other.entry().version) == Order::Below
 }
 
-// Which of the two comes first for the device that chooses.
-fn compare(me: DeviceId, one: &(DeviceId, &Record), other: &(DeviceId, &Record)) -> Ordering
-    ensures { result ≡ choice_cmp me (candidate_of one.now) (candidate_of other.now) }
+// Whether the first of the two comes before the second, for the device that chooses.
+fn is_before(me: DeviceId, one: &(DeviceId, &Record), other: &(DeviceId, &Record)) -> bool
+    ensures { IsTrue result ↔ (choice_cmp me (candidate_of one.now) (candidate_of other.now) ≡ Ordering.Less) }
 {
     let (device, own) = (one.0, one.1.entry());
     let (other_device, others) = (other.0, other.1.entry());
-    own.deleted.cmp(&others.deleted).then(
+    let order = own.deleted.cmp(&others.deleted).then(
         others.modified_s.cmp(&own.modified_s).then(
             others.modified_ns.cmp(&own.modified_ns).then(
                 own.modified_by.cmp(&others.modified_by).then(
@@ -74,5 +75,6 @@ fn compare(me: DeviceId, one: &(DeviceId, &Record), other: &(DeviceId, &Record))
                 ),
             ),
         ),
-    )
+    );
+    order.is_lt()
 }
