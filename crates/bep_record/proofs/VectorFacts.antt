@@ -1,10 +1,10 @@
 -- Facts on well-formed lists of counters.
-use Rattle.std.proofs.Common.{◌≡◌, ◌≢◌, ℕ, suc, ◌+◌, ◌<◌, ◌≤◌, Bool, true, false, cond, eqb, ltb, leb, max, List, [], ◌∷◌, ◌++◌, length, take, drop, set, count_by, insert, sym, ◌∙◌, ap, subst, refl, ⊎_elim, inl, inr, zero-add, arith, rules}
+use Rattle.std.proofs.Common.{◌≡◌, ◌≢◌, ℕ, suc, ◌+◌, ◌<◌, ◌≤◌, Bool, true, false, cond, eqb, ltb, leb, max, List, [], ◌∷◌, length, set, count_by, insert, sym, ◌∙◌, ap, refl, ⊎_elim, zero-add, arith}
 use Rattle.std.specs.List.{list_all}
 use Rattle.std.proofs.lemmas.Bool.{cases_eq, cases_lt, cases_order, eq-eqb, ne_eqb, lt-ltb, le-ltb, leb-true, le-leb, and_parts, and_from, cond-true, cond-false}
 use Rattle.std.proofs.Math.Numerals.{one-add}
 use Rattle.std.proofs.lemmas.List.Sums.{sum_by-cons}
-use Rattle.bep_record.specs.Vector.{counter_of, greatest_counter, RisesAbove, IsVersion, IsAtMost, IsMerge, ChangesOnly, ids_in_either}
+use Rattle.bep_record.specs.Vector.{counter_of, greatest_counter, RisesAbove, IsVersion, IsAtMost, ChangesOnly, ids_in_either}
 
 -- the counter at the head's id, and at any other
 pub counter_of-here : (c : ℕ × ℕ) (more : List (ℕ × ℕ)) (id : ℕ) → c.0 ≡ id → counter_of (c ∷ more) id ≡ c.1
@@ -45,8 +45,8 @@ same_heads : (c d : ℕ × ℕ) (cs ds : List (ℕ × ℕ)) (low : ℕ) → Rise
 same_heads c d cs ds low ru rv same =
     ⊎_elim (λ e. e)
     (⊎_elim
-     (λ lt. absurd (no_first c d cs ds low lt ru rv (same c.0)))
-     (λ lt. absurd (no_first d c ds cs low lt rv ru (sym (same d.0)))))
+    (λ lt. absurd (no_first c d cs ds low lt ru rv (same c.0)))
+    (λ lt. absurd (no_first d c ds cs low lt rv ru (sym (same d.0)))))
     (cases_order c.0 d.0)
 
 -- after the first, their counters are the same
@@ -157,8 +157,10 @@ put_front v low id value above some fits rises = record {
 put_here : (c : ℕ × ℕ) (more : List (ℕ × ℕ)) (low id value : ℕ) → c.0 ≡ id → 1 ≤ value → value ≤ greatest_counter → RisesAbove low (c ∷ more) → IsPut low (c ∷ more) ((id, value) ∷ more) id value
 put_here c more low id value e some fits rises = record {
   rises = (omega arith, some, fits, RisesAbove-lower more id c.0 (omega arith) rises.3);
-  changed = (counter_of-here (id, value) more id refl,
-    λ other ne. counter_of-there (id, value) more other (λ h. ne (sym h)) ∙ sym (counter_of-there c more other (λ h. ne (sym h ∙ e))));
+  changed = (
+    counter_of-here (id, value) more id refl,
+    λ other ne. counter_of-there (id, value) more other (λ h. ne (sym h)) ∙ sym (counter_of-there c more other (λ h. ne (sym h ∙ e))),
+  );
 }
 
 put_next_other : (c : ℕ × ℕ) (more new : List (ℕ × ℕ)) (id value : ℕ) {low : ℕ} → IsPut low more new id value → (other : ℕ) → other ≢ id → counter_of (c ∷ new) other ≡ counter_of (c ∷ more) other
@@ -181,9 +183,9 @@ insert_is_put (c ∷ more) low id value above some fits rises none =
     ⊎_elim
     (λ e. let here = counter_of-here c more id e in let h = rises.1 in absurd (omega (arith, here, none, h)))
     (⊎_elim
-     (λ lt. let there = counter_of-there c more id (omega arith) in
-      rw (place_in-next c more id lt) (put_next c more _ low id value lt rises (insert_is_put more c.0 id value lt some fits rises.3 (sym there ∙ none))))
-     (λ lt. rw (place_in-front c more low id rises (omega arith)) (put_front (c ∷ more) low id value above some fits (lt, rises.1, rises.2, rises.3))))
+    (λ lt. let there = counter_of-there c more id (omega arith) in
+    rw (place_in-next c more id lt) (put_next c more _ low id value lt rises (insert_is_put more c.0 id value lt some fits rises.3 (sym there ∙ none))))
+    (λ lt. rw (place_in-front c more low id rises (omega arith)) (put_front (c ∷ more) low id value above some fits (lt, rises.1, rises.2, rises.3))))
     (cases_order c.0 id)
 
 -- a counter that is there, set at its place
@@ -193,10 +195,10 @@ set_is_put (c ∷ more) low id value some fits rises there =
     ⊎_elim
     (λ e. rw (place_in-front c more low id rises (omega arith)) (put_here c more low id value e some fits rises))
     (⊎_elim
-     (λ lt. let e = counter_of-there c more id (omega arith) in
-      let there_still : 1 ≤ counter_of more id = omega (arith, e) in
-      rw (place_in-next c more id lt) (put_next c more _ low id value lt rises (set_is_put more c.0 id value some fits rises.3 there_still)))
-     (λ lt. let e = counter_of-there c more id (omega arith) in let none = counter_of-low more c.0 id rises.3 (omega arith) in absurd (omega (arith, e, none))))
+    (λ lt. let e = counter_of-there c more id (omega arith) in
+    let there_still : 1 ≤ counter_of more id = omega (arith, e) in
+    rw (place_in-next c more id lt) (put_next c more _ low id value lt rises (set_is_put more c.0 id value some fits rises.3 there_still)))
+    (λ lt. let e = counter_of-there c more id (omega arith) in let none = counter_of-low more c.0 id rises.3 (omega arith) in absurd (omega (arith, e, none))))
     (cases_order c.0 id)
 
 -- how many ids of a list a vector lacks, where another has the same counters there
@@ -220,11 +222,16 @@ pub greater-more : (u new more : List (ℕ × ℕ)) (c : ℕ × ℕ) (low : ℕ)
 greater-more u new more c low rises changed id =
     ⊎_elim
     (λ e. let here = counter_of-here c more id e in
-     let none = counter_of-low more c.0 id rises.3 (omega arith) in
-     let own = ap (counter_of u) e in
-     let made = sym (ap (counter_of new) e) ∙ changed.0 in
-     omega (arith, here, none, own, made))
+    let none = counter_of-low more c.0 id rises.3 (omega arith) in
+    let own = ap (counter_of u) e in
+    let made = sym (ap (counter_of new) e) ∙ changed.0 in
+    omega (arith, here, none, own, made))
     (λ ne. let there = counter_of-there c more id ne in
-     let kept = changed.1 id (λ h. ne (sym h)) in
-     omega (arith, there, kept))
+    let kept = changed.1 id (λ h. ne (sym h)) in
+    omega (arith, there, kept))
     (cases_eq c.0 id)
+
+-- two well-formed lists that are at most each other are one
+pub same_from_IsAtMost : (u v : List (ℕ × ℕ)) → IsVersion u → IsVersion v → IsAtMost u v → IsAtMost v u → u ≡ v
+same_from_IsAtMost u v ru rv below above =
+    same_from_counters u v 0 ru rv (λ id. let le = below id in let ge = above id in omega arith)

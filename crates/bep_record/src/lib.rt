@@ -4,10 +4,12 @@
 
 mod block;
 mod compare;
+mod conflict;
 mod content;
 mod device;
 mod entry;
 mod error;
+mod folder;
 mod items;
 mod kind;
 mod limits;
@@ -15,13 +17,18 @@ mod name;
 mod node;
 mod record;
 mod target;
+#[cfg(test)]
+mod tests;
+mod text;
 mod vector;
 
 pub use block::{Block, BlockSize, cut_whole};
+pub use conflict::conflict_name;
 pub use content::Content;
 pub use device::DeviceId;
 pub use entry::Entry;
 pub use error::RecordError;
+pub use folder::FolderName;
 pub use items::Items;
 pub use kind::Kind;
 pub use limits::{HASH_OF_NOTHING, MAX_FILE_SIZE, MAX_NANOSECONDS};

@@ -1,4 +1,4 @@
-ghost use Rattle.std.specs.Prelude.{◌≡◌, ℕ, ◌+◌, ◌^◌, ◌<◌, ◌≤◌, ◌↔◌, ◌⊎◌, ◌==◌, if◌then◌else◌, List, [], length, IsTrue, SomeIff, OnOk, OnErr, IfErr, IsErrOf, nat_lt, count_by};
+ghost use Rattle.std.specs.Prelude.{◌≡◌, ℕ, ◌+◌, ◌<◌, ◌≤◌, ◌↔◌, ◌⊎◌, ◌==◌, if◌then◌else◌, List, [], length, IsTrue, SomeIff, OnOk, OnErr, IfErr, IsErrOf, nat_lt, count_by};
 ghost use Rattle.arrayvec.specs.ArrayVec.{array_vec_len};
 ghost use Rattle.bep_record.specs.Vector.{counter_of, greatest_counter, most_counters, IsVersion, IsAtMost, IsBelow, IsOrder, IsMerge, IsBump, ChangesOnly, ids_in_either};
 
@@ -45,6 +45,7 @@ impl Model for Vector {
 }
 
 const GREATEST_COUNTER: u64 = 9_223_372_036_854_775_807;
+
 const MOST_COUNTERS: usize = 16;
 
 impl Vector {
@@ -91,17 +92,17 @@ impl Vector {
     pub fn is_at_most(&self, other: &Vector) -> bool
         ensures { IsTrue result ↔ IsAtMost self.now other.now }
     {
-        let other = other.counters();
-        self.counters()
-            .iter()
-            .all(|counter| counter.1 <= counter_at(other, counter.0))
+        is_at_most(self.counters(), other.counters())
     }
 
     /// How this vector stands to the other.
     pub fn order(&self, other: &Vector) -> Order
         ensures order { IsOrder self.now other.now result }
+        ensures equal { (result ≡ Order.Equal) ↔ (self.now ≡ other.now) }
     {
-        match (self.is_at_most(other), other.is_at_most(self)) {
+        let own = self.counters();
+        let others = other.counters();
+        match (is_at_most(own, others), is_at_most(others, own)) {
             (true, true) => Order::Equal,
             (true, false) => Order::Below,
             (false, true) => Order::Above,
@@ -149,6 +150,7 @@ impl Vector {
     /// as before.
     pub fn merge(&mut self, other: &Vector) -> Result<(), RecordError>
         ensures merged { OnOk result (IsMerge self.old other.now self.new) }
+        ensures counted { OnOk result (length self.new ≡ ids_in_either self.old other.now) }
         ensures many { IsErrOf result RecordError.TooManyCounters
             ↔ (most_counters < ids_in_either self.old other.now) }
         ensures no_other { IfErr result (λ e. e ≡ RecordError.TooManyCounters) }
@@ -162,7 +164,44 @@ impl Vector {
     }
 }
 
-// The ids rise and aren't 0, and the values are in range.
+/// Laws of the order on version vectors, each stated by a function that does nothing.
+impl Vector {
+    /// Well-formed vectors that are at most each other are equal.
+    pub fn equal_where_both_at_most()
+        ensures { (u v : List (ℕ × ℕ)) → IsVersion u → IsVersion v → IsAtMost u v → IsAtMost v u → u ≡ v }
+    {}
+
+    /// To be at most is an order.
+    pub fn at_most_is_an_order()
+        ensures reflexive { (u : List (ℕ × ℕ)) → IsAtMost u u }
+        ensures transitive { (u v w : List (ℕ × ℕ)) → IsAtMost u v → IsAtMost v w → IsAtMost u w }
+    {}
+
+    /// To be strictly below goes on along what is at most.
+    pub fn below_goes_on()
+        ensures from_below { (u v w : List (ℕ × ℕ)) → IsAtMost u v → IsBelow v w → IsBelow u w }
+        ensures to_above { (u v w : List (ℕ × ℕ)) → IsBelow u v → IsAtMost v w → IsBelow u w }
+    {}
+
+    /// The merge is the least vector that both are at most.
+    pub fn merge_is_least()
+        ensures first { (u v w : List (ℕ × ℕ)) → IsMerge u v w → IsAtMost u w }
+        ensures second { (u v w : List (ℕ × ℕ)) → IsMerge u v w → IsAtMost v w }
+        ensures least { (u v w x : List (ℕ × ℕ)) → IsMerge u v w → IsAtMost u x → IsAtMost v x → IsAtMost w x }
+    {}
+
+    /// What is strictly below a vector is strictly below each merge of it.
+    pub fn merge_keeps_above()
+        ensures { (u v x w : List (ℕ × ℕ)) → IsBelow u v → IsMerge v x w → IsBelow u w }
+    {}
+
+    /// A bump leads strictly above.
+    pub fn bump_is_above()
+        ensures { (u w : List (ℕ × ℕ)) (id : ℕ) → IsBump u id w → IsBelow u w }
+    {}
+}
+
+// Whether the ids rise and aren't 0, and the values are in range.
 fn is_version(counters: &[(u64, u64)]) -> bool
     ensures { IsTrue result ↔ IsVersion counters.now }
 {
@@ -176,6 +215,7 @@ fn is_version(counters: &[(u64, u64)]) -> bool
     true
 }
 
+// The counter at this id, 0 where there is none.
 fn counter_at(counters: &[(u64, u64)], id: u64) -> u64
     ensures { result ≡ counter_of counters.now id }
 {
@@ -187,9 +227,20 @@ fn counter_at(counters: &[(u64, u64)], id: u64) -> u64
     0
 }
 
+// Whether each counter of the first is at most that of the second.
+fn is_at_most(first: &[(u64, u64)], second: &[(u64, u64)]) -> bool
+    requires { IsVersion first.now }
+    ensures { IsTrue result ↔ IsAtMost first.now second.now }
+{
+    first
+        .iter()
+        .all(|counter| counter.1 <= counter_at(second, counter.0))
+}
+
+// How many ids have a counter in one of the two.
 fn ids_in_either(first: &[(u64, u64)], second: &[(u64, u64)]) -> usize
-    requires first_small { length first.now < 2 ^ 32 }
-    requires second_small { length second.now < 2 ^ 32 }
+    requires first_few { length first.now ≤ most_counters }
+    requires second_few { length second.now ≤ most_counters }
     ensures { result ≡ ids_in_either first.now second.now }
 {
     first.len()
@@ -232,9 +283,111 @@ fn put_greater(counters: &mut ArrayVec<(u64, u64), 16>, others: &[(u64, u64)])
     requires room { ids_in_either counters.old.items others.now ≤ most_counters }
     ensures version { IsVersion counters.new.items }
     ensures merged { IsMerge counters.old.items others.now counters.new.items }
+    ensures counted { array_vec_len counters.new ≡ ids_in_either counters.old.items others.now }
 {
     for (id, value) in others {
         let own = counter_at(counters.as_slice(), *id);
         put(counters, *id, own.max(*value));
+    }
+}
+
+#[cfg(test)]
+mod tests {
+    use super::*;
+    use std::test::Fail;
+
+    fn device(number: u64) -> Result<DeviceId, Fail> {
+        Ok(DeviceId::read(number).ok_or("no device has the number 0")?)
+    }
+
+    fn vector(counters: &[(u64, u64)]) -> Result<Vector, Fail> {
+        Ok(Vector::read(counters).ok_or("the counters aren't well formed")?)
+    }
+
+    // The counters 1 for the ids from 1 on.
+    fn ones(count: u64) -> ArrayVec<(u64, u64), 17> {
+        let mut counters = ArrayVec::new();
+        for id in 0..count {
+            let _ = counters.try_push((id + 1, 1));
+        }
+        counters
+    }
+
+    #[test]
+    fn orders(rt: HostRuntime) -> Result<(), Fail> {
+        let one = vector(&[(1, 1)])?;
+        let two = vector(&[(1, 2)])?;
+        let other = vector(&[(1, 1), (2, 1)])?;
+        assert_eq!(rt; one.order(&one.copy()), Order::Equal);
+        assert_eq!(rt; one.order(&two), Order::Below);
+        assert_eq!(rt; two.order(&one), Order::Above);
+        assert_eq!(rt; two.order(&other), Order::Concurrent);
+        assert_eq!(rt; Vector::empty().order(&one), Order::Below);
+        Ok(())
+    }
+
+    #[test]
+    fn merges(rt: HostRuntime) -> Result<(), Fail> {
+        let mut merged = vector(&[(1, 2)])?;
+        merged.merge(&vector(&[(1, 1), (2, 1)])?)?;
+        assert_eq!(rt; merged.counters(), [(1, 2), (2, 1)].as_slice());
+        let mut empty = Vector::empty();
+        empty.merge(&merged)?;
+        assert_eq!(rt; empty.counters(), [(1, 2), (2, 1)].as_slice());
+        Ok(())
+    }
+
+    #[test]
+    fn bumps(rt: HostRuntime) -> Result<(), Fail> {
+        let mut version = Vector::empty();
+        version.bump(device(5)?)?;
+        version.bump(device(3)?)?;
+        version.bump(device(5)?)?;
+        assert_eq!(rt; version.counters(), [(3, 1), (5, 2)].as_slice());
+        assert_eq!(rt; version.get(device(5)?), 2);
+        assert_eq!(rt; version.get(device(4)?), 0);
+        Ok(())
+    }
+
+    #[test]
+    fn refuses_a_full_counter(rt: HostRuntime) -> Result<(), Fail> {
+        let mut version = vector(&[(1, 9223372036854775807)])?;
+        let id = device(1)?;
+        for _ in 0..2 {
+            assert_eq!(rt; version.bump(id), Err(RecordError::CounterFull));
+            assert_eq!(rt; version.counters(), [(1, 9223372036854775807)].as_slice());
+        }
+        Ok(())
+    }
+
+    #[test]
+    fn refuses_a_seventeenth_counter(rt: HostRuntime) -> Result<(), Fail> {
+        let sixteen = ones(16);
+        let mut version = vector(&sixteen)?;
+        assert_eq!(rt;
+            version.bump(device(17)?),
+            Err(RecordError::TooManyCounters)
+        );
+        assert_eq!(rt;
+            version.merge(&vector(&[(17, 1)])?),
+            Err(RecordError::TooManyCounters)
+        );
+        assert_eq!(rt; version.counters(), sixteen.as_slice());
+        version.merge(&vector(&[(16, 2)])?)?;
+        assert_eq!(rt; version.get(device(16)?), 2);
+        Ok(())
+    }
+
+    #[test]
+    fn reads_only_what_is_well_formed(rt: HostRuntime) -> Result<(), Fail> {
+        assert!(rt; vector(&[])?.counters().is_empty());
+        assert!(rt; Vector::read(&[(2, 1), (1, 1)]).is_none());
+        assert!(rt; Vector::read(&[(1, 1), (1, 1)]).is_none());
+        assert!(rt; Vector::read(&[(0, 1)]).is_none());
+        assert!(rt; Vector::read(&[(1, 0)]).is_none());
+        assert!(rt; Vector::read(&[(1, 9223372036854775808)]).is_none());
+        assert!(rt; Vector::read(&ones(17)).is_none());
+        assert_eq!(rt; vector(&ones(16))?.counters().len(), 16);
+        Ok(())
     }
 }

@@ -1,6 +1,6 @@
-use Rattle.std.proofs.Common.{◌≡◌, ℕ, ◌+◌, List, ◌∷◌, max, drop, get_or, ap, sym, ◌∙◌, arith}
+use Rattle.std.proofs.Common.{◌≡◌, ◌+◌, ◌∷◌, max, drop, get_or, ap, sym, ◌∙◌, arith}
 use Rattle.std.proofs.lemmas.List.{drop_more}
-use Rattle.bep_record.specs.Vector.{counter_of, RisesAbove, ChangesOnly}
+use Rattle.bep_record.specs.Vector.{counter_of, ids_in_either, RisesAbove, ChangesOnly}
 use Rattle.bep_record.proofs.VectorFacts.{RisesAbove-lower, counter_of-le, ids_in_either-more, greater-more}
 use Rattle.bep_record.proofs.vector.put_greater.Goals as goal
 
@@ -28,6 +28,6 @@ loop-id-preserved c =
     record {
       version = c.put.ensures.version;
       rest_version = RisesAbove-lower rest 0 x.0 (omega arith) rises.3;
-      room = rw (ids_in_either-more u new rest x 0 (max (counter_of u x.0) x.1) rises changed c.put.ensures.len) (rw split at c.loop-id.invariant.room);
+      counted = ids_in_either-more u new rest x 0 (max (counter_of u x.0) x.1) rises changed c.put.ensures.len ∙ ap (λ v. ids_in_either u v) (sym split) ∙ c.loop-id.invariant.counted;
       greater = λ id. greater-more u new rest x 0 rises changed id ∙ ap (λ v. max (counter_of u id) (counter_of v id)) (sym split) ∙ c.loop-id.invariant.greater id;
     }

@@ -7,7 +7,7 @@ returns-clause-many c =
     let u = c.args.self.now in
     let v = c.args.other.now in
     let e : c.ids_in_either.result ≡ ids_in_either u v =
-      c.ids_in_either.ensures
-      ∙ ap (λ us. ids_in_either us c.counters-2.result.now) c.counters.ensures.value
-      ∙ ap (λ vs. ids_in_either u vs) c.counters-2.ensures.value in
+    c.ids_in_either.ensures
+    ∙ ap (λ us. ids_in_either us c.counters-2.result.now) c.counters.ensures.value
+    ∙ ap (λ vs. ids_in_either u vs) c.counters-2.ensures.value in
     (λ h. absurd (cc h), λ more. absurd (omega arith))
