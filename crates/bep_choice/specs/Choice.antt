@@ -63,3 +63,7 @@ HasOneEach candidates = (one other : Candidate) → Contains candidates one → 
 -- the same set, whatever the order and however often each member stands
 abbrev pub SameSet : List Candidate → List Candidate → Type 0
 SameSet candidates others = (one : Candidate) → (Contains candidates one → Contains others one) × (Contains others one → Contains candidates one)
+
+-- none that is left is the device's
+abbrev pub HasNoneLeft : ℕ → List Candidate → Type 0
+HasNoneLeft device candidates = (one : Candidate) → IsLeft candidates one → one.0 ≢ device

@@ -71,7 +71,9 @@ fn is_before(me: DeviceId, one: &(DeviceId, &Record), other: &(DeviceId, &Record
         others.modified_s.cmp(&own.modified_s).then(
             others.modified_ns.cmp(&own.modified_ns).then(
                 own.modified_by.cmp(&others.modified_by).then(
-                    (other_device == me).cmp(&(device == me)).then(device.cmp(&other_device)),
+                    (other_device == me)
+                        .cmp(&(device == me))
+                        .then(device.cmp(&other_device)),
                 ),
             ),
         ),
