@@ -1,0 +1,25 @@
+-- What follows from the definitions alone; the functions of src/laws.rt have these as contracts.
+use Rattle.std.specs.Prelude.{◌≡◌, ◌↔◌, List}
+use Rattle.bep_model.specs.declared.row.Row.{Row}
+use Rattle.bep_model.specs.declared.reason.Reason.{Reason}
+use Rattle.bep_model.specs.Tables.{Tables}
+use Rattle.bep_model.specs.Settled.{IsSettled}
+use Rattle.bep_model.specs.Reasons.{Place, Asks}
+use Rattle.bep_model.specs.Verdict.{Verdict, IsVerdict}
+use Rattle.bep_model.specs.Calm.{IsCalm, contents_of}
+
+-- settled is that no reason fails anywhere
+abbrev pub SettledIsFaultless : Type 0
+SettledIsFaultless = (t : Tables) (rows : List Row) → IsSettled t rows ↔ ((reason : Reason) (place : Place) → Asks t rows reason place)
+
+-- there is one verdict at most
+abbrev pub VerdictIsUnique : Type 0
+VerdictIsUnique = (t : Tables) (rows : List Row) (one other : Verdict) → IsVerdict t rows one → IsVerdict t rows other → one ≡ other
+
+-- a cut is settled for one list of rows at most
+abbrev pub CertificateIsUnique : Type 0
+CertificateIsUnique = (t : Tables) (rows others : List Row) → IsSettled t rows → IsSettled t others → rows ≡ others
+
+-- what is settled is calm for the contents of its rows
+abbrev pub SettledIsCalm : Type 0
+SettledIsCalm = (t : Tables) (rows : List Row) → IsSettled t rows → IsCalm t (contents_of rows)
