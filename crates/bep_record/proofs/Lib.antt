@@ -1,1 +1,4 @@
 mod Cuts
+pub mod VectorFacts
+pub mod ConflictFacts
+mod FolderFacts

@@ -1,5 +1,11 @@
 pub mod Block
 pub mod Content
 pub mod Entry
+pub mod FolderName
+pub mod Name
 pub mod Node
 pub mod RecordError
+pub mod Target
+pub mod Text
+pub mod Vector
+pub mod Conflict

@@ -5,7 +5,7 @@ ghost use Rattle.bep_record.specs.Content.{content_of};
 ghost use Rattle.bep_record.specs.Entry.{SameEntry, SameMarks, SameChange, SameBody};
 ghost use Rattle.bep_record.specs.Node.{IsClean, LooksSame};
 
-use crate::{Block, Entry, Kind, Node, NodeParts, Record};
+use crate::{Block, Entry, Kind, Node, NodeParts, Order, Record};
 
 impl Record {
     /// Whether both records say the same of their names: the same kind with the same blocks or target, or
@@ -47,7 +47,7 @@ fn looks_same(node: &NodeParts, entry: &Entry) -> bool
                 && node.modified_ns == entry.modified_ns
         }
         (Kind::Directory, Kind::Directory) => true,
-        (Kind::Symlink, Kind::Symlink) => node.target.as_bytes() == entry.target.as_bytes(),
+        (Kind::Symlink, Kind::Symlink) => node.target == entry.target,
         _ => false,
     }
 }
@@ -65,7 +65,7 @@ impl Entry {
                 other.blocks.as_slice(),
             ),
             (Kind::Directory, Kind::Directory) => true,
-            (Kind::Symlink, Kind::Symlink) => self.target.as_bytes() == other.target.as_bytes(),
+            (Kind::Symlink, Kind::Symlink) => self.target == other.target,
             _ => false,
         }
     }
@@ -73,7 +73,7 @@ impl Entry {
     fn same_entry(&self, other: &Entry) -> bool
         ensures { IsTrue result ↔ SameEntry self.now other.now }
     {
-        self.name.as_bytes() == other.name.as_bytes()
+        self.name == other.name
             && self.same_marks(other)
             && self.same_change(other)
             && self.same_body(other)
@@ -94,7 +94,7 @@ impl Entry {
         self.modified_s == other.modified_s
             && self.modified_ns == other.modified_ns
             && self.modified_by == other.modified_by
-            && same_counters(self.version.counters(), other.version.counters())
+            && self.version.order(&other.version) == Order::Equal
     }
 
     fn same_body(&self, other: &Entry) -> bool
@@ -103,7 +103,7 @@ impl Entry {
         self.size == other.size
             && self.block_size == other.block_size
             && same_blocks(self.blocks.as_slice(), other.blocks.as_slice())
-            && self.target.as_bytes() == other.target.as_bytes()
+            && self.target == other.target
     }
 }
 
@@ -111,10 +111,4 @@ fn same_blocks(blocks: &[Block], others: &[Block]) -> bool
     ensures { IsTrue result ↔ (blocks.now ≡ others.now) }
 {
     blocks == others
-}
-
-fn same_counters(counters: &[(u64, u64)], others: &[(u64, u64)]) -> bool
-    ensures { IsTrue result ↔ (counters.now ≡ others.now) }
-{
-    counters == others
 }

@@ -4,11 +4,13 @@
 
 mod block;
 mod compare;
+mod conflict;
 mod content;
 mod device;
 mod entry;
 mod folder;
 mod error;
+mod folder;
 mod items;
 mod kind;
 mod limits;
@@ -16,14 +18,17 @@ mod name;
 mod node;
 mod record;
 mod target;
+mod text;
 mod vector;
 
 pub use block::{Block, BlockSize, cut_whole};
+pub use conflict::conflict_name;
 pub use content::Content;
 pub use device::DeviceId;
 pub use entry::Entry;
 pub use folder::FolderName;
 pub use error::RecordError;
+pub use folder::FolderName;
 pub use items::Items;
 pub use kind::Kind;
 pub use limits::{HASH_OF_NOTHING, MAX_FILE_SIZE, MAX_NANOSECONDS};
@@ -31,4 +36,4 @@ pub use name::Name;
 pub use node::{Node, NodeParts};
 pub use record::Record;
 pub use target::Target;
-pub use vector::Vector;
+pub use vector::{Order, Vector};

@@ -1,33 +1,261 @@
-ghost use Rattle.std.specs.Prelude.{◌≡◌, ◌↔◌, IfOk, IsTrue, string_bytes};
+ghost use Rattle.std.specs.Prelude.{◌≡◌, ◌⊎◌, ◌↔◌, ℕ, List, All, IsTrue, IfOk, IfErr, IsErrOf, OnOk, MatchOption, Some, nat_eq, refl};
+ghost use Rattle.std.specs.Ordering.{nat_cmp};
+ghost use Rattle.std.specs.Hash as fed;
+ghost use Rattle.std.specs.Cmp.Lexicographic.{pointwise, slice_cmp, nat_list_eq_equiv, nat_list_cmp_total, texts_ties, texts_po};
+ghost use Rattle.std.specs.Cmp.{partial_equiv_from_equiv};
+ghost use Rattle.std.specs.Cmp.Rules.{hashing};
+ghost use Rattle.std.specs.String.{string_bytes};
+ghost use Rattle.std.proofs.Common.{rules};
+ghost use Rattle.bep_record.specs.Name.{IsName, IsPart, parts_of};
 
+use crate::error::RecordError;
+use crate::text::plain_text;
 use std::alloc::{AllocError, Global};
+use std::cmp::Ordering;
+use std::fmt;
+use std::hash::{Hash, Hasher};
 use std::marker::Model;
 
-#[derive(Debug, Drop)]
+// The most bytes that a name has.
+pub(crate) const MAX_LEN: usize = 1024;
+
+/// The name of a file in a folder: 1 to 1024 bytes of UTF-8 without NUL, whose parts between slashes are neither empty
+/// nor `.` nor `..`. Names are compared by their bytes.
+///
+/// BEP v1, 'FileInfo', field 'name'; the limits are this project's profile.
+#[derive(Drop)]
 pub struct Name {
     text: String,
 }
 
 impl Model for Name {
-    ghost use Rattle.std.specs.Prelude.{List, ℕ, string_bytes};
-
     ghost Value = { List ℕ };
 
-    ghost view = { λ n. string_bytes n.text };
+    ghost view = { λ name. string_bytes name.text };
+
+    ghost invariant = { λ name. IsName (string_bytes name.text) };
+}
+
+// Whether a part of a name is good.
+fn is_part(part: &str) -> bool
+    ensures { IsTrue result ↔ IsPart part.now }
+{
+    match part {
+        "" | "." | ".." => false,
+        _ => true,
+    }
+}
+
+// Whether each part of a name is good.
+fn has_good_parts(text: &str) -> bool
+    ensures { IsTrue result ↔ All IsPart (parts_of text.now) }
+{
+    text.split('/').all(|part| is_part(part))
+}
+
+// The bytes as the text of a name, `None` where they are no name.
+fn name_text(bytes: &[u8]) -> Option<&str>
+    ensures { MatchOption result (¬ IsName bytes.now) (λ text. (text.now ≡ bytes.now) × IsName bytes.now) }
+{
+    if bytes.is_empty() || bytes.len() > MAX_LEN {
+        return None;
+    }
+    let text = plain_text(bytes)?;
+    if !has_good_parts(text) {
+        return None;
+    }
+    Some(text)
 }
 
 impl Name {
+    /// The name of these bytes. Refuses `NameBad` exactly where they are no name; `Memory` may come in place of a name.
+    pub fn read(alloc: Global, bytes: &[u8]) -> Result<Name, RecordError>
+        ensures ok { IfOk result (λ name. name ≡ bytes.now) }
+        ensures a_name { OnOk result (IsName bytes.now) }
+
+        ensures bad { IsErrOf result RecordError.NameBad ↔ (¬ IsName bytes.now) }
+        ensures only { IfErr result (λ e. (e ≡ RecordError.NameBad) ⊎ (e ≡ RecordError.Memory)) }
+        ensures out_of_memory { IsErrOf result RecordError.Memory → IsName bytes.now }
+    {
+        let Some(text) = name_text(bytes) else {
+            return Err(RecordError::NameBad);
+        };
+        let text = String::from_str(alloc, text)?;
+        Ok(Name { text })
+    }
+
+    // The name with this text.
+    pub(crate) fn from_text(text: String) -> Name
+        requires { IsName (string_bytes text) }
+        ensures { result ≡ string_bytes text }
+    {
+        Name { text }
+    }
+
+    /// The bytes of the name.
     pub fn as_bytes(&self) -> &[u8]
-        ensures { result.now ≡ self.now }
+        ensures value { result.now ≡ self.now }
+        ensures a_name { IsName self.now }
     {
         self.text.as_bytes()
     }
 
+    /// The name as a text.
+    pub fn as_str(&self) -> &str
+        ensures value { result.now ≡ self.now }
+        ensures a_name { IsName self.now }
+    {
+        self.text.as_str()
+    }
+
+    /// An equal name of its own, or want of memory.
     pub fn copy(&self, alloc: Global) -> Result<Name, AllocError>
-        ensures { IfOk result (λ n. n ≡ self.now) }
+        ensures { IfOk result (λ name. name ≡ self.now) }
     {
         Ok(Name {
             text: String::from_str(alloc, self.text.as_str())?,
         })
+    }
+}
+
+impl PartialEq for Name {
+    ghost eq = { pointwise nat_eq };
+
+    ghost laws = { partial_equiv_from_equiv nat_list_eq_equiv };
+
+    fn eq(&self, other: &Name) -> bool {
+        self.as_str() == other.as_str()
+    }
+}
+
+impl Eq for Name {
+    ghost laws = { nat_list_eq_equiv };
+}
+
+impl PartialOrd for Name {
+    ghost partial_cmp = { λ x y. Some (slice_cmp nat_cmp x y) };
+
+    ghost laws = { texts_po };
+
+    fn partial_cmp(&self, other: &Name) -> Option<Ordering> {
+        Some(self.cmp(other))
+    }
+}
+
+impl Ord for Name {
+    ghost cmp = { slice_cmp nat_cmp };
+
+    ghost total = { nat_list_cmp_total };
+
+    ghost matches_partial_cmp = { λ x y. refl };
+
+    ghost matches_eq = { texts_ties };
+
+    fn cmp(&self, other: &Name) -> Ordering {
+        self.as_str().cmp(other.as_str())
+    }
+}
+
+impl Hash for Name {
+    ghost hash_input = { fed.str };
+
+    ghost respects_eq = { Prim.search (hashing, rules) };
+
+    fn hash<H: Hasher>(&self, state: &mut H) {
+        self.as_str().hash(state);
+    }
+}
+
+impl fmt::Debug for Name {
+    fn fmt<W: fmt::Write>(&self, f: &mut fmt::Formatter<W>) -> fmt::Result {
+        fmt::Debug::fmt(self.as_str(), f)
+    }
+}
+
+impl fmt::Display for Name {
+    ghost output = { λ name. Some name };
+
+    fn fmt<W: fmt::Write>(&self, f: &mut fmt::Formatter<W>) -> fmt::Result {
+        f.write_str(self.as_str())
+    }
+}
+
+#[cfg(test)]
+mod tests {
+    use super::*;
+    use std::collections::BTreeMap;
+
+    #[test]
+    fn reads_names_alone(rt: HostRuntime) {
+        // Each with whether it is a name, by BEP's rules for names and this profile's limits.
+        let longest = [b'n'; 1024];
+        let too_long = [b'n'; 1025];
+        for (bytes, is_name) in [
+            (&longest[..], true),
+            (&too_long[..], false),
+            (&b""[..], false),
+            (&b"a"[..], true),
+            (&b"notes.txt"[..], true),
+            (&b"a/b/c"[..], true),
+            (&b"a//b"[..], false),
+            (&b"/a"[..], false),
+            (&b"a/"[..], false),
+            (&b"/"[..], false),
+            (&b"."[..], false),
+            (&b".."[..], false),
+            (&b"a/.."[..], false),
+            (&b"./a"[..], false),
+            (&b"..b"[..], true),
+            (&b"..."[..], true),
+            (&b".profile"[..], true),
+            (&b"a\0b"[..], false),
+            (&[0xff][..], false),
+            // A surrogate's three bytes are no UTF-8.
+            (&[0xed, 0xa0, 0x80][..], false),
+            (&[0xc3, 0xa9, b'/', 0xf0, 0x9f, 0x98, 0x80][..], true),
+        ] {
+            match Name::read(rt.alloc(), bytes) {
+                Ok(name) => {
+                    assert!(rt; is_name);
+                    assert!(rt; name.as_bytes() == bytes);
+                    assert_eq!(rt; name.as_str().len(), bytes.len());
+                }
+                Err(error) => {
+                    assert!(rt; !is_name);
+                    assert_eq!(rt; error, RecordError::NameBad);
+                }
+            }
+        }
+    }
+
+    #[test]
+    fn copies_compares_and_prints(rt: HostRuntime) -> Result<(), RecordError> {
+        let name = Name::read(rt.alloc(), b"a.d/b")?;
+        let copy = name.copy(rt.alloc())?;
+        assert!(rt; copy == name);
+        assert_eq!(rt; copy.as_str(), "a.d/b");
+        assert_eq!(rt; format!(in rt.alloc(); "{copy}")?.as_str(), "a.d/b");
+        assert_eq!(rt; format!(in rt.alloc(); "{copy:?}")?.as_str(), "\"a.d/b\"");
+
+        // By bytes, and not by length.
+        let short = Name::read(rt.alloc(), b"b")?;
+        assert!(rt; name < short);
+        assert_eq!(rt; short.cmp(&name), Ordering::Greater);
+        Ok(())
+    }
+
+    #[test]
+    fn names_are_keys_of_a_map(rt: HostRuntime) -> Result<(), RecordError> {
+        let mut sizes = BTreeMap::new(rt.alloc());
+        sizes.insert(Name::read(rt.alloc(), b"b")?, 1u8)?;
+        sizes.insert(Name::read(rt.alloc(), b"a.d/b")?, 2u8)?;
+        let old = sizes.insert(Name::read(rt.alloc(), b"b")?, 3u8)?;
+        assert_eq!(rt; old, Some(1));
+        assert_eq!(rt; sizes.len(), 2);
+        assert_eq!(rt;
+            sizes.get(&Name::read(rt.alloc(), b"a.d/b")?).copied(),
+            Some(2)
+        );
+        Ok(())
     }
 }

@@ -1,34 +1,418 @@
-ghost use Rattle.std.specs.Prelude.{◌≡◌, ◌↔◌, IfOk, IsTrue};
+ghost use Rattle.std.specs.Prelude.{◌≡◌, ℕ, ◌+◌, ◌^◌, ◌<◌, ◌≤◌, ◌↔◌, ◌⊎◌, ◌==◌, if◌then◌else◌, List, [], length, IsTrue, SomeIff, OnOk, OnErr, IfErr, IsErrOf, nat_lt, count_by};
+ghost use Rattle.arrayvec.specs.ArrayVec.{array_vec_len};
+ghost use Rattle.bep_record.specs.Vector.{counter_of, greatest_counter, most_counters, IsVersion, IsAtMost, IsBelow, IsOrder, IsMerge, IsBump, ChangesOnly, ids_in_either};
 
+use crate::{DeviceId, RecordError};
 use arrayvec::ArrayVec;
-use std::alloc::{AllocError, Global};
 use std::marker::Model;
 
-#[derive(Debug, Drop)]
+/// How two version vectors stand to each other.
+///
+/// BEP v1, 'Vector'.
+#[derive(Clone, Copy, Debug, PartialEq, Eq)]
+pub enum Order {
+    /// Every counter is the same.
+    Equal,
+    /// The first is strictly below the second.
+    Below,
+    /// The first is strictly above the second.
+    Above,
+    /// Each has a counter above the other's.
+    Concurrent,
+}
+
+/// A version vector: for each device that changed an item a counter, a pair of its short id and a value.
+///
+/// The ids rise and aren't 0, the values are 1 to 9223372036854775807, and there are at most 16 counters. A missing
+/// counter counts as 0. A vector takes no memory from an allocator. BEP v1, 'Vector'; the limits are this project's
+/// profile.
+#[derive(Debug, Drop, PartialEq, Eq)]
 pub struct Vector {
     counters: ArrayVec<(u64, u64), 16>,
 }
 
 impl Model for Vector {
-    ghost use Rattle.std.specs.Prelude.{List, ℕ};
+    ghost use Rattle.std.specs.Prelude.{ℕ, List};
+    ghost use Rattle.bep_record.specs.Vector.{IsVersion};
 
     ghost Value = { List (ℕ × ℕ) };
 
-    ghost view = { λ v. v.counters.items };
+    ghost view = { λ vector. vector.counters.items };
+
+    ghost invariant = { λ vector. IsVersion vector.counters.items };
+
+    ghost inverse = { λ counters. record { counters = record { items = counters } } };
 }
 
+const GREATEST_COUNTER: u64 = 9_223_372_036_854_775_807;
+
+const MOST_COUNTERS: usize = 16;
+
 impl Vector {
+    /// The vector with no counter.
+    pub fn empty() -> Self
+        ensures { result ≡ [] }
+    {
+        Vector {
+            counters: ArrayVec::new(),
+        }
+    }
+
+    /// The vector with these counters, `None` where they aren't well formed: where the ids don't rise or one is 0, a
+    /// value is 0 or above 9223372036854775807, or there are more than 16.
+    pub fn read(counters: &[(u64, u64)]) -> Option<Self>
+        ensures { SomeIff result (IsVersion counters.now × (length counters.now ≤ most_counters)) counters.now }
+    {
+        if !is_version(counters) {
+            return None;
+        }
+        let mut taken = ArrayVec::new();
+        taken.try_extend_from_slice(counters).ok()?;
+        Some(Vector { counters: taken })
+    }
+
+    /// The counters, ids rising.
     pub fn counters(&self) -> &[(u64, u64)]
-        ensures { result.now ≡ self.now }
+        ensures value { result.now ≡ self.now }
+        ensures well_formed { IsVersion self.now }
+        ensures few { length self.now ≤ most_counters }
     {
         self.counters.as_slice()
     }
 
-    pub fn copy(&self) -> Vector
+    /// The counter of a device, 0 where there is none.
+    pub fn get(&self, id: DeviceId) -> u64
+        ensures value { result ≡ counter_of self.now id }
+        ensures bound { result ≤ greatest_counter }
+    {
+        counter_at(self.counters(), id.number())
+    }
+
+    /// Whether each counter is at most the other vector's.
+    pub fn is_at_most(&self, other: &Vector) -> bool
+        ensures { IsTrue result ↔ IsAtMost self.now other.now }
+    {
+        is_at_most(self.counters(), other.counters())
+    }
+
+    /// How this vector stands to the other.
+    pub fn order(&self, other: &Vector) -> Order
+        ensures order { IsOrder self.now other.now result }
+        ensures equal { (result ≡ Order.Equal) ↔ (self.now ≡ other.now) }
+    {
+        let own = self.counters();
+        let others = other.counters();
+        match (is_at_most(own, others), is_at_most(others, own)) {
+            (true, true) => Order::Equal,
+            (true, false) => Order::Below,
+            (false, true) => Order::Above,
+            (false, false) => Order::Concurrent,
+        }
+    }
+
+    /// An equal vector of its own.
+    pub fn copy(&self) -> Self
         ensures { result ≡ self.now }
     {
         let mut counters = ArrayVec::new();
-        let _r = counters.try_extend_from_slice(self.counters.as_slice());
+        for counter in self.counters() {
+            counters.push(*counter);
+        }
         Vector { counters }
+    }
+
+    /// Raises the counter of a device by 1, as a change made there does.
+    ///
+    /// Refused with `CounterFull` where the counter is at its greatest value, and with `TooManyCounters` where the
+    /// device has none yet and there are 16 others; the vector is then as before.
+    pub fn bump(&mut self, id: DeviceId) -> Result<(), RecordError>
+        ensures bumped { OnOk result (IsBump self.old id self.new) }
+        ensures full { IsErrOf result RecordError.CounterFull ↔ (counter_of self.old id ≡ greatest_counter) }
+        ensures many { IsErrOf result RecordError.TooManyCounters
+            ↔ ((counter_of self.old id ≡ 0) × (length self.old ≡ most_counters)) }
+        ensures no_other { IfErr result (λ e. (e ≡ RecordError.CounterFull) ⊎ (e ≡ RecordError.TooManyCounters)) }
+        ensures unchanged { OnErr result (self.new ≡ self.old) }
+    {
+        let value = self.get(id);
+        if value == GREATEST_COUNTER {
+            return Err(RecordError::CounterFull);
+        }
+        if value == 0 && self.counters.is_full() {
+            return Err(RecordError::TooManyCounters);
+        }
+        put(&mut self.counters, id.number(), value + 1);
+        Ok(())
+    }
+
+    /// Takes over the greater of each counter from the other vector.
+    ///
+    /// Refused with `TooManyCounters` where more than 16 devices have a counter in one of the two; the vector is then
+    /// as before.
+    pub fn merge(&mut self, other: &Vector) -> Result<(), RecordError>
+        ensures merged { OnOk result (IsMerge self.old other.now self.new) }
+        ensures counted { OnOk result (length self.new ≡ ids_in_either self.old other.now) }
+        ensures many { IsErrOf result RecordError.TooManyCounters
+            ↔ (most_counters < ids_in_either self.old other.now) }
+        ensures no_other { IfErr result (λ e. e ≡ RecordError.TooManyCounters) }
+        ensures unchanged { OnErr result (self.new ≡ self.old) }
+    {
+        if ids_in_either(self.counters(), other.counters()) > MOST_COUNTERS {
+            return Err(RecordError::TooManyCounters);
+        }
+        put_greater(&mut self.counters, other.counters());
+        Ok(())
+    }
+}
+
+/// Laws of the order on version vectors, each stated by a function that does nothing.
+impl Vector {
+    /// Well-formed vectors that are at most each other are equal.
+    pub fn equal_where_both_at_most()
+        ensures { (u v : List (ℕ × ℕ)) → IsVersion u → IsVersion v → IsAtMost u v → IsAtMost v u → u ≡ v }
+    {}
+
+    /// To be at most is an order.
+    pub fn at_most_is_an_order()
+        ensures reflexive { (u : List (ℕ × ℕ)) → IsAtMost u u }
+        ensures transitive { (u v w : List (ℕ × ℕ)) → IsAtMost u v → IsAtMost v w → IsAtMost u w }
+    {}
+
+    /// To be strictly below goes on along what is at most.
+    pub fn below_goes_on()
+        ensures from_below { (u v w : List (ℕ × ℕ)) → IsAtMost u v → IsBelow v w → IsBelow u w }
+        ensures to_above { (u v w : List (ℕ × ℕ)) → IsBelow u v → IsAtMost v w → IsBelow u w }
+    {}
+
+    /// The merge is the least vector that both are at most.
+    pub fn merge_is_least()
+        ensures first { (u v w : List (ℕ × ℕ)) → IsMerge u v w → IsAtMost u w }
+        ensures second { (u v w : List (ℕ × ℕ)) → IsMerge u v w → IsAtMost v w }
+        ensures least { (u v w x : List (ℕ × ℕ)) → IsMerge u v w → IsAtMost u x → IsAtMost v x → IsAtMost w x }
+    {}
+
+    /// What is strictly below a vector is strictly below each merge of it.
+    pub fn merge_keeps_above()
+        ensures { (u v x w : List (ℕ × ℕ)) → IsBelow u v → IsMerge v x w → IsBelow u w }
+    {}
+
+    /// A bump leads strictly above.
+    pub fn bump_is_above()
+        ensures { (u w : List (ℕ × ℕ)) (id : ℕ) → IsBump u id w → IsBelow u w }
+    {}
+}
+
+// The ids rise and aren't 0, and the values are in range.
+fn is_version(counters: &[(u64, u64)]) -> bool
+    ensures { IsTrue result ↔ IsVersion counters.now }
+{
+    let mut low = 0;
+    for (id, value) in counters {
+        if *id <= low || *value == 0 || *value > GREATEST_COUNTER {
+            return false;
+        }
+        low = *id;
+    }
+    true
+}
+
+fn counter_at(counters: &[(u64, u64)], id: u64) -> u64
+    ensures { result ≡ counter_of counters.now id }
+{
+    for counter in counters {
+        if counter.0 == id {
+            return counter.1;
+        }
+    }
+    0
+}
+
+fn is_at_most(first: &[(u64, u64)], second: &[(u64, u64)]) -> bool
+    requires { IsVersion first.now }
+    ensures { IsTrue result ↔ IsAtMost first.now second.now }
+{
+    first
+        .iter()
+        .all(|counter| counter.1 <= counter_at(second, counter.0))
+}
+
+fn ids_in_either(first: &[(u64, u64)], second: &[(u64, u64)]) -> usize
+    requires first_small { length first.now < 2 ^ 32 }
+    requires second_small { length second.now < 2 ^ 32 }
+    ensures { result ≡ ids_in_either first.now second.now }
+{
+    first.len()
+        + second
+            .iter()
+            .filter(|counter| counter_at(first, counter.0) == 0)
+            .count()
+}
+
+// How many ids are below this one.
+fn place_of(counters: &[(u64, u64)], id: u64) -> usize
+    ensures { result ≡ count_by (λ counter. nat_lt counter.0 id) counters.now }
+{
+    counters.iter().filter(|counter| counter.0 < id).count()
+}
+
+// Sets one counter. Where there was none, there must be room for it.
+fn put(counters: &mut ArrayVec<(u64, u64), 16>, id: u64, value: u64)
+    requires version { IsVersion counters.old.items }
+    requires id { 1 ≤ id }
+    requires value { (1 ≤ value) × (value ≤ greatest_counter) }
+    requires room { counter_of counters.old.items id ≡ 0 → array_vec_len counters.old < most_counters }
+    ensures version { IsVersion counters.new.items }
+    ensures put { ChangesOnly counters.old.items counters.new.items id value }
+    ensures len { array_vec_len counters.new
+        ≡ array_vec_len counters.old + (if counter_of counters.old.items id == 0 then 1 else 0) }
+{
+    let place = place_of(counters.as_slice(), id);
+    if counter_at(counters.as_slice(), id) == 0 {
+        counters.insert(place, (id, value));
+    } else {
+        counters[place] = (id, value);
+    }
+}
+
+// Raises each counter to that of `others`, for all of which there must be room.
+fn put_greater(counters: &mut ArrayVec<(u64, u64), 16>, others: &[(u64, u64)])
+    requires version { IsVersion counters.old.items }
+    requires other_version { IsVersion others.now }
+    requires room { ids_in_either counters.old.items others.now ≤ most_counters }
+    ensures version { IsVersion counters.new.items }
+    ensures merged { IsMerge counters.old.items others.now counters.new.items }
+    ensures counted { array_vec_len counters.new ≡ ids_in_either counters.old.items others.now }
+{
+    for (id, value) in others {
+        let own = counter_at(counters.as_slice(), *id);
+        put(counters, *id, own.max(*value));
+    }
+}
+
+#[cfg(test)]
+mod tests {
+    use super::*;
+    use std::test::Fail;
+
+    fn device(number: u64) -> Result<DeviceId, Fail> {
+        Ok(DeviceId::read(number).ok_or("no device has the number 0")?)
+    }
+
+    fn vector(counters: &[(u64, u64)]) -> Result<Vector, Fail> {
+        Ok(Vector::read(counters).ok_or("the counters aren't well formed")?)
+    }
+
+    const SIXTEEN: [(u64, u64); 16] = [
+        (1, 1),
+        (2, 1),
+        (3, 1),
+        (4, 1),
+        (5, 1),
+        (6, 1),
+        (7, 1),
+        (8, 1),
+        (9, 1),
+        (10, 1),
+        (11, 1),
+        (12, 1),
+        (13, 1),
+        (14, 1),
+        (15, 1),
+        (16, 1),
+    ];
+
+    #[test]
+    fn orders(rt: HostRuntime) -> Result<(), Fail> {
+        let one = vector(&[(1, 1)])?;
+        let two = vector(&[(1, 2)])?;
+        let other = vector(&[(1, 1), (2, 1)])?;
+        assert_eq!(rt; one.order(&one.copy()), Order::Equal);
+        assert_eq!(rt; one.order(&two), Order::Below);
+        assert_eq!(rt; two.order(&one), Order::Above);
+        assert_eq!(rt; two.order(&other), Order::Concurrent);
+        assert_eq!(rt; Vector::empty().order(&one), Order::Below);
+        Ok(())
+    }
+
+    #[test]
+    fn merges(rt: HostRuntime) -> Result<(), Fail> {
+        let mut merged = vector(&[(1, 2)])?;
+        merged.merge(&vector(&[(1, 1), (2, 1)])?)?;
+        assert_eq!(rt; merged.counters(), [(1, 2), (2, 1)].as_slice());
+        let mut empty = Vector::empty();
+        empty.merge(&merged)?;
+        assert_eq!(rt; empty.counters(), [(1, 2), (2, 1)].as_slice());
+        Ok(())
+    }
+
+    #[test]
+    fn bumps(rt: HostRuntime) -> Result<(), Fail> {
+        let mut version = Vector::empty();
+        version.bump(device(5)?)?;
+        version.bump(device(3)?)?;
+        version.bump(device(5)?)?;
+        assert_eq!(rt; version.counters(), [(3, 1), (5, 2)].as_slice());
+        assert_eq!(rt; version.get(device(5)?), 2);
+        assert_eq!(rt; version.get(device(4)?), 0);
+        Ok(())
+    }
+
+    #[test]
+    fn refuses_a_full_counter(rt: HostRuntime) -> Result<(), Fail> {
+        let mut version = vector(&[(1, 9223372036854775807)])?;
+        let id = device(1)?;
+        for _ in 0..2 {
+            assert_eq!(rt; version.bump(id), Err(RecordError::CounterFull));
+            assert_eq!(rt; version.counters(), [(1, 9223372036854775807)].as_slice());
+        }
+        Ok(())
+    }
+
+    #[test]
+    fn refuses_a_seventeenth_counter(rt: HostRuntime) -> Result<(), Fail> {
+        let mut version = vector(&SIXTEEN)?;
+        assert_eq!(rt;
+            version.bump(device(17)?),
+            Err(RecordError::TooManyCounters)
+        );
+        assert_eq!(rt;
+            version.merge(&vector(&[(17, 1)])?),
+            Err(RecordError::TooManyCounters)
+        );
+        assert_eq!(rt; version.counters(), SIXTEEN.as_slice());
+        version.merge(&vector(&[(16, 2)])?)?;
+        assert_eq!(rt; version.get(device(16)?), 2);
+        Ok(())
+    }
+
+    #[test]
+    fn reads_only_what_is_well_formed(rt: HostRuntime) -> Result<(), Fail> {
+        assert_eq!(rt; Vector::read(&[]), Some(Vector::empty()));
+        assert_eq!(rt; Vector::read(&[(2, 1), (1, 1)]), None);
+        assert_eq!(rt; Vector::read(&[(1, 1), (1, 1)]), None);
+        assert_eq!(rt; Vector::read(&[(0, 1)]), None);
+        assert_eq!(rt; Vector::read(&[(1, 0)]), None);
+        assert_eq!(rt; Vector::read(&[(1, 9223372036854775808)]), None);
+        let seventeen = [
+            (1, 1),
+            (2, 1),
+            (3, 1),
+            (4, 1),
+            (5, 1),
+            (6, 1),
+            (7, 1),
+            (8, 1),
+            (9, 1),
+            (10, 1),
+            (11, 1),
+            (12, 1),
+            (13, 1),
+            (14, 1),
+            (15, 1),
+            (16, 1),
+            (17, 1),
+        ];
+        assert_eq!(rt; Vector::read(&seventeen), None);
+        assert_eq!(rt; vector(&seventeen[..16])?.counters(), SIXTEEN.as_slice());
+        Ok(())
     }
 }
