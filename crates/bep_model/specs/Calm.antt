@@ -43,7 +43,8 @@ IsCalm t contents = (device : Device) (folder : Folder) (name : FileName) → Sh
 abbrev pub SameFile : Option NodeParts → Option NodeParts → Type 0
 SameFile None None = ⊤
 SameFile (Some node) (Some other) = (node.kind ≡ other.kind) × (node.bytes ≡ other.bytes) × (node.target ≡ other.target)
-SameFile node other = ⊥
+SameFile None (Some other) = ⊥
+SameFile (Some node) None = ⊥
 
 -- each store holds byte for byte what it held
 abbrev pub Kept : Tables → Tables → Type 0

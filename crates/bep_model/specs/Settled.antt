@@ -45,7 +45,7 @@ OwnAgrees (Some own) content = (own.invalid ≡ false) × (content_of own ≡ co
 
 -- the store holds this, and a scan would leave it alone
 pub record StoreAgrees (node : Option NodeParts) (own : Option Entry) (content : Content) : Type 0 where
-  pub content : content_of_node node ≡ content
+  pub holds : content_of_node node ≡ content
   pub clean : IsClean node own
 
 -- no foreign record can change it
