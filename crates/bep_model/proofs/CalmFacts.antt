@@ -107,5 +107,5 @@ settled_is_calm_lem t rows settled device folder name shares =
      some.key
      (λ shares content. calm_at_row t rows (contents_of rows) settled some.row device some.member shares content)
      shares some.content)
-    (λ none. calm_where_unknown t (contents_of rows) device folder name shares (λ known. none.no_row ((settled.names folder name).0 known)) none.content)
+    (λ none. calm_where_unknown t (contents_of rows) device folder name shares (λ known. none.no_row ((settled.certificate.names folder name).0 known)) none.content)
     (content_or_none rows folder name)

@@ -47,10 +47,10 @@ winner_at : (t : Tables) (row : Row) (folder : Folder) (name : FileName) → key
 winner_at t row folder name key winner = subst (λ (k : Folder × FileName). IsWinner t k.0 k.1 (row.device, row.entry)) key winner
 
 name_asks : (t : Tables) (rows : List Row) → IsSettled t rows → (reason : Reason) (folder : Folder) (name : FileName) → AsksName t rows reason folder name
-name_asks t rows settled CertificateOrder folder name = λ fails. let e = none_disordered rows settled.rise in cc
-name_asks t rows settled NameMissing folder name = (settled.names folder name).0
-name_asks t rows settled NameUnknown folder name = (settled.names folder name).1
-name_asks t rows settled NotWinner folder name = λ row member key. winner_at t row folder name key (settled.winners row member)
+name_asks t rows settled CertificateOrder folder name = λ fails. let e = none_disordered rows settled.certificate.rise in cc
+name_asks t rows settled NameMissing folder name = (settled.certificate.names folder name).0
+name_asks t rows settled NameUnknown folder name = (settled.certificate.names folder name).1
+name_asks t rows settled NotWinner folder name = λ row member key. winner_at t row folder name key (settled.certificate.winners row member)
 name_asks t rows settled RecordMissing folder name = tt
 name_asks t rows settled RecordDiffers folder name = tt
 name_asks t rows settled LocalOnly folder name = tt
@@ -109,9 +109,11 @@ own_agrees (Some own) content missing differs valid = (valid own refl, differs o
 
 settled_from_faultless : (t : Tables) (rows : List Row) → Faultless t rows → IsSettled t rows
 settled_from_faultless t rows faultless = record {
-  rise = rise_from_none_disordered rows (none_from_no_key _ (λ folder name. asks_name t rows faultless CertificateOrder folder name));
-  names = λ folder name. (asks_name t rows faultless NameMissing folder name, asks_name t rows faultless NameUnknown folder name);
-  winners = λ row member. asks_name t rows faultless NotWinner row.folder row.entry.name row member refl;
+  certificate = record {
+    rise = rise_from_none_disordered rows (none_from_no_key _ (λ folder name. asks_name t rows faultless CertificateOrder folder name));
+    names = λ folder name. (asks_name t rows faultless NameMissing folder name, asks_name t rows faultless NameUnknown folder name);
+    winners = λ row member. asks_name t rows faultless NotWinner row.folder row.entry.name row member refl
+  };
   own = λ row device member shares.
     own_agrees _ _
     (asks_share t rows faultless RecordMissing row device member shares)

@@ -2,7 +2,7 @@
 use Rattle.std.proofs.Common.{◌≡◌, ◌⊎◌, ℕ, Bool, true, false, List, refl, sym, ap, ◌∙◌, inl, inr}
 use Rattle.std.specs.declared.cmp.Ordering.{Ordering}
 use Rattle.std.specs.declared.cmp.Ordering.TheVariants.{Less, Equal, Greater}
-use Rattle.std.specs.Ordering.{nat_cmp, is_eq, is_lt, ordering_reverse}
+use Rattle.std.specs.Ordering.{nat_cmp, is_eq, ordering_then}
 use Rattle.std.specs.Cmp.{IsTotalOrder}
 use Rattle.std.specs.Cmp.Lexicographic.{slice_cmp}
 use Rattle.std.proofs.lemmas.Cmp.{tied_itself, then_total, on_total, nat_list_cmp_total}
@@ -30,3 +30,14 @@ Equal_from_is_eq Greater e = absurd (cc)
 -- less one way isn't less the other way, and isn't equal
 pub not_less_itself : (key : Folder × FileName) → ¬ (key_cmp key key ≡ Less)
 not_less_itself key e = let t = tied_itself key_total key in cc
+
+pub order_cases : (o : Ordering) → (o ≡ Less) ⊎ ((o ≡ Equal) ⊎ (o ≡ Greater))
+order_cases Less = inl refl
+order_cases Equal = inr (inl refl)
+order_cases Greater = inr (inr refl)
+
+-- one order and then another tie where both tie
+pub both_tied : (o p : Ordering) → ordering_then o p ≡ Equal → (o ≡ Equal) × (p ≡ Equal)
+both_tied Less p e = absurd (cc)
+both_tied Equal p e = (refl, e)
+both_tied Greater p e = absurd (cc)

@@ -2,3 +2,4 @@ pub mod Members
 pub mod Keys
 pub mod CalmFacts
 pub mod Faultless
+pub mod Verdicts

@@ -3,7 +3,7 @@ use Rattle.std.specs.Prelude.{◌≡◌, ◌↔◌, List}
 use Rattle.bep_model.specs.declared.row.Row.{Row}
 use Rattle.bep_model.specs.declared.reason.Reason.{Reason}
 use Rattle.bep_model.specs.Tables.{Tables}
-use Rattle.bep_model.specs.Settled.{IsSettled}
+use Rattle.bep_model.specs.Settled.{IsListOfWinners, IsSettled}
 use Rattle.bep_model.specs.Reasons.{Place, Asks}
 use Rattle.bep_model.specs.Verdict.{Verdict, IsVerdict}
 use Rattle.bep_model.specs.Calm.{IsCalm, contents_of}
@@ -15,6 +15,14 @@ SettledIsFaultless = (t : Tables) (rows : List Row) → IsSettled t rows ↔ ((r
 -- there is one verdict at most
 abbrev pub VerdictIsUnique : Type 0
 VerdictIsUnique = (t : Tables) (rows : List Row) (one other : Verdict) → IsVerdict t rows one → IsVerdict t rows other → one ≡ other
+
+-- a settled list of rows is the list of the winners of the known names, in order
+abbrev pub SettledIsListOfWinners : Type 0
+SettledIsListOfWinners = (t : Tables) (rows : List Row) → IsSettled t rows → IsListOfWinners t rows
+
+-- a cut has one list of winners at most
+abbrev pub ListOfWinnersIsUnique : Type 0
+ListOfWinnersIsUnique = (t : Tables) (rows others : List Row) → IsListOfWinners t rows → IsListOfWinners t others → rows ≡ others
 
 -- a cut is settled for one list of rows at most
 abbrev pub CertificateIsUnique : Type 0

@@ -57,12 +57,15 @@ ForeignAgrees t device folder name content =
 abbrev pub AtEachShare : Tables → List Row → (Row → Device → Type 0) → Type 0
 AtEachShare t rows P = (row : Row) (device : Device) → Contains rows row → Shares t device row.folder → P row device
 
-pub record IsSettled (t : Tables) (rows : List Row) : Type 0 where
-  -- the certificate has the known names, in order, each with its winner
+-- the rows of the known names, in order, each with its name's winner
+pub record IsListOfWinners (t : Tables) (rows : List Row) : Type 0 where
   pub rise : Rise rows
   pub names : (folder : Folder) (name : FileName) → IsKnown t folder name ↔ HasRow rows folder name
   pub winners : (row : Row) → Contains rows row → IsWinner t row.folder row.entry.name (row.device, row.entry)
-  -- each sharing device agrees with it
+
+-- settled: the certificate is the list of the winners, and each sharing device agrees with it
+pub record IsSettled (t : Tables) (rows : List Row) : Type 0 where
+  pub certificate : IsListOfWinners t rows
   pub own : AtEachShare t rows (λ row device. OwnAgrees (t.own device row.folder row.entry.name) (content_of row.entry))
   pub store : AtEachShare t rows (λ row device. StoreAgrees (t.node device row.folder row.entry.name) (t.own device row.folder row.entry.name) (content_of row.entry))
   pub foreign : AtEachShare t rows (λ row device. ForeignAgrees t device row.folder row.entry.name (content_of row.entry))

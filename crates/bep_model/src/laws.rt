@@ -1,4 +1,4 @@
-ghost use Rattle.bep_model.specs.Laws.{SettledIsFaultless, VerdictIsUnique, CertificateIsUnique, SettledIsCalm};
+ghost use Rattle.bep_model.specs.Laws.{SettledIsFaultless, VerdictIsUnique, SettledIsListOfWinners, ListOfWinnersIsUnique, CertificateIsUnique, SettledIsCalm};
 
 /// Settled holds exactly where no reason fails anywhere.
 pub fn settled_is_faultless()
@@ -12,9 +12,12 @@ pub fn verdict_is_unique()
 {
 }
 
-/// A cut is settled for one list of rows at most.
+/// The rows of a settled cut are the winners of the known names, in order. A cut has one such list at most, so it is
+/// settled for one list of rows at most.
 pub fn certificate_is_unique()
-    ensures { CertificateIsUnique }
+    ensures winners { SettledIsListOfWinners }
+    ensures one_list { ListOfWinnersIsUnique }
+    ensures certificate { CertificateIsUnique }
 {
 }
 
