@@ -1,5 +1,5 @@
 -- Whether a device needs the record that it chose (this project's profile, over Syncthing, 'Folder Types').
-use Rattle.std.specs.Prelude.{◌≡◌, ◌≢◌, ℕ, Bool, true, false, false, Option, Some, None, List}
+use Rattle.std.specs.Prelude.{◌≡◌, ◌≢◌, ℕ, Bool, true, false, Option, Some, None, List}
 use Rattle.bep_record.specs.declared.entry.Entry.{Entry}
 use Rattle.bep_record.specs.Content.{content_of}
 use Rattle.bep_record.specs.Vector.{IsAtMost}

@@ -17,6 +17,8 @@ mod name;
 mod node;
 mod record;
 mod target;
+#[cfg(test)]
+mod tests;
 mod text;
 mod vector;
 

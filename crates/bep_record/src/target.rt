@@ -116,32 +116,32 @@ impl fmt::Debug for Target {
 mod tests {
     use super::*;
 
+    // Why the bytes are refused; `None` where they are read as they are.
+    fn refusal(alloc: Global, bytes: &[u8]) -> Option<RecordError> {
+        match Target::read(alloc, bytes) {
+            Ok(target) if target.as_bytes() == bytes => None,
+            Ok(_) => Some(RecordError::Memory),
+            Err(error) => Some(error),
+        }
+    }
+
     #[test]
     fn reads_targets_alone(rt: HostRuntime) {
-        let longest = [b't'; 1024];
-        let too_long = [b't'; 1025];
-        for (bytes, is_target) in [
-            (&longest[..], true),
-            (&too_long[..], false),
-            (&b""[..], true),
-            (&b"../a//b/."[..], true),
-            (&b"a\0b"[..], false),
-            (&[0xff][..], false),
-            // A surrogate's three bytes are no UTF-8.
-            (&[0xed, 0xa0, 0x80][..], false),
-        ] {
-            match Target::read(rt.alloc(), bytes) {
-                Ok(target) => {
-                    assert!(rt; is_target);
-                    assert!(rt; target.as_bytes() == bytes);
-                    assert_eq!(rt; target.as_str().len(), bytes.len());
-                }
-                Err(error) => {
-                    assert!(rt; !is_target);
-                    assert_eq!(rt; error, RecordError::NodeBad);
-                }
-            }
+        // By this profile's limits.
+        for target in ["", "notes.txt", "../a//b/."] {
+            assert_eq!(rt; refusal(rt.alloc(), target.as_bytes()), None, "{target}");
         }
+        assert_eq!(rt; refusal(rt.alloc(), b"a\0b"), Some(RecordError::NodeBad));
+        assert_eq!(rt; refusal(rt.alloc(), &[0xff]), Some(RecordError::NodeBad));
+        // A surrogate's three bytes are no UTF-8.
+        assert_eq!(rt;
+            refusal(rt.alloc(), &[0xed, 0xa0, 0x80]),
+            Some(RecordError::NodeBad)
+        );
+
+        let bytes = [b't'; 1025];
+        assert_eq!(rt; refusal(rt.alloc(), &bytes[..1024]), None);
+        assert_eq!(rt; refusal(rt.alloc(), &bytes), Some(RecordError::NodeBad));
     }
 
     #[test]

@@ -1,4 +1,4 @@
-ghost use Rattle.std.specs.Prelude.{◌≡◌, ℕ, ◌+◌, ◌^◌, ◌<◌, ◌≤◌, ◌↔◌, ◌⊎◌, ◌==◌, if◌then◌else◌, List, [], length, IsTrue, SomeIff, OnOk, OnErr, IfErr, IsErrOf, nat_lt, count_by};
+ghost use Rattle.std.specs.Prelude.{◌≡◌, ℕ, ◌+◌, ◌<◌, ◌≤◌, ◌↔◌, ◌⊎◌, ◌==◌, if◌then◌else◌, List, [], length, IsTrue, SomeIff, OnOk, OnErr, IfErr, IsErrOf, nat_lt, count_by};
 ghost use Rattle.arrayvec.specs.ArrayVec.{array_vec_len};
 ghost use Rattle.bep_record.specs.Vector.{counter_of, greatest_counter, most_counters, IsVersion, IsAtMost, IsBelow, IsOrder, IsMerge, IsBump, ChangesOnly, ids_in_either};
 
@@ -201,7 +201,7 @@ impl Vector {
     {}
 }
 
-// The ids rise and aren't 0, and the values are in range.
+// Whether the ids rise and aren't 0, and the values are in range.
 fn is_version(counters: &[(u64, u64)]) -> bool
     ensures { IsTrue result ↔ IsVersion counters.now }
 {
@@ -215,6 +215,7 @@ fn is_version(counters: &[(u64, u64)]) -> bool
     true
 }
 
+// The counter at this id, 0 where there is none.
 fn counter_at(counters: &[(u64, u64)], id: u64) -> u64
     ensures { result ≡ counter_of counters.now id }
 {
@@ -226,6 +227,7 @@ fn counter_at(counters: &[(u64, u64)], id: u64) -> u64
     0
 }
 
+// Whether each counter of the first is at most that of the second.
 fn is_at_most(first: &[(u64, u64)], second: &[(u64, u64)]) -> bool
     requires { IsVersion first.now }
     ensures { IsTrue result ↔ IsAtMost first.now second.now }
@@ -235,9 +237,10 @@ fn is_at_most(first: &[(u64, u64)], second: &[(u64, u64)]) -> bool
         .all(|counter| counter.1 <= counter_at(second, counter.0))
 }
 
+// How many ids have a counter in one of the two.
 fn ids_in_either(first: &[(u64, u64)], second: &[(u64, u64)]) -> usize
-    requires first_small { length first.now < 2 ^ 32 }
-    requires second_small { length second.now < 2 ^ 32 }
+    requires first_few { length first.now ≤ most_counters }
+    requires second_few { length second.now ≤ most_counters }
     ensures { result ≡ ids_in_either first.now second.now }
 {
     first.len()
@@ -301,24 +304,14 @@ mod tests {
         Ok(Vector::read(counters).ok_or("the counters aren't well formed")?)
     }
 
-    const SIXTEEN: [(u64, u64); 16] = [
-        (1, 1),
-        (2, 1),
-        (3, 1),
-        (4, 1),
-        (5, 1),
-        (6, 1),
-        (7, 1),
-        (8, 1),
-        (9, 1),
-        (10, 1),
-        (11, 1),
-        (12, 1),
-        (13, 1),
-        (14, 1),
-        (15, 1),
-        (16, 1),
-    ];
+    // The counters 1 for the ids from 1 on.
+    fn ones(count: u64) -> ArrayVec<(u64, u64), 17> {
+        let mut counters = ArrayVec::new();
+        for id in 0..count {
+            let _ = counters.try_push((id + 1, 1));
+        }
+        counters
+    }
 
     #[test]
     fn orders(rt: HostRuntime) -> Result<(), Fail> {
@@ -369,7 +362,8 @@ mod tests {
 
     #[test]
     fn refuses_a_seventeenth_counter(rt: HostRuntime) -> Result<(), Fail> {
-        let mut version = vector(&SIXTEEN)?;
+        let sixteen = ones(16);
+        let mut version = vector(&sixteen)?;
         assert_eq!(rt;
             version.bump(device(17)?),
             Err(RecordError::TooManyCounters)
@@ -378,7 +372,7 @@ mod tests {
             version.merge(&vector(&[(17, 1)])?),
             Err(RecordError::TooManyCounters)
         );
-        assert_eq!(rt; version.counters(), SIXTEEN.as_slice());
+        assert_eq!(rt; version.counters(), sixteen.as_slice());
         version.merge(&vector(&[(16, 2)])?)?;
         assert_eq!(rt; version.get(device(16)?), 2);
         Ok(())
@@ -386,33 +380,14 @@ mod tests {
 
     #[test]
     fn reads_only_what_is_well_formed(rt: HostRuntime) -> Result<(), Fail> {
-        assert_eq!(rt; Vector::read(&[]), Some(Vector::empty()));
-        assert_eq!(rt; Vector::read(&[(2, 1), (1, 1)]), None);
-        assert_eq!(rt; Vector::read(&[(1, 1), (1, 1)]), None);
-        assert_eq!(rt; Vector::read(&[(0, 1)]), None);
-        assert_eq!(rt; Vector::read(&[(1, 0)]), None);
-        assert_eq!(rt; Vector::read(&[(1, 9223372036854775808)]), None);
-        let seventeen = [
-            (1, 1),
-            (2, 1),
-            (3, 1),
-            (4, 1),
-            (5, 1),
-            (6, 1),
-            (7, 1),
-            (8, 1),
-            (9, 1),
-            (10, 1),
-            (11, 1),
-            (12, 1),
-            (13, 1),
-            (14, 1),
-            (15, 1),
-            (16, 1),
-            (17, 1),
-        ];
-        assert_eq!(rt; Vector::read(&seventeen), None);
-        assert_eq!(rt; vector(&seventeen[..16])?.counters(), SIXTEEN.as_slice());
+        assert!(rt; vector(&[])?.counters().is_empty());
+        assert!(rt; Vector::read(&[(2, 1), (1, 1)]).is_none());
+        assert!(rt; Vector::read(&[(1, 1), (1, 1)]).is_none());
+        assert!(rt; Vector::read(&[(0, 1)]).is_none());
+        assert!(rt; Vector::read(&[(1, 0)]).is_none());
+        assert!(rt; Vector::read(&[(1, 9223372036854775808)]).is_none());
+        assert!(rt; Vector::read(&ones(17)).is_none());
+        assert_eq!(rt; vector(&ones(16))?.counters().len(), 16);
         Ok(())
     }
 }

@@ -1,0 +1,5 @@
+pub mod Tops
+pub mod VersionOrder
+pub mod ChoiceOrder
+pub mod Existence
+pub mod Firsts
