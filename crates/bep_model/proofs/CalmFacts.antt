@@ -1,16 +1,15 @@
 -- What is settled is calm for the contents of its rows.
-use Rattle.std.proofs.Common.{◌≡◌, ◌⊎◌, ℕ, Bool, true, false, cond, List, [], ◌∷◌, Contains, Option, Some, None, IsSome, refl, sym, ap, subst, ◌∙◌, inl, inr, ⊎_elim}
+use Rattle.std.proofs.Common.{◌≡◌, ◌⊎◌, true, false, List, [], ◌∷◌, Contains, Option, Some, None, refl, sym, ap, subst, ◌∙◌, inl, inr, ⊎_elim}
 use Rattle.std.proofs.lemmas.Bool.{cases_Bool, cond-true, cond-false}
 use Rattle.std.specs.Ordering.{is_eq}
-use Rattle.std.specs.declared.cmp.Ordering.TheVariants.{Equal}
 use Rattle.bep_record.specs.declared.entry.Entry.{Entry}
 use Rattle.bep_record.specs.declared.node.NodeParts.{NodeParts}
 use Rattle.bep_record.specs.Content.{Content, Deleted, content_of}
 use Rattle.bep_model.specs.declared.row.Row.{Row}
 use Rattle.bep_model.specs.Tables.{Tables, Device, Folder, FileName, Shares}
-use Rattle.bep_model.specs.Foreign.{IsForeign, IsKnown}
+use Rattle.bep_model.specs.Foreign.{IsKnown}
 use Rattle.bep_model.specs.Settled.{IsSettled, HasRow, OwnAgrees, StoreAgrees, ForeignAgrees, key_of, key_cmp}
-use Rattle.bep_model.specs.Calm.{Contents, IsCalm, IsCalmAt, HasNoRecord, content_due, contents_of}
+use Rattle.bep_model.specs.Calm.{Contents, IsCalm, IsCalmAt, content_due, contents_of}
 use Rattle.bep_model.proofs.Members.{not_in_none, Contains-first, Contains-more, Contains-cons_cases, none_from_not_some}
 use Rattle.bep_model.proofs.Keys.{same_from_Equal, Equal_from_same, Equal_from_is_eq}
 
@@ -31,7 +30,7 @@ content_here row more folder name here = record {
   row = row;
   member = Contains-first row more;
   key = same_from_Equal (key_of row) (folder, name) (Equal_from_is_eq _ here);
-  content = cond-true _ _ _ here
+  content = cond-true _ _ _ here;
 }
 
 content_later : (row : Row) (more : List Row) (folder : Folder) (name : FileName) → is_eq (key_cmp (key_of row) (folder, name)) ≡ false → HasContent more folder name → HasContent (row ∷ more) folder name
@@ -39,20 +38,20 @@ content_later row more folder name past later = record {
   row = later.row;
   member = Contains-more row more later.row later.member;
   key = later.key;
-  content = cond-false _ _ _ past ∙ later.content
+  content = cond-false _ _ _ past ∙ later.content;
 }
 
 no_content : (row : Row) (more : List Row) (folder : Folder) (name : FileName) → is_eq (key_cmp (key_of row) (folder, name)) ≡ false → HasNoContent more folder name → HasNoContent (row ∷ more) folder name
 no_content row more folder name past none = record {
   no_row = λ has.
-    ⊎_elim
-    (λ same.
-     let here : key_of row ≡ (folder, name) = ap key_of same ∙ has.2 in
-     let equal = ap is_eq (Equal_from_same (key_of row) (folder, name) here) in
-     cc)
-    (λ more_has. none.no_row (has.0, more_has, has.2))
-    (Contains-cons_cases row more has.0 has.1);
-  content = cond-false _ _ _ past ∙ none.content
+      ⊎_elim
+      (λ same.
+      let here : key_of row ≡ (folder, name) = ap key_of same ∙ has.2 in
+      let equal = ap is_eq (Equal_from_same (key_of row) (folder, name) here) in
+      cc)
+      (λ more_has. none.no_row (has.0, more_has, has.2))
+      (Contains-cons_cases row more has.0 has.1);
+  content = cond-false _ _ _ past ∙ none.content;
 }
 
 pub content_or_none : (rows : List Row) (folder : Folder) (name : FileName) → HasContent rows folder name ⊎ HasNoContent rows folder name
@@ -61,10 +60,10 @@ content_or_none (row ∷ more) folder name =
     ⊎_elim
     (λ here. inl (content_here row more folder name here))
     (λ past.
-     ⊎_elim
-     (λ later. inl (content_later row more folder name past later))
-     (λ none. inr (no_content row more folder name past none))
-     (content_or_none more folder name))
+    ⊎_elim
+    (λ later. inl (content_later row more folder name past later))
+    (λ none. inr (no_content row more folder name past none))
+    (content_or_none more folder name))
     (cases_Bool (is_eq (key_cmp (key_of row) (folder, name))))
 
 calm_at_row : (t : Tables) (rows : List Row) (contents : Contents) → IsSettled t rows → (row : Row) (device : Device) → Contains rows row → Shares t device row.folder → contents row.folder row.entry.name ≡ Some (content_of row.entry) → IsCalmAt t contents device row.folder row.entry.name
@@ -74,7 +73,7 @@ calm_at_row t rows contents settled row device member shares e =
       own = subst (λ content. OwnAgrees (t.own device row.folder row.entry.name) content) due (settled.own row device member shares);
       store = subst (λ content. StoreAgrees (t.node device row.folder row.entry.name) (t.own device row.folder row.entry.name) content) due (settled.store row device member shares);
       foreign = subst (λ content. ForeignAgrees t device row.folder row.entry.name content) due (settled.foreign row device member shares);
-      unlisted = λ none. absurd (cc)
+      unlisted = λ none. absurd (cc);
     }
 
 -- nothing is recorded or held, and nothing is due
@@ -96,16 +95,16 @@ calm_where_unknown t contents device folder name shares unknown e =
       own = own_of_nothing _ _ no_own due;
       store = store_of_nothing _ _ _ no_node no_own due;
       foreign = λ entry is_foreign. absurd (unknown (device, shares, inr (inr (entry, is_foreign))));
-      unlisted = λ _. record { own = no_own; foreign = λ entry is_foreign. unknown (device, shares, inr (inr (entry, is_foreign))) }
+      unlisted = λ _. record { own = no_own; foreign = λ entry is_foreign. unknown (device, shares, inr (inr (entry, is_foreign))) };
     }
 
 pub settled_is_calm_lem : (t : Tables) (rows : List Row) → IsSettled t rows → IsCalm t (contents_of rows)
 settled_is_calm_lem t rows settled device folder name shares =
     ⊎_elim
     (λ some.
-     subst (λ (key : Folder × FileName). Shares t device key.0 → contents_of rows key.0 key.1 ≡ Some (content_of some.row.entry) → IsCalmAt t (contents_of rows) device key.0 key.1)
-     some.key
-     (λ shares content. calm_at_row t rows (contents_of rows) settled some.row device some.member shares content)
-     shares some.content)
+    subst (λ (key : Folder × FileName). Shares t device key.0 → contents_of rows key.0 key.1 ≡ Some (content_of some.row.entry) → IsCalmAt t (contents_of rows) device key.0 key.1)
+    some.key
+    (λ shares content. calm_at_row t rows (contents_of rows) settled some.row device some.member shares content)
+    shares some.content)
     (λ none. calm_where_unknown t (contents_of rows) device folder name shares (λ known. none.no_row ((settled.certificate.names folder name).0 known)) none.content)
     (content_or_none rows folder name)

@@ -1,5 +1,5 @@
 -- A cut is settled exactly where no reason fails.
-use Rattle.std.proofs.Common.{◌≡◌, ◌≢◌, ◌⊎◌, ◌↔◌, ℕ, Bool, true, false, cond, List, [], ◌∷◌, Contains, Option, Some, None, refl, sym, ap, subst, ◌∙◌, inl, inr, ⊎_elim}
+use Rattle.std.proofs.Common.{◌≡◌, ◌≢◌, true, false, List, [], ◌∷◌, Contains, Option, Some, None, refl, sym, ap, subst, ◌∙◌, inl, inr, ⊎_elim}
 use Rattle.std.proofs.lemmas.Bool.{cases_Bool, cond-true, cond-false}
 use Rattle.std.specs.Ordering.{is_lt}
 use Rattle.std.specs.declared.cmp.Ordering.{Ordering}
@@ -10,10 +10,9 @@ use Rattle.bep_model.specs.declared.row.Row.{Row}
 use Rattle.bep_model.specs.declared.reason.Reason.{Reason}
 use Rattle.bep_model.specs.declared.reason.Reason.TheVariants.{CertificateOrder, NameMissing, NameUnknown, NotWinner, RecordMissing, RecordDiffers, LocalOnly, StoreDiffers, StoreUnclean, ViewAhead, FlightAhead, PullAhead}
 use Rattle.bep_model.specs.Tables.{Tables, Device, Folder, FileName, Shares}
-use Rattle.bep_model.specs.Foreign.{IsForeign, IsHarmless, IsViewed, IsFlying, IsTarget}
 use Rattle.bep_model.specs.Winner.{IsWinner}
-use Rattle.bep_model.specs.Settled.{IsSettled, Rise, HasRow, OwnAgrees, key_of, key_cmp}
-use Rattle.bep_model.specs.Reasons.{Place, Asks, AsksAt, AsksName, AsksDevice, AsksShare, AsksHarmless, first_disordered}
+use Rattle.bep_model.specs.Settled.{IsSettled, Rise, OwnAgrees, key_of, key_cmp}
+use Rattle.bep_model.specs.Reasons.{Place, Asks, AsksAt, AsksName, AsksShare, first_disordered}
 use Rattle.bep_model.specs.Laws.{SettledIsFaultless}
 
 -- ---- the order of rows
@@ -112,30 +111,31 @@ settled_from_faultless t rows faultless = record {
   certificate = record {
     rise = rise_from_none_disordered rows (none_from_no_key _ (λ folder name. asks_name t rows faultless CertificateOrder folder name));
     names = λ folder name. (asks_name t rows faultless NameMissing folder name, asks_name t rows faultless NameUnknown folder name);
-    winners = λ row member. asks_name t rows faultless NotWinner row.folder row.entry.name row member refl
+    winners = λ row member. asks_name t rows faultless NotWinner row.folder row.entry.name row member refl;
   };
   own = λ row device member shares.
-    own_agrees _ _
-    (asks_share t rows faultless RecordMissing row device member shares)
-    (asks_share t rows faultless RecordDiffers row device member shares)
-    (asks_share t rows faultless LocalOnly row device member shares);
+      own_agrees _ _
+      (asks_share t rows faultless RecordMissing row device member shares)
+      (asks_share t rows faultless RecordDiffers row device member shares)
+      (asks_share t rows faultless LocalOnly row device member shares);
   store = λ row device member shares. record {
     holds = asks_share t rows faultless StoreDiffers row device member shares;
-    clean = asks_share t rows faultless StoreUnclean row device member shares
+    clean = asks_share t rows faultless StoreUnclean row device member shares;
   };
   foreign = λ row device member shares entry is_foreign.
-    ⊎_elim
-    (λ viewed. asks_share t rows faultless ViewAhead row device member shares entry viewed is_foreign.valid)
-    (λ others.
-     ⊎_elim
-     (λ flying. asks_share t rows faultless FlightAhead row device member shares entry flying is_foreign.valid)
-     (λ target. asks_share t rows faultless PullAhead row device member shares entry target is_foreign.valid)
-     others)
-    is_foreign.known_by
+      ⊎_elim
+      (λ viewed. asks_share t rows faultless ViewAhead row device member shares entry viewed is_foreign.valid)
+      (λ others.
+      ⊎_elim
+      (λ flying. asks_share t rows faultless FlightAhead row device member shares entry flying is_foreign.valid)
+      (λ target. asks_share t rows faultless PullAhead row device member shares entry target is_foreign.valid)
+      others)
+      is_foreign.known_by;
 }
 
 pub settled_is_faultless_lem : SettledIsFaultless
 unfolding Faultless
-settled_is_faultless_lem t rows =
-    (λ settled reason place. at_place t rows settled reason place.folder place.name place.device,
-     λ faultless. settled_from_faultless t rows faultless)
+settled_is_faultless_lem t rows = (
+  λ settled reason place. at_place t rows settled reason place.folder place.name place.device,
+  λ faultless. settled_from_faultless t rows faultless,
+)

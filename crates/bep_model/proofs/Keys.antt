@@ -1,5 +1,5 @@
 -- The order of keys tells all keys apart, and is total.
-use Rattle.std.proofs.Common.{◌≡◌, ◌⊎◌, ℕ, Bool, true, false, List, refl, sym, ap, ◌∙◌, inl, inr}
+use Rattle.std.proofs.Common.{◌≡◌, ◌⊎◌, true, refl, sym, ap, ◌∙◌, inl, inr}
 use Rattle.std.specs.declared.cmp.Ordering.{Ordering}
 use Rattle.std.specs.declared.cmp.Ordering.TheVariants.{Less, Equal, Greater}
 use Rattle.std.specs.Ordering.{nat_cmp, is_eq, ordering_then}
@@ -9,7 +9,6 @@ use Rattle.std.proofs.lemmas.Cmp.{tied_itself, then_total, on_total, nat_list_cm
 use Rattle.std.proofs.lemmas.Map.Lookups.{exact_pairs, exact_bytes}
 use Rattle.bep_model.specs.Tables.{Folder, FileName}
 use Rattle.bep_model.specs.Settled.{key_cmp}
-
 
 pub key_total : IsTotalOrder key_cmp
 key_total =

@@ -3,3 +3,4 @@ pub mod Keys
 pub mod CalmFacts
 pub mod Faultless
 pub mod Verdicts
+pub mod Winners

@@ -1,5 +1,5 @@
 -- What is in a list, by its first and the rest.
-use Rattle.std.proofs.Common.{◌≡◌, ◌⊎◌, ◌<◌, ℕ, Bool, true, false, List, [], ◌∷◌, ◌++◌, length, Contains, Option, Some, None, IsSome, is_some, refl, sym, inl, inr, ⊎_elim, arith}
+use Rattle.std.proofs.Common.{◌≡◌, ◌⊎◌, List, [], ◌∷◌, Contains, Option, Some, None, IsSome, refl, inl, inr, ⊎_elim, arith}
 use Rattle.std.proofs.lemmas.List.Elements.{Contains-append_left, Contains-append_right, Contains-append_cases, Contains-push, Contains-push_cases}
 
 pub not_in_none : {X : Type 0} (x : X) → ¬ Contains [] x

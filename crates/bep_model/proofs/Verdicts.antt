@@ -1,9 +1,8 @@
 -- There is one verdict at most: reasons and places are told apart by their orders.
-use Rattle.std.proofs.Common.{◌≡◌, ◌⊎◌, ◌<◌, ◌+◌, ℕ, Bool, true, false, List, Option, Some, None, refl, sym, ap, subst, ◌∙◌, inl, inr, ⊎_elim, arith}
+use Rattle.std.proofs.Common.{◌≡◌, ℕ, List, Option, Some, None, refl, sym, ap, subst, ◌∙◌, ⊎_elim, arith}
 use Rattle.std.specs.Prelude.{◌==◌, if◌then◌else◌}
-use Rattle.std.specs.declared.cmp.Ordering.{Ordering}
-use Rattle.std.specs.declared.cmp.Ordering.TheVariants.{Less, Equal, Greater}
-use Rattle.std.specs.Ordering.{nat_cmp, ordering_then, ordering_reverse}
+use Rattle.std.specs.declared.cmp.Ordering.TheVariants.{Less, Equal}
+use Rattle.std.specs.Ordering.{ordering_reverse}
 use Rattle.std.specs.Cmp.{IsTotalOrder}
 use Rattle.std.proofs.lemmas.Bool.{cases_order}
 use Rattle.std.proofs.lemmas.Cmp.{then_total, on_total, nat_cmp_total, nat_list_cmp_total}
@@ -11,10 +10,10 @@ use Rattle.std.proofs.lemmas.Map.Lookups.{exact_bytes, exact_unsigned}
 use Rattle.bep_model.specs.declared.row.Row.{Row}
 use Rattle.bep_model.specs.declared.reason.Reason.{Reason}
 use Rattle.bep_model.specs.declared.reason.Reason.TheVariants.{CertificateOrder, NameMissing, NameUnknown, NotWinner, RecordMissing, RecordDiffers, LocalOnly, StoreDiffers, StoreUnclean, ViewAhead, FlightAhead, PullAhead}
-use Rattle.bep_model.specs.Tables.{Tables, Device, Folder, FileName}
+use Rattle.bep_model.specs.Tables.{Tables, Device}
 use Rattle.bep_model.specs.Settled.{IsSettled}
-use Rattle.bep_model.specs.Reasons.{Place, Asks, place_cmp, device_rank}
-use Rattle.bep_model.specs.Verdict.{Verdict, Settled, Not, number_of, IsFirstFault, IsVerdict}
+use Rattle.bep_model.specs.Reasons.{Place, place_cmp, device_rank}
+use Rattle.bep_model.specs.Verdict.{Settled, Not, number_of, IsFirstFault}
 use Rattle.bep_model.specs.Laws.{VerdictIsUnique}
 use Rattle.bep_model.proofs.Keys.{order_cases, both_tied}
 use Rattle.bep_model.proofs.Faultless.{settled_is_faultless_lem}
@@ -59,7 +58,7 @@ pub place_total : IsTotalOrder place_cmp
 place_total =
     then_total (on_total (λ (place : Place). place.folder) nat_list_cmp_total)
     (then_total (on_total (λ (place : Place). place.name) nat_list_cmp_total)
-     (on_total (λ (place : Place). device_rank place.device) nat_cmp_total))
+    (on_total (λ (place : Place). device_rank place.device) nat_cmp_total))
 
 same_from_rank : (one other : Option Device) → device_rank one ≡ device_rank other → one ≡ other
 same_from_rank None None e = refl
@@ -86,8 +85,8 @@ same_fault_reason t rows reason other place other_place one two =
     ⊎_elim
     (λ same. same_from_number reason other same)
     (⊎_elim
-     (λ less. absurd (one.fails (two.least reason place less)))
-     (λ less. absurd (two.fails (one.least other other_place less))))
+    (λ less. absurd (one.fails (two.least reason place less)))
+    (λ less. absurd (two.fails (one.least other other_place less))))
     (cases_order (number_of reason) (number_of other))
 
 same_fault_place : (t : Tables) (rows : List Row) (reason : Reason) (place other : Place) → IsFirstFault t rows reason place → IsFirstFault t rows reason other → place ≡ other
@@ -95,10 +94,10 @@ same_fault_place t rows reason place other one two =
     ⊎_elim
     (λ less. absurd (one.fails (two.first place less)))
     (⊎_elim
-     (λ equal. same_place place other equal)
-     (λ greater.
-      let less : place_cmp other place ≡ Less = place_total.antisymm other place ∙ ap ordering_reverse greater in
-      absurd (two.fails (one.first other less))))
+    (λ equal. same_place place other equal)
+    (λ greater.
+    let less : place_cmp other place ≡ Less = place_total.antisymm other place ∙ ap ordering_reverse greater in
+    absurd (two.fails (one.first other less))))
     (order_cases (place_cmp place other))
 
 same_fault : (t : Tables) (rows : List Row) (reason other : Reason) (place other_place : Place) → IsFirstFault t rows reason place → IsFirstFault t rows other other_place → Not reason place.folder place.name place.device ≡ Not other other_place.folder other_place.name other_place.device

@@ -1,6 +1,6 @@
 -- What a cut and a cluster say, as look-ups by device, folder and name. (Syncthing's terms; BEP v1, 'Index' and
 -- 'Index Update' for what flies.)
-use Rattle.std.specs.Prelude.{◌≡◌, ℕ, Bool, List, Option, Contains}
+use Rattle.std.specs.Prelude.{ℕ, Bool, List, Option, Contains}
 use Rattle.bep_record.specs.declared.entry.Entry.{Entry}
 use Rattle.bep_record.specs.declared.node.NodeParts.{NodeParts}
 use Rattle.bep_choice.specs.declared.folder_kind.FolderKind.{FolderKind}

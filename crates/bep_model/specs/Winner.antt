@@ -1,5 +1,5 @@
 -- The record that each name's sharing devices would choose, were all their own records known (this project's profile).
-use Rattle.std.specs.Prelude.{ℕ, min, List, [], ◌∷◌, ◌++◌, Option, Some, None}
+use Rattle.std.specs.Prelude.{min, List, [], ◌∷◌, ◌++◌, Option, Some, None}
 use Rattle.bep_record.specs.declared.entry.Entry.{Entry}
 use Rattle.bep_choice.specs.declared.folder_kind.FolderKind.{FolderKind}
 use Rattle.bep_choice.specs.Choice.{Candidate, IsChoice}

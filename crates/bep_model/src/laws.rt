@@ -1,16 +1,16 @@
 ghost use Rattle.bep_model.specs.Laws.{SettledIsFaultless, VerdictIsUnique, SettledIsListOfWinners, ListOfWinnersIsUnique, CertificateIsUnique, SettledIsCalm};
 
+use bep_choice::laws::choice_is_unique;
+
 /// Settled holds exactly where no reason fails anywhere.
 pub fn settled_is_faultless()
     ensures { SettledIsFaultless }
-{
-}
+{}
 
 /// A cut and a list of rows have one verdict at most.
 pub fn verdict_is_unique()
     ensures { VerdictIsUnique }
-{
-}
+{}
 
 /// The rows of a settled cut are the winners of the known names, in order. A cut has one such list at most, so it is
 /// settled for one list of rows at most.
@@ -19,10 +19,10 @@ pub fn certificate_is_unique()
     ensures one_list { ListOfWinnersIsUnique }
     ensures certificate { CertificateIsUnique }
 {
+    choice_is_unique();
 }
 
 /// A settled cut is calm for the contents that its rows name.
 pub fn settled_is_calm()
     ensures { SettledIsCalm }
-{
-}
+{}
