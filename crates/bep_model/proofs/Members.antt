@@ -22,3 +22,10 @@ Contains-cons_cases x xs z h =
 pub none_from_not_some : {X : Type 0} (o : Option X) → ¬ IsSome o → o ≡ None
 none_from_not_some None h = refl
 none_from_not_some (Some x) h = absurd (h refl)
+
+pub Contains-pair_cases : {X : Type 0} (x y z : X) → Contains (x ∷ y ∷ []) z → (x ≡ z) ⊎ (y ≡ z)
+Contains-pair_cases x y z h =
+    ⊎_elim
+    (λ first. inl first)
+    (λ rest. ⊎_elim (λ second. inr second) (λ none. absurd (not_in_none z none)) (Contains-cons_cases y [] z rest))
+    (Contains-cons_cases x (y ∷ []) z h)

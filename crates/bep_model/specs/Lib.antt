@@ -5,4 +5,5 @@ pub mod Settled
 pub mod Reasons
 pub mod Verdict
 pub mod Calm
+pub mod Examples
 pub mod Laws

@@ -3,6 +3,7 @@
 //! Nearly all of this crate is definitions, in `specs/`, and the laws that follow from them.
 #![tactic(auto)]
 
+pub mod examples;
 mod laws;
 mod reason;
 mod row;
