@@ -21,7 +21,7 @@ use Rattle.bep_model.proofs.Faultless.{settled_is_faultless_lem}
 -- ---- reasons
 
 -- the reason at a place in the table
-abbrev reason_at : ℕ → Reason
+abbrev pub reason_at : ℕ → Reason
 reason_at n =
     if n == 1 then CertificateOrder else
     if n == 2 then NameMissing else
@@ -35,7 +35,7 @@ reason_at n =
     if n == 10 then ViewAhead else
     if n == 11 then FlightAhead else PullAhead
 
-reason_at_number : (reason : Reason) → reason_at (number_of reason) ≡ reason
+pub reason_at_number : (reason : Reason) → reason_at (number_of reason) ≡ reason
 reason_at_number CertificateOrder = refl
 reason_at_number NameMissing = refl
 reason_at_number NameUnknown = refl

@@ -38,7 +38,7 @@ owned_says t folder name (share ∷ more) one h =
     (λ later. owned_says t folder name more one later)
     (Contains-append_cases (beside share.0 (t.own share.0 folder name)) (owned t folder name more) one h)
 
-one_each : (t : Tables) (folder : Folder) (name : FileName) → HasOneEach (own_candidates t folder name)
+pub one_each : (t : Tables) (folder : Folder) (name : FileName) → HasOneEach (own_candidates t folder name)
 one_each t folder name one other h k same =
     let of_one = owned_says t folder name (t.sharing folder) one h in
     let of_other = owned_says t folder name (t.sharing folder) other k in

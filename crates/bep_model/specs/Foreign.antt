@@ -1,9 +1,9 @@
 -- What a device has of others, and which names are known (this project's profile).
-use Rattle.std.specs.Prelude.{◌≡◌, ◌⊎◌, false, Option, Some, None, IsSome, Contains}
+use Rattle.std.specs.Prelude.{◌≡◌, ◌⊎◌, false, List, Option, Some, None, IsSome, Contains}
 use Rattle.bep_record.specs.declared.entry.Entry.{Entry}
 use Rattle.bep_record.specs.Content.{Content, content_of}
 use Rattle.bep_record.specs.Vector.{IsBelow}
-use Rattle.bep_model.specs.Tables.{Tables, Device, Folder, FileName, Shares}
+use Rattle.bep_model.specs.Tables.{Tables, Device, Folder, FileName, Flight, Shares}
 
 -- some view of the device's has this record
 abbrev pub IsViewed : Tables → Device → Folder → FileName → Entry → Type 0
@@ -13,7 +13,7 @@ IsViewed t device folder name entry = (other : Device) × (t.viewed device other
 pub record IsFlying (t : Tables) (device : Device) (folder : Folder) (name : FileName) (entry : Entry) : Type 0 where
   pub sender : Device
   pub shares : Shares t sender folder
-  pub flight : _
+  pub flight : Flight
   pub sent : Contains (t.flying sender device) flight
   pub same_folder : flight.folder ≡ folder
   pub carried : Contains flight.records entry
@@ -42,3 +42,10 @@ HasTrace t device folder name =
 -- the name is known in the folder: a store, an own record or a foreign record of a sharing device has it
 abbrev pub IsKnown : Tables → Folder → FileName → Type 0
 IsKnown t folder name = (device : Device) × Shares t device folder × HasTrace t device folder name
+
+-- as every cut is: devices view but these devices' records, and but these names are known
+pub record IsFinite (t : Tables) : Type 0 where
+  pub viewed : List Device
+  pub names : List (Folder × FileName)
+  pub all_viewed : (device other : Device) (folder : Folder) (name : FileName) → IsSome (t.viewed device other folder name) → Contains viewed other
+  pub all_known : (folder : Folder) (name : FileName) → IsKnown t folder name → Contains names (folder, name)

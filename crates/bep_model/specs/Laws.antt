@@ -3,6 +3,7 @@ use Rattle.std.specs.Prelude.{◌≡◌, ◌↔◌, List}
 use Rattle.bep_model.specs.declared.row.Row.{Row}
 use Rattle.bep_model.specs.declared.reason.Reason.{Reason}
 use Rattle.bep_model.specs.Tables.{Tables}
+use Rattle.bep_model.specs.Foreign.{IsFinite}
 use Rattle.bep_model.specs.Settled.{IsListOfWinners, IsSettled}
 use Rattle.bep_model.specs.Reasons.{Place, Asks}
 use Rattle.bep_model.specs.Verdict.{Verdict, IsVerdict}
@@ -15,6 +16,10 @@ SettledIsFaultless = (t : Tables) (rows : List Row) → IsSettled t rows ↔ ((r
 -- there is one verdict at most
 abbrev pub VerdictIsUnique : Type 0
 VerdictIsUnique = (t : Tables) (rows : List Row) (one other : Verdict) → IsVerdict t rows one → IsVerdict t rows other → one ≡ other
+
+-- there is a verdict on every finite cut
+abbrev pub VerdictExists : Type 0
+VerdictExists = (t : Tables) (rows : List Row) → IsFinite t → (verdict : Verdict) × IsVerdict t rows verdict
 
 -- a settled list of rows is the list of the winners of the known names, in order
 abbrev pub SettledIsListOfWinners : Type 0

@@ -1,6 +1,6 @@
-ghost use Rattle.bep_model.specs.Laws.{SettledIsFaultless, VerdictIsUnique, SettledIsListOfWinners, ListOfWinnersIsUnique, CertificateIsUnique, SettledIsCalm};
+ghost use Rattle.bep_model.specs.Laws.{SettledIsFaultless, VerdictIsUnique, VerdictExists, SettledIsListOfWinners, ListOfWinnersIsUnique, CertificateIsUnique, SettledIsCalm};
 
-use bep_choice::laws::choice_is_unique;
+use bep_choice::laws::{choice_exists, choice_is_unique};
 
 /// Settled holds exactly where no reason fails anywhere.
 pub fn settled_is_faultless()
@@ -11,6 +11,14 @@ pub fn settled_is_faultless()
 pub fn verdict_is_unique()
     ensures { VerdictIsUnique }
 {}
+
+/// There is a verdict on every cut in which finitely many devices are viewed and finitely many names are known.
+pub fn verdict_exists()
+    ensures { VerdictExists }
+{
+    choice_exists();
+    choice_is_unique();
+}
 
 /// The rows of a settled cut are the winners of the known names, in order. A cut has one such list at most, so it is
 /// settled for one list of rows at most.

@@ -8,6 +8,8 @@ mod laws;
 mod reason;
 mod row;
 
-pub use laws::{certificate_is_unique, settled_is_calm, settled_is_faultless, verdict_is_unique};
+pub use laws::{
+    certificate_is_unique, settled_is_calm, settled_is_faultless, verdict_exists, verdict_is_unique,
+};
 pub use reason::Reason;
 pub use row::Row;
