@@ -9,7 +9,7 @@ use Rattle.bep_model.specs.declared.row.Row.{Row}
 use Rattle.bep_model.specs.Tables.{Tables, Device, Folder, FileName}
 use Rattle.bep_model.specs.Winner.{beside, owned, own_candidates, IsWinner}
 use Rattle.bep_model.specs.Settled.{HasRow, Rise, key_of, key_cmp}
-use Rattle.bep_model.specs.Laws.{ListOfWinnersIsUnique, CertificateIsUnique}
+use Rattle.bep_model.specs.Laws.{ListOfWinnersIsUnique, CertificateIsUnique, WinnersAreSettledIfAny}
 use Rattle.bep_model.proofs.Members.{not_in_none, Contains-first, Contains-more, Contains-cons_cases}
 use Rattle.bep_model.proofs.Keys.{key_total, not_less_itself}
 
@@ -146,3 +146,7 @@ list_of_winners_is_unique unique t rows others one two =
 
 pub certificate_is_unique_lem : OneChoice → CertificateIsUnique
 certificate_is_unique_lem unique t rows others one two = list_of_winners_is_unique unique t rows others one.certificate two.certificate
+
+pub winners_are_settled_if_any : OneChoice → WinnersAreSettledIfAny
+winners_are_settled_if_any unique t rows others winners settled =
+    subst (IsSettled t) (list_of_winners_is_unique unique t others rows settled.certificate winners) settled

@@ -33,6 +33,10 @@ ListOfWinnersIsUnique = (t : Tables) (rows others : List Row) → IsListOfWinner
 abbrev pub CertificateIsUnique : Type 0
 CertificateIsUnique = (t : Tables) (rows others : List Row) → IsSettled t rows → IsSettled t others → rows ≡ others
 
+-- a list of winners is settled wherever any list is
+abbrev pub WinnersAreSettledIfAny : Type 0
+WinnersAreSettledIfAny = (t : Tables) (rows others : List Row) → IsListOfWinners t rows → IsSettled t others → IsSettled t rows
+
 -- what is settled is calm for the contents of its rows
 abbrev pub SettledIsCalm : Type 0
 SettledIsCalm = (t : Tables) (rows : List Row) → IsSettled t rows → IsCalm t (contents_of rows)

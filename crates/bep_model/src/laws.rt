@@ -1,4 +1,4 @@
-ghost use Rattle.bep_model.specs.Laws.{SettledIsFaultless, VerdictIsUnique, VerdictExists, SettledIsListOfWinners, ListOfWinnersIsUnique, CertificateIsUnique, SettledIsCalm};
+ghost use Rattle.bep_model.specs.Laws.{SettledIsFaultless, VerdictIsUnique, VerdictExists, SettledIsListOfWinners, ListOfWinnersIsUnique, CertificateIsUnique, WinnersAreSettledIfAny, SettledIsCalm};
 
 use bep_choice::laws::{choice_exists, choice_is_unique};
 
@@ -21,11 +21,12 @@ pub fn verdict_exists()
 }
 
 /// The rows of a settled cut are the winners of the known names, in order. A cut has one such list at most, so it is
-/// settled for one list of rows at most.
+/// settled for one list of rows at most, and for a list of winners wherever for any.
 pub fn certificate_is_unique()
     ensures winners { SettledIsListOfWinners }
     ensures one_list { ListOfWinnersIsUnique }
     ensures certificate { CertificateIsUnique }
+    ensures settled_if_any { WinnersAreSettledIfAny }
 {
     choice_is_unique();
 }

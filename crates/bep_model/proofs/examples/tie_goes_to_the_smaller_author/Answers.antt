@@ -1,14 +1,14 @@
 use Rattle.std.proofs.Common.{List, [], ◌∷◌, refl, sym, subst, ⊎_elim, arith}
 use Rattle.bep_choice.specs.Choice.{Candidate, IsLeft, IsDominated, IsNotBehind}
-use Rattle.bep_model.specs.Examples.{link}
+use Rattle.bep_model.specs.Examples.{link, by_one, by_two}
 use Rattle.bep_model.proofs.Members.{Contains-first, Contains-more, Contains-pair_cases}
 use Rattle.bep_model.proofs.examples.tie_goes_to_the_smaller_author.Goals as goal
 
 abbrev one : Candidate
-one = (1, link 2 99 ((2, 1) ∷ []))
+one = (1, link 2 99 by_two)
 
 abbrev two : Candidate
-two = (2, link 1 98 ((1, 1) ∷ []))
+two = (2, link 1 98 by_one)
 
 abbrev both : List Candidate
 both = one ∷ two ∷ []
@@ -43,5 +43,5 @@ returns-clause-smaller c = record {
       (Contains-pair_cases one two other left.valid.0);
 }
 
-pub returns-clause-not_the_larger : goal.returns-clause-not_the_larger
-returns-clause-not_the_larger c = λ choice. choice.first two two_is_left refl
+pub returns-clause-larger : goal.returns-clause-larger
+returns-clause-larger c = λ choice. choice.first two two_is_left refl
