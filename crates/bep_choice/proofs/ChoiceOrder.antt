@@ -12,10 +12,10 @@ pub choice_total : (chooser : ℕ) → IsTotalOrder (choice_cmp chooser)
 choice_total chooser =
     then_total (on_total (λ (c : Candidate). c.1.deleted) bool_cmp_total)
     (then_total (back_total (on_total (λ (c : Candidate). c.1.modified_s) int_cmp_total))
-     (then_total (back_total (on_total (λ (c : Candidate). c.1.modified_ns) nat_cmp_total))
-      (then_total (on_total (λ (c : Candidate). c.1.modified_by) nat_cmp_total)
-       (then_total (back_total (on_total (λ (c : Candidate). c.0 == chooser) bool_cmp_total))
-        (on_total (λ (c : Candidate). c.0) nat_cmp_total)))))
+    (then_total (back_total (on_total (λ (c : Candidate). c.1.modified_ns) nat_cmp_total))
+    (then_total (on_total (λ (c : Candidate). c.1.modified_by) nat_cmp_total)
+    (then_total (back_total (on_total (λ (c : Candidate). c.0 == chooser) bool_cmp_total))
+    (on_total (λ (c : Candidate). c.0) nat_cmp_total)))))
 
 greater_or_not : (o : Ordering) → (o ≡ Greater) ⊎ (o ≢ Greater)
 greater_or_not Less = inr (λ e. cc)
@@ -66,8 +66,8 @@ behind_then chooser one two three h k =
     o.antisymm one three
     ∙ ap ordering_reverse
     (o.trans three two one
-     (o.antisymm three two ∙ ap ordering_reverse k)
-     (o.antisymm two one ∙ ap ordering_reverse h))
+    (o.antisymm three two ∙ ap ordering_reverse k)
+    (o.antisymm two one ∙ ap ordering_reverse h))
 
 -- two of which neither is behind the other are of one device
 pub same_device : (chooser : ℕ) (one other : Candidate) → IsNotBehind chooser one other → IsNotBehind chooser other one → one.0 ≡ other.0
@@ -76,11 +76,11 @@ same_device chooser one other h k =
     let e = tied (choice_cmp chooser one other) h (λ g. k (back ∙ g)) in
     ranked one.0 other.0 Equal
     (sym
-     (second_tied (bool_cmp (other.0 == chooser) (one.0 == chooser)) _
-      (second_tied (nat_cmp one.1.modified_by other.1.modified_by) _
-       (second_tied (nat_cmp other.1.modified_ns one.1.modified_ns) _
-        (second_tied (int_cmp other.1.modified_s one.1.modified_s) _
-         (second_tied (bool_cmp one.1.deleted other.1.deleted) _ e))))))
+    (second_tied (bool_cmp (other.0 == chooser) (one.0 == chooser)) _
+    (second_tied (nat_cmp one.1.modified_by other.1.modified_by) _
+    (second_tied (nat_cmp other.1.modified_ns one.1.modified_ns) _
+    (second_tied (int_cmp other.1.modified_s one.1.modified_s) _
+    (second_tied (bool_cmp one.1.deleted other.1.deleted) _ e))))))
 
 -- the chooser is looked at where one of the two is its own
 pub choice_cmp-others : (chooser other : ℕ) (one two : Candidate) → one.0 ≢ chooser → two.0 ≢ chooser → one.0 ≢ other → two.0 ≢ other → choice_cmp chooser one two ≡ choice_cmp other one two

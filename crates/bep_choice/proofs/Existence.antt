@@ -16,19 +16,20 @@ false_or_not false = inl refl
 pub left_exists : (candidates : List Candidate) (one : Candidate) → IsValidAmong candidates one → (left : Candidate) × IsLeft candidates left
 left_exists candidates one valid =
     let top = top_from
-      (λ (c : Candidate). c.1.invalid ≡ false)
-      (λ (a b : Candidate). IsBelow a.1.version b.1.version)
-      (λ c. false_or_not c.1.invalid)
-      (λ a b. below_or_not a.1.version b.1.version)
-      (λ c. not_below_itself c.1.version)
-      (λ a b c. below_then a.1.version b.1.version c.1.version)
-      candidates one valid.1 in
-    (top.0,
-     record {
-       valid =
-         (⊎_elim (λ same. subst (λ c. Contains candidates c) (sym same) valid.0) (λ member. member) top.1.member, top.1.valid);
-       undominated = λ other in' dominated. top.1.highest other in' dominated.0 dominated.1
-     })
+    (λ (c : Candidate). c.1.invalid ≡ false)
+    (λ (a b : Candidate). IsBelow a.1.version b.1.version)
+    (λ c. false_or_not c.1.invalid)
+    (λ a b. below_or_not a.1.version b.1.version)
+    (λ c. not_below_itself c.1.version)
+    (λ a b c. below_then a.1.version b.1.version c.1.version)
+    candidates one valid.1 in (
+      top.0,
+      record {
+        valid =
+            (⊎_elim (λ same. subst (λ c. Contains candidates c) (sym same) valid.0) (λ member. member) top.1.member, top.1.valid);
+        undominated = λ other in' dominated. top.1.highest other in' dominated.0 dominated.1;
+      },
+    )
 
 -- valid, and with none above
 IsHigh : List Candidate → Candidate → Type 0
@@ -38,10 +39,10 @@ undominated_or_not : (one other : Entry) → (¬ IsDominated one other) ⊎ (¬ 
 undominated_or_not one other =
     ⊎_elim
     (λ valid.
-     ⊎_elim
-     (λ below. inr (λ none. none (valid, below)))
-     (λ not_below. inl (λ dominated. not_below dominated.1))
-     (below_or_not one.version other.version))
+    ⊎_elim
+    (λ below. inr (λ none. none (valid, below)))
+    (λ not_below. inl (λ dominated. not_below dominated.1))
+    (below_or_not one.version other.version))
     (λ not_valid. inl (λ dominated. not_valid dominated.0))
     (false_or_not other.invalid)
 
@@ -50,10 +51,10 @@ unfolding IsHigh
 high_or_not candidates one =
     ⊎_elim
     (λ valid.
-     ⊎_elim
-     (λ each. inl (valid, each))
-     (λ fails. inr (λ high. fails high.1))
-     (each_or_not (λ (other : Candidate). ¬ IsDominated one.1 other.1) (λ other. undominated_or_not one.1 other.1) candidates))
+    ⊎_elim
+    (λ each. inl (valid, each))
+    (λ fails. inr (λ high. fails high.1))
+    (each_or_not (λ (other : Candidate). ¬ IsDominated one.1 other.1) (λ other. undominated_or_not one.1 other.1) candidates))
     (λ not_valid. inr (λ high. not_valid high.0))
     (false_or_not one.1.invalid)
 
@@ -62,19 +63,20 @@ unfolding IsHigh
 choice_exists_lem chooser candidates one valid =
     let left = left_exists candidates one valid in
     let top = top_from
-      (IsHigh candidates)
-      (λ (a b : Candidate). choice_cmp chooser a b ≡ Greater)
-      (high_or_not candidates)
-      (behind_or_not chooser)
-      (not_behind_itself chooser)
-      (behind_then chooser)
-      candidates left.0 (left.1.valid.1, left.1.undominated) in
-    (top.0,
-     record {
-       left = record {
-         valid =
-           (⊎_elim (λ same. subst (λ c. Contains candidates c) (sym same) left.1.valid.0) (λ member. member) top.1.member, top.1.valid.0);
-         undominated = top.1.valid.1
-       };
-       first = λ other is_left. top.1.highest other is_left.valid.0 (is_left.valid.1, is_left.undominated)
-     })
+    (IsHigh candidates)
+    (λ (a b : Candidate). choice_cmp chooser a b ≡ Greater)
+    (high_or_not candidates)
+    (behind_or_not chooser)
+    (not_behind_itself chooser)
+    (behind_then chooser)
+    candidates left.0 (left.1.valid.1, left.1.undominated) in (
+      top.0,
+      record {
+        left = record {
+          valid =
+              (⊎_elim (λ same. subst (λ c. Contains candidates c) (sym same) left.1.valid.0) (λ member. member) top.1.member, top.1.valid.0);
+          undominated = top.1.valid.1;
+        };
+        first = λ other is_left. top.1.highest other is_left.valid.0 (is_left.valid.1, is_left.undominated);
+      },
+    )

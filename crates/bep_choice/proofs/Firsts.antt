@@ -20,10 +20,11 @@ abbrev pub Lent : Type 0
 Lent = ℕ × Bor Entry
 
 pub Contains-lent : (lent : List Lent) (i : ℕ) (one : Lent) → i < length lent → one ≡ get_or lent i one → Contains (candidates_of lent) (candidate_of one)
-Contains-lent lent i one below is =
-    (i,
-     omega (arith, length-map lent candidate_of),
-     get_or-map candidate_of lent i one (candidate_of one) below ∙ ap candidate_of (sym is))
+Contains-lent lent i one below is = (
+  i,
+  omega (arith, length-map lent candidate_of),
+  get_or-map candidate_of lent i one (candidate_of one) below ∙ ap candidate_of (sym is),
+)
 
 -- one more
 pub each_more : (P : Lent → Type 0) (lent : List Lent) (i : ℕ) (one : Lent) → i < length lent → one ≡ get_or lent i one → All P (take i lent) → P one → All P (take (i + 1) lent)
@@ -34,7 +35,7 @@ pub each_candidate : (P : Candidate → Type 0) (lent : List Lent) (i : ℕ) →
 each_candidate P lent i all so_far other in' =
     All-contains P (candidates_of lent) other
     (All-map P candidate_of lent
-     (All-same (λ one. P (candidate_of one)) lent (take i lent) (sym (take_all i lent all)) so_far))
+    (All-same (λ one. P (candidate_of one)) lent (take i lent) (sym (take_all i lent all)) so_far))
     in'
 
 IsSomeAnd-at : {X : Type 0} (P : X → Type 0) (o : Option X) (x : X) → o ≡ Some x → P x → IsSomeAnd o P
@@ -68,7 +69,7 @@ IsBestSoFar chooser lent few (Some held) = IsSomeAnd (slice_get lent held) (IsFi
 IsFirstOf-more : (chooser : ℕ) (lent : List Lent) (few : ℕ) (one held : Lent) → few < length lent → one ≡ get_or lent few one → (IsLeft (candidates_of lent) (candidate_of one) → IsNotBehind chooser (candidate_of held) (candidate_of one)) → IsFirstOf chooser lent few held → IsFirstOf chooser lent (few + 1) held
 IsFirstOf-more chooser lent few one held below is behind first = record {
   left = first.left;
-  first = each_more (λ (other : Lent). IsLeft (candidates_of lent) (candidate_of other) → IsNotBehind chooser (candidate_of held) (candidate_of other)) lent few one below is first.first behind
+  first = each_more (λ (other : Lent). IsLeft (candidates_of lent) (candidate_of other) → IsNotBehind chooser (candidate_of held) (candidate_of other)) lent few one below is first.first behind;
 }
 
 -- the next isn't left
@@ -85,10 +86,10 @@ pub starts : (chooser : ℕ) (lent : List Lent) (few : ℕ) (one : Lent) → few
 starts chooser lent few one below is left none =
     IsSomeAnd-at (IsFirstOf chooser lent (few + 1)) (slice_get lent few) one (slice_get-get_or lent few one below ∙ ap Some (sym is))
     (IsFirstOf-more chooser lent few one one below is (λ _. not_behind_itself chooser (candidate_of one))
-     (record {
-        left = left;
-        first = All-weaker (λ (other : Lent). ¬ IsLeft (candidates_of lent) (candidate_of other)) (λ (other : Lent). IsLeft (candidates_of lent) (candidate_of other) → IsNotBehind chooser (candidate_of one) (candidate_of other)) (λ other not_left l. absurd (not_left l)) (take few lent) none
-      }))
+    (record {
+      left = left;
+      first = All-weaker (λ (other : Lent). ¬ IsLeft (candidates_of lent) (candidate_of other)) (λ (other : Lent). IsLeft (candidates_of lent) (candidate_of other) → IsNotBehind chooser (candidate_of one) (candidate_of other)) (λ other not_left l. absurd (not_left l)) (take few lent) none;
+    }))
 
 -- the next doesn't come before the one that is held
 pub keeps : (chooser : ℕ) (lent : List Lent) (few held : ℕ) (one other : Lent) → few < length lent → one ≡ get_or lent few one → other ≡ get_or lent held other → choice_cmp chooser (candidate_of one) (candidate_of other) ≢ Less → IsBestSoFar chooser lent few (Some held) → IsBestSoFar chooser lent (few + 1) (Some held)
@@ -96,8 +97,8 @@ keeps chooser lent few held one other below is is_held not_less best =
     let e = slice_get-some (IsFirstOf chooser lent few) lent held other is_held best in
     IsSomeAnd-at (IsFirstOf chooser lent (few + 1)) (slice_get lent held) other e
     (IsFirstOf-more chooser lent few one other below is
-     (λ _. not_behind_back chooser (candidate_of one) (candidate_of other) not_less)
-     (at-IsSomeAnd (IsFirstOf chooser lent few) (slice_get lent held) other e best))
+    (λ _. not_behind_back chooser (candidate_of one) (candidate_of other) not_less)
+    (at-IsSomeAnd (IsFirstOf chooser lent few) (slice_get lent held) other e best))
 
 -- the next comes before it
 pub takes : (chooser : ℕ) (lent : List Lent) (few held : ℕ) (one other : Lent) → few < length lent → one ≡ get_or lent few one → other ≡ get_or lent held other → IsLeft (candidates_of lent) (candidate_of one) → choice_cmp chooser (candidate_of one) (candidate_of other) ≡ Less → IsBestSoFar chooser lent few (Some held) → IsBestSoFar chooser lent (few + 1) (Some few)
@@ -106,11 +107,11 @@ takes chooser lent few held one other below is is_held left less best =
     let first = at-IsSomeAnd (IsFirstOf chooser lent few) (slice_get lent held) other e best in
     IsSomeAnd-at (IsFirstOf chooser lent (few + 1)) (slice_get lent few) one (slice_get-get_or lent few one below ∙ ap Some (sym is))
     (IsFirstOf-more chooser lent few one one below is (λ _. not_behind_itself chooser (candidate_of one))
-     (record {
-        left = left;
-        first = All-weaker (λ (z : Lent). IsLeft (candidates_of lent) (candidate_of z) → IsNotBehind chooser (candidate_of other) (candidate_of z)) (λ (z : Lent). IsLeft (candidates_of lent) (candidate_of z) → IsNotBehind chooser (candidate_of one) (candidate_of z))
-          (λ z behind l. not_behind_then chooser (candidate_of one) (candidate_of other) (candidate_of z) (λ greater. let w = sym less ∙ greater in cc) (behind l)) (take few lent) first.first
-      }))
+    (record {
+      left = left;
+      first = All-weaker (λ (z : Lent). IsLeft (candidates_of lent) (candidate_of z) → IsNotBehind chooser (candidate_of other) (candidate_of z)) (λ (z : Lent). IsLeft (candidates_of lent) (candidate_of z) → IsNotBehind chooser (candidate_of one) (candidate_of z))
+          (λ z behind l. not_behind_then chooser (candidate_of one) (candidate_of other) (candidate_of z) (λ greater. let w = sym less ∙ greater in cc) (behind l)) (take few lent) first.first;
+    }))
 
 -- the walk is over: the place is that of the choice
 pub IsChoiceAt-best : (chooser : ℕ) (lent : List Lent) (few held : ℕ) → length lent ≤ few → IsBestSoFar chooser lent few (Some held) → IsChoiceAt chooser (candidates_of lent) held
@@ -122,7 +123,7 @@ IsChoiceAt-best chooser lent few held all best =
     of_best None h = h
     of_best (Some x) first = record {
       left = first.left;
-      first = λ other left. each_candidate (λ (z : Candidate). IsLeft (candidates_of lent) z → IsNotBehind chooser (candidate_of x) z) lent few all first.first other left.valid.0 left
+      first = λ other left. each_candidate (λ (z : Candidate). IsLeft (candidates_of lent) z → IsNotBehind chooser (candidate_of x) z) lent few all first.first other left.valid.0 left;
     }
 
 -- what is chosen is valid
@@ -154,11 +155,12 @@ chosen_at : (chooser : ℕ) (lent : List Lent) (place : ℕ) → IsChoiceAt choo
 chosen_at chooser lent place h =
     let P : Candidate → Type 0 = IsChoice chooser (candidates_of lent) in
     ⊎_elim
-    (λ there.
-     (there.0,
+    (λ there. (
+      there.0,
       there.1,
       sym there.3,
-      at-IsSomeAnd P (slice_get (candidates_of lent) place) (candidate_of there.0) (slice_get-map candidate_of lent place ∙ ap (λ o. option_map candidate_of o) there.2) h))
+      at-IsSomeAnd P (slice_get (candidates_of lent) place) (candidate_of there.0) (slice_get-map candidate_of lent place ∙ ap (λ o. option_map candidate_of o) there.2) h,
+    ))
     (λ past. absurd (subst (λ o. IsSomeAnd o P) (slice_get-map candidate_of lent place ∙ ap (λ o. option_map candidate_of o) past.1) h))
     (slice_get_cases lent place).1
 
@@ -179,8 +181,8 @@ only_place chooser lent rises held place h k =
     ⊎_elim
     (λ e. e)
     (⊎_elim
-     (λ lt. let rise = devices_rise lent rises held place one.0 other.0 lt other.1 one.2 other.2 in absurd (omega (arith, rise, same)))
-     (λ lt. let rise = devices_rise lent rises place held other.0 one.0 lt one.1 other.2 one.2 in absurd (omega (arith, rise, same))))
+    (λ lt. let rise = devices_rise lent rises held place one.0 other.0 lt other.1 one.2 other.2 in absurd (omega (arith, rise, same)))
+    (λ lt. let rise = devices_rise lent rises place held other.0 one.0 lt one.1 other.2 one.2 in absurd (omega (arith, rise, same))))
     (cases_order held place)
 
 pub choice_only : (chooser : ℕ) (lent : List Lent) (few : ℕ) → IsStrictlyIncreasing (map (λ (one : Lent). one.0) lent) → length lent ≤ few → (best : Option ℕ) → IsBestSoFar chooser lent few best → (place : ℕ) → IsChoiceAt chooser (candidates_of lent) place → best ≡ Some place

@@ -1,5 +1,5 @@
 -- The order of version vectors, of any lists of counters.
-use Rattle.std.proofs.Common.{◌≡◌, ◌⊎◌, ◌≤◌, ◌<◌, ℕ, List, [], ◌∷◌, refl, subst, inl, inr, ⊎_elim, arith}
+use Rattle.std.proofs.Common.{◌≡◌, ◌⊎◌, ◌≤◌, ℕ, List, [], ◌∷◌, refl, subst, inl, inr, ⊎_elim, arith}
 use Rattle.std.proofs.lemmas.Bool.{cases_eq, cases_lt, cond-false, ne_eqb}
 use Rattle.bep_record.specs.Vector.{counter_of, IsAtMost, IsBelow}
 
@@ -24,10 +24,10 @@ at_most_within [] u v = inl (λ id m. absurd m)
 at_most_within (counter ∷ ids) u v =
     ⊎_elim
     (λ more.
-     ⊎_elim
-     (λ less. inr (λ all. let here = all counter.0 in omega (arith, here)))
-     (λ here. inl (λ id m. ⊎_elim (λ same. let P : ℕ → Type 0 = λ i. counter_of u i ≤ counter_of v i in subst P same here) (λ m'. more id m') m))
-     (cases_lt (counter_of v counter.0) (counter_of u counter.0)))
+    ⊎_elim
+    (λ less. inr (λ all. let here = all counter.0 in omega (arith, here)))
+    (λ here. inl (λ id m. ⊎_elim (λ same. let P : ℕ → Type 0 = λ i. counter_of u i ≤ counter_of v i in subst P same here) (λ m'. more id m') m))
+    (cases_lt (counter_of v counter.0) (counter_of u counter.0)))
     (λ fails. inr fails)
     (at_most_within ids u v)
 

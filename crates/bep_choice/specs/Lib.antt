@@ -1,3 +1,2 @@
 pub mod Choice
 pub mod Need
-pub mod Laws

@@ -65,16 +65,15 @@ fn is_below(one: &Record, other: &Record) -> bool
 fn is_before(me: DeviceId, one: &(DeviceId, &Record), other: &(DeviceId, &Record)) -> bool
     ensures { IsTrue result ↔ (choice_cmp me (candidate_of one.now) (candidate_of other.now) ≡ Ordering.Less) }
 {
-    let (device, own) = (one.0, one.1.entry());
-    let (other_device, others) = (other.0, other.1.entry());
-    let order = own.deleted.cmp(&others.deleted).then(
-        others.modified_s.cmp(&own.modified_s).then(
-            others.modified_ns.cmp(&own.modified_ns).then(
-                own.modified_by.cmp(&others.modified_by).then(
-                    (other_device == me).cmp(&(device == me)).then(device.cmp(&other_device)),
-                ),
-            ),
-        ),
-    );
-    order.is_lt()
+    let (first, second) = (one.1.entry(), other.1.entry());
+    let by_device = (other.0 == me)
+        .cmp(&(one.0 == me))
+        .then(one.0.cmp(&other.0));
+    let by_changer = first.modified_by.cmp(&second.modified_by).then(by_device);
+    let by_nanoseconds = second.modified_ns.cmp(&first.modified_ns).then(by_changer);
+    let by_time = second
+        .modified_s
+        .cmp(&first.modified_s)
+        .then(by_nanoseconds);
+    first.deleted.cmp(&second.deleted).then(by_time).is_lt()
 }

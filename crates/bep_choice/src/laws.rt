@@ -1,45 +1,49 @@
-//! Laws of the choice and of need, each proved of every list of candidates: a call tells its caller's proof the law, and
-//! does nothing else.
-ghost use Rattle.bep_choice.specs.Laws.{ChoiceExists, ChoiceIsUnique, ChoiceIsValid, ChoiceIsTopmost, ChoiceIsOfTheSet, ChoiceIsSharedByOthers, WantedIsNewer};
+//! Laws of the choice and of need, each stated by a function that does nothing. They hold of any lists of candidates.
+ghost use Rattle.std.specs.Prelude.{◌≡◌, ◌↔◌, ℕ, false, List, Some};
+ghost use Rattle.bep_record.specs.declared.entry.Entry.{Entry};
+ghost use Rattle.bep_record.specs.Vector.{IsAtMost, IsBelow};
+ghost use Rattle.bep_choice.specs.declared.folder_kind.FolderKind.{FolderKind};
+ghost use Rattle.bep_choice.specs.Choice.{Candidate, IsValidAmong, IsChoice, HasOneEach, HasNoneLeft, SameSet};
+ghost use Rattle.bep_choice.specs.Need.{IsWanted};
 
 /// There is a choice exactly where a candidate is valid.
 pub fn choice_exists()
-    ensures { ChoiceExists }
-{
-}
+    ensures { (chooser : ℕ) (candidates : List Candidate)
+        → ((one : Candidate) × IsChoice chooser candidates one)
+        ↔ ((one : Candidate) × IsValidAmong candidates one) }
+{}
 
 /// Where each device has one record at most, there is one choice at most.
 pub fn choice_is_unique()
-    ensures { ChoiceIsUnique }
-{
-}
+    ensures { (chooser : ℕ) (candidates : List Candidate) (one other : Candidate) → HasOneEach candidates
+        → IsChoice chooser candidates one → IsChoice chooser candidates other → one ≡ other }
+{}
 
-/// The choice is one of the candidates, and isn't invalid.
-pub fn choice_is_valid()
-    ensures { ChoiceIsValid }
-{
-}
+/// The choice is one of the candidates and isn't invalid, and no valid candidate's version is strictly above its own.
+pub fn choice_is_on_top()
+    ensures valid { (chooser : ℕ) (candidates : List Candidate) (one : Candidate)
+        → IsChoice chooser candidates one → IsValidAmong candidates one }
+    ensures on_top { (chooser : ℕ) (candidates : List Candidate) (one other : Candidate)
+        → IsChoice chooser candidates one → IsValidAmong candidates other
+        → ¬ IsBelow one.1.version other.1.version }
+{}
 
-/// No valid candidate's version is strictly above that of the choice.
-pub fn choice_is_topmost()
-    ensures { ChoiceIsTopmost }
-{
-}
-
-/// The choice is the same for the same set of candidates, whatever their order.
+/// The choice is of the set: neither the order of the candidates counts, nor how often each of them stands.
 pub fn choice_is_of_the_set()
-    ensures { ChoiceIsOfTheSet }
-{
-}
+    ensures { (chooser : ℕ) (candidates others : List Candidate) (one : Candidate) → SameSet candidates others
+        → IsChoice chooser candidates one → IsChoice chooser others one }
+{}
 
-/// The choice is the same for two devices, where nothing that is left is theirs.
-pub fn choice_is_shared_by_others()
-    ensures { ChoiceIsSharedByOthers }
-{
-}
+/// The choice is the same for two devices, where none that is left is theirs.
+pub fn choice_is_shared()
+    ensures { (chooser other : ℕ) (candidates : List Candidate) (one : Candidate)
+        → HasNoneLeft chooser candidates → HasNoneLeft other candidates
+        → IsChoice chooser candidates one → IsChoice other candidates one }
+{}
 
-/// The version of a wanted record isn't at most that of the own record, where there is one that isn't invalid.
+/// Beside an own record that isn't invalid, the version of a wanted record isn't at most the own one.
 pub fn wanted_is_newer()
-    ensures { WantedIsNewer }
-{
-}
+    ensures { (device : ℕ) (kind : FolderKind) (own : Entry) (candidates : List Candidate) (one : Candidate)
+        → IsWanted device kind (Some own) candidates one → own.invalid ≡ false
+        → ¬ IsAtMost one.1.version own.version }
+{}

@@ -1,10 +1,15 @@
 //! Which of the records that a device knows of a name it holds for the best, and whether it needs that one.
+//!
+//! `choose` gives the place of the choice among the candidates, and `needed` says whether the choice is wanted. Neither
+//! takes memory. `laws` has what holds of each choice.
 #![tactic(auto)]
 
 mod choice;
 mod folder_kind;
 pub mod laws;
 mod need;
+#[cfg(test)]
+mod tests;
 
 pub use choice::choose;
 pub use folder_kind::FolderKind;
