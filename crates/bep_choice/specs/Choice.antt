@@ -32,8 +32,9 @@ pub record IsLeft (candidates : List Candidate) (one : Candidate) : Type 0 where
   pub valid : IsValidAmong candidates one
   pub undominated : (other : Candidate) → Contains candidates other → ¬ IsDominated one.1 other.1
 
--- Which of two comes first for the device that chooses: what isn't deleted before what is; the later time, by
--- seconds and then nanoseconds; the smaller `modified_by`; the chooser's own; the smaller device.
+-- Which of two comes first for the device that chooses (the lesser does, and false is less than true): what isn't
+-- deleted; the later time, by seconds and then nanoseconds; the smaller `modified_by`; the chooser's own; the smaller
+-- device.
 abbrev pub choice_cmp : ℕ → Candidate → Candidate → Ordering
 choice_cmp chooser =
     then_cmp (on (λ one. one.1.deleted) bool_cmp)
@@ -43,7 +44,7 @@ choice_cmp chooser =
     (then_cmp (flip_args (on (λ one. one.0 == chooser) bool_cmp))
     (on (λ one. one.0) nat_cmp)))))
 
--- one isn't behind the other
+-- the other doesn't come before this one
 abbrev pub IsNotBehind : ℕ → Candidate → Candidate → Type 0
 IsNotBehind chooser one other = choice_cmp chooser one other ≢ Greater
 

@@ -1,0 +1,110 @@
+-- What is settled is calm for the contents of its rows.
+use Rattle.std.proofs.Common.{◌≡◌, ◌⊎◌, true, false, List, [], ◌∷◌, Contains, Option, Some, None, refl, sym, ap, subst, ◌∙◌, inl, inr, ⊎_elim}
+use Rattle.std.proofs.lemmas.Bool.{cases_Bool, cond-true, cond-false}
+use Rattle.std.specs.Ordering.{is_eq}
+use Rattle.bep_record.specs.declared.entry.Entry.{Entry}
+use Rattle.bep_record.specs.declared.node.NodeParts.{NodeParts}
+use Rattle.bep_record.specs.Content.{Content, Deleted, content_of}
+use Rattle.bep_model.specs.declared.row.Row.{Row}
+use Rattle.bep_model.specs.Tables.{Tables, Device, Folder, FileName, Shares}
+use Rattle.bep_model.specs.Foreign.{IsKnown}
+use Rattle.bep_model.specs.Settled.{IsSettled, HasRow, OwnAgrees, StoreAgrees, ForeignAgrees, key_of, key_cmp}
+use Rattle.bep_model.specs.Calm.{Contents, IsCalm, IsCalmAt, content_due, contents_of}
+use Rattle.bep_model.proofs.Members.{not_in_none, Contains-first, Contains-more, Contains-cons_cases, none_from_not_some}
+use Rattle.bep_model.proofs.Keys.{same_from_Equal, Equal_from_same, Equal_from_is_eq}
+
+-- a row of the name, and its content is the name's
+pub record HasContent (rows : List Row) (folder : Folder) (name : FileName) : Type 0 where
+  pub row : Row
+  pub member : Contains rows row
+  pub key : key_of row ≡ (folder, name)
+  pub content : contents_of rows folder name ≡ Some (content_of row.entry)
+
+-- no row of the name, and it has no content
+pub record HasNoContent (rows : List Row) (folder : Folder) (name : FileName) : Type 0 where
+  pub no_row : ¬ HasRow rows folder name
+  pub content : contents_of rows folder name ≡ None
+
+content_here : (row : Row) (more : List Row) (folder : Folder) (name : FileName) → is_eq (key_cmp (key_of row) (folder, name)) ≡ true → HasContent (row ∷ more) folder name
+content_here row more folder name here = record {
+  row = row;
+  member = Contains-first row more;
+  key = same_from_Equal (key_of row) (folder, name) (Equal_from_is_eq _ here);
+  content = cond-true _ _ _ here;
+}
+
+content_later : (row : Row) (more : List Row) (folder : Folder) (name : FileName) → is_eq (key_cmp (key_of row) (folder, name)) ≡ false → HasContent more folder name → HasContent (row ∷ more) folder name
+content_later row more folder name past later = record {
+  row = later.row;
+  member = Contains-more row more later.row later.member;
+  key = later.key;
+  content = cond-false _ _ _ past ∙ later.content;
+}
+
+no_content : (row : Row) (more : List Row) (folder : Folder) (name : FileName) → is_eq (key_cmp (key_of row) (folder, name)) ≡ false → HasNoContent more folder name → HasNoContent (row ∷ more) folder name
+no_content row more folder name past none = record {
+  no_row = λ has.
+      ⊎_elim
+      (λ same.
+      let here : key_of row ≡ (folder, name) = ap key_of same ∙ has.2 in
+      let equal = ap is_eq (Equal_from_same (key_of row) (folder, name) here) in
+      cc)
+      (λ more_has. none.no_row (has.0, more_has, has.2))
+      (Contains-cons_cases row more has.0 has.1);
+  content = cond-false _ _ _ past ∙ none.content;
+}
+
+pub content_or_none : (rows : List Row) (folder : Folder) (name : FileName) → HasContent rows folder name ⊎ HasNoContent rows folder name
+content_or_none [] folder name = inr (record { no_row = λ has. not_in_none has.0 has.1; content = refl })
+content_or_none (row ∷ more) folder name =
+    ⊎_elim
+    (λ here. inl (content_here row more folder name here))
+    (λ past.
+    ⊎_elim
+    (λ later. inl (content_later row more folder name past later))
+    (λ none. inr (no_content row more folder name past none))
+    (content_or_none more folder name))
+    (cases_Bool (is_eq (key_cmp (key_of row) (folder, name))))
+
+calm_at_row : (t : Tables) (rows : List Row) (contents : Contents) → IsSettled t rows → (row : Row) (device : Device) → Contains rows row → Shares t device row.folder → contents row.folder row.entry.name ≡ Some (content_of row.entry) → IsCalmAt t contents device row.folder row.entry.name
+calm_at_row t rows contents settled row device member shares e =
+    let due : content_of row.entry ≡ content_due (contents row.folder row.entry.name) = sym (ap content_due e) in
+    record {
+      own = subst (λ content. OwnAgrees (t.own device row.folder row.entry.name) content) due (settled.own row device member shares);
+      store = subst (λ content. StoreAgrees (t.node device row.folder row.entry.name) (t.own device row.folder row.entry.name) content) due (settled.store row device member shares);
+      foreign = subst (λ content. ForeignAgrees t device row.folder row.entry.name content) due (settled.foreign row device member shares);
+      unlisted = λ none. absurd (cc);
+    }
+
+-- nothing is recorded or held, and nothing is due
+own_of_nothing : (own : Option Entry) (content : Content) → own ≡ None → content ≡ Deleted → OwnAgrees own content
+own_of_nothing None content none due = due
+own_of_nothing (Some own) content none due = absurd (cc)
+
+store_of_nothing : (node : Option NodeParts) (own : Option Entry) (content : Content) → node ≡ None → own ≡ None → content ≡ Deleted → StoreAgrees node own content
+store_of_nothing None None content no_node no_own due = record { holds = sym due; clean = tt }
+store_of_nothing (Some node) own content no_node no_own due = absurd (cc)
+store_of_nothing None (Some own) content no_node no_own due = absurd (cc)
+
+calm_where_unknown : (t : Tables) (contents : Contents) (device : Device) (folder : Folder) (name : FileName) → Shares t device folder → ¬ IsKnown t folder name → contents folder name ≡ None → IsCalmAt t contents device folder name
+calm_where_unknown t contents device folder name shares unknown e =
+    let due : content_due (contents folder name) ≡ Deleted = ap content_due e in
+    let no_node = none_from_not_some (t.node device folder name) (λ some. unknown (device, shares, inl some)) in
+    let no_own = none_from_not_some (t.own device folder name) (λ some. unknown (device, shares, inr (inl some))) in
+    record {
+      own = own_of_nothing _ _ no_own due;
+      store = store_of_nothing _ _ _ no_node no_own due;
+      foreign = λ entry is_foreign. absurd (unknown (device, shares, inr (inr (entry, is_foreign))));
+      unlisted = λ _. record { own = no_own; foreign = λ entry is_foreign. unknown (device, shares, inr (inr (entry, is_foreign))) };
+    }
+
+pub settled_is_calm_lem : (t : Tables) (rows : List Row) → IsSettled t rows → IsCalm t (contents_of rows)
+settled_is_calm_lem t rows settled device folder name shares =
+    ⊎_elim
+    (λ some.
+    subst (λ (key : Folder × FileName). Shares t device key.0 → contents_of rows key.0 key.1 ≡ Some (content_of some.row.entry) → IsCalmAt t (contents_of rows) device key.0 key.1)
+    some.key
+    (λ shares content. calm_at_row t rows (contents_of rows) settled some.row device some.member shares content)
+    shares some.content)
+    (λ none. calm_where_unknown t (contents_of rows) device folder name shares (λ known. none.no_row ((settled.certificate.names folder name).0 known)) none.content)
+    (content_or_none rows folder name)

@@ -1,0 +1,11 @@
+pub mod Members
+pub mod Keys
+pub mod CalmFacts
+pub mod Faultless
+pub mod Verdicts
+pub mod Winners
+pub mod Deciding
+pub mod VersionsDecided
+pub mod CutDecided
+pub mod FirstFault
+pub mod VerdictFound

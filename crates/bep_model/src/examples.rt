@@ -1,0 +1,98 @@
+//! Small cuts on which the definitions are tried out: each call says what holds of one, and what doesn't.
+ghost use Rattle.std.specs.Prelude.{◌≡◌, ◌∷◌, [], List, true, Some, None};
+ghost use Rattle.bep_choice.specs.declared.folder_kind.FolderKind.TheVariants.{SendReceive};
+ghost use Rattle.bep_choice.specs.Choice.{Candidate};
+ghost use Rattle.bep_record.specs.Content.{Deleted};
+ghost use Rattle.bep_record.specs.Node.{IsClean};
+ghost use Rattle.bep_model.specs.declared.reason.Reason.TheVariants.{CertificateOrder, NameMissing, RecordDiffers, StoreDiffers, FlightAhead};
+ghost use Rattle.bep_model.specs.Foreign.{IsHarmless};
+ghost use Rattle.bep_model.specs.Winner.{IsWinner};
+ghost use Rattle.bep_model.specs.Reasons.{Asks};
+ghost use Rattle.bep_model.specs.Verdict.{Settled, Not, IsVerdict};
+ghost use Rattle.bep_model.specs.Calm.{SameFile};
+ghost use Rattle.bep_model.specs.Examples.{folder_f, name_a, by_one, twice_by_one, by_two, deletion, link, empty_file, link_node, file_node, two_devices, shared_deletion, send_only, crossed_links, old_link_flies, row_of, place_of, place_of_name};
+
+/// Two devices know a deletion, and no store holds the name: settled with the row of the deletion. Without it the name
+/// is missing, and that is the verdict.
+pub fn deletion_known_by_two()
+    ensures settled { IsVerdict shared_deletion (row_of 1 (deletion by_one) ∷ []) Settled }
+    ensures without_the_row { IsVerdict shared_deletion [] (Not NameMissing folder_f name_a None) }
+{}
+
+/// A certificate is in order with one row of the name, but not where that row stands twice.
+pub fn row_stands_twice()
+    ensures once { Asks shared_deletion (row_of 1 (deletion by_one) ∷ []) CertificateOrder place_of_name }
+    ensures twice { ¬ Asks
+        shared_deletion
+        (row_of 1 (deletion by_one) ∷ row_of 1 (deletion by_one) ∷ [])
+        CertificateOrder
+        place_of_name }
+{}
+
+/// Where the name is deleted, an old version is harmless beside a newer record, but not beside none or a concurrent one.
+pub fn old_version_is_known()
+    ensures beside_a_newer_record { IsHarmless (Some (deletion twice_by_one)) Deleted (link 1 98 by_one) }
+    ensures beside_none { ¬ IsHarmless None Deleted (link 1 98 by_one) }
+    ensures beside_a_concurrent_record { ¬ IsHarmless (Some (deletion by_two)) Deleted (link 1 98 by_one) }
+{}
+
+/// So an old version on its way is no fault at a device that has the deletion, and one at a device without a record.
+pub fn old_version_flies()
+    ensures to_a_device_with_the_deletion { Asks
+        (old_link_flies (Some (deletion twice_by_one)))
+        (row_of 1 (deletion twice_by_one) ∷ [])
+        FlightAhead
+        (place_of 2) }
+    ensures to_a_device_without_a_record { ¬ Asks
+        (old_link_flies None)
+        (row_of 1 (deletion twice_by_one) ∷ [])
+        FlightAhead
+        (place_of 2) }
+{}
+
+/// A local-only record, which is invalid, doesn't win even where no other record is; a valid one does.
+pub fn local_only_record_is_no_candidate()
+    ensures local_only { (one : Candidate) → ¬ IsWinner
+        (two_devices SendReceive (Some (record (link 1 98 by_one) { invalid = true })) None)
+        folder_f name_a one }
+    ensures valid { IsWinner
+        (two_devices SendReceive (Some (link 1 98 by_one)) None)
+        folder_f name_a (1, link 1 98 by_one) }
+{}
+
+/// Of two concurrent records of one time, that of the smaller `modified_by` wins, whichever device has it.
+pub fn tie_goes_to_the_smaller_author()
+    ensures smaller { IsWinner crossed_links folder_f name_a (2, link 1 98 by_one) }
+    ensures larger { ¬ IsWinner crossed_links folder_f name_a (1, link 2 99 by_two) }
+{}
+
+/// A send-only device that keeps another content than the winner's is at fault; one with another version of the same
+/// content isn't, as long as its store holds it.
+pub fn send_only_device_differs()
+    ensures another_content { ¬ Asks
+        (send_only (link 1 99 by_one))
+        (row_of 1 (link 1 98 twice_by_one) ∷ [])
+        RecordDiffers
+        (place_of 2) }
+    ensures same_content { Asks
+        (send_only (link 1 98 by_one))
+        (row_of 1 (link 1 98 twice_by_one) ∷ [])
+        RecordDiffers
+        (place_of 2) }
+    ensures empty_store { ¬ Asks
+        (send_only (link 1 98 by_one))
+        (row_of 1 (link 1 98 twice_by_one) ∷ [])
+        StoreDiffers
+        (place_of 2) }
+{}
+
+/// What is touched is kept, and is clean where it is a symlink, but not where it is a file. What leads elsewhere or is
+/// gone isn't kept.
+pub fn touched_file_is_unclean()
+    ensures kept { SameFile (Some (link_node 98 1)) (Some (link_node 98 2)) }
+    ensures elsewhere { ¬ SameFile (Some (link_node 98 1)) (Some (link_node 99 1)) }
+    ensures gone { ¬ SameFile (Some (link_node 98 1)) None }
+    ensures symlink { IsClean (Some (link_node 98 1)) (Some (link 1 98 by_one)) }
+    ensures file { ¬ IsClean (Some (file_node 1)) (Some (empty_file by_one)) }
+    ensures untouched_file { IsClean (Some (file_node 0)) (Some (empty_file by_one)) }
+{}

@@ -1,0 +1,37 @@
+ghost use Rattle.bep_model.specs.Laws.{SettledIsFaultless, VerdictIsUnique, VerdictExists, SettledIsListOfWinners, ListOfWinnersIsUnique, CertificateIsUnique, WinnersAreSettledIfAny, SettledIsCalm};
+
+use bep_choice::laws::{choice_exists, choice_is_unique};
+
+/// Settled holds exactly where no reason fails anywhere.
+pub fn settled_is_faultless()
+    ensures { SettledIsFaultless }
+{}
+
+/// A cut and a list of rows have one verdict at most.
+pub fn verdict_is_unique()
+    ensures { VerdictIsUnique }
+{}
+
+/// There is a verdict on every cut in which finitely many devices are viewed and finitely many names are known.
+pub fn verdict_exists()
+    ensures { VerdictExists }
+{
+    choice_exists();
+    choice_is_unique();
+}
+
+/// The rows of a settled cut are the winners of the known names, in order. A cut has one such list at most, so it is
+/// settled for one list of rows at most, and for a list of winners wherever for any.
+pub fn certificate_is_unique()
+    ensures winners { SettledIsListOfWinners }
+    ensures one_list { ListOfWinnersIsUnique }
+    ensures certificate { CertificateIsUnique }
+    ensures settled_if_any { WinnersAreSettledIfAny }
+{
+    choice_is_unique();
+}
+
+/// A settled cut is calm for the contents that its rows name.
+pub fn settled_is_calm()
+    ensures { SettledIsCalm }
+{}

@@ -1,0 +1,15 @@
+//! What a cut means: which names are known, who wins them, when the cut is settled, and what then stays as it is.
+//!
+//! Nearly all of this crate is definitions, in `specs/`, and the laws that follow from them.
+#![tactic(auto)]
+
+pub mod examples;
+mod laws;
+mod reason;
+mod row;
+
+pub use laws::{
+    certificate_is_unique, settled_is_calm, settled_is_faultless, verdict_exists, verdict_is_unique,
+};
+pub use reason::Reason;
+pub use row::Row;
