@@ -1,4 +1,4 @@
-ghost use Rattle.std.specs.Prelude.{◌≡◌, ◌⊎◌, ◌≤◌, ◌↔◌, ℕ, List, All, IsTrue, IfOk, IfErr, IsErrOf, OnOk, length};
+ghost use Rattle.std.specs.Prelude.{◌≡◌, ◌⊎◌, ◌≤◌, ◌↔◌, ℕ, List, All, IsTrue, IfOk, IfErr, IsErrOf, OnOk, Some, length};
 ghost use Rattle.bep_record.specs.FolderName.{IsFolderByte, IsFolderName};
 
 use crate::{Name, RecordError};
@@ -73,6 +73,8 @@ impl FolderName {
 }
 
 impl fmt::Display for FolderName {
+    ghost output = { λ folder. Some folder };
+
     fn fmt<W: fmt::Write>(&self, f: &mut fmt::Formatter<W>) -> fmt::Result {
         f.write_str(self.as_str())
     }
