@@ -8,7 +8,7 @@ use Rattle.bep_choice.specs.Choice.{Candidate, IsChoice, HasOneEach}
 use Rattle.bep_model.specs.declared.row.Row.{Row}
 use Rattle.bep_model.specs.Tables.{Tables, Device, Folder, FileName}
 use Rattle.bep_model.specs.Winner.{beside, owned, own_candidates, IsWinner}
-use Rattle.bep_model.specs.Settled.{HasRow, Rise, key_of, key_cmp}
+use Rattle.bep_model.specs.Settled.{HasRow, Rise, key_of, key_cmp, IsSettled}
 use Rattle.bep_model.specs.Laws.{ListOfWinnersIsUnique, CertificateIsUnique, WinnersAreSettledIfAny}
 use Rattle.bep_model.proofs.Members.{not_in_none, Contains-first, Contains-more, Contains-cons_cases}
 use Rattle.bep_model.proofs.Keys.{key_total, not_less_itself}

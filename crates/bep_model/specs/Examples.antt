@@ -3,6 +3,7 @@ use Rattle.std.specs.Prelude.{ℕ, true, false, pos, List, [], ◌∷◌, Option
 use Rattle.std.specs.Ordering.{is_eq}
 use Rattle.bep_record.specs.Block.{base_block_size}
 use Rattle.bep_record.specs.declared.entry.Entry.{Entry}
+use Rattle.bep_record.specs.declared.limits.TheConstants.{HASH_OF_NOTHING}
 use Rattle.bep_record.specs.declared.kind.Kind.TheVariants.{File, Symlink}
 use Rattle.bep_record.specs.declared.node.NodeParts.{NodeParts}
 use Rattle.bep_choice.specs.declared.folder_kind.FolderKind.{FolderKind}
@@ -54,7 +55,11 @@ link device byte version = record (deletion version) { kind = Symlink; modified_
 
 -- an empty file that device 1 made at second 0
 abbrev pub empty_file : List (ℕ × ℕ) → Entry
-empty_file version = record (deletion version) { deleted = false; block_size = base_block_size }
+empty_file version = record (deletion version) {
+  deleted = false;
+  block_size = base_block_size;
+  blocks = record { offset = 0; size = 0; hash = HASH_OF_NOTHING } ∷ [];
+}
 
 -- such a symlink in a store, and such a file, changed at this second
 abbrev pub link_node : ℕ → ℕ → NodeParts
@@ -83,11 +88,11 @@ shared_deletion = two_devices SendReceive (Some (deletion by_one)) (Some (deleti
 abbrev pub send_only : Entry → Tables
 send_only two = two_devices SendOnly (Some (link 1 98 twice_by_one)) (Some two)
 
--- the two have made symlinks at one time, each the one that names the other as its author
+-- two concurrent symlinks of one time: device 1 has the one that device 2 made, and device 2 the one that device 1 made
 abbrev pub crossed_links : Tables
 crossed_links = two_devices SendReceive (Some (link 2 99 by_two)) (Some (link 1 98 by_one))
 
--- device 1 has deleted the symlink, device 2 has this record, and the symlink is on its way from each to each
+-- device 1 has a deletion, device 2 this record, and the older symlink is on its way from each to each
 abbrev pub old_link_flies : Option Entry → Tables
 old_link_flies two = record (two_devices SendReceive (Some (deletion twice_by_one)) two) {
   flying = λ sender receiver. record { folder = folder_f; full = false; records = link 1 98 by_one ∷ [] } ∷ [];

@@ -43,7 +43,7 @@ HasTrace t device folder name =
 abbrev pub IsKnown : Tables → Folder → FileName → Type 0
 IsKnown t folder name = (device : Device) × Shares t device folder × HasTrace t device folder name
 
--- as every cut is: devices view but these devices' records, and but these names are known
+-- what every cut meets: only the records of these devices are viewed, and only these names are known
 pub record IsFinite (t : Tables) : Type 0 where
   pub viewed : List Device
   pub names : List (Folder × FileName)

@@ -38,7 +38,7 @@ Rise (row ∷ next ∷ more) = (key_cmp (key_of row) (key_of next) ≡ Less) × 
 abbrev pub HasRow : List Row → Folder → FileName → Type 0
 HasRow rows folder name = (row : Row) × Contains rows row × (key_of row ≡ (folder, name))
 
--- the own record says this, or there is none and nothing is there
+-- the own record isn't local-only and has this content; or there is none, and the content is Deleted
 abbrev pub OwnAgrees : Option Entry → Content → Type 0
 OwnAgrees None content = content ≡ Deleted
 OwnAgrees (Some own) content = (own.invalid ≡ false) × (content_of own ≡ content)
