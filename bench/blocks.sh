@@ -1,0 +1,65 @@
+#!/usr/bin/env bash
+# Measures the block list of 16 MiB of random bytes beside sha256sum on the same bytes: the best of RUNS runs each.
+set -euo pipefail
+runs=${1:-10}
+mib=16
+top=$(cd "$(dirname "$0")/.." && pwd)
+work=$(mktemp -d)
+trap 'rm -rf "$work"' EXIT
+
+mkdir "$work/crates"
+for name in bep_record bep_blocks; do
+  cp -r "$top/crates/$name" "$work/crates/$name"
+  grep "^$name:" "$top/crates.txt" >> "$work/crates.txt"
+done
+head -c $((mib * 1048576)) /dev/urandom > "$work/bytes"
+
+cd "$work"
+git init -q
+rt new crates/hash_speed start_io > "$work/log" 2>&1
+echo 'hash_speed: bep_record bep_blocks' >> crates.txt
+cd crates/hash_speed
+rm -rf BUILD.bazel ../../BUILD.bazel src/* specs proofs stdin stdout
+cat > src/main.rt <<PROGRAM
+// Prints how many blocks a file has, and the microseconds of each run.
+#![tactic(auto)]
+
+use bep_blocks::blocks;
+use bep_record::BlockSize;
+use std::fs;
+use std::io;
+use std::time::Instant;
+
+fn main(rt: HostRuntime) -> io::Result<()> {
+    let bytes = fs::read(&rt, "$work/bytes")?;
+    for _ in 0..$runs {
+        let start = Instant::now(&rt)?;
+        let made = blocks(rt.alloc(), &bytes, BlockSize::base());
+        let spent = start.elapsed(&rt)?.as_micros();
+        match made {
+            Ok(list) => println!(rt; "blocks {} micros {}", list.as_slice().len(), spent)?,
+            Err(_) => println!(rt; "refused")?,
+        }
+    }
+    Ok(())
+}
+PROGRAM
+rt run > "$work/out" 2> "$work/log" || { cat "$work/out" "$work/log"; exit 1; }
+grep -q "^blocks $((mib * 8)) " "$work/out"
+
+# Whole processes of sha256sum, its reading of the cached file included.
+for _ in $(seq "$runs"); do
+  begin=$(date +%s%N)
+  sha256sum "$work/bytes" > /dev/null
+  end=$(date +%s%N)
+  echo "sum micros $(((end - begin) / 1000))"
+done >> "$work/out"
+
+awk -v mib="$mib" '
+  $1 == "blocks" && (ours == 0 || $4 < ours) { ours = $4 }
+  $1 == "sum" && (theirs == 0 || $3 < theirs) { theirs = $3 }
+  END {
+    printf "blocks     %7.1f MiB/s\n", mib * 1e6 / ours
+    printf "sha256sum  %7.1f MiB/s\n", mib * 1e6 / theirs
+    printf "blocks takes %.2f times as long\n", ours / theirs
+  }' "$work/out"

@@ -1,0 +1,3 @@
+pub mod PlainFacts
+pub mod MatchingFacts
+pub mod HashesFacts

@@ -1,0 +1,4 @@
+pub mod BlocksError
+pub mod Plain
+pub mod Matching
+pub mod Laws

@@ -1,0 +1,84 @@
+ghost use Rattle.std.specs.Prelude.{◌≡◌, ◌≢◌, ◌*◌, ◌+◌, ◌<◌, ◌≤◌, ◌↔◌, ◌^◌, length, IfOk, IfErr, IsErrOf};
+ghost use Rattle.bep_record.specs.Block.{block_count};
+ghost use Rattle.bep_blocks.specs.Plain.{block_of, file_limit, hash_of, piece_at, plain_block, plain_blocks};
+
+use crate::error::BlocksError;
+use bep_record::{Block, BlockSize, Items};
+use sha2::{Digest, Sha256};
+use std::alloc::{AllocError, AllocFailed, Global};
+
+/// The block list of a file with these bytes, cut from the front into blocks of this size.
+///
+/// BEP v1, 'BlockInfo'. The last block may be shorter; a file without bytes has one block, of size 0. Refused with
+/// `FileTooLarge` where there are more than 16777216 bytes, and else only for want of memory.
+pub fn blocks(alloc: Global, bytes: &[u8], size: BlockSize) -> Result<Items<Block>, BlocksError>
+    ensures plain { IfOk result (λ list. list ≡ plain_blocks size bytes.now) }
+    ensures too_large { IsErrOf result BlocksError.FileTooLarge ↔ (file_limit < length bytes.now) }
+    ensures or_memory { IfErr result (λ e. e ≢ BlocksError.FileTooLarge → e ≡ BlocksError.Memory) }
+{
+    if bytes.len() > 16777216 {
+        return Err(BlocksError::FileTooLarge);
+    }
+    Ok(Items::new(cut(alloc, bytes, bytes_of(size))?))
+}
+
+/// How many bytes each block but the last has, at least one.
+pub(crate) fn bytes_of(size: BlockSize) -> usize
+    ensures value { result ≡ size }
+    ensures positive { 0 < result }
+    ensures small { result < 2 ^ 32 }
+{
+    size.bytes() as usize
+}
+
+/// How many blocks of this size a file of this length has.
+pub(crate) fn number_of_blocks(len: usize, block_size: usize) -> usize
+    requires { 0 < block_size }
+    ensures { result ≡ block_count block_size len }
+{
+    len.saturating_sub(1) / block_size + 1
+}
+
+// The plain block list of the bytes.
+fn cut(alloc: Global, bytes: &[u8], block_size: usize) -> Result<Vec<Block>, AllocError>
+    requires positive { 0 < block_size }
+    requires small { block_size < 2 ^ 32 }
+    ensures { IfOk result (λ list. list.items ≡ plain_blocks block_size bytes.now) }
+{
+    let count = number_of_blocks(bytes.len(), block_size);
+    let mut list = Vec::with_capacity(alloc, count)?;
+    for k in 0..count {
+        list.push(block_at(bytes, block_size, k))?;
+    }
+    Ok(list)
+}
+
+// The block of piece k of the bytes.
+fn block_at(bytes: &[u8], block_size: usize, k: usize) -> Block
+    requires small { block_size < 2 ^ 32 }
+    requires within { k * block_size ≤ length bytes.now }
+    ensures { result ≡ plain_block block_size bytes.now k }
+{
+    let offset = k * block_size;
+    let size = block_size.min(bytes.len() - offset);
+    block_from(offset, &bytes[offset..offset + size])
+}
+
+/// The block of these bytes, which begin at this place in their file.
+pub(crate) fn block_from(offset: usize, piece: &[u8]) -> Block
+    requires { length piece.now < 2 ^ 32 }
+    ensures { result ≡ block_of offset piece.now }
+{
+    Block {
+        offset: offset as u64,
+        size: piece.len() as u32,
+        hash: digest(piece),
+    }
+}
+
+// The SHA-256 of the bytes.
+fn digest(bytes: &[u8]) -> [u8; 32]
+    ensures { result ≡ hash_of bytes.now }
+{
+    Sha256::digest(bytes)
+}
