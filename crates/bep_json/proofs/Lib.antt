@@ -1,0 +1,3 @@
+mod TreeFacts
+pub mod TextFacts
+pub mod ListFacts

@@ -1,0 +1,5 @@
+pub mod Tree
+pub mod Reading
+pub mod Numbers
+pub mod Texts
+pub mod Lists
