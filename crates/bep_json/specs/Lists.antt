@@ -26,21 +26,25 @@ read_items reads (item d more) = do
 abbrev pub read_list : {T : Type 0} → (Data → Option T) → Data → Option (List T)
 read_list reads d = as_array d >>= read_items reads
 
--- two items
-abbrev pub two_of : Items → Option (Data × Data)
-two_of no_items = None
-two_of (item a no_items) = None
-two_of (item a (item b no_items)) = Some (a, b)
-two_of (item a (item b (item c more))) = None
+-- the items, where there are two
+abbrev pub two_items : Items → Option (Data × Data)
+two_items no_items = None
+two_items (item a no_items) = None
+two_items (item a (item b no_items)) = Some (a, b)
+two_items (item a (item b (item c more))) = None
+
+-- the items of a list of two
+abbrev pub two_of : Data → Option (Data × Data)
+two_of d = as_array d >>= two_items
 
 -- a list of two whole numbers
 unfoldable pub is_pair : Data → Bool
-is_pair d = unwrap_or (option_map (λ two. is_whole two.0 && is_whole two.1) (as_array d >>= two_of)) false
+is_pair d = unwrap_or (option_map (λ two. is_whole two.0 && is_whole two.1) (two_of d)) false
 
 -- two unsigned numbers
 unfoldable pub read_pair : Data → Option (ℕ × ℕ)
 read_pair d = do
-  two ← as_array d >>= two_of
+  two ← two_of d
   first ← option_and_then as_u64 (as_number two.0)
   second ← option_and_then as_u64 (as_number two.1)
   Some (first, second)

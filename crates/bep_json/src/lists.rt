@@ -1,7 +1,7 @@
-ghost use Rattle.std.specs.Prelude.{◌≡◌, ℕ, List};
+ghost use Rattle.std.specs.Prelude.{◌≡◌, ℕ, List, option_map};
 ghost use Rattle.serde_json.specs.View.{view, items_view};
 ghost use Rattle.bep_json.specs.Reading.{Gives, GivesBy};
-ghost use Rattle.bep_json.specs.Lists.{have_shape, is_list, read_items, read_list, is_pair, read_pair, read_version};
+ghost use Rattle.bep_json.specs.Lists.{have_shape, is_list, read_items, read_list, two_of, is_pair, read_pair, read_version};
 
 use crate::numbers::is_whole;
 use crate::{ReadError, Readable};
@@ -48,6 +48,18 @@ fn read_items<T: Readable>(alloc: Global, items: &[Value]) -> Result<Vec<T>, Rea
     Ok(things)
 }
 
+// The two items of a list of two.
+#[tactic(auto, using(crate::proofs::ListFacts::two_of_others))]
+fn two_of(value: &Value) -> Option<(&Value, &Value)>
+    ensures { option_map (λ two. (view two.0.now, view two.1.now)) result ≡ two_of (view value.now) }
+{
+    let items = value.as_array()?;
+    match items.as_slice() {
+        [first, second] => Some((first, second)),
+        _ => None,
+    }
+}
+
 // A pair of unsigned numbers, written as a list.
 impl Readable for (u64, u64) {
     ghost has_shape = { is_pair };
@@ -56,29 +68,21 @@ impl Readable for (u64, u64) {
 
     #[tactic(auto, unfolding(crate::specs::Lists::is_pair))]
     fn has_shape(value: &Value) -> bool {
-        let Some(items) = value.as_array() else {
-            return false;
-        };
-        match items.as_slice() {
-            [first, second] => is_whole(first) && is_whole(second),
-            _ => false,
+        match two_of(value) {
+            Some((first, second)) => is_whole(first) && is_whole(second),
+            None => false,
         }
     }
 
     #[tactic(auto, unfolding(crate::specs::Lists::read_pair))]
     fn read(_alloc: Global, value: &Value) -> Result<Self, ReadError> {
-        let Some(items) = value.as_array() else {
+        let Some((first, second)) = two_of(value) else {
             return Err(ReadError::Range);
         };
-        match items.as_slice() {
-            [first, second] => {
-                let (Some(first), Some(second)) = (first.as_u64(), second.as_u64()) else {
-                    return Err(ReadError::Range);
-                };
-                Ok((first, second))
-            }
-            _ => Err(ReadError::Range),
-        }
+        let (Some(first), Some(second)) = (first.as_u64(), second.as_u64()) else {
+            return Err(ReadError::Range);
+        };
+        Ok((first, second))
     }
 }
 
