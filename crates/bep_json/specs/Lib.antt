@@ -3,3 +3,4 @@ pub mod Reading
 pub mod Numbers
 pub mod Texts
 pub mod Lists
+pub mod Records

@@ -8,6 +8,7 @@ mod error;
 mod lists;
 mod numbers;
 mod readable;
+mod records;
 mod texts;
 mod tree;
 
