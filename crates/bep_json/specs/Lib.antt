@@ -4,3 +4,4 @@ pub mod Numbers
 pub mod Texts
 pub mod Lists
 pub mod Records
+pub mod Nodes

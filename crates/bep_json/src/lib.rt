@@ -6,6 +6,7 @@
 
 mod error;
 mod lists;
+mod nodes;
 mod numbers;
 mod readable;
 mod records;
@@ -13,7 +14,8 @@ mod texts;
 mod tree;
 
 pub use error::ReadError;
-pub use numbers::Whole;
+pub use nodes::NamedParts;
+pub use numbers::{Nanoseconds, Sequence, Whole};
 
 pub use readable::{Readable, has, may_have, member, member_or};
 pub use texts::{HexBytes, TextBytes};

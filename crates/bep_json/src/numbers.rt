@@ -15,6 +15,12 @@ pub struct Whole<const LOW: u64, const HIGH: u64> {
     number: u64,
 }
 
+/// A record's number in its index, or the greatest of them: 0 to 9223372036854775807.
+pub type Sequence = Whole<0, 9223372036854775807>;
+
+/// The nanoseconds of a time, below 1000000000.
+pub type Nanoseconds = Whole<0, 999999999>;
+
 impl<const LOW: u64, const HIGH: u64> Model for Whole<LOW, HIGH> {
     ghost Value = { ℕ };
 
@@ -126,11 +132,9 @@ impl Readable for Kind {
     }
 
     fn read(_alloc: Global, value: &Value) -> Result<Self, ReadError> {
-        match value.as_u64() {
-            Some(0) => Ok(Kind::File),
-            Some(1) => Ok(Kind::Directory),
-            Some(4) => Ok(Kind::Symlink),
-            _ => Err(ReadError::Range),
+        match kind_of(value) {
+            Some(kind) => Ok(kind),
+            None => Err(ReadError::Range),
         }
     }
 }
@@ -140,4 +144,16 @@ pub(crate) fn is_whole(value: &Value) -> bool
     ensures { result ≡ is_whole (view value.now) }
 {
     value.is_u64() || value.is_i64()
+}
+
+// The kind whose number the value is.
+pub(crate) fn kind_of(value: &Value) -> Option<Kind>
+    ensures { result ≡ read_kind (view value.now) }
+{
+    match value.as_u64() {
+        Some(0) => Some(Kind::File),
+        Some(1) => Some(Kind::Directory),
+        Some(4) => Some(Kind::Symlink),
+        _ => None,
+    }
 }

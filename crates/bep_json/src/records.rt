@@ -3,14 +3,14 @@ ghost use Rattle.serde_json.specs.View.{view};
 ghost use Rattle.bep_json.specs.Reading.{Gives};
 ghost use Rattle.bep_json.specs.Records.{is_record, has_record_members, may_have_record_members, read_record, blocks_from, default_block_size};
 
-use crate::{ReadError, Readable, Whole, has, has_only, may_have, member, member_or};
+use crate::{
+    Nanoseconds, ReadError, Readable, Sequence, Whole, has, has_only, may_have, member, member_or,
+};
 use bep_record::{Block, DeviceId, Entry, Items, Kind, Name, Target, Vector};
 use serde_json::Value;
 use std::alloc::{AllocError, Global};
 
-type Sequence = Whole<0, 9223372036854775807>;
 type FileSize = Whole<0, 16777216>;
-type Nanoseconds = Whole<0, 999999999>;
 type AnyBlockSize = Whole<0, 4294967295>;
 type Hashes = Items<[u8; 32]>;
 
