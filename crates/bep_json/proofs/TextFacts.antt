@@ -30,9 +30,10 @@ part_decides part =
 pub name_decides : (bytes : List ℕ) → Decides (is_name bytes) (IsName bytes)
 unfolding is_name
 name_decides bytes =
-    let parts = Decides-and _ _ (Decides-and _ _ (leb_decides 1 (length bytes)) (leb_decides (length bytes) 1024)) (Decides-and _ _ (plain_text_decides bytes) (all_decides is_part IsPart part_decides (parts_of bytes))) in
-    (λ e. let all = parts.0 e in record { not_empty = all.0.0; not_long = all.0.1; text = all.1.0; parts = all.1.1 },
-     λ h. parts.1 ((h.not_empty, h.not_long), (h.text, h.parts)))
+    let parts = Decides-and _ _ (Decides-and _ _ (leb_decides 1 (length bytes)) (leb_decides (length bytes) 1024)) (Decides-and _ _ (plain_text_decides bytes) (all_decides is_part IsPart part_decides (parts_of bytes))) in (
+      λ e. let all = parts.0 e in record { not_empty = all.0.0; not_long = all.0.1; text = all.1.0; parts = all.1.1 },
+      λ h. parts.1 ((h.not_empty, h.not_long), (h.text, h.parts)),
+    )
 
 pub target_decides : (bytes : List ℕ) → Decides (is_target bytes) (IsTarget bytes)
 unfolding is_target
@@ -50,6 +51,7 @@ folder_byte_decides b =
 pub folder_name_decides : (bytes : List ℕ) → Decides (is_folder_name bytes) (IsFolderName bytes)
 unfolding is_folder_name
 folder_name_decides bytes =
-    let parts = Decides-and _ _ (Decides-and _ _ (leb_decides 1 (length bytes)) (leb_decides (length bytes) 64)) (all_decides is_folder_byte IsFolderByte folder_byte_decides bytes) in
-    (λ e. let all = parts.0 e in record { not_empty = all.0.0; not_long = all.0.1; plain = all.1 },
-     λ h. parts.1 ((h.not_empty, h.not_long), h.plain))
+    let parts = Decides-and _ _ (Decides-and _ _ (leb_decides 1 (length bytes)) (leb_decides (length bytes) 64)) (all_decides is_folder_byte IsFolderByte folder_byte_decides bytes) in (
+      λ e. let all = parts.0 e in record { not_empty = all.0.0; not_long = all.0.1; plain = all.1 },
+      λ h. parts.1 ((h.not_empty, h.not_long), h.plain),
+    )

@@ -62,5 +62,5 @@ read_node d = do
   target ← read_member_or (codes "target") read_target [] d
   Some (record {
     name = name;
-    parts = record { kind = kind; bytes = bytes; target = target; modified_s = modified_s; modified_ns = modified_ns }
+    parts = record { kind = kind; bytes = bytes; target = target; modified_s = modified_s; modified_ns = modified_ns };
   })

@@ -74,9 +74,18 @@ read_record d = do
   hashes ← read_member_or (codes "blocks") (read_list read_hash) [] d
   target ← read_member_or (codes "target") read_target [] d
   Some (record {
-    name = name; kind = kind; size = size;
-    modified_s = modified_s; modified_ns = modified_ns; modified_by = modified_by;
-    deleted = deleted; invalid = invalid; no_permissions = true;
-    version = version; sequence = sequence;
-    block_size = block_size; blocks = blocks_from size 0 hashes; target = target
+    name = name;
+    kind = kind;
+    size = size;
+    modified_s = modified_s;
+    modified_ns = modified_ns;
+    modified_by = modified_by;
+    deleted = deleted;
+    invalid = invalid;
+    no_permissions = true;
+    version = version;
+    sequence = sequence;
+    block_size = block_size;
+    blocks = blocks_from size 0 hashes;
+    target = target;
   })

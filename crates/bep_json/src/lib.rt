@@ -10,13 +10,14 @@ mod nodes;
 mod numbers;
 mod readable;
 mod records;
+#[cfg(test)]
+mod tests;
 mod texts;
 mod tree;
 
 pub use error::ReadError;
 pub use nodes::NamedParts;
 pub use numbers::{Nanoseconds, Sequence, Whole};
-
 pub use readable::{Readable, has, may_have, member, member_or};
 pub use texts::{HexBytes, TextBytes};
 pub use tree::has_only;

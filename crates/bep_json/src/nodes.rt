@@ -32,7 +32,15 @@ impl Readable for NamedParts {
 
     #[tactic(auto, unfolding(crate::specs::Nodes::is_node))]
     fn has_shape(value: &Value) -> bool {
-        let members = ["name", "type", "modified_s", "modified_ns", "text", "hex", "target"];
+        let members = [
+            "name",
+            "type",
+            "modified_s",
+            "modified_ns",
+            "text",
+            "hex",
+            "target",
+        ];
         has_only(value, &members)
             && has_node_members(value)
             && has_one_body(value)

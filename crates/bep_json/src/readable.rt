@@ -58,7 +58,12 @@ pub fn member<T: Readable>(alloc: Global, value: &Value, name: &str) -> Result<T
 
 /// The thing at the member of this name, or the default where there is no such member. `Range` where the member is no
 /// such thing; `Memory` may come in place of any answer.
-pub fn member_or<T: Readable>(alloc: Global, value: &Value, name: &str, default: T) -> Result<T, ReadError>
+pub fn member_or<T: Readable>(
+    alloc: Global,
+    value: &Value,
+    name: &str,
+    default: T,
+) -> Result<T, ReadError>
     ensures { Gives result (read_member_or name.now T.reads default (view value.now)) }
 {
     match value.get(name) {

@@ -11,7 +11,9 @@ use serde_json::Value;
 use std::alloc::{AllocError, Global};
 
 type FileSize = Whole<0, 16777216>;
+
 type AnyBlockSize = Whole<0, 4294967295>;
+
 type Hashes = Items<[u8; 32]>;
 
 // A record, well formed or not.

@@ -141,7 +141,9 @@ impl Readable for TextBytes {
             return Err(ReadError::Range);
         }
         let bytes = Vec::from_slice(alloc, bytes)?;
-        Ok(TextBytes { bytes: Items::new(bytes) })
+        Ok(TextBytes {
+            bytes: Items::new(bytes),
+        })
     }
 }
 
@@ -191,6 +193,8 @@ impl Readable for HexBytes {
         if bytes.len() > 16777216 {
             return Err(ReadError::Range);
         }
-        Ok(HexBytes { bytes: Items::new(bytes) })
+        Ok(HexBytes {
+            bytes: Items::new(bytes),
+        })
     }
 }
