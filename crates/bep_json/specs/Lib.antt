@@ -5,3 +5,4 @@ pub mod Texts
 pub mod Lists
 pub mod Records
 pub mod Nodes
+pub mod Laws

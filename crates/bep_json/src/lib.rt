@@ -5,6 +5,7 @@
 #![tactic(auto)]
 
 mod error;
+mod laws;
 mod lists;
 mod nodes;
 mod numbers;
@@ -16,6 +17,7 @@ mod texts;
 mod tree;
 
 pub use error::ReadError;
+pub use laws::{hashes_make_blocks, tests_tell};
 pub use nodes::NamedParts;
 pub use numbers::{Nanoseconds, Sequence, Whole};
 pub use readable::{Readable, has, may_have, member, member_or};
