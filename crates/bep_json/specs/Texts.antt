@@ -8,6 +8,7 @@ use Rattle.hex.specs.Hex.{decode_of, decode_sized}
 use Rattle.serde_json.specs.Data.{Data}
 use Rattle.serde_json.specs.Find.{as_str}
 use Rattle.bep_record.specs.Name.{parts_of}
+use Rattle.bep_record.specs.declared.limits.TheConstants.{MAX_FILE_SIZE}
 use Rattle.bep_json.specs.Reading.{◌>>=◌}
 
 abbrev pub is_text : Data → Bool
@@ -54,13 +55,9 @@ read_folder_name d = as_str d >>= if_passes is_folder_name
 unfoldable pub read_hash : Data → Option (List ℕ)
 read_hash d = as_str d >>= λ text. result_ok (decode_sized text 32)
 
--- the most bytes that a file may have
-abbrev pub most_bytes : ℕ
-most_bytes = 16777216
-
 -- bytes that a file may have
 abbrev pub fits_file : List ℕ → Bool
-fits_file bytes = nat_le (length bytes) most_bytes
+fits_file bytes = nat_le (length bytes) MAX_FILE_SIZE
 
 -- the bytes of a text, in UTF-8
 unfoldable pub read_text_bytes : Data → Option (List ℕ)

@@ -21,5 +21,4 @@ pub use laws::{hashes_make_blocks, tests_tell};
 pub use nodes::NamedParts;
 pub use numbers::{Nanoseconds, Sequence, Whole};
 pub use readable::{Readable, has, may_have, member, member_or};
-pub use texts::{HexBytes, TextBytes};
 pub use tree::has_only;

@@ -7,10 +7,8 @@ ghost use Rattle.bep_json.specs.Texts.{read_hex_bytes};
 ghost use Rattle.bep_json.specs.Nodes.{is_node, has_node_members, has_one_body, has_due_target, says_symlink, read_node, read_body};
 
 use crate::numbers::kind_of;
-use crate::{
-    HexBytes, Nanoseconds, ReadError, Readable, TextBytes, Whole, has, has_only, may_have, member,
-    member_or,
-};
+use crate::texts::{HexBytes, TextBytes};
+use crate::{Nanoseconds, ReadError, Readable, Whole, has, has_only, may_have, member, member_or};
 use bep_record::{Items, Kind, Name, NodeParts, Target};
 use serde_json::Value;
 use std::alloc::Global;

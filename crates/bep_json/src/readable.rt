@@ -30,7 +30,7 @@ pub fn has<T: Readable>(value: &Value, name: &str) -> bool
     ensures { result ≡ has_member name.now T.has_shape (view value.now) }
 {
     match value.get(name) {
-        Some(member) => T::has_shape(member),
+        Some(found) => T::has_shape(found),
         None => false,
     }
 }
@@ -51,7 +51,7 @@ pub fn member<T: Readable>(alloc: Global, value: &Value, name: &str) -> Result<T
     ensures { Gives result (read_member name.now T.reads (view value.now)) }
 {
     match value.get(name) {
-        Some(member) => T::read(alloc, member),
+        Some(found) => T::read(alloc, found),
         None => Err(ReadError::Range),
     }
 }

@@ -1,4 +1,5 @@
 // Texts by this project's profile of documents; the hash of `hello` is that of `sha256sum`.
+use crate::texts::{HexBytes, TextBytes};
 use crate::*;
 use bep_record::{DeviceId, Entry, FolderName, Items, Kind, Name, NodeParts, Record, Target};
 use serde_json::{Error, Value};
@@ -205,7 +206,8 @@ fn nodes_are_read(rt: HostRuntime) -> Result<(), Fail> {
     assert!(rt;
         node(alloc, ",\"type\":4,\"target\":\"to\"")?
             .target
-            .as_str() == "to"
+            .as_str()
+            == "to"
     );
     assert!(rt; NamedParts::has_shape(&tree(alloc, NODE, ",\"type\":4,\"target\":\"\"")?));
     for more in [

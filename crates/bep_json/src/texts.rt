@@ -1,10 +1,10 @@
-ghost use Rattle.std.specs.Prelude.{◌≡◌, ◌≤◌, ℕ, List, length, Some, OnOk};
+ghost use Rattle.std.specs.Prelude.{◌≡◌, ℕ, List};
 ghost use Rattle.serde_json.specs.View.{view};
 ghost use Rattle.bep_json.specs.Reading.{Gives};
-ghost use Rattle.bep_json.specs.Texts.{is_text, read_name, read_target, read_folder_name, read_hash, read_text_bytes, read_hex_bytes};
+ghost use Rattle.bep_json.specs.Texts.{is_text, read_name, read_target, read_folder_name, read_hash, fits_file, read_text_bytes, read_hex_bytes};
 
 use crate::{ReadError, Readable};
-use bep_record::{FolderName, Items, Name, RecordError, Target};
+use bep_record::{FolderName, Items, MAX_FILE_SIZE, Name, RecordError, Target};
 use hex::{FromHex, FromHexError};
 use serde_json::Value;
 use std::alloc::Global;
@@ -98,9 +98,16 @@ impl Readable for [u8; 32] {
     }
 }
 
-/// A file's bytes, written as a text: at most 16777216.
+// Whether a file may have these bytes.
+fn fits_file(bytes: &[u8]) -> bool
+    ensures { result ≡ fits_file bytes.now }
+{
+    bytes.len() as u64 <= MAX_FILE_SIZE
+}
+
+// A file's bytes, written as a text: at most 16777216.
 #[derive(Debug, Drop)]
-pub struct TextBytes {
+pub(crate) struct TextBytes {
     bytes: Items<u8>,
 }
 
@@ -108,15 +115,12 @@ impl Model for TextBytes {
     ghost Value = { List ℕ };
 
     ghost view = { λ text. text.bytes };
-
-    ghost invariant = { λ text. length text.bytes ≤ 16777216 };
 }
 
 impl TextBytes {
-    /// The bytes, at most 16777216.
-    pub fn into_items(self) -> Items<u8>
-        ensures value { result ≡ self }
-        ensures fits { length self ≤ 16777216 }
+    // The bytes.
+    pub(crate) fn into_items(self) -> Items<u8>
+        ensures { result ≡ self }
     {
         self.bytes
     }
@@ -137,7 +141,7 @@ impl Readable for TextBytes {
             return Err(ReadError::Range);
         };
         let bytes = text.as_bytes();
-        if bytes.len() > 16777216 {
+        if !fits_file(bytes) {
             return Err(ReadError::Range);
         }
         let bytes = Vec::from_slice(alloc, bytes)?;
@@ -147,9 +151,9 @@ impl Readable for TextBytes {
     }
 }
 
-/// A file's bytes, written in hexadecimal digits: at most 16777216 bytes.
+// A file's bytes, written in hexadecimal digits: at most 16777216 bytes.
 #[derive(Debug, Drop)]
-pub struct HexBytes {
+pub(crate) struct HexBytes {
     bytes: Items<u8>,
 }
 
@@ -157,15 +161,12 @@ impl Model for HexBytes {
     ghost Value = { List ℕ };
 
     ghost view = { λ text. text.bytes };
-
-    ghost invariant = { λ text. length text.bytes ≤ 16777216 };
 }
 
 impl HexBytes {
-    /// The bytes, at most 16777216.
-    pub fn into_items(self) -> Items<u8>
-        ensures value { result ≡ self }
-        ensures fits { length self ≤ 16777216 }
+    // The bytes.
+    pub(crate) fn into_items(self) -> Items<u8>
+        ensures { result ≡ self }
     {
         self.bytes
     }
@@ -190,7 +191,7 @@ impl Readable for HexBytes {
             Err(FromHexError::OutOfMemory) => return Err(ReadError::Memory),
             Err(_) => return Err(ReadError::Range),
         };
-        if bytes.len() > 16777216 {
+        if !fits_file(bytes.as_slice()) {
             return Err(ReadError::Range);
         }
         Ok(HexBytes {

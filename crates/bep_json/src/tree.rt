@@ -25,5 +25,5 @@ fn are_among(members: &Map<String, Value>, names: &[&str]) -> bool
 fn is_among(name: &str, names: &[&str]) -> bool
     ensures { result ≡ is_among name.now (map (λ n. n.now) names.now) }
 {
-    names.iter().any(|known| *known == name)
+    names.contains(&name)
 }
