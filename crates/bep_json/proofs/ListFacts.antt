@@ -1,13 +1,13 @@
 -- Reading a list item by item, and version vectors as tests.
-use Rattle.std.proofs.Common.{◌≡◌, ◌≤◌, ◌<◌, ℕ, zero, suc, ◌+◌, ◌&&◌, Bool, List, [], ◌∷◌, ◌++◌, map, Decides, length, leb, ltb, get_or, take, drop, Option, Some, None, refl, ap, sym, ◌∙◌, append_assoc, append-nil, add-one, drop-cons, arith}
+use Rattle.std.proofs.Common.{◌≡◌, ◌≤◌, ◌<◌, ℕ, ◌&&◌, Bool, List, [], ◌∷◌, ◌++◌, Decides, length, leb, Option, Some, None, refl, ap, arith}
 use Rattle.std.specs.List.{list_all}
 use Rattle.std.proofs.lemmas.Bool.Decides.{Decides-and, Decides-ltb, nat_tests}
-use Rattle.serde_json.specs.Data.{Data, Items}
+use Rattle.serde_json.specs.Data.{Data}
 use Rattle.serde_json.specs.View.{view, items_view}
 use Rattle.serde_json.specs.declared.value.Value.{Value}
 use Rattle.bep_record.specs.Vector.{RisesAbove, IsVersion, greatest_counter, most_counters}
 use Rattle.bep_json.specs.Reading.{◌>>=◌}
-use Rattle.bep_json.specs.Lists.{two_items, have_shape, read_items, rises_above, is_version}
+use Rattle.bep_json.specs.Lists.{two_items, have_shape, rises_above, is_version}
 
 pub have_shape-all : (shape : Data → Bool) (values : List Value) → list_all (λ v. shape (view v)) values ≡ have_shape shape (items_view values)
 have_shape-all shape [] = refl

@@ -1,9 +1,8 @@
 -- The tests of texts tell what bep_record's definitions say.
-use Rattle.std.proofs.Common.{◌≡◌, ◌≢◌, ◌≤◌, ◌⊎◌, ℕ, ◌==◌, ◌&&◌, ◌||◌, not, Bool, List, [], All, Decides, length, leb, codes, refl, arith}
+use Rattle.std.proofs.Common.{◌≢◌, ◌≤◌, ℕ, ◌==◌, ◌&&◌, not, Bool, List, [], All, Decides, length, leb, codes, refl, arith}
 use Rattle.std.specs.List.{list_all}
-use Rattle.std.specs.Str.{is_utf8, IsUtf8}
-use Rattle.std.specs.Cmp.Lexicographic.{pointwise, bytes_decides}
-use Rattle.std.proofs.lemmas.Bool.Decides.{Decides-and, Decides-or, Decides-not, Decides-eqb, Decides-ltb, Decides-like, Decides-by_and, nat_tests}
+use Rattle.std.specs.Cmp.Lexicographic.{bytes_decides}
+use Rattle.std.proofs.lemmas.Bool.Decides.{Decides-and, Decides-or, Decides-not, Decides-eqb, Decides-by_and, nat_tests}
 use Rattle.std.proofs.lemmas.Str.{IsUtf8-from_is_utf8, is_utf8-from_IsUtf8}
 use Rattle.bep_record.specs.Text.{IsPlainText}
 use Rattle.bep_record.specs.Name.{IsName, IsPart, parts_of}

@@ -1,4 +1,4 @@
-use Rattle.std.proofs.Common.{◌≡◌, List, ℕ, map, rules, tests, sym, ◌∙◌, Bor}
+use Rattle.std.proofs.Common.{List, ℕ, map, rules, tests, ◌∙◌, Bor}
 use Rattle.std.specs.String.{string_bytes}
 use Rattle.std.specs.Prelude.{String}
 use Rattle.std.specs.Map.{keys_of}

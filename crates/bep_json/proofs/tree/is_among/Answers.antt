@@ -1,4 +1,4 @@
-use Rattle.std.proofs.Common.{◌≡◌, List, ℕ, map, nat_eq, ◌∙◌, Bor}
+use Rattle.std.proofs.Common.{List, ℕ, nat_eq, ◌∙◌, Bor}
 use Rattle.std.specs.Cmp.Lexicographic.{pointwise}
 use Rattle.bep_json.proofs.TreeFacts.{list_any-map}
 use Rattle.bep_json.proofs.tree.is_among.Goals as goal
