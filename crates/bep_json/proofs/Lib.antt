@@ -1,0 +1,4 @@
+mod TreeFacts
+pub mod TextFacts
+pub mod ListFacts
+pub mod BlockFacts

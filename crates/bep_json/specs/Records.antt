@@ -1,0 +1,91 @@
+-- Records in JSON trees (BEP v1, 'FileInfo'; members and defaults are this project's profile).
+use Rattle.std.specs.Prelude.{ℕ, ◌+◌, ◌-◌, ◌&&◌, min, Bool, true, false, List, [], ◌∷◌, Option, Some, codes}
+use Rattle.serde_json.specs.Data.{Data}
+use Rattle.bep_record.specs.declared.block.Block.{Block}
+use Rattle.bep_record.specs.declared.entry.Entry.{Entry}
+use Rattle.bep_record.specs.declared.kind.Kind.{Kind}
+use Rattle.bep_record.specs.declared.kind.Kind.TheVariants.{File, Directory, Symlink}
+use Rattle.bep_json.specs.Tree.{has_only, has_member, may_have_member}
+use Rattle.bep_json.specs.Reading.{◌>>=◌, read_member, read_member_or}
+use Rattle.bep_json.specs.Numbers.{is_whole, is_flag, read_number, read_signed, read_flag, read_kind, greatest_id}
+use Rattle.bep_json.specs.Texts.{is_text, read_name, read_target, read_hash}
+use Rattle.bep_json.specs.Lists.{is_list, read_list, is_pair, read_version}
+
+-- the members that a record may have
+abbrev pub record_members : List (List ℕ)
+record_members =
+    codes "name" ∷ codes "type" ∷ codes "modified_s" ∷ codes "modified_by" ∷ codes "version" ∷ codes "sequence" ∷
+    codes "size" ∷ codes "modified_ns" ∷ codes "deleted" ∷ codes "invalid" ∷ codes "block_size" ∷ codes "blocks" ∷
+    codes "target" ∷ []
+
+-- the members that a record must have
+unfoldable pub has_record_members : Data → Bool
+has_record_members d =
+    has_member (codes "name") is_text d
+    && (has_member (codes "type") is_whole d
+    && (has_member (codes "modified_s") is_whole d
+    && (has_member (codes "modified_by") is_whole d
+    && (has_member (codes "version") (is_list is_pair) d
+    && has_member (codes "sequence") is_whole d))))
+
+-- the members that have a default
+unfoldable pub may_have_record_members : Data → Bool
+may_have_record_members d =
+    may_have_member (codes "size") is_whole d
+    && (may_have_member (codes "modified_ns") is_whole d
+    && (may_have_member (codes "deleted") is_flag d
+    && (may_have_member (codes "invalid") is_flag d
+    && (may_have_member (codes "block_size") is_whole d
+    && (may_have_member (codes "blocks") (is_list is_text) d
+    && may_have_member (codes "target") is_text d)))))
+
+unfoldable pub is_record : Data → Bool
+is_record d = has_only record_members d && (has_record_members d && may_have_record_members d)
+
+-- the block size of a record that doesn't say one: that of a file that isn't deleted
+abbrev pub default_block_size : Kind → Bool → ℕ
+default_block_size File false = 131072
+default_block_size File true = 0
+default_block_size Directory deleted = 0
+default_block_size Symlink deleted = 0
+
+-- the blocks with these hashes of a file of this size: each begins where the one before it ended, and has 131072
+-- bytes, or as many as the file has left
+abbrev pub blocks_from : ℕ → ℕ → List (List ℕ) → List Block
+blocks_from size offset [] = []
+blocks_from size offset (hash ∷ more) =
+    record { offset = offset; size = min 131072 (size - offset); hash = hash }
+    ∷ blocks_from size (offset + min 131072 (size - offset)) more
+
+-- the record, well formed or not
+unfoldable pub read_record : Data → Option Entry
+read_record d = do
+  name ← read_member (codes "name") read_name d
+  kind ← read_member (codes "type") read_kind d
+  modified_s ← read_member (codes "modified_s") read_signed d
+  modified_by ← read_member (codes "modified_by") (read_number 1 greatest_id) d
+  version ← read_member (codes "version") read_version d
+  sequence ← read_member (codes "sequence") (read_number 0 9223372036854775807) d
+  size ← read_member_or (codes "size") (read_number 0 16777216) 0 d
+  modified_ns ← read_member_or (codes "modified_ns") (read_number 0 999999999) 0 d
+  deleted ← read_member_or (codes "deleted") read_flag false d
+  invalid ← read_member_or (codes "invalid") read_flag false d
+  block_size ← read_member_or (codes "block_size") (read_number 0 4294967295) (default_block_size kind deleted) d
+  hashes ← read_member_or (codes "blocks") (read_list read_hash) [] d
+  target ← read_member_or (codes "target") read_target [] d
+  Some (record {
+    name = name;
+    kind = kind;
+    size = size;
+    modified_s = modified_s;
+    modified_ns = modified_ns;
+    modified_by = modified_by;
+    deleted = deleted;
+    invalid = invalid;
+    no_permissions = true;
+    version = version;
+    sequence = sequence;
+    block_size = block_size;
+    blocks = blocks_from size 0 hashes;
+    target = target;
+  })

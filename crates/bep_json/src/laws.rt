@@ -1,0 +1,17 @@
+ghost use Rattle.bep_json.specs.Laws.{NamesAreTold, TargetsAreTold, FolderNamesAreTold, VersionsAreTold, BlocksCutWhole, BlocksHaveHashes};
+
+/// That the tests by which a document is read tell what bytes are names, targets and folder names, and what pairs are a
+/// version vector: a law, which does nothing when it runs.
+pub fn tests_tell()
+    ensures names { NamesAreTold }
+    ensures targets { TargetsAreTold }
+    ensures folder_names { FolderNamesAreTold }
+    ensures versions { VersionsAreTold }
+{}
+
+/// That a record's hashes are those of its blocks, which cut the file whole exactly where there are as many of them as
+/// the file's size asks: a law, which does nothing when it runs.
+pub fn hashes_make_blocks()
+    ensures hashes { BlocksHaveHashes }
+    ensures cut { BlocksCutWhole }
+{}

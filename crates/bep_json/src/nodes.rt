@@ -1,0 +1,128 @@
+ghost use Rattle.std.specs.Prelude.{◌≡◌, [], codes};
+ghost use Rattle.serde_json.specs.Find.{get};
+ghost use Rattle.serde_json.specs.View.{view};
+ghost use Rattle.bep_json.specs.Reading.{Gives, read_member, read_member_or};
+ghost use Rattle.bep_json.specs.Numbers.{read_kind};
+ghost use Rattle.bep_json.specs.Texts.{read_hex_bytes};
+ghost use Rattle.bep_json.specs.Nodes.{is_node, has_node_members, has_one_body, has_due_target, says_symlink, read_node, read_body};
+
+use crate::numbers::kind_of;
+use crate::texts::{HexBytes, TextBytes};
+use crate::{Nanoseconds, ReadError, Readable, Whole, has, has_only, may_have, member, member_or};
+use bep_record::{Items, Kind, Name, NodeParts, Target};
+use serde_json::Value;
+use std::alloc::Global;
+
+/// A name and what a store holds there, whether the parts fit together or not.
+#[derive(Debug, Drop)]
+pub struct NamedParts {
+    /// The name.
+    pub name: Name,
+    /// What stands there.
+    pub parts: NodeParts,
+}
+
+// A node, whether it fits its kind or not.
+impl Readable for NamedParts {
+    ghost has_shape = { is_node };
+
+    ghost reads = { read_node };
+
+    #[tactic(auto, unfolding(crate::specs::Nodes::is_node))]
+    fn has_shape(value: &Value) -> bool {
+        let members = [
+            "name",
+            "type",
+            "modified_s",
+            "modified_ns",
+            "text",
+            "hex",
+            "target",
+        ];
+        has_only(value, &members)
+            && has_node_members(value)
+            && has_one_body(value)
+            && has_due_target(value)
+    }
+
+    #[tactic(auto, unfolding(crate::specs::Nodes::read_node))]
+    fn read(alloc: Global, value: &Value) -> Result<Self, ReadError> {
+        let name = member::<Name>(alloc, value, "name")?;
+        let kind = member::<Kind>(alloc, value, "type")?;
+        let modified_s = member::<i64>(alloc, value, "modified_s")?;
+        let modified_ns = member_or::<Nanoseconds>(alloc, value, "modified_ns", Whole::new(0))?;
+        let bytes = body(alloc, value)?;
+        let target = member_or::<Target>(alloc, value, "target", Target::empty(alloc))?;
+        let parts = NodeParts {
+            kind,
+            bytes,
+            target,
+            modified_s,
+            modified_ns: modified_ns.number() as u32,
+        };
+        Ok(NamedParts { name, parts })
+    }
+}
+
+#[tactic(auto, unfolding(crate::specs::Nodes::has_node_members))]
+fn has_node_members(value: &Value) -> bool
+    ensures { result ≡ has_node_members (view value.now) }
+{
+    has::<Name>(value, "name")
+        && has::<Kind>(value, "type")
+        && has::<i64>(value, "modified_s")
+        && may_have::<Nanoseconds>(value, "modified_ns")
+        && may_have::<TextBytes>(value, "text")
+        && may_have::<HexBytes>(value, "hex")
+        && may_have::<Target>(value, "target")
+}
+
+// Whether the bytes are written in one way at most.
+#[tactic(auto, unfolding(crate::specs::Nodes::has_one_body))]
+fn has_one_body(value: &Value) -> bool
+    ensures { result ≡ has_one_body (view value.now) }
+{
+    value.get("text").is_none() || value.get("hex").is_none()
+}
+
+// Whether a symlink says where it leads.
+#[tactic(auto, unfolding(crate::specs::Nodes::has_due_target))]
+fn has_due_target(value: &Value) -> bool
+    ensures { result ≡ has_due_target (view value.now) }
+{
+    !is_symlink(value) || value.get("target").is_some()
+}
+
+// Whether the value says that it is a symlink.
+fn is_symlink(value: &Value) -> bool
+    ensures { result ≡ says_symlink (read_member (codes "type") read_kind (view value.now)) }
+{
+    match value.get("type") {
+        Some(kind) => match kind_of(kind) {
+            Some(Kind::File) => false,
+            Some(Kind::Directory) => false,
+            Some(Kind::Symlink) => true,
+            None => false,
+        },
+        None => false,
+    }
+}
+
+// The bytes, which are written as a text or in hexadecimal digits.
+fn body(alloc: Global, value: &Value) -> Result<Items<u8>, ReadError>
+    ensures { Gives result (read_body (get (codes "text") (view value.now)) (view value.now)) }
+{
+    match value.get("text") {
+        Some(text) => Ok(TextBytes::read(alloc, text)?.into_items()),
+        None => hex_body(alloc, value),
+    }
+}
+
+fn hex_body(alloc: Global, value: &Value) -> Result<Items<u8>, ReadError>
+    ensures { Gives result (read_member_or (codes "hex") read_hex_bytes [] (view value.now)) }
+{
+    match value.get("hex") {
+        Some(digits) => Ok(HexBytes::read(alloc, digits)?.into_items()),
+        None => Ok(Items::new(Vec::new(alloc))),
+    }
+}

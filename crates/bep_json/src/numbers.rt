@@ -1,0 +1,159 @@
+ghost use Rattle.std.specs.Prelude.{◌≡◌, ◌≤◌, ℕ};
+ghost use Rattle.serde_json.specs.View.{view};
+ghost use Rattle.bep_json.specs.Reading.{Gives};
+ghost use Rattle.bep_json.specs.Numbers.{is_whole, is_flag, read_number, read_signed, read_flag, read_kind, greatest_id};
+
+use crate::{ReadError, Readable};
+use bep_record::{DeviceId, Kind};
+use serde_json::Value;
+use std::alloc::Global;
+use std::marker::Model;
+
+/// A whole number from `LOW` to `HIGH`.
+#[derive(Clone, Copy, Debug)]
+pub struct Whole<const LOW: u64, const HIGH: u64> {
+    number: u64,
+}
+
+/// A record's number in its index, or the greatest of them: 0 to 9223372036854775807.
+pub type Sequence = Whole<0, 9223372036854775807>;
+
+/// The nanoseconds of a time, below 1000000000.
+pub type Nanoseconds = Whole<0, 999999999>;
+
+impl<const LOW: u64, const HIGH: u64> Model for Whole<LOW, HIGH> {
+    ghost Value = { ℕ };
+
+    ghost view = { λ whole. whole.number };
+
+    ghost invariant = { λ whole. (LOW ≤ whole.number) × (whole.number ≤ HIGH) };
+
+    ghost inverse = { λ number. record { number = number } };
+}
+
+impl<const LOW: u64, const HIGH: u64> Whole<LOW, HIGH> {
+    /// This number.
+    pub fn new(number: u64) -> Self
+        requires low { LOW ≤ number }
+        requires high { number ≤ HIGH }
+        ensures { result ≡ number }
+    {
+        Whole { number }
+    }
+
+    /// The number.
+    pub fn number(self) -> u64
+        ensures value { result ≡ self.entry }
+        ensures low { LOW ≤ self.entry }
+        ensures high { self.entry ≤ HIGH }
+    {
+        self.number
+    }
+}
+
+impl<const LOW: u64, const HIGH: u64> Readable for Whole<LOW, HIGH> {
+    ghost has_shape = { is_whole };
+
+    ghost reads = { read_number LOW HIGH };
+
+    fn has_shape(value: &Value) -> bool {
+        is_whole(value)
+    }
+
+    fn read(_alloc: Global, value: &Value) -> Result<Self, ReadError> {
+        match value.as_u64() {
+            Some(number) if LOW <= number && number <= HIGH => Ok(Whole { number }),
+            _ => Err(ReadError::Range),
+        }
+    }
+}
+
+impl Readable for i64 {
+    ghost has_shape = { is_whole };
+
+    ghost reads = { read_signed };
+
+    fn has_shape(value: &Value) -> bool {
+        is_whole(value)
+    }
+
+    fn read(_alloc: Global, value: &Value) -> Result<Self, ReadError> {
+        match value.as_i64() {
+            Some(number) => Ok(number),
+            None => Err(ReadError::Range),
+        }
+    }
+}
+
+impl Readable for bool {
+    ghost has_shape = { is_flag };
+
+    ghost reads = { read_flag };
+
+    fn has_shape(value: &Value) -> bool {
+        value.is_boolean()
+    }
+
+    fn read(_alloc: Global, value: &Value) -> Result<Self, ReadError> {
+        match value.as_bool() {
+            Some(flag) => Ok(flag),
+            None => Err(ReadError::Range),
+        }
+    }
+}
+
+impl Readable for DeviceId {
+    ghost has_shape = { is_whole };
+
+    ghost reads = { read_number 1 greatest_id };
+
+    fn has_shape(value: &Value) -> bool {
+        is_whole(value)
+    }
+
+    fn read(_alloc: Global, value: &Value) -> Result<Self, ReadError> {
+        match value.as_u64() {
+            Some(number) => match DeviceId::read(number) {
+                Some(device) => Ok(device),
+                None => Err(ReadError::Range),
+            },
+            None => Err(ReadError::Range),
+        }
+    }
+}
+
+impl Readable for Kind {
+    ghost has_shape = { is_whole };
+
+    ghost reads = { read_kind };
+
+    fn has_shape(value: &Value) -> bool {
+        is_whole(value)
+    }
+
+    fn read(_alloc: Global, value: &Value) -> Result<Self, ReadError> {
+        match kind_of(value) {
+            Some(kind) => Ok(kind),
+            None => Err(ReadError::Range),
+        }
+    }
+}
+
+// Whether the value is a whole number of 64 bits.
+pub(crate) fn is_whole(value: &Value) -> bool
+    ensures { result ≡ is_whole (view value.now) }
+{
+    value.is_u64() || value.is_i64()
+}
+
+// The kind whose number the value is.
+pub(crate) fn kind_of(value: &Value) -> Option<Kind>
+    ensures { result ≡ read_kind (view value.now) }
+{
+    match value.as_u64() {
+        Some(0) => Some(Kind::File),
+        Some(1) => Some(Kind::Directory),
+        Some(4) => Some(Kind::Symlink),
+        _ => None,
+    }
+}

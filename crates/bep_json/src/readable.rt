@@ -1,0 +1,73 @@
+ghost use Rattle.std.specs.Prelude.{◌≡◌, Bool, Option};
+ghost use Rattle.serde_json.specs.Data.{Data};
+ghost use Rattle.serde_json.specs.View.{view};
+ghost use Rattle.bep_json.specs.Tree.{has_member, may_have_member};
+ghost use Rattle.bep_json.specs.Reading.{Gives, read_member, read_member_or};
+
+use crate::ReadError;
+use serde_json::Value;
+use std::alloc::Global;
+
+/// A thing that stands in a JSON tree.
+pub trait Readable: Drop + Sized {
+    /// Which values have the thing's shape.
+    ghost has_shape: { Data → Bool };
+
+    /// Which thing a value stands for, where each of its parts is inside its range.
+    ghost reads: { Data → Option Self };
+
+    /// Whether the value has the thing's shape: its members, and their kinds.
+    fn has_shape(value: &Value) -> bool
+        ensures { result ≡ has_shape (view value.now) };
+
+    /// The thing that the value stands for. `Range` where there is none; `Memory` may come in place of any answer.
+    fn read(alloc: Global, value: &Value) -> Result<Self, ReadError>
+        ensures { Gives result (reads (view value.now)) };
+}
+
+/// Whether the value has a member of this name that has a `T`'s shape.
+pub fn has<T: Readable>(value: &Value, name: &str) -> bool
+    ensures { result ≡ has_member name.now T.has_shape (view value.now) }
+{
+    match value.get(name) {
+        Some(found) => T::has_shape(found),
+        None => false,
+    }
+}
+
+/// Whether a member of this name, if the value has one, has a `T`'s shape.
+pub fn may_have<T: Readable>(value: &Value, name: &str) -> bool
+    ensures { result ≡ may_have_member name.now T.has_shape (view value.now) }
+{
+    match value.get(name) {
+        Some(member) => T::has_shape(member),
+        None => true,
+    }
+}
+
+/// The thing at the member of this name. `Range` where there is none, or no such member; `Memory` may come in place of
+/// any answer.
+pub fn member<T: Readable>(alloc: Global, value: &Value, name: &str) -> Result<T, ReadError>
+    ensures { Gives result (read_member name.now T.reads (view value.now)) }
+{
+    match value.get(name) {
+        Some(found) => T::read(alloc, found),
+        None => Err(ReadError::Range),
+    }
+}
+
+/// The thing at the member of this name, or the default where there is no such member. `Range` where the member is no
+/// such thing; `Memory` may come in place of any answer.
+pub fn member_or<T: Readable>(
+    alloc: Global,
+    value: &Value,
+    name: &str,
+    default: T,
+) -> Result<T, ReadError>
+    ensures { Gives result (read_member_or name.now T.reads default (view value.now)) }
+{
+    match value.get(name) {
+        Some(member) => T::read(alloc, member),
+        None => Ok(default),
+    }
+}

@@ -1,0 +1,201 @@
+ghost use Rattle.std.specs.Prelude.{◌≡◌, ℕ, List};
+ghost use Rattle.serde_json.specs.View.{view};
+ghost use Rattle.bep_json.specs.Reading.{Gives};
+ghost use Rattle.bep_json.specs.Texts.{is_text, read_name, read_target, read_folder_name, read_hash, fits_file, read_text_bytes, read_hex_bytes};
+
+use crate::{ReadError, Readable};
+use bep_record::{FolderName, Items, MAX_FILE_SIZE, Name, RecordError, Target};
+use hex::{FromHex, FromHexError};
+use serde_json::Value;
+use std::alloc::Global;
+use std::marker::Model;
+
+impl Readable for Name {
+    ghost has_shape = { is_text };
+
+    ghost reads = { read_name };
+
+    fn has_shape(value: &Value) -> bool {
+        value.is_string()
+    }
+
+    #[tactic(auto, unfolding(crate::specs::Texts::read_name), using(crate::proofs::TextFacts::name_decides))]
+    fn read(alloc: Global, value: &Value) -> Result<Self, ReadError> {
+        let Some(text) = value.as_str() else {
+            return Err(ReadError::Range);
+        };
+        match Name::read(alloc, text.as_bytes()) {
+            Ok(name) => Ok(name),
+            Err(RecordError::NameBad) => Err(ReadError::Range),
+            Err(_) => Err(ReadError::Memory),
+        }
+    }
+}
+
+impl Readable for Target {
+    ghost has_shape = { is_text };
+
+    ghost reads = { read_target };
+
+    fn has_shape(value: &Value) -> bool {
+        value.is_string()
+    }
+
+    #[tactic(auto, unfolding(crate::specs::Texts::read_target), using(crate::proofs::TextFacts::target_decides))]
+    fn read(alloc: Global, value: &Value) -> Result<Self, ReadError> {
+        let Some(text) = value.as_str() else {
+            return Err(ReadError::Range);
+        };
+        match Target::read(alloc, text.as_bytes()) {
+            Ok(target) => Ok(target),
+            Err(RecordError::NodeBad) => Err(ReadError::Range),
+            Err(_) => Err(ReadError::Memory),
+        }
+    }
+}
+
+impl Readable for FolderName {
+    ghost has_shape = { is_text };
+
+    ghost reads = { read_folder_name };
+
+    fn has_shape(value: &Value) -> bool {
+        value.is_string()
+    }
+
+    #[tactic(auto, unfolding(crate::specs::Texts::read_folder_name), using(crate::proofs::TextFacts::folder_name_decides))]
+    fn read(alloc: Global, value: &Value) -> Result<Self, ReadError> {
+        let Some(text) = value.as_str() else {
+            return Err(ReadError::Range);
+        };
+        match FolderName::read(alloc, text.as_bytes()) {
+            Ok(name) => Ok(name),
+            Err(RecordError::NameBad) => Err(ReadError::Range),
+            Err(_) => Err(ReadError::Memory),
+        }
+    }
+}
+
+// A SHA-256 (FIPS 180-4).
+impl Readable for [u8; 32] {
+    ghost has_shape = { is_text };
+
+    ghost reads = { read_hash };
+
+    fn has_shape(value: &Value) -> bool {
+        value.is_string()
+    }
+
+    #[tactic(auto, unfolding(crate::specs::Texts::read_hash))]
+    fn read(_alloc: Global, value: &Value) -> Result<Self, ReadError> {
+        let Some(text) = value.as_str() else {
+            return Err(ReadError::Range);
+        };
+        match <[u8; 32] as FromHex>::from_hex(text) {
+            Ok(hash) => Ok(hash),
+            Err(_) => Err(ReadError::Range),
+        }
+    }
+}
+
+// Whether a file may have these bytes.
+fn fits_file(bytes: &[u8]) -> bool
+    ensures { result ≡ fits_file bytes.now }
+{
+    bytes.len() as u64 <= MAX_FILE_SIZE
+}
+
+// A file's bytes, written as a text: at most 16777216.
+#[derive(Debug, Drop)]
+pub(crate) struct TextBytes {
+    bytes: Items<u8>,
+}
+
+impl Model for TextBytes {
+    ghost Value = { List ℕ };
+
+    ghost view = { λ text. text.bytes };
+}
+
+impl TextBytes {
+    // The bytes.
+    pub(crate) fn into_items(self) -> Items<u8>
+        ensures { result ≡ self }
+    {
+        self.bytes
+    }
+}
+
+impl Readable for TextBytes {
+    ghost has_shape = { is_text };
+
+    ghost reads = { read_text_bytes };
+
+    fn has_shape(value: &Value) -> bool {
+        value.is_string()
+    }
+
+    #[tactic(auto, unfolding(crate::specs::Texts::read_text_bytes))]
+    fn read(alloc: Global, value: &Value) -> Result<Self, ReadError> {
+        let Some(text) = value.as_str() else {
+            return Err(ReadError::Range);
+        };
+        let bytes = text.as_bytes();
+        if !fits_file(bytes) {
+            return Err(ReadError::Range);
+        }
+        let bytes = Vec::from_slice(alloc, bytes)?;
+        Ok(TextBytes {
+            bytes: Items::new(bytes),
+        })
+    }
+}
+
+// A file's bytes, written in hexadecimal digits: at most 16777216 bytes.
+#[derive(Debug, Drop)]
+pub(crate) struct HexBytes {
+    bytes: Items<u8>,
+}
+
+impl Model for HexBytes {
+    ghost Value = { List ℕ };
+
+    ghost view = { λ text. text.bytes };
+}
+
+impl HexBytes {
+    // The bytes.
+    pub(crate) fn into_items(self) -> Items<u8>
+        ensures { result ≡ self }
+    {
+        self.bytes
+    }
+}
+
+impl Readable for HexBytes {
+    ghost has_shape = { is_text };
+
+    ghost reads = { read_hex_bytes };
+
+    fn has_shape(value: &Value) -> bool {
+        value.is_string()
+    }
+
+    #[tactic(auto, unfolding(crate::specs::Texts::read_hex_bytes))]
+    fn read(alloc: Global, value: &Value) -> Result<Self, ReadError> {
+        let Some(text) = value.as_str() else {
+            return Err(ReadError::Range);
+        };
+        let bytes = match hex::decode(alloc, text) {
+            Ok(bytes) => bytes,
+            Err(FromHexError::OutOfMemory) => return Err(ReadError::Memory),
+            Err(_) => return Err(ReadError::Range),
+        };
+        if !fits_file(bytes.as_slice()) {
+            return Err(ReadError::Range);
+        }
+        Ok(HexBytes {
+            bytes: Items::new(bytes),
+        })
+    }
+}
