@@ -1,0 +1,2 @@
+pub mod RecordsFacts
+pub mod IndexFacts

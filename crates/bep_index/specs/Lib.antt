@@ -1,0 +1,4 @@
+pub mod Change
+pub mod Index
+pub mod IndexError
+pub mod Listing
