@@ -9,7 +9,7 @@ use Rattle.bep_index.specs.Listing.{Listing}
 use Rattle.bep_index.specs.Index.{AreNumbered, HaveOwnNumbers, IsIndex, numbered, after_put}
 use Rattle.bep_index.specs.Change.{Change, given_back, taken_back, IsLastChange}
 use Rattle.bep_index.specs.declared.limits.TheConstants.{MAX_NAMES, MAX_SEQUENCE}
-use Rattle.bep_index.proofs.RecordsFacts.{same_name, found_after_insert, get-insert_here, nothing_in_empty, remove-insert, insert-insert, len-insert_le}
+use Rattle.bep_index.proofs.RecordsFacts.{AreNumbered-insert, same_name, found_after_insert, get-insert_here, nothing_in_empty, remove-insert, insert-insert, len-insert_le}
 
 pub IsIndex-empty : (id : ℕ) → IsIndex (record { id = id; sequence = 0; records = empty })
 IsIndex-empty id = record {
@@ -18,12 +18,6 @@ IsIndex-empty id = record {
   numbered = λ name entry found. nothing_in_empty name entry found;
   distinct = λ name other entry more found. nothing_in_empty name entry found;
 }
-
-AreNumbered-put : (records : ByName Entry) (n : ℕ) (name : List ℕ) (entry : Entry) → AreNumbered n records → entry.name ≡ name → entry.sequence ≡ n + 1 → AreNumbered (n + 1) (insert records name entry)
-AreNumbered-put records n name entry old named number q found h = cases (found_after_insert records name entry q found h) where
-  cases : ((q ≡ name) × (found ≡ entry)) ⊎ ((same_name q name ≡ false) × (get records q ≡ Some found)) → (found.name ≡ q) × (1 ≤ found.sequence) × (found.sequence ≤ n + 1)
-  cases (inl (here, same)) = subst (λ (e : Entry). (e.name ≡ q) × (1 ≤ e.sequence) × (e.sequence ≤ n + 1)) (sym same) (named ∙ sym here, omega arith, omega arith)
-  cases (inr (apart, there)) = let o = old q found there in (o.0, o.1, omega arith)
 
 HaveOwnNumbers-put : (records : ByName Entry) (n : ℕ) (name : List ℕ) (entry : Entry) → AreNumbered n records → HaveOwnNumbers records → entry.sequence ≡ n + 1 → HaveOwnNumbers (insert records name entry)
 HaveOwnNumbers-put records n name entry old distinct number q p f g hf hg same =
@@ -38,7 +32,7 @@ pub IsIndex-after_put : (index : Listing) (entry : Entry) → IsIndex index → 
 IsIndex-after_put index entry is not_full room = record {
   sequence = let most = is.sequence in omega arith;
   few = len-insert_le index.records entry.name _ MAX_NAMES is.few room;
-  numbered = AreNumbered-put index.records index.sequence entry.name (numbered entry (index.sequence + 1)) is.numbered refl refl;
+  numbered = AreNumbered-insert index.records index.sequence (index.sequence + 1) (numbered entry (index.sequence + 1)) is.numbered (omega arith) (omega arith) (omega arith);
   distinct = HaveOwnNumbers-put index.records index.sequence entry.name (numbered entry (index.sequence + 1)) is.numbered is.distinct refl;
 }
 

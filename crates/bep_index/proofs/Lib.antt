@@ -1,2 +1,3 @@
 pub mod RecordsFacts
 pub mod IndexFacts
+pub mod BatchFacts

@@ -9,6 +9,8 @@ use Rattle.std.specs.Ordering.{is_eq}
 use Rattle.std.proofs.Common.{Ordering}
 use Rattle.std.specs.declared.cmp.Ordering.TheVariants.{Less, Equal, Greater}
 use Rattle.bep_map.specs.NameMap.{ByName}
+use Rattle.bep_record.specs.declared.entry.Entry.{Entry}
+use Rattle.bep_index.specs.Index.{AreNumbered}
 
 abbrev Name : Type 0
 Name = List ℕ
@@ -66,3 +68,16 @@ len-insert_le m n v most few room = let h = len-insert nat_list_cmp_total m n v 
   cases : (o : Option _) → get m n ≡ o → len (insert m n v) ≡ cond (is_some o) (len m) (len m + 1) → len (insert m n v) ≤ most
   cases None e h = let r = room e in omega arith
   cases (Some w) e h = omega arith
+
+-- an entry that is given its name, under a number up to a greatest that isn't below the old one
+pub AreNumbered-insert : (records : ByName Entry) (n top : ℕ) (entry : Entry) → AreNumbered n records → n ≤ top → 1 ≤ entry.sequence → entry.sequence ≤ top → AreNumbered top (insert records entry.name entry)
+AreNumbered-insert records n top entry old above positive within q found h = cases (found_after_insert records entry.name entry q found h) where
+  cases : ((q ≡ entry.name) × (found ≡ entry)) ⊎ ((same_name q entry.name ≡ false) × (get records q ≡ Some found)) → (found.name ≡ q) × (1 ≤ found.sequence) × (found.sequence ≤ top)
+  cases (inl (here, same)) = subst (λ (e : Entry). (e.name ≡ q) × (1 ≤ e.sequence) × (e.sequence ≤ top)) (sym same) (sym here, positive, within)
+  cases (inr (apart, there)) = let o = old q found there in (o.0, o.1, omega arith)
+
+pub get-insert_apart : {V : Type 0} (m : ByName V) (n : List ℕ) (v : V) (q : List ℕ) → (q ≡ n → ⊥) → get (insert m n v) q ≡ get m q
+get-insert_apart m n v q apart = get-insert nat_list_cmp_total m n v q ∙ there (same_name q n) refl where
+  there : (b : Bool) → same_name q n ≡ b → cond b (Some v) (get m q) ≡ get m q
+  there true e = absurd (apart (equal_from_same_name q n e))
+  there false e = refl

@@ -1,4 +1,9 @@
+pub mod After
+pub mod Batch
 pub mod Change
+pub mod Count
 pub mod Index
 pub mod IndexError
 pub mod Listing
+pub mod Next
+pub mod View

@@ -123,6 +123,18 @@ impl Index {
         give_back(&mut self.records, &name, old);
         self.sequence -= 1;
     }
+
+    /// An equal index of its own, or want of memory.
+    pub fn copy(&self, alloc: Global) -> Result<Self, AllocError>
+        ensures { IfOk result (λ made. made ≡ self.now) }
+    {
+        Ok(Index {
+            id: self.id,
+            sequence: self.sequence,
+            records: self.records.copy(alloc)?,
+            alloc,
+        })
+    }
 }
 
 // Gives the record to its name. The name's record makes way for it.

@@ -2,15 +2,20 @@
 //! other up to date.
 #![tactic(auto)]
 
+mod all;
+mod batch;
 mod error;
 mod id;
 mod index;
 mod limits;
+mod next;
 mod number;
 mod receiver;
 mod send;
 mod undo;
+mod view;
 
+pub use batch::Batch;
 pub use error::IndexError;
 pub use id::IndexId;
 pub use index::Index;
@@ -18,3 +23,4 @@ pub use limits::{MAX_NAMES, MAX_RECORDS, MAX_SEQUENCE};
 pub use receiver::plan;
 pub use send::Plan;
 pub use undo::Undo;
+pub use view::View;

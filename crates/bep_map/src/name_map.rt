@@ -6,7 +6,7 @@ use crate::Duplicate;
 use bep_record::Name;
 use std::alloc::{AllocError, Global};
 use std::collections::BTreeMap;
-use std::collections::btree_map::Iter;
+use std::collections::btree_map::{Iter, Values};
 use std::marker::Model;
 use std::mem;
 
@@ -64,6 +64,13 @@ impl<V> NameMap<V> {
         ensures { result ≡ map.entries self.now }
     {
         self.entries.iter()
+    }
+
+    /// The values, in the order of their names.
+    pub fn values(&self) -> Values<'_, Name, V>
+        ensures { result ≡ map.values self.now }
+    {
+        self.entries.values()
     }
 }
 
