@@ -1,9 +1,8 @@
 -- Maps with the records of a batch.
-use Rattle.std.proofs.Common.{◌≡◌, ◌≢◌, ℕ, suc, ◌+◌, ◌<◌, ◌≤◌, Bool, true, false, cond, List, [], ◌∷◌, ◌++◌, length, Option, Some, None, is_some, refl, sym, ap, subst, ◌∙◌, arith}
-use Rattle.std.specs.Prelude.{if◌then◌else◌}
+use Rattle.std.proofs.Common.{◌≡◌, ℕ, suc, ◌+◌, ◌≤◌, Bool, true, false, cond, List, [], ◌∷◌, ◌++◌, length, is_some, refl, sym, ap, subst, ◌∙◌, arith}
 use Rattle.std.specs.Ordering.{nat_cmp}
 use Rattle.std.specs.Cmp.Lexicographic.{slice_cmp, nat_list_cmp_total}
-use Rattle.std.specs.FinMap.{get, insert, empty, len, contains_key, len-empty, len-insert}
+use Rattle.std.specs.FinMap.{insert, empty, len, contains_key, len-empty, len-insert}
 use Rattle.bep_map.specs.NameMap.{ByName}
 use Rattle.bep_record.specs.declared.entry.Entry.{Entry}
 use Rattle.bep_index.specs.Listing.{Listing}
@@ -11,7 +10,7 @@ use Rattle.bep_index.specs.Index.{AreNumbered}
 use Rattle.bep_index.specs.Batch.{Rises, HasNo, NamesDiffer, IsBatch, last_sequence, with_all}
 use Rattle.bep_index.specs.Count.{new_names}
 use Rattle.bep_index.specs.View.{IsView, IsOld, cleared, replaced, amended}
-use Rattle.bep_index.specs.declared.limits.TheConstants.{MAX_NAMES, MAX_RECORDS, MAX_SEQUENCE}
+use Rattle.bep_index.specs.declared.limits.TheConstants.{MAX_NAMES, MAX_SEQUENCE}
 use Rattle.bep_index.proofs.RecordsFacts.{AreNumbered-insert, get-insert_apart, nothing_in_empty}
 
 -- one more record

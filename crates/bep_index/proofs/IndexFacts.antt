@@ -1,13 +1,13 @@
 -- An index stays an index when it is made, when a record is put, and when that is taken back.
-use Rattle.std.proofs.Common.{◌≡◌, ◌≢◌, ◌⊎◌, inl, inr, ℕ, ◌+◌, ◌-◌, ◌≤◌, List, Bool, false, Option, Some, None, is_some, refl, sym, ap, subst, ◌∙◌, arith}
+use Rattle.std.proofs.Common.{◌≡◌, ◌≢◌, ◌⊎◌, inl, inr, ℕ, ◌+◌, ◌-◌, ◌≤◌, List, false, Option, Some, None, is_some, refl, sym, ap, subst, ◌∙◌, arith}
 use Rattle.std.specs.Ordering.{nat_cmp}
 use Rattle.std.specs.Cmp.Lexicographic.{slice_cmp}
-use Rattle.std.specs.FinMap.{get, insert, remove, empty, len, contains_key, len-empty}
+use Rattle.std.specs.FinMap.{get, insert, empty, len, len-empty}
 use Rattle.bep_map.specs.NameMap.{ByName}
 use Rattle.bep_record.specs.declared.entry.Entry.{Entry}
 use Rattle.bep_index.specs.Listing.{Listing}
 use Rattle.bep_index.specs.Index.{AreNumbered, HaveOwnNumbers, IsIndex, numbered, after_put}
-use Rattle.bep_index.specs.Change.{Change, given_back, taken_back, IsLastChange}
+use Rattle.bep_index.specs.Change.{given_back, taken_back, IsLastChange}
 use Rattle.bep_index.specs.declared.limits.TheConstants.{MAX_NAMES, MAX_SEQUENCE}
 use Rattle.bep_index.proofs.RecordsFacts.{AreNumbered-insert, same_name, found_after_insert, get-insert_here, nothing_in_empty, remove-insert, insert-insert, len-insert_le}
 

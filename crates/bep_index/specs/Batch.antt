@@ -1,7 +1,7 @@
 -- A batch of records, as an Index or an IndexUpdate carries it (BEP v1, 'Index' and 'Index Update'; the limits are this
 -- project's profile).
-use Rattle.std.specs.Prelude.{◌≡◌, ◌≢◌, ℕ, ◌+◌, ◌<◌, ◌≤◌, List, [], ◌∷◌, length, if◌then◌else◌}
-use Rattle.std.specs.FinMap.{insert, contains_key}
+use Rattle.std.specs.Prelude.{◌≢◌, ℕ, ◌<◌, ◌≤◌, List, [], ◌∷◌, length}
+use Rattle.std.specs.FinMap.{insert}
 use Rattle.bep_map.specs.NameMap.{ByName}
 use Rattle.bep_record.specs.declared.entry.Entry.{Entry}
 use Rattle.bep_index.specs.declared.limits.TheConstants.{MAX_RECORDS, MAX_SEQUENCE}

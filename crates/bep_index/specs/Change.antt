@@ -1,5 +1,5 @@
 -- A change of one name in an index, and how it is taken back.
-use Rattle.std.specs.Prelude.{◌≡◌, ℕ, ◌-◌, List, Option, Some, None, IsTrue}
+use Rattle.std.specs.Prelude.{ℕ, ◌-◌, List, Option, Some, None, IsTrue}
 use Rattle.std.specs.FinMap.{contains_key, insert, remove}
 use Rattle.bep_map.specs.NameMap.{ByName}
 use Rattle.bep_record.specs.declared.entry.Entry.{Entry}

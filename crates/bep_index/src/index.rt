@@ -2,8 +2,11 @@ ghost use Rattle.std.specs.Prelude.{◌≡◌, ◌↔◌, ◌+◌, IfOk, IfErr, 
 ghost use Rattle.std.specs.Option.{option_copied};
 ghost use Rattle.std.specs.FinMap as map;
 ghost use Rattle.bep_index.specs.Index.{IsIndex, IsSequenceFull, IsIndexFull, IsPutError, after_put};
+ghost use Rattle.bep_index.specs.After.{IsAfter};
+ghost use Rattle.bep_index.specs.Next.{IsNext};
 ghost use Rattle.bep_index.specs.Change.{IsLastChange, taken_back, given_back};
 
+use crate::next::soonest_above;
 use crate::number::renumber;
 use crate::{IndexError, IndexId, MAX_NAMES, MAX_SEQUENCE, Undo};
 use bep_map::NameMap;
@@ -72,6 +75,34 @@ impl Index {
         ensures an_index { IsIndex self.now }
     {
         self.records.get(name)
+    }
+
+    /// The records above the sequence, by rising sequence, at most `limit` of them: the beginning of all that are above
+    /// it, or want of memory.
+    ///
+    /// BEP v1, 'Index' and 'Index Update'.
+    pub fn after(&self, alloc: Global, sequence: u64, limit: usize) -> Result<Vec<Record>, AllocError>
+        ensures { IfOk result (λ found. IsAfter self.now.records sequence limit found.items) }
+    {
+        let mut found = Vec::new(alloc);
+        let mut low = sequence;
+        for _taken in 0..limit {
+            let entry = match self.next_above(low) {
+                Some(entry) => entry,
+                None => return Ok(found),
+            };
+            low = entry.entry().sequence;
+            found.push(entry.copy(alloc)?)?;
+        }
+        Ok(found)
+    }
+
+    // The record with the least sequence above `low`.
+    fn next_above(&self, low: u64) -> Option<&Record>
+        ensures next { IsNext self.now.records low (option_copied result) }
+        ensures an_index { IsIndex self.now }
+    {
+        soonest_above(&self.records, low)
     }
 
     /// Puts the record at its name, in place of the one that is there, and answers its new number, which is the next

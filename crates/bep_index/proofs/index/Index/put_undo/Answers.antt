@@ -1,7 +1,7 @@
-use Rattle.std.proofs.Common.{◌≡◌, ◌+◌, ◌≤◌, None, Some, sym, subst, ap, ◌∙◌, arith, rules}
+use Rattle.std.proofs.Common.{◌≡◌, ◌+◌, ◌≤◌, None, sym, subst, ap, ◌∙◌, arith, rules}
 use Rattle.std.specs.FinMap.{get, insert, len}
 use Rattle.bep_index.specs.Listing.{Listing}
-use Rattle.bep_index.specs.Index.{IsIndex, numbered, after_put}
+use Rattle.bep_index.specs.Index.{IsIndex, numbered}
 use Rattle.bep_index.specs.Change.{Change, taken_back, IsLastChange}
 use Rattle.bep_map.specs.NameMap.{ByName}
 use Rattle.bep_record.specs.declared.entry.Entry.{Entry}
