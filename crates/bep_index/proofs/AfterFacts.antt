@@ -35,16 +35,20 @@ one_sooner : (low : ℕ) (seen : List Entry) (best : Option Entry) (e : Entry) �
 one_sooner low seen best e is = above (nat_lt low e.sequence) refl where
   at : Entry → ℕ
   at f = f.sequence
+
   none : (b : Bool) → nat_lt low e.sequence ≡ b → IsBest low seen None → IsBest low (e ∷ seen) (cond (b && true) (Some e) None)
   none true t old = (inl refl, ltb_true _ _ t, λ f among h. elim among [ inl q ↦ (let s = ap (λ (x : Entry). x.sequence) q in omega arith) | inr r ↦ (let o = old f r in omega arith) ])
   none false t old = λ f among. elim among [ inl q ↦ (let s = ap (λ (x : Entry). x.sequence) q in let l = ltb_false _ _ t in omega arith) | inr r ↦ old f r ]
+
   some : (b : Bool) → nat_lt low e.sequence ≡ b → (d : Entry) (k : Bool) → nat_lt e.sequence d.sequence ≡ k → IsBest low seen (Some d) → IsBest low (e ∷ seen) (cond (b && k) (Some e) (Some d))
   some true t d true u old = (inl refl, ltb_true _ _ t, λ f among h. elim among [ inl q ↦ (let s = ap (λ (x : Entry). x.sequence) q in omega arith) | inr r ↦ (let o = old.2 f r h in let l = ltb_true _ _ u in omega arith) ])
   some true t d false u old = (inr old.0, old.1, λ f among h. elim among [ inl q ↦ (let s = ap (λ (x : Entry). x.sequence) q in let l = ltb_false _ _ u in omega arith) | inr r ↦ old.2 f r h ])
   some false t d k u old = (inr old.0, old.1, λ f among h. elim among [ inl q ↦ (let s = ap (λ (x : Entry). x.sequence) q in let l = ltb_false _ _ t in absurd (omega arith)) | inr r ↦ old.2 f r h ])
+
   cases : (b : Bool) → nat_lt low e.sequence ≡ b → (o : Option Entry) → IsBest low seen o → IsBest low (e ∷ seen) (cond (b && is_sooner e o) (Some e) o)
   cases b t None old = none b t old
   cases b t (Some d) old = some b t d (nat_lt e.sequence d.sequence) refl old
+
   above : (b : Bool) → nat_lt low e.sequence ≡ b → IsBest low (e ∷ seen) (sooner low best e)
   above b t = cases (nat_lt low e.sequence) refl best is
 
@@ -72,9 +76,9 @@ among_either : (x : Entry) (seen es : List Entry) → IsAmong x (onto seen es) �
 unfolding onto
 among_either x seen [] h = inl h
 among_either x seen (e ∷ es) h = elim (among_either x (e ∷ seen) es h) [
-    | inl here ↦ elim here [ inl q ↦ inr (inl q) | inr r ↦ inl r ]
-    | inr there ↦ inr (inr there)
-  ]
+  | inl here ↦ elim here [ inl q ↦ inr (inl q) | inr r ↦ inl r ]
+  | inr there ↦ inr (inr there)
+]
 
 among_all : (x : Entry) (es : List Entry) → IsAmong x (onto [] es) → IsAmong x es
 among_all x es h = elim (among_either x [] es h) [ inl none ↦ absurd none | inr r ↦ r ]
@@ -112,11 +116,12 @@ found_among v (e ∷ es) s (inr h) =
     let parts = split_and _ _ s in
     let later = found_among v es parts.1 h in
     (later.0, cases later.0 later.1 (same_name later.0 e.0) refl (find_below e.0 es parts.0)) where
-  different : None ≡ Some v → ⊥
-  different e = cc
-  cases : (n : List ℕ) → find (slice_cmp nat_cmp) n es ≡ Some v → (b : Bool) → same_name n e.0 ≡ b → find (slice_cmp nat_cmp) e.0 es ≡ None → cond b (Some e.1) (find (slice_cmp nat_cmp) n es) ≡ Some v
-  cases n f true t none = absurd (different (sym none ∙ ap (λ q. find (slice_cmp nat_cmp) q es) (sym (equal_from_same_name n e.0 t)) ∙ f))
-  cases n f false t none = f
+      different : None ≡ Some v → ⊥
+      different e = cc
+
+      cases : (n : List ℕ) → find (slice_cmp nat_cmp) n es ≡ Some v → (b : Bool) → same_name n e.0 ≡ b → find (slice_cmp nat_cmp) e.0 es ≡ None → cond b (Some e.1) (find (slice_cmp nat_cmp) n es) ≡ Some v
+      cases n f true t none = absurd (different (sym none ∙ ap (λ q. find (slice_cmp nat_cmp) q es) (sym (equal_from_same_name n e.0 t)) ∙ f))
+      cases n f false t none = f
 
 record_among : (m : ByName Entry) (e : Entry) → IsRecord m e → IsAmong e (values m)
 record_among m e is = among_found e.name e (entries m) (sym (get-entries m e.name) ∙ is)

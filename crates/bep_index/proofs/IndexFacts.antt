@@ -22,11 +22,11 @@ IsIndex-empty id = record {
 HaveOwnNumbers-put : (records : ByName Entry) (n : ℕ) (name : List ℕ) (entry : Entry) → AreNumbered n records → HaveOwnNumbers records → entry.sequence ≡ n + 1 → HaveOwnNumbers (insert records name entry)
 HaveOwnNumbers-put records n name entry old distinct number q p f g hf hg same =
     cases (found_after_insert records name entry q f hf) (found_after_insert records name entry p g hg) where
-  cases : ((q ≡ name) × (f ≡ entry)) ⊎ ((same_name q name ≡ false) × (get records q ≡ Some f)) → ((p ≡ name) × (g ≡ entry)) ⊎ ((same_name p name ≡ false) × (get records p ≡ Some g)) → q ≡ p
-  cases (inl (a, b)) (inl (c, d)) = a ∙ sym c
-  cases (inl (a, b)) (inr (c, d)) = let o = (old p g d).2 in let e = ap (λ (x : Entry). x.sequence) b in absurd (omega arith)
-  cases (inr (a, b)) (inl (c, d)) = let o = (old q f b).2 in let e = ap (λ (x : Entry). x.sequence) d in absurd (omega arith)
-  cases (inr (a, b)) (inr (c, d)) = distinct q p f g b d same
+      cases : ((q ≡ name) × (f ≡ entry)) ⊎ ((same_name q name ≡ false) × (get records q ≡ Some f)) → ((p ≡ name) × (g ≡ entry)) ⊎ ((same_name p name ≡ false) × (get records p ≡ Some g)) → q ≡ p
+      cases (inl (a, b)) (inl (c, d)) = a ∙ sym c
+      cases (inl (a, b)) (inr (c, d)) = let o = (old p g d).2 in let e = ap (λ (x : Entry). x.sequence) b in absurd (omega arith)
+      cases (inr (a, b)) (inl (c, d)) = let o = (old q f b).2 in let e = ap (λ (x : Entry). x.sequence) d in absurd (omega arith)
+      cases (inr (a, b)) (inr (c, d)) = distinct q p f g b d same
 
 pub IsIndex-after_put : (index : Listing) (entry : Entry) → IsIndex index → index.sequence ≢ MAX_SEQUENCE → (get index.records entry.name ≡ None → len index.records + 1 ≤ MAX_NAMES) → IsIndex (after_put index entry)
 IsIndex-after_put index entry is not_full room = record {

@@ -81,6 +81,7 @@ holds_one records top low m e es numbered run holds name = get-insert nat_list_c
         let there : IsRecord records f = ap (get records) named ∙ is in
         let same = only_first records low e es run f there (from_leb_false _ _ t) (from_leb_true _ _ u) in
         absurd (clash name e.name (sym named ∙ ap (λ (x : Entry). x.name) same) apart)
+
   cases : (b : Bool) → same_name name e.name ≡ b → cond b (Some e) (get m name) ≡ up_to e.sequence (get records name)
   cases true t = sym (ap (λ n. up_to e.sequence (get records n)) (equal_from_same_name name e.name t) ∙ ap (up_to e.sequence) run.recorded.0 ∙ up_to_within e.sequence e (omega arith))
   cases false t = holds name ∙ other (get records name) refl t
@@ -115,5 +116,5 @@ all_up_to records top name numbered = cases (get records name) refl where
 pub same_point_same_index : SamePointSameIndex
 same_point_same_index index view is holds same_id same_sequence =
     let records : view.records ≡ index.records = same_map nat_list_cmp_total exact_bytes _ _ (λ name.
-        holds name ∙ ap (λ n. up_to n (get index.records name)) same_sequence ∙ all_up_to index.records index.sequence name is.numbered) in
+    holds name ∙ ap (λ n. up_to n (get index.records name)) same_sequence ∙ all_up_to index.records index.sequence name is.numbered) in
     λ i. record { id = same_id i; sequence = same_sequence i; records = records i }

@@ -48,16 +48,16 @@ nothing_in_empty q w found = absurd (different (sym (get-empty (slice_cmp nat_cm
 pub remove-insert : {V : Type 0} (m : ByName V) (n : List ℕ) (v : V) → get m n ≡ None → remove (insert m n v) n ≡ m
 remove-insert m n v none = same_map nat_list_cmp_total exact_bytes _ _ (λ q.
     get-remove nat_list_cmp_total (insert m n v) n q ∙ ap (cond (same_name q n) None) (get-insert nat_list_cmp_total m n v q) ∙ there q (same_name q n) refl) where
-  there : (q : List ℕ) (b : Bool) → same_name q n ≡ b → cond b None (cond b (Some v) (get m q)) ≡ get m q
-  there q true e = sym none ∙ ap (get m) (sym (equal_from_same_name q n e))
-  there q false e = refl
+      there : (q : List ℕ) (b : Bool) → same_name q n ≡ b → cond b None (cond b (Some v) (get m q)) ≡ get m q
+      there q true e = sym none ∙ ap (get m) (sym (equal_from_same_name q n e))
+      there q false e = refl
 
 pub insert-insert : {V : Type 0} (m : ByName V) (n : List ℕ) (v w : V) → get m n ≡ Some w → insert (insert m n v) n w ≡ m
 insert-insert m n v w some = same_map nat_list_cmp_total exact_bytes _ _ (λ q.
     get-insert nat_list_cmp_total (insert m n v) n w q ∙ ap (cond (same_name q n) (Some w)) (get-insert nat_list_cmp_total m n v q) ∙ there q (same_name q n) refl) where
-  there : (q : List ℕ) (b : Bool) → same_name q n ≡ b → cond b (Some w) (cond b (Some v) (get m q)) ≡ get m q
-  there q true e = sym some ∙ ap (get m) (sym (equal_from_same_name q n e))
-  there q false e = refl
+      there : (q : List ℕ) (b : Bool) → same_name q n ≡ b → cond b (Some w) (cond b (Some v) (get m q)) ≡ get m q
+      there q true e = sym some ∙ ap (get m) (sym (equal_from_same_name q n e))
+      there q false e = refl
 
 -- how many names there are then
 pub len-insert_new : {V : Type 0} (m : ByName V) (n : List ℕ) (v : V) → get m n ≡ None → len (insert m n v) ≡ len m + 1

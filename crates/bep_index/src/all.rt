@@ -34,7 +34,11 @@ pub(crate) fn count_new(map: &NameMap<Record>, records: &[Record]) -> usize
 }
 
 // The map with each of the records at its name.
-pub(crate) fn put_all(map: NameMap<Record>, alloc: Global, records: Vec<Record>) -> Result<NameMap<Record>, AllocError>
+pub(crate) fn put_all(
+    map: NameMap<Record>,
+    alloc: Global,
+    records: Vec<Record>,
+) -> Result<NameMap<Record>, AllocError>
     ensures { IfOk result (λ made. made ≡ with_all map records.items) }
 {
     let mut made = map;

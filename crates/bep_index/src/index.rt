@@ -81,7 +81,12 @@ impl Index {
     /// it, or want of memory.
     ///
     /// BEP v1, 'Index' and 'Index Update'.
-    pub fn after(&self, alloc: Global, sequence: u64, limit: usize) -> Result<Vec<Record>, AllocError>
+    pub fn after(
+        &self,
+        alloc: Global,
+        sequence: u64,
+        limit: usize,
+    ) -> Result<Vec<Record>, AllocError>
         ensures { IfOk result (λ found. IsAfter self.now.records sequence limit found.items) }
     {
         let mut found = Vec::new(alloc);

@@ -13,6 +13,8 @@ mod next;
 mod number;
 mod receiver;
 mod send;
+#[cfg(test)]
+mod tests;
 mod undo;
 mod view;
 

@@ -10,5 +10,5 @@ pub returns : goal.returns
 returns c =
     let new : c.count_new.result ≡ new_names c.args.records.now c.args.batch.now = c.count_new.ensures.value ∙ ap (new_names c.args.records.now) c.as_slice.ensures.value in
     let all : len (with_all c.args.records.now c.args.batch.now) ≡ len c.args.records.now + new_names c.args.records.now c.args.batch.now =
-        len-with_all c.args.records.now c.args.batch.now c.as_slice.ensures.a_batch.names in
+    len-with_all c.args.records.now c.args.batch.now c.as_slice.ensures.a_batch.names in
     grind (arith, nat_tests)

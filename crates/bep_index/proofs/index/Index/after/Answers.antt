@@ -9,7 +9,7 @@ use Rattle.bep_index.proofs.index.Index.after.Goals as goal
 pub loop-taken-preserved : goal.loop-taken-preserved
 loop-taken-preserved c =
     let found : c.push.new.self.items ≡ c.loop-taken.found.items ++ c.in-Some.entry.now ∷ [] =
-        c.in_ok-push.ensures.items ∙ ap (λ x. c.loop-taken.found.items ++ x ∷ []) c.in_ok-copy.ensures in
+    c.in_ok-push.ensures.items ∙ ap (λ x. c.loop-taken.found.items ++ x ∷ []) c.in_ok-copy.ensures in
     record {
       run = subst (IsRun c.args.self.now.records c.args.sequence) (sym found)
           (IsRun-push c.args.self.now c.args.sequence c.loop-taken.found.items c.in-Some.entry.now c.in-Some.ensures.an_index c.loop-taken.invariant.run

@@ -19,9 +19,9 @@ given c = c.in_ok-undo.ensures.ok ∙ ap (λ e. insert c.self.inside.records e.n
 
 room : (c : goal.After-self-1) → get c.self.inside.records c.args.entry.name ≡ None → len c.self.inside.records + 1 ≤ MAX_NAMES
 room c none = elim c.else-len-ge-MAX_NAMES.branch [
-    | else-len-ge-MAX_NAMES-via-then-len-ge-MAX_NAMES+else-not-contains w ↦ absurd (search rules)
-    | else-len-ge-MAX_NAMES-via-else-len-ge-MAX_NAMES w ↦ omega (arith, c.len.ensures)
-  ]
+  | else-len-ge-MAX_NAMES-via-then-len-ge-MAX_NAMES+else-not-contains w ↦ absurd (search rules)
+  | else-len-ge-MAX_NAMES-via-else-len-ge-MAX_NAMES w ↦ omega (arith, c.len.ensures)
+]
 
 pub invariant_of-self-2 : goal.invariant_of-self-2
 invariant_of-self-2 c =
