@@ -1,5 +1,5 @@
 -- What `after` finds: the next record by sequence, again and again.
-use Rattle.std.proofs.Common.{◌≡◌, ◌⊎◌, inl, inr, ℕ, ◌<◌, ◌≤◌, Bool, true, false, cond, ◌&&◌, nat_lt, map, List, [], ◌∷◌, ◌++◌, Option, Some, None, refl, sym, ap, subst, ◌∙◌, arith}
+use Rattle.std.proofs.Common.{length, ◌≡◌, ◌⊎◌, inl, inr, ℕ, ◌<◌, ◌≤◌, Bool, true, false, cond, ◌&&◌, nat_lt, map, List, [], ◌∷◌, ◌++◌, Option, Some, None, refl, sym, ap, subst, ◌∙◌, arith}
 use Rattle.std.proofs.lemmas.Bool.Decides.{nat_tests}
 use Rattle.std.proofs.Math.Dec.{T}
 use Rattle.std.proofs.Common.{Ordering}
@@ -12,10 +12,10 @@ use Rattle.bep_map.specs.NameMap.{ByName}
 use Rattle.bep_record.specs.declared.entry.Entry.{Entry}
 use Rattle.bep_index.specs.Listing.{Listing, IsRecord}
 use Rattle.bep_index.specs.Index.{AreNumbered, HaveOwnNumbers, IsIndex}
-use Rattle.bep_index.specs.Batch.{Rises, last_sequence}
+use Rattle.bep_index.specs.Batch.{Rises, HasNo, NamesDiffer, IsBatch, last_sequence}
 use Rattle.bep_index.specs.Next.{IsNext, is_sooner, sooner, soonest}
 use Rattle.bep_index.specs.After.{IsAmong, AreRecords, IsRun}
-use Rattle.bep_index.specs.declared.limits.TheConstants.{MAX_SEQUENCE}
+use Rattle.bep_index.specs.declared.limits.TheConstants.{MAX_SEQUENCE, MAX_RECORDS}
 use Rattle.bep_index.proofs.RecordsFacts.{same_name, same_name-itself, equal_from_same_name}
 
 -- ---- the soonest of a list
@@ -189,3 +189,28 @@ IsRun-push index low es e is run next = record {
   cases f there above below (inr later) =
       let least = next.2 f there later in
       subst (λ x. IsAmong x (es ++ e ∷ [])) (sym (same_record index.records f e is.distinct there next.0 (omega arith))) (among_last e es)
+
+-- ---- a run is a batch
+
+HasNo-above : (m : ByName Entry) (e : Entry) (low : ℕ) (es : List Entry) → IsRecord m e → e.sequence ≤ low → Rises low es → AreRecords m es → HasNo e.name es
+HasNo-above m e low [] is below rises recorded = tt
+HasNo-above m e low (f ∷ es) is below rises recorded = (
+  λ q. let n = ap (λ (x : Entry). x.sequence) (same_Some f e (sym recorded.0 ∙ ap (get m) q ∙ is)) in let above = rises.0 in absurd (omega arith),
+  HasNo-above m e f.sequence es is (let above = rises.0 in omega arith) rises.2 recorded.1,
+)
+
+NamesDiffer-run : (m : ByName Entry) (low : ℕ) (es : List Entry) → Rises low es → AreRecords m es → NamesDiffer es
+NamesDiffer-run m low [] rises recorded = tt
+NamesDiffer-run m low (e ∷ es) rises recorded =
+    (HasNo-above m e e.sequence es recorded.0 (omega arith) rises.2 recorded.1, NamesDiffer-run m e.sequence es rises.2 recorded.1)
+
+Rises-zero : (low : ℕ) (es : List Entry) → Rises low es → Rises 0 es
+Rises-zero low [] h = tt
+Rises-zero low (e ∷ es) h = (let above = h.0 in omega arith, h.1, h.2)
+
+pub IsBatch-run : (m : ByName Entry) (low : ℕ) (es : List Entry) → IsRun m low es → length es ≤ MAX_RECORDS → IsBatch es
+IsBatch-run m low es run few = record {
+  few = few;
+  rises = Rises-zero low es run.rises;
+  names = NamesDiffer-run m low es run.rises run.recorded;
+}

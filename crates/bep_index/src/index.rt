@@ -1,8 +1,10 @@
-ghost use Rattle.std.specs.Prelude.{◌≡◌, ◌↔◌, ◌+◌, IfOk, IfErr, OnOk, OnErr, IsErrOf, IsTrue};
+ghost use Rattle.std.specs.Prelude.{◌≡◌, ◌↔◌, ◌+◌, ◌≤◌, IfOk, IfErr, OnOk, OnErr, IsErrOf, IsTrue};
 ghost use Rattle.std.specs.Option.{option_copied};
 ghost use Rattle.std.specs.FinMap as map;
 ghost use Rattle.bep_index.specs.Index.{IsIndex, IsSequenceFull, IsIndexFull, IsPutError, after_put};
 ghost use Rattle.bep_index.specs.After.{IsAfter};
+ghost use Rattle.bep_index.specs.declared.limits.TheConstants.{MAX_RECORDS};
+ghost use Rattle.bep_index.specs.Batch.{IsBatch};
 ghost use Rattle.bep_index.specs.Next.{IsNext};
 ghost use Rattle.bep_index.specs.Change.{IsLastChange, taken_back, given_back};
 
@@ -87,7 +89,8 @@ impl Index {
         sequence: u64,
         limit: usize,
     ) -> Result<Vec<Record>, AllocError>
-        ensures { IfOk result (λ found. IsAfter self.now.records sequence limit found.items) }
+        ensures found { IfOk result (λ found. IsAfter self.now.records sequence limit found.items) }
+        ensures batch { IfOk result (λ found. limit ≤ MAX_RECORDS → IsBatch found.items) }
     {
         let mut found = Vec::new(alloc);
         let mut low = sequence;

@@ -1,9 +1,9 @@
-use Rattle.std.proofs.Common.{◌≡◌, ◌++◌, ◌∷◌, [], Some, rules, ap, sym, subst, ◌∙◌}
+use Rattle.std.proofs.Common.{◌≡◌, ◌++◌, ◌∷◌, [], Some, rules, arith, ap, sym, subst, ◌∙◌}
 use Rattle.bep_record.specs.declared.entry.Entry.{Entry}
 use Rattle.bep_index.specs.Batch.{last_sequence}
 use Rattle.bep_index.specs.After.{IsRun}
 use Rattle.bep_index.specs.Next.{IsNext}
-use Rattle.bep_index.proofs.AfterFacts.{IsRun-push, last_sequence-push}
+use Rattle.bep_index.proofs.AfterFacts.{IsBatch-run, IsRun-push, last_sequence-push}
 use Rattle.bep_index.proofs.index.Index.after.Goals as goal
 
 pub loop-taken-preserved : goal.loop-taken-preserved
@@ -18,3 +18,9 @@ loop-taken-preserved c =
           ∙ sym (ap (last_sequence c.args.sequence) found ∙ last_sequence-push c.args.sequence c.loop-taken.found.items c.in-Some.entry.now);
       many = search rules;
     }
+
+pub returns-in-None-clause-batch : goal.returns-in-None-clause-batch
+returns-in-None-clause-batch c = λ few. IsBatch-run c.args.self.now.records c.args.sequence c.loop-taken.found.items c.loop-taken.invariant.run (omega arith)
+
+pub returns-clause-batch : goal.returns-clause-batch
+returns-clause-batch c = λ few. IsBatch-run c.args.self.now.records c.args.sequence c.loop-taken.found.items c.loop-taken.invariant.run (omega arith)
