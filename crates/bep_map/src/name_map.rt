@@ -6,7 +6,7 @@ use crate::Duplicate;
 use bep_record::Name;
 use std::alloc::{AllocError, Global};
 use std::collections::BTreeMap;
-use std::collections::btree_map::Iter;
+use std::collections::btree_map::{Iter, Values};
 use std::marker::Model;
 use std::mem;
 
@@ -65,6 +65,13 @@ impl<V> NameMap<V> {
     {
         self.entries.iter()
     }
+
+    /// The values, in the order of their names.
+    pub fn values(&self) -> Values<'_, Name, V>
+        ensures { result ≡ map.values self.now }
+    {
+        self.entries.values()
+    }
 }
 
 impl<V: Drop> NameMap<V> {
@@ -116,5 +123,46 @@ impl<V: Duplicate> NameMap<V> {
             made.insert(name.copy(alloc)?, value.duplicate(alloc)?)?;
         }
         Ok(made)
+    }
+}
+
+#[cfg(test)]
+mod tests {
+    use super::*;
+    use bep_record::{Kind, Node, NodeParts, RecordError, Target};
+    use std::test::Fail;
+
+    fn directory(alloc: Global, modified_s: i64) -> Result<Node, RecordError> {
+        Node::read(NodeParts {
+            kind: Kind::Directory,
+            bytes: bep_record::Items::new(Vec::new(alloc)),
+            target: Target::empty(alloc),
+            modified_s,
+            modified_ns: 0,
+        })
+    }
+
+    #[test]
+    fn names_have_values(rt: HostRuntime) -> Result<(), Fail> {
+        let alloc = rt.alloc();
+        let a = Name::read(alloc, b"a")?;
+        let b = Name::read(alloc, b"b")?;
+        let mut nodes = NameMap::new(alloc);
+        assert!(rt; nodes.insert(b.copy(alloc)?, directory(alloc, 2)?)?.is_none());
+        assert!(rt; nodes.insert(a.copy(alloc)?, directory(alloc, 1)?)?.is_none());
+        assert!(rt; nodes.replace(&a, directory(alloc, 3)?).is_ok());
+        assert_eq!(rt; nodes.len(), 2);
+
+        let copy = nodes.copy(alloc)?;
+        assert!(rt; nodes.remove(&b).is_some());
+        assert!(rt; nodes.replace(&b, directory(alloc, 4)?).is_err());
+        assert!(rt; nodes.contains(&a) && !nodes.contains(&b) && nodes.get(&b).is_none());
+
+        let mut times = copy.values().map(|node| node.parts().modified_s);
+        assert_eq!(rt; times.next(), Some(3));
+        assert_eq!(rt; times.next(), Some(2));
+        assert_eq!(rt; times.next(), None);
+        assert_eq!(rt; copy.iter().count(), 2);
+        Ok(())
     }
 }

@@ -1,0 +1,12 @@
+use Rattle.std.proofs.Common.{ap, ◌∙◌}
+use Rattle.std.specs.FinMap.{empty}
+use Rattle.bep_index.specs.Batch.{last_sequence, with_all}
+use Rattle.bep_index.proofs.BatchFacts.{IsView-replaced, IsView-equal}
+use Rattle.bep_index.proofs.view.View.replace.Goals as goal
+
+pub invariant_of-self : goal.invariant_of-self
+invariant_of-self c =
+    IsView-equal c.self.inside.id _ _ _ _
+    (c.last_sequence_of-sequence.ensures ∙ ap (last_sequence 0) c.as_slice.ensures.value)
+    (c.in_ok-records.ensures ∙ ap (with_all c.new.result) c.into_vec.ensures.value ∙ ap (λ m. with_all m c.args.batch) c.new.ensures)
+    (IsView-replaced (record { id = c.self.inside.id; sequence = 0; records = empty }) c.args.batch c.as_slice.ensures.a_batch)

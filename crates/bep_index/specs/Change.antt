@@ -1,0 +1,27 @@
+-- A change of one name in an index, and how it is taken back.
+use Rattle.std.specs.Prelude.{ℕ, ◌-◌, List, Option, Some, None, IsTrue}
+use Rattle.std.specs.FinMap.{contains_key, insert, remove}
+use Rattle.bep_map.specs.NameMap.{ByName}
+use Rattle.bep_record.specs.declared.entry.Entry.{Entry}
+use Rattle.bep_index.specs.Listing.{Listing}
+use Rattle.bep_index.specs.Index.{IsIndex}
+
+-- the name that was changed, and its record before the change, if it had one
+pub record Change : Type 0 where
+  pub name : List ℕ
+  pub before : Option Entry
+
+-- the name has again what it had before
+abbrev pub given_back : ByName Entry → List ℕ → Option Entry → ByName Entry
+given_back records name None = remove records name
+given_back records name (Some entry) = insert records name entry
+
+-- the index without the change, the sequence number too
+abbrev pub taken_back : Change → Listing → Listing
+taken_back change index =
+    record index { sequence = index.sequence - 1; records = given_back index.records change.name change.before }
+
+-- the change is the index's last one: its name has a record, and without the change there is an index again
+pub record IsLastChange (change : Change) (index : Listing) : Type 0 where
+  pub there : IsTrue (contains_key index.records change.name)
+  pub before : IsIndex (taken_back change index)

@@ -1,0 +1,41 @@
+-- What a receiver has that takes a sender's batches in order and without a gap (BEP v1, 'Index' and 'Index Update').
+use Rattle.std.specs.Prelude.{◌≡◌, ℕ, nat_le, List, [], ◌∷◌, Option, Some, None, if◌then◌else◌}
+use Rattle.std.specs.FinMap.{get}
+use Rattle.bep_record.specs.declared.entry.Entry.{Entry}
+use Rattle.bep_index.specs.Listing.{Listing}
+use Rattle.bep_index.specs.Index.{IsIndex}
+use Rattle.bep_index.specs.Batch.{last_sequence}
+use Rattle.bep_index.specs.After.{IsRun}
+use Rattle.bep_index.specs.View.{replaced, amended}
+
+-- each batch begins where the one before ended, and leaves none of the index's records out
+abbrev pub FollowInOrder : Listing → ℕ → List (List Entry) → Type 0
+FollowInOrder index sequence [] = Unit {0}
+FollowInOrder index sequence (batch ∷ more) =
+    IsRun index.records sequence batch × FollowInOrder index (last_sequence sequence batch) more
+
+-- the view after each of the batches was added
+abbrev pub after_each : Listing → List (List Entry) → Listing
+after_each view [] = view
+after_each view (batch ∷ more) = after_each (amended view batch) more
+
+-- a record up to this sequence
+abbrev pub up_to : ℕ → Option Entry → Option Entry
+up_to sequence None = None
+up_to sequence (Some entry) = if nat_le entry.sequence sequence then Some entry else None
+
+-- the view has exactly the index's records up to its sequence
+abbrev pub HoldsUpTo : Listing → Listing → Type 0
+HoldsUpTo index view = (name : List ℕ) → get view.records name ≡ up_to view.sequence (get index.records name)
+
+-- a view that takes the first batch in place of all it had, and adds those that follow, has exactly the index's records
+-- up to its sequence, after each batch
+abbrev pub BatchesBringTheIndex : Type 0
+BatchesBringTheIndex =
+    (index view : Listing) (first : List Entry) (more : List (List Entry)) → IsIndex index → FollowInOrder index 0 (first ∷ more)
+    → HoldsUpTo index (after_each (replaced view first) more)
+
+-- so it is the index once it is at the index's point
+abbrev pub SamePointSameIndex : Type 0
+SamePointSameIndex =
+    (index view : Listing) → IsIndex index → HoldsUpTo index view → view.id ≡ index.id → view.sequence ≡ index.sequence → view ≡ index

@@ -1,0 +1,10 @@
+pub mod After
+pub mod Batch
+pub mod Change
+pub mod Count
+pub mod Index
+pub mod IndexError
+pub mod Law
+pub mod Listing
+pub mod Next
+pub mod View

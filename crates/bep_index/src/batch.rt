@@ -1,0 +1,130 @@
+ghost use Rattle.std.specs.Prelude.{◌≡◌, ◌↔◌, IsTrue, IsOk, IfOk, IfErr};
+ghost use Rattle.bep_index.specs.Batch.{Rises, HasNo, NamesDiffer, IsBatch};
+
+use crate::{IndexError, MAX_RECORDS, MAX_SEQUENCE};
+use bep_record::{Items, Name, Record};
+use std::alloc::{AllocError, Global};
+use std::marker::Model;
+
+/// The records of one Index or IndexUpdate: at most 1000, with rising sequence numbers from 1 to 9223372036854775807,
+/// and each name at most once.
+///
+/// BEP v1, 'Index' and 'Index Update'; the limits are this project's profile.
+#[derive(Debug, Drop)]
+pub struct Batch {
+    records: Items<Record>,
+}
+
+impl Model for Batch {
+    ghost use Rattle.std.specs.Prelude.{List};
+    ghost use Rattle.bep_record.specs.declared.entry.Entry.{Entry};
+    ghost use Rattle.bep_index.specs.Batch.{IsBatch};
+
+    ghost Value = { List Entry };
+
+    ghost view = { λ batch. batch.records };
+
+    ghost invariant = { λ batch. IsBatch batch.records };
+}
+
+impl Batch {
+    /// The batch of these records. Refuses `BatchBad` exactly where there are more than 1000, a sequence is 0 or above
+    /// 9223372036854775807 or not above the one before, or a name stands twice.
+    pub fn new(records: Vec<Record>) -> Result<Self, IndexError>
+        ensures good { IsOk result ↔ IsBatch records.items }
+        ensures ok { IfOk result (λ batch. batch ≡ records.items) }
+        ensures bad { IfErr result (λ e. e ≡ IndexError.BatchBad) }
+    {
+        if !is_batch(records.as_slice()) {
+            return Err(IndexError::BatchBad);
+        }
+        Ok(Batch {
+            records: Items::new(records),
+        })
+    }
+
+    /// The records, in order.
+    pub fn as_slice(&self) -> &[Record]
+        ensures value { result.now ≡ self.now }
+        ensures a_batch { IsBatch self.now }
+    {
+        self.records.as_slice()
+    }
+
+    /// The records, in order.
+    pub fn into_vec(self) -> Vec<Record>
+        ensures value { result.items ≡ self }
+        ensures a_batch { IsBatch self }
+    {
+        self.records.into_vec()
+    }
+
+    /// An equal batch of its own, or want of memory.
+    pub fn copy(&self, alloc: Global) -> Result<Self, AllocError>
+        ensures { IfOk result (λ made. made ≡ self.now) }
+    {
+        Ok(Batch {
+            records: Items::new(copy_of(alloc, self.records.as_slice())?),
+        })
+    }
+}
+
+fn is_batch(records: &[Record]) -> bool
+    ensures { IsTrue result ↔ IsBatch records.now }
+{
+    records.len() <= MAX_RECORDS && rises(records) && names_differ(records)
+}
+
+// Whether the sequences rise from above 0, and none is above the greatest.
+fn rises(records: &[Record]) -> bool
+    ensures { IsTrue result ↔ Rises 0 records.now }
+{
+    let mut low = 0;
+    for entry in records {
+        let sequence = entry.entry().sequence;
+        if sequence <= low || sequence > MAX_SEQUENCE {
+            return false;
+        }
+        low = sequence;
+    }
+    true
+}
+
+// Whether none of the records has the name.
+fn has_no(name: &Name, records: &[Record]) -> bool
+    ensures { IsTrue result ↔ HasNo name.now records.now }
+{
+    for entry in records {
+        if has_name(entry, name) {
+            return false;
+        }
+    }
+    true
+}
+
+fn has_name(entry: &Record, name: &Name) -> bool
+    ensures { IsTrue result ↔ (entry.now.name ≡ name.now) }
+{
+    entry.entry().name == *name
+}
+
+fn names_differ(records: &[Record]) -> bool
+    ensures { IsTrue result ↔ NamesDiffer records.now }
+{
+    for (i, entry) in records.iter().enumerate() {
+        if !has_no(&entry.entry().name, &records[i + 1..]) {
+            return false;
+        }
+    }
+    true
+}
+
+fn copy_of(alloc: Global, records: &[Record]) -> Result<Vec<Record>, AllocError>
+    ensures { IfOk result (λ made. made.items ≡ records.now) }
+{
+    let mut made = Vec::with_capacity(alloc, records.len())?;
+    for entry in records {
+        made.push(entry.copy(alloc)?)?;
+    }
+    Ok(made)
+}

@@ -1,0 +1,204 @@
+ghost use Rattle.std.specs.Prelude.{◌≡◌, ◌↔◌, ◌+◌, ◌≤◌, IfOk, IfErr, OnOk, OnErr, IsErrOf, IsTrue};
+ghost use Rattle.std.specs.Option.{option_copied};
+ghost use Rattle.std.specs.FinMap as map;
+ghost use Rattle.bep_index.specs.Index.{IsIndex, IsSequenceFull, IsIndexFull, IsPutError, after_put};
+ghost use Rattle.bep_index.specs.After.{IsAfter};
+ghost use Rattle.bep_index.specs.declared.limits.TheConstants.{MAX_RECORDS};
+ghost use Rattle.bep_index.specs.Batch.{IsBatch};
+ghost use Rattle.bep_index.specs.Next.{IsNext};
+ghost use Rattle.bep_index.specs.Change.{IsLastChange, taken_back, given_back};
+
+use crate::next::soonest_above;
+use crate::number::renumber;
+use crate::{IndexError, IndexId, MAX_NAMES, MAX_SEQUENCE, Undo};
+use bep_map::NameMap;
+use bep_record::{Name, Record};
+use std::alloc::{AllocError, Global};
+use std::marker::Model;
+
+/// A device's records of one folder, each under its name. A record that is put gets the next sequence number, so that
+/// the numbers tell in which order names were changed.
+///
+/// BEP v1, 'Index' and 'FileInfo', field 'sequence'; at most 4096 names, by this project's profile.
+#[derive(Drop)]
+pub struct Index {
+    id: IndexId,
+    sequence: u64,
+    records: NameMap<Record>,
+    alloc: Global,
+}
+
+impl Model for Index {
+    ghost use Rattle.bep_record.specs.contracts.entry.Entry as entry;
+    ghost use Rattle.bep_index.specs.Listing.{Listing, listing_code};
+
+    ghost Value = { Listing };
+
+    ghost coded = { listing_code entry.the_row.coded };
+
+    ghost use Rattle.bep_index.specs.Index.{IsIndex};
+
+    ghost view = { λ index. record { id = index.id; sequence = index.sequence; records = index.records } };
+
+    ghost invariant = { λ index. IsIndex (record { id = index.id; sequence = index.sequence; records = index.records }) };
+}
+
+impl Index {
+    /// The index of this id, without records.
+    pub fn new(alloc: Global, id: IndexId) -> Self
+        ensures { result ≡ record { id = id; sequence = 0; records = map.empty } }
+    {
+        Index {
+            id,
+            sequence: 0,
+            records: NameMap::new(alloc),
+            alloc,
+        }
+    }
+
+    /// The index's id.
+    pub fn id(&self) -> IndexId
+        ensures { result ≡ self.now.id }
+    {
+        self.id
+    }
+
+    /// The greatest sequence number that was given, 0 where none was.
+    pub fn max_sequence(&self) -> u64
+        ensures value { result ≡ self.now.sequence }
+        ensures an_index { IsIndex self.now }
+    {
+        self.sequence
+    }
+
+    /// The record of the name.
+    pub fn get(&self, name: &Name) -> Option<&Record>
+        ensures value { option_copied result ≡ map.get self.now.records name.now }
+        ensures an_index { IsIndex self.now }
+    {
+        self.records.get(name)
+    }
+
+    /// The records above the sequence, by rising sequence, at most `limit` of them: the beginning of all that are above
+    /// it, or want of memory.
+    ///
+    /// BEP v1, 'Index' and 'Index Update'.
+    pub fn after(
+        &self,
+        alloc: Global,
+        sequence: u64,
+        limit: usize,
+    ) -> Result<Vec<Record>, AllocError>
+        ensures found { IfOk result (λ found. IsAfter self.now.records sequence limit found.items) }
+        ensures batch { IfOk result (λ found. limit ≤ MAX_RECORDS → IsBatch found.items) }
+    {
+        let mut found = Vec::new(alloc);
+        let mut low = sequence;
+        for _taken in 0..limit {
+            let entry = match self.next_above(low) {
+                Some(entry) => entry,
+                None => return Ok(found),
+            };
+            low = entry.entry().sequence;
+            found.push(entry.copy(alloc)?)?;
+        }
+        Ok(found)
+    }
+
+    // The record with the least sequence above `low`.
+    fn next_above(&self, low: u64) -> Option<&Record>
+        ensures next { IsNext self.now.records low (option_copied result) }
+        ensures an_index { IsIndex self.now }
+    {
+        soonest_above(&self.records, low)
+    }
+
+    /// Puts the record at its name, in place of the one that is there, and answers its new number, which is the next
+    /// one. Refuses `SequenceFull` exactly where no number is left, and then `IndexFull` exactly where a new name comes
+    /// to 4096 others. After an error the index is as before.
+    pub fn put(&mut self, entry: Record) -> Result<u64, IndexError>
+        ensures number { IfOk result (λ n. n ≡ self.old.sequence + 1) }
+        ensures ok { OnOk result (self.new ≡ after_put self.old entry) }
+
+        ensures sequence_full { IsErrOf result IndexError.SequenceFull ↔ IsSequenceFull self.old }
+        ensures index_full { IsErrOf result IndexError.IndexFull ↔ ((¬ IsSequenceFull self.old) × IsIndexFull self.old entry.name) }
+        ensures only { IfErr result IsPutError }
+        ensures err { OnErr result (self.new ≡ self.old) }
+    {
+        self.put_undo(entry)?;
+        Ok(self.sequence)
+    }
+
+    /// Puts the record as `put` does, with the same refusals, and answers how that is taken back.
+    pub fn put_undo(&mut self, entry: Record) -> Result<Undo, IndexError>
+        ensures ok { OnOk result (self.new ≡ after_put self.old entry) }
+        ensures back { IfOk result (λ undo. taken_back undo self.new ≡ self.old) }
+        ensures last { IfOk result (λ undo. IsLastChange undo self.new) }
+
+        ensures sequence_full { IsErrOf result IndexError.SequenceFull ↔ IsSequenceFull self.old }
+        ensures index_full { IsErrOf result IndexError.IndexFull ↔ ((¬ IsSequenceFull self.old) × IsIndexFull self.old entry.name) }
+        ensures only { IfErr result IsPutError }
+        ensures err { OnErr result (self.new ≡ self.old) }
+    {
+        if self.sequence == MAX_SEQUENCE {
+            return Err(IndexError::SequenceFull);
+        }
+        if self.records.len() >= MAX_NAMES && !self.records.contains(&entry.entry().name) {
+            return Err(IndexError::IndexFull);
+        }
+        let sequence = self.sequence + 1;
+        let undo = change(&mut self.records, self.alloc, renumber(entry, sequence))?;
+        self.sequence = sequence;
+        Ok(undo)
+    }
+
+    /// Takes the index's last change back, so that the index is as before it. The caller sees to it that the change is
+    /// the last one, as it is right after `put_undo`. Takes no memory.
+    pub fn undo(&mut self, undo: Undo)
+        requires { IsLastChange undo self.old }
+        ensures { self.new ≡ taken_back undo self.old }
+    {
+        let Undo { name, old } = undo;
+        give_back(&mut self.records, &name, old);
+        self.sequence -= 1;
+    }
+
+    /// An equal index of its own, or want of memory.
+    pub fn copy(&self, alloc: Global) -> Result<Self, AllocError>
+        ensures { IfOk result (λ made. made ≡ self.now) }
+    {
+        Ok(Index {
+            id: self.id,
+            sequence: self.sequence,
+            records: self.records.copy(alloc)?,
+            alloc,
+        })
+    }
+}
+
+// Gives the record to its name. The name's record makes way for it.
+fn change(records: &mut NameMap<Record>, alloc: Global, entry: Record) -> Result<Undo, AllocError>
+    ensures ok { OnOk result (records.new ≡ map.insert records.old entry.name entry) }
+    ensures undo { IfOk result (λ undo. undo ≡ record { name = entry.name; before = map.get records.old entry.name }) }
+    ensures err { OnErr result (records.new ≡ records.old) }
+{
+    let name = entry.entry().name.copy(alloc)?;
+    let key = entry.entry().name.copy(alloc)?;
+    let old = records.insert(key, entry)?;
+    Ok(Undo { name, old })
+}
+
+// Gives the changed name back what it had.
+fn give_back(records: &mut NameMap<Record>, name: &Name, old: Option<Record>)
+    requires { IsTrue (map.contains_key records.old name.now) }
+    ensures { records.new ≡ given_back records.old name.now old }
+{
+    match old {
+        None => {
+            records.remove(name);
+        }
+        Some(entry) => {
+            let _new = records.replace(name, entry);
+        }
+    }
+}

@@ -1,0 +1,9 @@
+ghost use Rattle.bep_index.specs.Law.{BatchesBringTheIndex, SamePointSameIndex};
+
+/// A law, which does nothing when it is called: a view that takes the beginning of what is after 0 in place of all that
+/// it had, and adds the batches that follow, in order and without a gap, holds after each batch exactly the sender's
+/// records up to that batch's last sequence. So a view that comes to the index's point in this way is the index.
+pub fn batches_bring_the_index()
+    ensures up_to { BatchesBringTheIndex }
+    ensures whole { SamePointSameIndex }
+{}

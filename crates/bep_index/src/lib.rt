@@ -1,0 +1,30 @@
+//! The index of a device's folder, what a device knows of another's index, and what is sent of the one to bring the
+//! other up to date.
+#![tactic(auto)]
+
+mod all;
+mod batch;
+mod error;
+mod id;
+mod index;
+mod law;
+mod limits;
+mod next;
+mod number;
+mod receiver;
+mod send;
+#[cfg(test)]
+mod tests;
+mod undo;
+mod view;
+
+pub use batch::Batch;
+pub use error::IndexError;
+pub use id::IndexId;
+pub use index::Index;
+pub use law::batches_bring_the_index;
+pub use limits::{MAX_NAMES, MAX_RECORDS, MAX_SEQUENCE};
+pub use receiver::plan;
+pub use send::Plan;
+pub use undo::Undo;
+pub use view::View;
