@@ -23,6 +23,7 @@ read_items reads (item d more) = do
   others ← read_items reads more
   Some (first ∷ others)
 
+-- the things of a list
 abbrev pub read_list : {T : Type 0} → (Data → Option T) → Data → Option (List T)
 read_list reads d = as_array d >>= read_items reads
 
@@ -58,6 +59,7 @@ rises_above low (counter ∷ more) = (nat_lt low counter.0 && (nat_le 1 counter.
 unfoldable pub is_version : List (ℕ × ℕ) → Bool
 is_version pairs = rises_above 0 pairs && nat_le (length pairs) most_counters
 
+-- the pairs, if they are a version vector
 abbrev pub if_version : List (ℕ × ℕ) → Option (List (ℕ × ℕ))
 if_version pairs = if is_version pairs then Some pairs else None
 

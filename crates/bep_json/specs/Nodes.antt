@@ -42,6 +42,7 @@ says_symlink (Some Symlink) = true
 unfoldable pub has_due_target : Data → Bool
 has_due_target d = not (says_symlink (read_member (codes "type") read_kind d)) || is_some (get (codes "target") d)
 
+-- a node: each member of its kind, and no others
 unfoldable pub is_node : Data → Bool
 is_node d = has_only node_members d && (has_node_members d && (has_one_body d && has_due_target d))
 

@@ -22,9 +22,11 @@ read_number low high d = option_and_then as_u64 (as_number d) >>= within low hig
 abbrev pub read_signed : Data → Option ℤ
 read_signed d = option_and_then as_i64 (as_number d)
 
+-- true or false
 abbrev pub is_flag : Data → Bool
 is_flag d = is_some (as_bool d)
 
+-- which of the two
 abbrev pub read_flag : Data → Option Bool
 read_flag d = as_bool d
 
@@ -36,5 +38,6 @@ greatest_id = 18446744073709551615
 abbrev pub kind_of : ℕ → Option Kind
 kind_of n = if n == 0 then Some File else (if n == 1 then Some Directory else (if n == 4 then Some Symlink else None))
 
+-- a kind, by its number
 abbrev pub read_kind : Data → Option Kind
 read_kind d = option_and_then as_u64 (as_number d) >>= kind_of

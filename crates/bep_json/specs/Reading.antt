@@ -35,5 +35,6 @@ abbrev pub read_or : {T : Type 0} → (Data → Option T) → T → Option Data 
 read_or reads default None = Some default
 read_or reads default (Some d) = reads d
 
+-- the same, by the name of the member
 abbrev pub read_member_or : {T : Type 0} → List ℕ → (Data → Option T) → T → Data → Option T
 read_member_or name reads default d = read_or reads default (get name d)

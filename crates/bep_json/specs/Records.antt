@@ -39,6 +39,7 @@ may_have_record_members d =
     && (may_have_member (codes "blocks") (is_list is_text) d
     && may_have_member (codes "target") is_text d)))))
 
+-- a record: each member of its kind, and no others
 unfoldable pub is_record : Data → Bool
 is_record d = has_only record_members d && (has_record_members d && may_have_record_members d)
 

@@ -11,6 +11,7 @@ use Rattle.bep_record.specs.Name.{parts_of}
 use Rattle.bep_record.specs.declared.limits.TheConstants.{MAX_FILE_SIZE}
 use Rattle.bep_json.specs.Reading.{◌>>=◌}
 
+-- a text
 abbrev pub is_text : Data → Bool
 is_text d = is_some (as_str d)
 
@@ -42,12 +43,15 @@ is_folder_byte b = (nat_le 48 b && nat_le b 57) || ((nat_le 65 b && nat_le b 90)
 unfoldable pub is_folder_name : List ℕ → Bool
 is_folder_name bytes = (nat_le 1 (length bytes) && nat_le (length bytes) 64) && list_all is_folder_byte bytes
 
+-- the name of a file
 unfoldable pub read_name : Data → Option (List ℕ)
 read_name d = as_str d >>= if_passes is_name
 
+-- the target of a symlink
 unfoldable pub read_target : Data → Option (List ℕ)
 read_target d = as_str d >>= if_passes is_target
 
+-- the name of a folder
 unfoldable pub read_folder_name : Data → Option (List ℕ)
 read_folder_name d = as_str d >>= if_passes is_folder_name
 
