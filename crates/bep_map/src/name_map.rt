@@ -148,8 +148,16 @@ mod tests {
         let a = Name::read(alloc, b"a")?;
         let b = Name::read(alloc, b"b")?;
         let mut nodes = NameMap::new(alloc);
-        assert!(rt; nodes.insert(b.copy(alloc)?, directory(alloc, 2)?)?.is_none());
-        assert!(rt; nodes.insert(a.copy(alloc)?, directory(alloc, 1)?)?.is_none());
+        assert!(rt;
+            nodes
+                .insert(b.copy(alloc)?, directory(alloc, 2)?)?
+                .is_none()
+        );
+        assert!(rt;
+            nodes
+                .insert(a.copy(alloc)?, directory(alloc, 1)?)?
+                .is_none()
+        );
         assert!(rt; nodes.replace(&a, directory(alloc, 3)?).is_ok());
         assert_eq!(rt; nodes.len(), 2);
 
