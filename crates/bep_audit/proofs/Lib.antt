@@ -1,1 +1,2 @@
 pub mod RowsFacts
+pub mod WinnerFacts

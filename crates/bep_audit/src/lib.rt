@@ -6,6 +6,7 @@
 mod device;
 mod rows;
 mod verdict;
+mod winner;
 
 pub use device::{
     is_clean, is_harmless, is_there, is_valid, meets_share, says_as_winner, share_is_asked,
@@ -13,3 +14,4 @@ pub use device::{
 };
 pub use rows::{Certificate, compare_row, compare_rows, first_disordered};
 pub use verdict::Verdict;
+pub use winner::is_winner;

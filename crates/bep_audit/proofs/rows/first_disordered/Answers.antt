@@ -1,5 +1,5 @@
 use Rattle.std.proofs.Common.{arith}
-use Rattle.bep_audit.proofs.RowsFacts.{ends, passes, stops}
+use Rattle.bep_audit.proofs.RowsFacts.{ends}
 use Rattle.bep_audit.proofs.rows.first_disordered.Goals as goal
 
 pub returns : goal.returns
