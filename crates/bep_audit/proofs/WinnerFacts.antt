@@ -45,10 +45,3 @@ choice_exactly chooser lent place one row at only is =
       let both : Some (candidate_of one) ≡ Some row = sym there ∙ ap (slice_get (candidates_of lent)) same_place ∙ found.1 in
       cc,
     )
-
--- without a place there is no choice
-pub none_chosen : (chooser : ℕ) (candidates : List Candidate) (row : Candidate) (held : Option ℕ) → held ≡ None → ((k : ℕ) → IsChoiceAt chooser candidates k → held ≡ Some k) → ¬ IsChoice chooser candidates row
-none_chosen chooser candidates row held none only choice =
-    let found = choice_place chooser candidates row choice in
-    let place_is = only found.0 found.2 in
-    cc

@@ -12,6 +12,6 @@ pub use device::{
     is_clean, is_harmless, is_there, is_valid, meets_share, says_as_winner, share_is_asked,
     store_holds,
 };
-pub use rows::{Certificate, compare_row, compare_rows, first_disordered};
+pub use rows::{Certificate, compare_row, compare_rows, find_row, first_disordered};
 pub use verdict::Verdict;
 pub use winner::is_winner;

@@ -1,7 +1,7 @@
 //! The rows of a certificate: their order, and how one is found by its name.
-ghost use Rattle.std.specs.Prelude.{◌≡◌, ◌↔◌, IsTrue, IfOk, option_map, map};
+ghost use Rattle.std.specs.Prelude.{◌≡◌, ◌↔◌, IfOk, IfSome, IsNone, IsSome, Contains, option_map};
 ghost use Rattle.std.specs.Option.{option_copied};
-ghost use Rattle.bep_model.specs.Settled.{key_of, key_cmp};
+ghost use Rattle.bep_model.specs.Settled.{key_of, key_cmp, Rise, HasRow};
 ghost use Rattle.bep_model.specs.Reasons.{first_disordered};
 
 use bep_model::Row;
@@ -66,7 +66,8 @@ fn copy_row(alloc: Global, row: &Row) -> Result<Row, AllocError>
 
 /// The first row that isn't above the row before it, by folder and then name; `None` where each is above.
 pub fn first_disordered(rows: &[Row]) -> Option<&Row>
-    ensures { option_map key_of (option_copied result) ≡ first_disordered rows.now }
+    ensures first { option_map key_of (option_copied result) ≡ first_disordered rows.now }
+    ensures rise { IsNone result ↔ Rise rows.now }
 {
     for place in 1..rows.len() {
         if !compare_rows(&rows[place - 1], &rows[place]).is_lt() {
@@ -89,4 +90,22 @@ pub fn compare_row(row: &Row, folder: &FolderName, name: &Name) -> Ordering
 {
     let own_name = &row.entry.entry().name;
     row.folder.cmp(folder).then(own_name.cmp(name))
+}
+
+/// The row about this name in the folder, found by halving the rows; `None` exactly where no row is about it.
+pub fn find_row<'a>(rows: &'a [Row], folder: &FolderName, name: &Name) -> Option<&'a Row>
+    requires { Rise rows.now }
+    ensures has { IsSome result ↔ HasRow rows.now folder.now name.now }
+    ensures found { IfSome result (λ row. Contains rows.now row.now × (key_of row.now ≡ (folder.now, name.now))) }
+{
+    if rows.is_empty() {
+        return None;
+    }
+    let middle = rows.len() / 2;
+    let row = &rows[middle];
+    match compare_row(row, folder, name) {
+        Ordering::Less => find_row(&rows[middle + 1..], folder, name),
+        Ordering::Equal => Some(row),
+        Ordering::Greater => find_row(&rows[..middle], folder, name),
+    }
 }
