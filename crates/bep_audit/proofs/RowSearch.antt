@@ -57,15 +57,15 @@ back_is_left rows front middle back folder name less s = record {
   rise = tail_rises middle back (back_rises front (middle ∷ back) s.rise);
   within = λ row h. s.within row (Contains-append_right front (middle ∷ back) row (Contains-more middle back row h));
   has = λ has.
-    let found = s.has has in
-    ⊎_elim
-    (λ in_front. absurd (not_at (key_total.trans (key_of found.0) (key_of middle) (folder, name) (front_is_below front middle back s.rise found.0 in_front) less) found.2))
-    (λ later.
-    ⊎_elim
-    (λ same. absurd (not_at less (ap key_of same ∙ found.2)))
-    (λ in_back. (found.0, in_back, found.2))
-    (Contains-cons_cases middle back found.0 later))
-    (Contains-append_cases front (middle ∷ back) found.0 found.1);
+      let found = s.has has in
+      ⊎_elim
+      (λ in_front. absurd (not_at (key_total.trans (key_of found.0) (key_of middle) (folder, name) (front_is_below front middle back s.rise found.0 in_front) less) found.2))
+      (λ later.
+      ⊎_elim
+      (λ same. absurd (not_at less (ap key_of same ∙ found.2)))
+      (λ in_back. (found.0, in_back, found.2))
+      (Contains-cons_cases middle back found.0 later))
+      (Contains-append_cases front (middle ∷ back) found.0 found.1);
 }
   where
     not_at : {key at : Folder × FileName} → key_cmp key at ≡ Less → ¬ (key ≡ at)
@@ -77,15 +77,15 @@ front_is_left rows front middle back folder name greater s = record {
   rise = front_rises front (middle ∷ back) s.rise;
   within = λ row h. s.within row (Contains-append_left front (middle ∷ back) row h);
   has = λ has.
-    let found = s.has has in
-    ⊎_elim
-    (λ in_front. (found.0, in_front, found.2))
-    (λ later.
-    ⊎_elim
-    (λ same. absurd (not_at (ap key_of same ∙ found.2)))
-    (λ in_back. absurd (not_below (subst (λ (k : Folder × FileName). key_cmp (key_of middle) k ≡ Less) found.2 (first_is_below middle back (back_rises front (middle ∷ back) s.rise) found.0 in_back))))
-    (Contains-cons_cases middle back found.0 later))
-    (Contains-append_cases front (middle ∷ back) found.0 found.1);
+      let found = s.has has in
+      ⊎_elim
+      (λ in_front. (found.0, in_front, found.2))
+      (λ later.
+      ⊎_elim
+      (λ same. absurd (not_at (ap key_of same ∙ found.2)))
+      (λ in_back. absurd (not_below (subst (λ (k : Folder × FileName). key_cmp (key_of middle) k ≡ Less) found.2 (first_is_below middle back (back_rises front (middle ∷ back) s.rise) found.0 in_back))))
+      (Contains-cons_cases middle back found.0 later))
+      (Contains-append_cases front (middle ∷ back) found.0 found.1);
 }
   where
     not_at : ¬ (key_of middle ≡ (folder, name))

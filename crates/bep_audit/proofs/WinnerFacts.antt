@@ -36,12 +36,11 @@ choice_place chooser candidates one h =
 pub choice_exactly : (chooser : ℕ) (lent : List Lent) (place : ℕ) (one : Lent) (row : Candidate) → IsChoiceAt chooser (candidates_of lent) place → ((k : ℕ) → IsChoiceAt chooser (candidates_of lent) k → Some place ≡ Some k) → one ≡ get_or lent place one → (candidate_of one ≡ row) ↔ IsChoice chooser (candidates_of lent) row
 choice_exactly chooser lent place one row at only is =
     let there = at_place lent place one (within chooser lent place at) is in
-    let held : IsChoice chooser (candidates_of lent) (candidate_of one) = subst (λ (o : Option Candidate). IsSomeAnd o (IsChoice chooser (candidates_of lent))) there at in
-    (
-    λ same. subst (IsChoice chooser (candidates_of lent)) same held,
-    λ choice. let found = choice_place chooser (candidates_of lent) row choice in
-      let place_is = only found.0 found.2 in
-      let same_place : place ≡ found.0 = cc in
-      let both : Some (candidate_of one) ≡ Some row = sym there ∙ ap (slice_get (candidates_of lent)) same_place ∙ found.1 in
-      cc,
+    let held : IsChoice chooser (candidates_of lent) (candidate_of one) = subst (λ (o : Option Candidate). IsSomeAnd o (IsChoice chooser (candidates_of lent))) there at in (
+      λ same. subst (IsChoice chooser (candidates_of lent)) same held,
+      λ choice. let found = choice_place chooser (candidates_of lent) row choice in
+          let place_is = only found.0 found.2 in
+          let same_place : place ≡ found.0 = cc in
+          let both : Some (candidate_of one) ≡ Some row = sym there ∙ ap (slice_get (candidates_of lent)) same_place ∙ found.1 in
+          cc,
     )

@@ -17,7 +17,12 @@ use bep_record::{Block, BlockSize, Entry, Kind, Node, NodeParts, Order, Record, 
 /// Whether the device meets what the reason asks of it at a row, by its own record and its node alone.
 ///
 /// The reasons on names ask nothing of a device, and those on foreign records nothing of these two.
-pub fn meets_share(reason: Reason, own: Option<&Record>, node: Option<&Node>, winner: &Record) -> bool
+pub fn meets_share(
+    reason: Reason,
+    own: Option<&Record>,
+    node: Option<&Node>,
+    winner: &Record,
+) -> bool
     ensures { IsTrue result ↔ AsksHere reason (option_copied own.entry) (option_copied node.entry) winner.now }
 {
     match reason {

@@ -5,6 +5,8 @@
 
 mod device;
 mod rows;
+#[cfg(test)]
+mod tests;
 mod verdict;
 mod winner;
 

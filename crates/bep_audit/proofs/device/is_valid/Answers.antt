@@ -13,9 +13,10 @@ not_if_false true e = absurd (cc)
 not_if_false false e = refl
 
 valid_exactly : (own : Option Entry) (held : Entry) → own ≡ Some held → IsTrue (not held.invalid) ↔ AsksValid own
-valid_exactly own held is =
-    (λ valid other other_is. let plain = false_if_not held.invalid valid in let same : held ≡ other = cc in cc,
-    λ asks. not_if_false held.invalid (asks held is))
+valid_exactly own held is = (
+  λ valid other other_is. let plain = false_if_not held.invalid valid in let same : held ≡ other = cc in cc,
+  λ asks. not_if_false held.invalid (asks held is),
+)
 
 pub returns-in-Some : goal.returns-in-Some
 returns-in-Some c = valid_exactly _ c.entry.result.now (cc)
