@@ -1,5 +1,5 @@
 -- Rows that rise are halved: which half a name's row is in.
-use Rattle.std.proofs.Common.{◌≡◌, ◌↔◌, ◌+◌, ◌-◌, ◌<◌, ◌∙◌, ℕ, List, [], ◌∷◌, ◌++◌, Contains, length, get_or, take, drop, refl, sym, ap, subst, ⊎_elim, zero, suc, Bool, false, arith, length-drop}
+use Rattle.std.proofs.Common.{◌≡◌, ◌↔◌, ◌+◌, ◌-◌, ◌<◌, ◌∙◌, ℕ, List, [], ◌∷◌, ◌++◌, Contains, length, get_or, take, drop, sym, ap, subst, ⊎_elim, zero, suc, Bool, false, arith, length-drop}
 use Rattle.std.specs.Prelude.{◌/◌, ◌==◌}
 use Rattle.std.specs.declared.cmp.Ordering.TheVariants.{Less, Equal, Greater}
 use Rattle.std.proofs.lemmas.Cmp.{tied_itself}

@@ -1,5 +1,5 @@
 -- The choice among candidates that are lent, found by its place.
-use Rattle.std.proofs.Common.{◌≡◌, ◌<◌, ◌∙◌, ◌↔◌, ℕ, Option, Some, None, List, Contains, IsSomeAnd, length, get_or, refl, sym, ap, subst, ⊎_elim, arith}
+use Rattle.std.proofs.Common.{◌≡◌, ◌<◌, ◌∙◌, ◌↔◌, ℕ, Option, Some, List, IsSomeAnd, length, get_or, sym, ap, subst, ⊎_elim, arith}
 use Rattle.std.specs.Borrow.{Bor}
 use Rattle.std.specs.List.{slice_get}
 use Rattle.std.proofs.lemmas.List.{length-map, get_or-map}

@@ -1,4 +1,4 @@
-use Rattle.std.proofs.Common.{◌/◌, ◌<◌, ◌∙◌, sym, refl, arith, length}
+use Rattle.std.proofs.Common.{◌/◌, ◌∙◌, sym, refl, arith, length}
 use Rattle.bep_audit.proofs.RowSearch.{go_right, go_left, found_here, has_exactly, middle_is_within, right_is_shorter, left_is_shorter, through}
 use Rattle.bep_audit.proofs.rows.+find_row.Goals as goal
 

@@ -1,5 +1,4 @@
-use Rattle.std.proofs.Common.{◌≡◌, Some, None, refl, ◌∙◌, sym, arith}
-use Rattle.bep_model.specs.Settled.{key_of}
+use Rattle.std.proofs.Common.{refl, ◌∙◌, sym, arith}
 use Rattle.bep_audit.proofs.RowsFacts.{ends, none_disordered, rise_from_none, stops}
 use Rattle.bep_audit.proofs.rows.first_disordered.Goals as goal
 

@@ -1,4 +1,3 @@
-use Rattle.std.proofs.Common.{arith}
 use Rattle.bep_audit.proofs.WinnerFacts.{choice_exactly}
 use Rattle.bep_audit.proofs.winner.is_winner.Goals as goal
 
