@@ -1,0 +1,3 @@
+pub mod RowsFacts
+pub mod RowSearch
+pub mod WinnerFacts

@@ -1,0 +1,54 @@
+-- A walk over rows, each compared with the one before it.
+use Rattle.std.proofs.Common.{◌≡◌, ◌+◌, ◌-◌, ◌<◌, ◌≤◌, ◌∙◌, ℕ, true, false, Some, None, List, [], ◌∷◌, length, get_or, drop, refl, ap, sym, ⊎_elim, arith, length-drop}
+use Rattle.std.specs.Ordering.{is_lt}
+use Rattle.std.specs.declared.cmp.Ordering.{Ordering}
+use Rattle.std.specs.declared.cmp.Ordering.TheVariants.{Less, Equal, Greater}
+use Rattle.std.proofs.lemmas.Bool.{cases_Bool, cond-true, cond-false}
+use Rattle.std.proofs.lemmas.List.{drop_more}
+use Rattle.bep_model.specs.declared.row.Row.{Row}
+use Rattle.bep_model.specs.Settled.{Rise, key_of, key_cmp}
+use Rattle.bep_model.specs.Reasons.{first_disordered}
+
+-- two rows that stand one after the other, and the rest
+two_rows : (rows : List Row) (place : ℕ) (one next : Row) → 1 ≤ place → place < length rows → one ≡ get_or rows (place - 1) one → next ≡ get_or rows place next → drop (place - 1) rows ≡ one ∷ next ∷ drop (place + 1) rows
+two_rows rows place one next positive below one_is next_is =
+    let first = drop_more rows (place - 1) one (omega arith) in
+    let back : place - 1 + 1 ≡ place = omega arith in
+    let second = drop_more rows place next below in
+    cc
+
+-- a row that isn't above the one before it
+pub stops : (rows : List Row) (place : ℕ) (one next : Row) → 1 ≤ place → place < length rows → one ≡ get_or rows (place - 1) one → next ≡ get_or rows place next → is_lt (key_cmp (key_of one) (key_of next)) ≡ false → first_disordered (drop (place - 1) rows) ≡ first_disordered rows → Some (key_of next) ≡ first_disordered rows
+stops rows place one next positive below one_is next_is not_less so_far =
+    let two = ap first_disordered (two_rows rows place one next positive below one_is next_is) in
+    sym (cond-false _ _ _ not_less) ∙ sym two ∙ so_far
+
+Less_from_is_lt : (o : Ordering) → is_lt o ≡ true → o ≡ Less
+Less_from_is_lt Less e = refl
+Less_from_is_lt Equal e = absurd (cc)
+Less_from_is_lt Greater e = absurd (cc)
+
+-- rows rise exactly where none is out of order
+pub none_disordered : (rows : List Row) → Rise rows → first_disordered rows ≡ None
+none_disordered [] rise = refl
+none_disordered (row ∷ []) rise = refl
+none_disordered (row ∷ next ∷ more) rise = cond-true _ _ _ (ap is_lt rise.0) ∙ none_disordered (next ∷ more) rise.1
+
+pub rise_from_none : (rows : List Row) → first_disordered rows ≡ None → Rise rows
+rise_from_none [] none = tt
+rise_from_none (row ∷ []) none = tt
+rise_from_none (row ∷ next ∷ more) none =
+    ⊎_elim
+    (λ less. (Less_from_is_lt _ less, rise_from_none (next ∷ more) (sym (cond-true _ _ _ less) ∙ none)))
+    (λ not_less. let e = sym (cond-false _ _ _ not_less) ∙ none in absurd (cc))
+    (cases_Bool (is_lt (key_cmp (key_of row) (key_of next))))
+
+one_is_in_order : (rows : List Row) → length rows ≤ 1 → first_disordered rows ≡ None
+one_is_in_order [] few = refl
+one_is_in_order (row ∷ []) few = refl
+one_is_in_order (row ∷ next ∷ more) few = absurd (omega arith)
+
+-- the end
+pub ends : (rows : List Row) (place : ℕ) → 1 ≤ place → length rows ≤ place → first_disordered (drop (place - 1) rows) ≡ first_disordered rows → None ≡ first_disordered rows
+ends rows place positive all so_far =
+    sym (one_is_in_order (drop (place - 1) rows) (omega (arith, length-drop (place - 1) rows))) ∙ so_far

@@ -1,0 +1,9 @@
+-- What a verdict of the program says.
+use Rattle.bep_audit.specs.declared.verdict.Verdict as program
+use Rattle.bep_audit.specs.declared.verdict.Verdict.TheVariants as lends
+use Rattle.bep_model.specs.Verdict.{Verdict, Settled, Not}
+
+-- the verdict whose names are lent
+abbrev pub verdict_shown : program.Verdict → Verdict
+verdict_shown lends.Settled = Settled
+verdict_shown (lends.Not reason folder name device) = Not reason folder.now name.now device
