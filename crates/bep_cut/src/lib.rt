@@ -2,9 +2,12 @@
 #![tactic(auto)]
 
 mod cut;
+mod laws;
 mod limits;
+mod names;
 mod share;
 
 pub use cut::{Cut, CutParts};
+pub use laws::{cut_says, names_are_known};
 pub use limits::{MAX_DEVICES, MAX_FOLDERS};
 pub use share::{Share, SharedFolder};
