@@ -6,7 +6,10 @@
 
 mod error;
 mod fault;
+mod few;
+mod folders;
 mod parts;
+mod shares;
 
 pub use error::DocError;
 pub use fault::{DocFault, Fault};
