@@ -1,0 +1,16 @@
+//! The check document: from bytes to plain lists of what it says, or to the one fault for which it is refused.
+//!
+//! What is read may still be no cut of a cluster that any device could have; but it has none of the faults that are
+//! told by a number, and a law says what follows from that.
+#![tactic(auto)]
+
+mod error;
+mod fault;
+mod few;
+mod folders;
+mod parts;
+mod shares;
+
+pub use error::DocError;
+pub use fault::{DocFault, Fault};
+pub use parts::{CheckParts, FolderParts, RowParts, ShareParts};
