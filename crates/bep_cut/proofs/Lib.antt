@@ -1,3 +1,5 @@
 mod Found
 mod Tables
 mod Known
+mod SortingFacts
+mod WrittenFacts

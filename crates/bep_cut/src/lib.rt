@@ -5,7 +5,9 @@ mod cut;
 mod laws;
 mod limits;
 mod names;
+mod order;
 mod share;
+mod written;
 
 pub use cut::{Cut, CutParts};
 pub use laws::{cut_says, names_are_known};
