@@ -1,1 +1,3 @@
 pub mod FewFacts
+pub mod PlacesFacts
+pub mod SeenFacts

@@ -8,8 +8,10 @@ mod error;
 mod fault;
 mod few;
 mod folders;
+mod judge;
 mod parts;
 mod shares;
+mod twice;
 
 pub use error::DocError;
 pub use fault::{DocFault, Fault};
