@@ -1,3 +1,4 @@
 pub mod FewFacts
 pub mod PlacesFacts
 pub mod SeenFacts
+pub mod RecordTests

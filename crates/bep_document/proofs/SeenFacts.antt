@@ -18,11 +18,7 @@ seen_next same key xs i x has has' here is before after q =
     ∙ ap (λ y. list_any (λ known. same (key known) q) (take i xs) || same (key y) q) is
     ∙ sym (list_any_more (λ known. same (key known) q) xs i x here)
 
--- the key that an insertion found was there, and one that it put wasn't
-pub was_there : (added has : Bool) → added ≡ not has → added ≡ false → has ≡ true
-was_there added true e f = refl
-was_there added false e f = cc
-
-pub was_not_there : (added has : Bool) → added ≡ not has → added ≡ true → has ≡ false
-was_not_there added true e f = cc
-was_not_there added false e f = refl
+-- an insertion adds no key that was there
+pub not_added : (added has : Bool) → added ≡ not has → not added ≡ has
+not_added added true e = ap not e
+not_added added false e = ap not e

@@ -10,6 +10,8 @@ mod few;
 mod folders;
 mod judge;
 mod parts;
+mod records;
+mod sequences;
 mod shares;
 mod twice;
 

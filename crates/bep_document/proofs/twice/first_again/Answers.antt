@@ -7,7 +7,7 @@ use Rattle.bep_document.specs.Fault.{at_name}
 use Rattle.bep_document.specs.Twice.{name_again}
 use Rattle.bep_document.specs.declared.fault.Fault.TheVariants.{Twice}
 use Rattle.bep_document.proofs.PlacesFacts.{first_is_here, first_is_behind}
-use Rattle.bep_document.proofs.SeenFacts.{seen_next, was_there, was_not_there}
+use Rattle.bep_document.proofs.SeenFacts.{seen_next, not_added}
 use Rattle.bep_document.proofs.twice.first_again.Goals as goal
 
 pub returns-then-not-is_new : goal.returns-then-not-is_new
@@ -17,7 +17,7 @@ returns-then-not-is_new g c =
     let i = c.loop-item.item-index in
     let x = c.item-item.result in
     let key : c.in_ok-copy.field-0 ≡ name_in x = c.in_ok-copy.ensures ∙ c.name.ensures in
-    let there = was_there _ _ (c.in_ok-is_new.ensures.added ∙ ap (λ k. not (contains (slice_cmp nat_cmp) c.loop-item.seen k)) key) c.if-not-is_new.true in
+    let there = sym (not_added _ _ (c.in_ok-is_new.ensures.added ∙ ap (λ k. not (contains (slice_cmp nat_cmp) c.loop-item.seen k)) key)) ∙ ap not c.if-not-is_new.true in
     let again : list_any (λ known. pointwise nat_eq (name_in known) (name_in x)) (take i xs) ≡ true = sym (c.loop-item.invariant.seen (name_in x)) ∙ there in
     let fault = at_name Twice c.args.folder.now c.args.device (name_in x) in
     ap Some (c.in_ok-fault.ensures ∙ ap (λ n. at_name Twice c.args.folder.now c.args.device n) c.name-then-not-is_new.ensures)
@@ -30,7 +30,7 @@ loop-item-preserved g c =
     let i = c.loop-item.item-index in
     let x = c.item-item.result in
     let key : c.in_ok-copy.field-0 ≡ name_in x = c.in_ok-copy.ensures ∙ c.name.ensures in
-    let absent = was_not_there _ _ (c.in_ok-is_new.ensures.added ∙ ap (λ k. not (contains (slice_cmp nat_cmp) c.loop-item.seen k)) key) c.if-not-is_new.false in
+    let absent = sym (not_added _ _ (c.in_ok-is_new.ensures.added ∙ ap (λ k. not (contains (slice_cmp nat_cmp) c.loop-item.seen k)) key)) ∙ ap not c.if-not-is_new.false in
     let new : list_any (λ known. pointwise nat_eq (name_in known) (name_in x)) (take i xs) ≡ false = sym (c.loop-item.invariant.seen (name_in x)) ∙ absent in
     let fault = at_name Twice c.args.folder.now c.args.device (name_in x) in
     record {
