@@ -4,9 +4,13 @@ use Rattle.std.proofs.lemmas.List.{take_more}
 use Rattle.bep_document.specs.declared.fault.DocFault.{DocFault}
 use Rattle.bep_document.specs.Places.{◌else_at◌, first_in}
 
+-- the rest of a list begins with the item that stands here
+pub drop_here : {A : Type 0} (xs : List A) (i : ℕ) (x : A) → i < length xs → x ≡ get_or xs i x → drop i xs ≡ x ∷ drop (i + 1) xs
+drop_here xs i x here is = rw (add-one, drop-cons xs i x) (ap (λ y. y ∷ drop (suc i) xs) (sym is))
+
 pub first_in_next : {A : Type 0} (f : List A → A → Option DocFault) (xs : List A) (i : ℕ) (x : A) → i < length xs → x ≡ get_or xs i x → first_in f (take i xs) (drop i xs) ≡ (f (take i xs) x else_at first_in f (take (i + 1) xs) (drop (i + 1) xs))
 first_in_next f xs i x here is =
-    let cut : drop i xs ≡ x ∷ drop (i + 1) xs = rw (add-one, drop-cons xs i x) (ap (λ y. y ∷ drop (suc i) xs) (sym is)) in
+    let cut : drop i xs ≡ x ∷ drop (i + 1) xs = drop_here xs i x here is in
     let front : take (i + 1) xs ≡ take i xs ++ x ∷ [] = take_more xs i x here ∙ ap (λ y. take i xs ++ y ∷ []) (sym is) in
     rw (cut, front) refl
 
