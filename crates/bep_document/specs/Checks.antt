@@ -1,9 +1,10 @@
 -- Check documents as JSON trees (this project's profile).
-use Rattle.std.specs.Prelude.{ℕ, ◌&&◌, Bool, List, [], ◌∷◌, Option, Some, None, if◌then◌else◌, is_some, codes}
+use Rattle.std.specs.Prelude.{ℕ, ◌==◌, ◌&&◌, option_map, option_and_then, unwrap_or, false, Bool, List, [], ◌∷◌, Option, Some, None, if◌then◌else◌, codes}
 use Rattle.serde_json.specs.Data.{Data}
+use Rattle.serde_json.specs.Find.{as_number, as_u64}
 use Rattle.bep_json.specs.Tree.{has_only, has_member, may_have_member}
 use Rattle.bep_json.specs.Reading.{◌>>=◌, read_member}
-use Rattle.bep_json.specs.Numbers.{is_whole, read_number}
+use Rattle.bep_json.specs.Numbers.{is_whole}
 use Rattle.bep_json.specs.Lists.{is_list, read_list}
 use Rattle.bep_document.specs.Few.{read_few, is_empty_list}
 use Rattle.bep_document.specs.Devices.{has_few_devices}
@@ -30,9 +31,13 @@ if_few_devices folders = if has_few_devices folders then Some folders else None
 unfoldable pub read_cut : Data → Option (List FolderParts)
 read_cut d = read_member (codes "folders") (read_few 16 read_folder) d >>= if_few_devices
 
--- the version of the document is the whole number 1
+-- the whole number 1
+abbrev pub is_one : Data → Bool
+is_one d = unwrap_or (option_map (λ n. n == 1) (option_and_then as_u64 (as_number d))) false
+
+-- that is the document's version
 abbrev pub has_version : Data → Bool
-has_version d = is_some (read_member (codes "version") (read_number 1 1) d)
+has_version d = has_member (codes "version") is_one d
 
 -- the members of a check document
 abbrev pub check_members : List (List ℕ)

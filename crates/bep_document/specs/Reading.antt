@@ -32,6 +32,11 @@ abbrev pub Answers : {T : Type 0} → Result T DocError → Reading T → Type 0
 Answers (Ok x) reading = reading ≡ Read x
 Answers (Err error) reading = IsRefusal error reading
 
+-- the same, where what is read is seen by a view
+abbrev pub AnswersBy : {X T : Type 0} → (X → T) → Result X DocError → Reading T → Type 0
+AnswersBy view (Ok x) reading = reading ≡ Read (view x)
+AnswersBy view (Err error) reading = IsRefusal error reading
+
 -- the second step, if the first gave a thing
 infixl 10 ◌>>=◌
 abbrev pub ◌>>=◌ : {A B : Type 0} → Reading A → (A → Reading B) → Reading B
@@ -71,12 +76,17 @@ first_fault parts =
     else_at (first_bad parts
     else_at first_in sequence_at_folder [] parts.folders)
 
+-- what the tree of a document says
+unfoldable pub reading_of_tree : Data → Reading CheckParts
+reading_of_tree tree = do
+  known ← passed VersionBad has_version tree
+  shaped ← passed Shape is_check known
+  parts ← given Range (read_check shaped)
+  unless (first_fault parts) parts
+
 -- what the bytes of a document say
 unfoldable pub reading_of : List ℕ → Reading CheckParts
 reading_of bytes = do
   short ← passed Range is_short bytes
   tree ← given NotJson (tree_of short)
-  known ← passed VersionBad has_version tree
-  shaped ← passed Shape is_check known
-  parts ← given Range (read_check shaped)
-  unless (first_fault parts) parts
+  reading_of_tree tree

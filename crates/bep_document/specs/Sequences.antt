@@ -1,11 +1,11 @@
 -- Which sequences an index can't have (this project's profile).
-use Rattle.std.specs.Prelude.{ℕ, nat_lt, ◌==◌, ◌||◌, Bool, List, [], Option, Some, None, map, if◌then◌else◌}
+use Rattle.std.specs.Prelude.{ℕ, nat_lt, ◌==◌, ◌||◌, Bool, List, [], Option, Some, None, if◌then◌else◌}
+use Rattle.std.specs.List.{list_any}
 use Rattle.bep_record.specs.declared.entry.Entry.{Entry}
 use Rattle.bep_document.specs.declared.fault.DocFault.{DocFault}
 use Rattle.bep_document.specs.declared.fault.Fault.TheVariants.{SequenceBad}
 use Rattle.bep_document.specs.declared.parts.ShareParts.{ShareParts}
 use Rattle.bep_document.specs.declared.parts.FolderParts.{FolderParts}
-use Rattle.bep_document.specs.Devices.{is_one_of}
 use Rattle.bep_document.specs.Fault.{at_name}
 use Rattle.bep_document.specs.Places.{first_in}
 
@@ -13,7 +13,7 @@ use Rattle.bep_document.specs.Places.{first_in}
 abbrev pub is_bad_sequence : ℕ → List Entry → Entry → Bool
 is_bad_sequence greatest earlier entry =
     (entry.sequence == 0)
-    || (nat_lt greatest entry.sequence || is_one_of (map (λ known. known.sequence) earlier) entry.sequence)
+    || (nat_lt greatest entry.sequence || list_any (λ known. known.sequence == entry.sequence) earlier)
 
 -- the record has such a sequence
 abbrev pub bad_sequence : List ℕ → ℕ → ℕ → List Entry → Entry → Option DocFault

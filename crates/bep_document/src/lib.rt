@@ -4,13 +4,21 @@
 //! told by a number, and a law says what follows from that.
 #![tactic(auto)]
 
+mod check;
+mod devices;
 mod error;
 mod fault;
 mod few;
 mod folders;
+mod judge;
 mod parts;
+mod read;
+mod records;
+mod sequences;
 mod shares;
+mod twice;
 
 pub use error::DocError;
 pub use fault::{DocFault, Fault};
 pub use parts::{CheckParts, FolderParts, RowParts, ShareParts};
+pub use read::{MAX_BYTES, read_parts};
