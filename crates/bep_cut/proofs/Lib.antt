@@ -3,3 +3,4 @@ mod Tables
 mod Known
 mod SortingFacts
 mod WrittenFacts
+mod AsWrittenFacts

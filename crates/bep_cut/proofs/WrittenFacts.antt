@@ -85,7 +85,7 @@ unfolding IsStrictlySortedBy
 sorted_none R key = tt
 
 -- an item in order was written of some part
-from_part : {K A B : Type 0} (R : K → K → Ordering) (key : B → K) (written : A → B) (parts : List A) (z : B) → Contains (in_order R key [] (map written parts)) z → (part : A) × Contains parts part × (written part ≡ z)
+pub from_part : {K A B : Type 0} (R : K → K → Ordering) (key : B → K) (written : A → B) (parts : List A) (z : B) → Contains (in_order R key [] (map written parts)) z → (part : A) × Contains parts part × (written part ≡ z)
 from_part R key written parts z h =
     ⊎_elim (λ none. absurd (not_in_none z none)) (λ later. Contains-from_image written parts z later) (Contains-in_order R key [] (map written parts) z h)
 

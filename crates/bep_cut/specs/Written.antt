@@ -1,5 +1,5 @@
 -- The cut and the certificate that a check document writes down (this project's profile).
-use Rattle.std.specs.Prelude.{◌≡◌, ℕ, List, [], ◌∷◌, Result, Ok, Err, map}
+use Rattle.std.specs.Prelude.{ℕ, List, [], ◌∷◌, map}
 use Rattle.std.specs.Ordering.{nat_cmp}
 use Rattle.std.specs.Cmp.Lexicographic.{slice_cmp}
 use Rattle.std.specs.FinMap.{empty, insert}
@@ -7,11 +7,10 @@ use Rattle.bep_map.specs.NameMap.{ByName}
 use Rattle.bep_record.specs.declared.node.NodeParts.{NodeParts}
 use Rattle.bep_index.specs.Batch.{with_all}
 use Rattle.bep_json.specs.declared.nodes.NamedParts.{NamedParts}
-use Rattle.bep_document.specs.declared.error.DocError.{DocError}
 use Rattle.bep_document.specs.declared.parts.ShareParts.{ShareParts}
 use Rattle.bep_document.specs.declared.parts.FolderParts.{FolderParts}
 use Rattle.bep_document.specs.declared.parts.RowParts.{RowParts}
-use Rattle.bep_document.specs.Reading.{Reading, Read, ◌>>=◌, IsRefusal, reading_of}
+use Rattle.bep_document.specs.Reading.{Reading, Read, ◌>>=◌, reading_of}
 use Rattle.bep_model.specs.declared.row.Row.{Row}
 use Rattle.bep_cut.specs.declared.share.Share.{Share}
 use Rattle.bep_cut.specs.declared.share.SharedFolder.{SharedFolder}
@@ -52,8 +51,3 @@ row_written parts = record { folder = parts.folder; device = parts.device; entry
 -- the cut and the rows of a check document, or the fault for which it is refused
 abbrev pub check_of : List ℕ → Reading (CutParts × List Row)
 check_of bytes = reading_of bytes >>= λ parts. Read (cut_written parts.folders, map row_written parts.certificate)
-
--- the answer is what was read, as a view shows it, or the fault; or memory ran out
-abbrev pub AnswersBy : {X T : Type 0} → (X → T) → Result X DocError → Reading T → Type 0
-AnswersBy shows (Ok x) reading = reading ≡ Read (shows x)
-AnswersBy shows (Err error) reading = IsRefusal error reading

@@ -1,5 +1,5 @@
 -- What a receiver has that takes a sender's batches in order and without a gap (BEP v1, 'Index' and 'Index Update').
-use Rattle.std.specs.Prelude.{◌≡◌, ℕ, ◌≤◌, nat_le, List, [], ◌∷◌, length, Option, Some, None, if◌then◌else◌}
+use Rattle.std.specs.Prelude.{◌≡◌, ◌↔◌, ℕ, ◌≤◌, nat_le, List, [], ◌∷◌, length, Option, Some, None, if◌then◌else◌}
 use Rattle.std.specs.FinMap.{empty, get}
 use Rattle.bep_record.specs.declared.entry.Entry.{Entry}
 use Rattle.bep_index.specs.Listing.{Listing}
@@ -52,3 +52,9 @@ RecordsMakeAnIndex =
     (id greatest : ℕ) (entries : List Entry) → greatest ≤ MAX_SEQUENCE → length entries ≤ MAX_NAMES → NamesDiffer entries →
     HaveIndexNumbers greatest entries →
     IsIndex (record { id = id; sequence = greatest; records = with_all empty entries })
+
+-- the record at a name is the one of these that has the name
+abbrev pub RecordsAreFound : Type 0
+RecordsAreFound =
+    (entries : List Entry) (name : List ℕ) (entry : Entry) → NamesDiffer entries →
+    (get (with_all empty entries) name ≡ Some entry) ↔ (IsAmong entry entries × (entry.name ≡ name))
