@@ -4,3 +4,9 @@ pub mod SeenFacts
 pub mod RecordTests
 pub mod TreeFacts
 pub mod DevicesFacts
+pub mod NoFault
+pub mod Steps
+pub mod ReadFacts
+pub mod DevicesKnown
+pub mod FaultlessFacts
+pub mod ReadFaultless

@@ -11,6 +11,7 @@ mod fault;
 mod few;
 mod folders;
 mod judge;
+mod laws;
 mod parts;
 mod read;
 mod records;
@@ -20,5 +21,6 @@ mod twice;
 
 pub use error::DocError;
 pub use fault::{DocFault, Fault};
+pub use laws::readings_are_faultless;
 pub use parts::{CheckParts, FolderParts, RowParts, ShareParts};
 pub use read::{MAX_BYTES, read_parts};
