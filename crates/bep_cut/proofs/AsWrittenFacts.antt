@@ -23,7 +23,7 @@ use Rattle.bep_cut.specs.declared.share.SharedFolder.{SharedFolder}
 use Rattle.bep_cut.specs.AsWritten.{IsWrittenIn, SharingIsAsWritten, OwnIsAsWritten, NodeIsAsWritten}
 use Rattle.bep_cut.specs.Cut.{shares_of}
 use Rattle.bep_cut.specs.Written.{with_nodes, share_written, folder_written, cut_written}
-use Rattle.bep_cut.proofs.Found.{Contains-image, Contains-from_image, each_from_recursion}
+use Rattle.bep_cut.proofs.Found.{Contains-image, each_from_recursion}
 use Rattle.bep_cut.proofs.SortingFacts.{in_in_order}
 use Rattle.bep_cut.proofs.Tables.{folder_is_found, share_has_folder, sharing_is_said, own_is_said, node_is_said}
 use Rattle.bep_cut.proofs.WrittenFacts.{from_part, cut_is_written}
