@@ -47,17 +47,17 @@ abbrev pub folder_line : Folder → ℕ → ℕ → ℕ → List ℕ
 folder_line folder names deleted devices =
     concat (codes "folder " ∷ folder ∷ codes ": " ∷ decimal names ∷ codes " names, " ∷ decimal deleted ∷ codes " deleted, " ∷ decimal devices ∷ codes " devices" ∷ newline ∷ [])
 
--- a part of a place, `-` where there is none
-abbrev pub part_or_dash : Option (List ℕ) → List ℕ
-part_or_dash None = codes "-"
-part_or_dash (Some part) = part
+-- a part of a place after a space, `-` where there is none
+abbrev pub part_text : Option (List ℕ) → List ℕ
+part_text None = codes " -"
+part_text (Some part) = codes " " ++ part
 
 -- a place in a document: a folder, a device and a name, as far as it has them
 abbrev pub place_text : Option Folder → Option Device → Option FileName → List ℕ
 place_text folder device name =
-    concat (codes " " ∷ part_or_dash folder ∷ codes " " ∷ part_or_dash (option_map decimal device) ∷ codes " " ∷ part_or_dash (option_map printed name) ∷ [])
+    concat (part_text folder ∷ part_text (option_map decimal device) ∷ part_text (option_map printed name) ∷ [])
 
--- the first and the last number of the faults that have a place
+-- the numbers of the faults that have a place
 abbrev pub has_place : ℕ → Bool
 has_place number = nat_le 185 number && nat_le number 189
 

@@ -42,7 +42,11 @@ fn append_read<R: Read>(
 }
 
 // The reader's bytes, as far as so many of them.
-fn read_up_to<R: Read>(alloc: Global, reader: &mut R, most: usize) -> Result<Vec<u8>, ReportError>
+pub(crate) fn read_up_to<R: Read>(
+    alloc: Global,
+    reader: &mut R,
+    most: usize,
+) -> Result<Vec<u8>, ReportError>
     ensures first { IfOk result (λ bytes. IfSome (R.remaining reader.old) (λ all. bytes.items ≡ take most all)) }
     ensures taken { IfOk result (λ bytes. Consumes (R.remaining reader.old) (R.remaining reader.new) bytes.items) }
     ensures whole { IfOk result (λ bytes. length bytes.items < most → IsAtEnd (R.remaining reader.new)) }

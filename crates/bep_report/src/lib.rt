@@ -7,12 +7,14 @@ mod error;
 mod input;
 mod lines;
 mod output;
+#[cfg(test)]
+mod tests;
 mod text;
 mod words;
 
 pub use error::ReportError;
 pub use input::read_document;
-pub use lines::{push_not_settled, push_settled};
+pub use lines::{push_folder, push_not_settled, push_refused, push_settled};
 pub use output::write_all;
 pub use text::push_printed;
 pub use words::word_of;
