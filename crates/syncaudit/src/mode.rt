@@ -1,0 +1,45 @@
+//! What the words of the command line ask for.
+ghost use Rattle.std.specs.Prelude.{◌≡◌, IfOk, map};
+ghost use Rattle.clap.specs.Words.{FailsBy, app_of, fault_of};
+ghost use Rattle.syncaudit.specs.Mode.{Asks, program};
+
+use clap::{Command, Error};
+use std::alloc::{AllocError, Global};
+use std::convert::AsStr;
+
+/// What the program is asked to do.
+#[derive(Clone, Copy, Debug, PartialEq, Eq)]
+pub enum Mode {
+    /// Audit the check document that comes on standard input.
+    Check,
+}
+
+// The command line of the program.
+fn command<'a>(alloc: Global) -> Result<Command<'a>, AllocError>
+    ensures { IfOk result (λ made. app_of made ≡ program) }
+{
+    let check = Command::new(alloc, "check").about(
+        "Audits the cluster in the check document on standard input",
+    );
+    Command::new(alloc, "syncaudit")
+        .version("0.1.0")
+        .about("Says whether a Syncthing cluster is settled, and why not")
+        .subcommand_required(true)
+        .arg_required_else_help(true)
+        .subcommand(check)
+}
+
+/// What the words ask for, of which the first is the program's name.
+///
+/// Refuses what clap refuses: words that the program doesn't know, none at all, and those that ask for help or for the
+/// version. The error is clap's, and its text is for the user.
+pub fn mode_of<'a, S: AsStr>(alloc: Global, words: &'a [S]) -> Result<Mode, Error>
+    ensures asked { IfOk result (Asks (map S.text words.entry.now)) }
+    ensures faults { FailsBy (fault_of program (map S.text words.entry.now)) result }
+{
+    let matches = command(alloc)?.try_get_matches_from(words)?;
+    match matches.subcommand_name() {
+        Some("check") => Ok(Mode::Check),
+        _ => unreachable!(),
+    }
+}
