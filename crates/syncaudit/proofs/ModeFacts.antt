@@ -1,6 +1,5 @@
 -- What the parser finds in words at which nothing is at fault: the program's subcommand.
 use Rattle.std.proofs.Common.{◌≡◌, ◌⊎◌, inl, inr, ℕ, Bool, true, false, cond, not, ◌&&◌, List, [], ◌∷◌, Option, None, Some, IfSome, fold, find, option_map, is_some, codes, refl, sym, ap, subst, ◌∙◌}
-use Rattle.std.specs.Str.{bytes_eq}
 use Rattle.clap.specs.Words.{App, HasMatchesOf, Rule, Shape, Text, fault_of, subcommand_name_of, subcommand_rows_of, is_simple, subcommand_of, is_simple_and_free}
 use Rattle.clap.specs.Lexer.{long_of}
 use Rattle.clap.specs.Facts.{explicit_source}

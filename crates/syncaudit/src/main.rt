@@ -3,6 +3,8 @@
 
 mod mode;
 mod outcome;
+#[cfg(test)]
+mod tests;
 
 use crate::mode::{Mode, mode_of};
 use crate::outcome::{Outcome, status_of};

@@ -14,16 +14,21 @@ pub enum Mode {
     Check,
 }
 
+const STATUSES: &str =
+    "Exit status: 0 settled, 1 not settled, 2 document refused, 3 usage or help, 4 out of memory, \
+     5 read or write fault";
+
 // The command line of the program.
 fn command<'a>(alloc: Global) -> Result<Command<'a>, AllocError>
     ensures { IfOk result (λ made. app_of made ≡ program) }
 {
-    let check = Command::new(alloc, "check").about(
-        "Audits the cluster in the check document on standard input",
-    );
+    let check = Command::new(alloc, "check")
+        .about("Audits the check document on standard input")
+        .after_help(STATUSES);
     Command::new(alloc, "syncaudit")
+        .bin_name("syncaudit")?
         .version("0.1.0")
-        .about("Says whether a Syncthing cluster is settled, and why not")
+        .about("Says whether a Syncthing cluster is settled, and if not, why")
         .subcommand_required(true)
         .arg_required_else_help(true)
         .subcommand(check)
