@@ -1,0 +1,2 @@
+pub mod Mode
+pub mod Outcome
