@@ -4,7 +4,9 @@
 #![tactic(auto)]
 
 mod device;
+mod missing;
 mod rows;
+mod spot;
 #[cfg(test)]
 mod tests;
 mod verdict;
