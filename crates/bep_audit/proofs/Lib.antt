@@ -1,4 +1,6 @@
 pub mod SearchFacts
+pub mod WalkFacts
+pub mod CutFacts
 pub mod MissingFacts
 pub mod RowsFacts
 pub mod RowSearch

@@ -1,3 +1,4 @@
 pub mod Search
 pub mod Share
+pub mod Held
 pub mod Shown

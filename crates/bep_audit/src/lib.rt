@@ -3,7 +3,9 @@
 //! Of a store it believes no recorded hash: it hashes the bytes that stand there. Nothing here takes memory but copies.
 #![tactic(auto)]
 
+mod checkers;
 mod device;
+mod fault;
 mod missing;
 mod rows;
 mod spot;
@@ -12,6 +14,7 @@ mod tests;
 mod verdict;
 mod winner;
 
+pub use checkers::{check, check_plain};
 pub use device::{
     is_clean, is_harmless, is_there, is_valid, meets_share, says_as_winner, share_is_asked,
     store_holds,

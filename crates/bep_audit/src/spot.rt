@@ -17,15 +17,22 @@ pub struct Spot<'a> {
 }
 
 impl<'a> Spot<'a> {
+    /// A name as a whole.
+    pub fn of_name(folder: &'a FolderName, name: &'a Name) -> Self
+        ensures { place_shown result ≡ (record { folder = folder.now; name = name.now; device = None }) }
+    {
+        Spot {
+            folder,
+            name,
+            device: None,
+        }
+    }
+
     /// The name that a row is about, as a whole.
     pub fn of_row(row: &'a Row) -> Self
         ensures { place_shown result ≡ (record { folder = row.now.folder; name = row.now.entry.name; device = None }) }
     {
-        Spot {
-            folder: &row.folder,
-            name: &row.entry.entry().name,
-            device: None,
-        }
+        Spot::of_name(&row.folder, &row.entry.entry().name)
     }
 
     /// A device's part of the name that a row is about.
