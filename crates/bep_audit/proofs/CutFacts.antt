@@ -1,8 +1,10 @@
 -- What the laws of cuts say of known names and of the devices that share a folder.
-use Rattle.std.proofs.Common.{◌≡◌, ◌⊎◌, ◌↔◌, Contains, Option, IsSome, refl, sym, ap, subst, ◌∙◌, inl, inr, ⊎_elim}
+use Rattle.std.proofs.Common.{◌≡◌, ◌⊎◌, ◌↔◌, List, [], ◌∷◌, ◌++◌, Contains, Option, IsSome, refl, sym, ap, subst, ◌∙◌, inl, inr, ⊎_elim}
 use Rattle.std.specs.FinMap.{get}
+use Rattle.std.proofs.lemmas.List.Elements.{Contains-push_cases}
 use Rattle.bep_record.specs.declared.node.NodeParts.{NodeParts}
 use Rattle.bep_record.specs.declared.entry.Entry.{Entry}
+use Rattle.bep_model.proofs.Members.{not_in_none}
 use Rattle.bep_model.specs.Tables.{Device, Folder, FileName, Shares}
 use Rattle.bep_model.specs.Foreign.{HasTrace, IsKnown}
 use Rattle.bep_cut.specs.declared.share.Share.{Share}
@@ -23,6 +25,17 @@ pub record CutSays : Type 0 where
 -- one of the devices that share the folder has the name
 abbrev pub SomeHasName : CutParts → Folder → FileName → Type 0
 SomeHasName cut folder name = (share : Share) × Contains (shares_of folder cut.folders) share × HasName share name
+
+-- none of these devices has the name
+abbrev pub NoneHasName : List Share → FileName → Type 0
+NoneHasName shares name = (share : Share) → Contains shares share → ¬ HasName share name
+
+pub none_has_name : (name : FileName) → NoneHasName [] name
+none_has_name name share member = absurd (not_in_none share member)
+
+pub no_more_has_name : (done : List Share) (share : Share) (name : FileName) → NoneHasName done name → ¬ HasName share name → NoneHasName (done ++ share ∷ []) name
+no_more_has_name done share name none has_none other member has =
+    ⊎_elim (λ before. none other before has) (λ same. has_none (subst (λ s. HasName s name) (sym same) has)) (Contains-push_cases done share other member)
 
 module _ (said : CutSays) (cut : CutParts) (is_cut : IsCut cut) where
   -- a device that shares the folder has a share of it
@@ -56,3 +69,11 @@ module _ (said : CutSays) (cut : CutParts) (is_cut : IsCut cut) where
         (share.0, share.1, name_of_trace folder name share.0 share.1 (subst (λ (device : Device). HasTrace (tables_of cut) device folder name) (sym share.2) known.2)),
     λ some. (some.0.device, device_of_share folder some.0 some.1, trace_of_name folder name some.0 some.1 some.2),
   )
+
+  pub known_by : (folder : Folder) (name : FileName) (shares : List Share) → shares ≡ shares_of folder cut.folders → (share : Share) → Contains shares share → HasName share name → IsKnown (tables_of cut) folder name
+  known_by folder name shares is share member has = (known_exactly folder name).1 (share, subst (λ all. Contains all share) is member, has)
+
+  pub unknown : (folder : Folder) (name : FileName) (shares : List Share) → shares ≡ shares_of folder cut.folders → NoneHasName shares name → ¬ IsKnown (tables_of cut) folder name
+  unknown folder name shares is none known =
+      let some = (known_exactly folder name).0 known in
+      none some.0 (subst (λ all. Contains all some.0) (sym is) some.1) some.2

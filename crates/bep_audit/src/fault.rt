@@ -1,5 +1,5 @@
 //! The first place at which a reason fails.
-ghost use Rattle.std.specs.Prelude.{◌≡◌, ◌≢◌, ◌∷◌, ◌<◌, ◌↔◌, [], IsTrue, option_map};
+ghost use Rattle.std.specs.Prelude.{◌≡◌, ◌≢◌, ◌∷◌, ◌<◌, ◌↔◌, [], IsTrue, Some, None, option_map, if◌then◌else◌};
 ghost use Rattle.std.specs.Ordering.{nat_cmp};
 ghost use Rattle.std.specs.List.Sorted.{IsStrictlyIncreasing};
 ghost use Rattle.bep_model.specs.declared.reason.Reason.TheVariants.{CertificateOrder, NameMissing, NotWinner};
@@ -9,7 +9,7 @@ ghost use Rattle.bep_model.specs.Verdict.{number_of};
 ghost use Rattle.bep_cut.specs.Cut.{tables_of, devices_of};
 ghost use Rattle.bep_audit.specs.Held.{HasName, AsksOf, AsksAmong};
 ghost use Rattle.bep_audit.specs.Search.{FindsFirst, FindsFault};
-ghost use Rattle.bep_audit.specs.Shown.{place_shown};
+ghost use Rattle.bep_audit.specs.Shown.{place_shown, name_of};
 
 use crate::missing::first_missing;
 use crate::spot::Spot;
@@ -67,7 +67,9 @@ fn fault_at<'a>(cut: &Cut, row: &'a Row, reason: Reason) -> Option<Spot<'a>>
 }
 
 // The row's name as a whole, unless this holds of it.
-fn unless<'a>(holds: bool, row: &'a Row) -> Option<Spot<'a>> {
+fn unless<'a>(holds: bool, row: &'a Row) -> Option<Spot<'a>>
+    ensures { option_map place_shown result ≡ (if holds then None else Some (name_of row.now)) }
+{
     if holds { None } else { Some(Spot::of_row(row)) }
 }
 

@@ -1,6 +1,6 @@
-ghost use Rattle.std.specs.Prelude.{◌≡◌, Some, None};
+ghost use Rattle.std.specs.Prelude.{◌≡◌, None};
 ghost use Rattle.bep_model.specs.Reasons.{Place};
-ghost use Rattle.bep_audit.specs.Shown.{place_shown};
+ghost use Rattle.bep_audit.specs.Shown.{place_shown, name_of, part_of};
 
 use bep_model::Row;
 use bep_record::{DeviceId, FolderName, Name};
@@ -30,14 +30,14 @@ impl<'a> Spot<'a> {
 
     /// The name that a row is about, as a whole.
     pub fn of_row(row: &'a Row) -> Self
-        ensures { place_shown result ≡ (record { folder = row.now.folder; name = row.now.entry.name; device = None }) }
+        ensures { place_shown result ≡ name_of row.now }
     {
         Spot::of_name(&row.folder, &row.entry.entry().name)
     }
 
     /// A device's part of the name that a row is about.
     pub fn of_device(row: &'a Row, device: DeviceId) -> Self
-        ensures { place_shown result ≡ (record { folder = row.now.folder; name = row.now.entry.name; device = Some device }) }
+        ensures { place_shown result ≡ part_of row.now device }
     {
         Spot {
             folder: &row.folder,

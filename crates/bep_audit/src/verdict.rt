@@ -1,6 +1,6 @@
 ghost use Rattle.std.specs.Prelude.{◌≡◌};
 ghost use Rattle.bep_model.specs.Verdict.{Not};
-ghost use Rattle.bep_audit.specs.Shown.{verdict_shown, place_shown};
+ghost use Rattle.bep_audit.specs.Shown.{verdict_shown};
 
 use crate::spot::Spot;
 use bep_model::Reason;
@@ -18,7 +18,7 @@ pub enum Verdict<'a> {
 impl<'a> Verdict<'a> {
     /// That the reason fails at this place.
     pub(crate) fn at(reason: Reason, spot: Spot<'a>) -> Self
-        ensures { verdict_shown result ≡ Not reason (place_shown spot).folder (place_shown spot).name (place_shown spot).device }
+        ensures { verdict_shown result ≡ Not reason spot.entry.folder.now spot.entry.name.now spot.entry.device }
     {
         Verdict::Not(reason, spot.folder, spot.name, spot.device)
     }
