@@ -5,4 +5,8 @@ pub mod UnmetFacts
 pub mod MissingFacts
 pub mod RowsFacts
 pub mod RowSearch
+pub mod AskedAtRow
+pub mod RowWalk
+pub mod RowFault
+pub mod DeviceFault
 pub mod WinnerFacts
