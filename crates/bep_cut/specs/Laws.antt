@@ -1,0 +1,56 @@
+-- What a cut says of its folders and devices; the functions of src/laws.rt have these as contracts.
+use Rattle.std.specs.Prelude.{◌≡◌, ◌↔◌, IsTrue, Contains}
+use Rattle.std.specs.FinMap.{get, contains_key}
+use Rattle.bep_record.specs.declared.entry.Entry.{Entry}
+use Rattle.bep_choice.specs.declared.folder_kind.FolderKind.{FolderKind}
+use Rattle.bep_model.specs.Tables.{Device, Folder, FileName, SharesAs}
+use Rattle.bep_model.specs.Foreign.{IsForeign, IsKnown, IsFinite}
+use Rattle.bep_cut.specs.declared.share.Share.{Share}
+use Rattle.bep_cut.specs.declared.share.SharedFolder.{SharedFolder}
+use Rattle.bep_cut.specs.declared.cut.CutParts.{CutParts}
+use Rattle.bep_cut.specs.Cut.{IsCut, shares_of, tables_of}
+use Rattle.bep_cut.specs.Names.{known_names}
+
+-- each folder's shares are found by its name
+abbrev pub FolderIsFound : Type 0
+FolderIsFound =
+    (cut : CutParts) (held : SharedFolder) → IsCut cut → Contains cut.folders held → shares_of held.folder cut.folders ≡ held.shares
+
+-- what shares a folder is a device of one of the cut's folders, which has that name
+abbrev pub ShareHasFolder : Type 0
+ShareHasFolder =
+    (cut : CutParts) (folder : Folder) (share : Share) → Contains (shares_of folder cut.folders) share →
+    (held : SharedFolder) × Contains cut.folders held × (held.folder ≡ folder)
+
+-- the devices that share a folder are those of its shares
+abbrev pub SharingIsSaid : Type 0
+SharingIsSaid =
+    (cut : CutParts) (folder : Folder) (device : Device) (kind : FolderKind) →
+    SharesAs (tables_of cut) device folder kind
+    ↔ ((share : Share) × Contains (shares_of folder cut.folders) share × (share.device ≡ device) × (share.kind ≡ kind))
+
+-- a device's own record and node of a name are those of its share
+abbrev pub OwnIsSaid : Type 0
+OwnIsSaid =
+    (cut : CutParts) (folder : Folder) (name : FileName) (share : Share) → IsCut cut → Contains (shares_of folder cut.folders) share →
+    (tables_of cut).own share.device folder name ≡ get share.own name
+
+abbrev pub NodeIsSaid : Type 0
+NodeIsSaid =
+    (cut : CutParts) (folder : Folder) (name : FileName) (share : Share) → IsCut cut → Contains (shares_of folder cut.folders) share →
+    (tables_of cut).node share.device folder name ≡ get share.store name
+
+-- nothing is viewed, on its way or being pulled
+abbrev pub NothingIsForeign : Type 0
+NothingIsForeign =
+    (cut : CutParts) (device : Device) (folder : Folder) (name : FileName) (entry : Entry) → ¬ IsForeign (tables_of cut) device folder name entry
+
+-- the names that are known in a folder
+abbrev pub NamesAreKnown : Type 0
+NamesAreKnown =
+    (cut : CutParts) (folder : Folder) (name : FileName) → IsCut cut →
+    IsTrue (contains_key (known_names (shares_of folder cut.folders)) name) ↔ IsKnown (tables_of cut) folder name
+
+-- only finitely many names are known in a cut, and only finitely many devices viewed
+abbrev pub CutIsFinite : Type 0
+CutIsFinite = (cut : CutParts) → IsCut cut → IsFinite (tables_of cut)

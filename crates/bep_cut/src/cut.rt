@@ -1,0 +1,66 @@
+ghost use Rattle.std.specs.Prelude.{◌≡◌};
+ghost use Rattle.std.specs.Option.{option_copied};
+ghost use Rattle.std.specs.List.{find};
+ghost use Rattle.bep_cut.specs.Cut.{IsCut, is_folder, shares_of};
+
+use crate::{Share, SharedFolder};
+use bep_record::{FolderName, Items};
+use std::marker::Model;
+
+/// The parts of a cut.
+#[derive(Drop)]
+pub struct CutParts {
+    /// The folders, names rising.
+    pub folders: Items<SharedFolder>,
+}
+
+/// One moment of a cluster: which devices share which folder, in which kind, and for each its own records and what its
+/// store holds.
+///
+/// At most 16 folders and 16 devices; folders and devices rise; and each device's records are those of an index.
+#[derive(Drop)]
+pub struct Cut {
+    parts: CutParts,
+}
+
+impl Model for Cut {
+    ghost use Rattle.bep_cut.specs.declared.cut.CutParts.{CutParts};
+    ghost use Rattle.bep_cut.specs.Cut.{IsCut};
+    ghost use Rattle.bep_cut.specs.contracts.share.SharedFolder as held;
+    ghost use Rattle.std.specs.Coded.{codes};
+
+    ghost Value = { CutParts };
+
+    ghost coded = { Prim.hlevel (codes, held.the_row.coded) };
+
+    ghost view = { λ cut. cut.parts };
+
+    ghost invariant = { λ cut. IsCut cut.parts };
+}
+
+impl Cut {
+    /// The folders, names rising, each with the devices that share it.
+    pub fn folders(&self) -> &[SharedFolder]
+        ensures value { result.now ≡ self.now.folders }
+        ensures a_cut { IsCut self.now }
+    {
+        self.parts.folders.as_slice()
+    }
+
+    /// What each device has that shares the folder, devices rising; nothing where there is no such folder.
+    pub fn shares(&self, folder: &FolderName) -> &[Share]
+        ensures value { result.now ≡ shares_of folder.now self.now.folders }
+        ensures a_cut { IsCut self.now }
+    {
+        match folder_of(self.parts.folders.as_slice(), folder) {
+            Some(held) => held.shares.as_slice(),
+            None => &[],
+        }
+    }
+}
+
+fn folder_of<'a>(folders: &'a [SharedFolder], folder: &FolderName) -> Option<&'a SharedFolder>
+    ensures { option_copied result ≡ find (is_folder folder.now) folders.now }
+{
+    folders.iter().find(|held| held.folder.cmp(folder).is_eq())
+}

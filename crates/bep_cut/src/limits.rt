@@ -1,0 +1,9 @@
+/// The most folders of a cluster.
+///
+/// This project's profile.
+pub const MAX_FOLDERS: usize = 16;
+
+/// The most devices of a cluster.
+///
+/// This project's profile.
+pub const MAX_DEVICES: usize = 16;

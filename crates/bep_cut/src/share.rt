@@ -1,0 +1,30 @@
+use bep_choice::FolderKind;
+use bep_index::IndexId;
+use bep_map::NameMap;
+use bep_record::{DeviceId, FolderName, Items, Node, Record};
+
+/// What a device has of a folder that it shares.
+#[derive(Drop)]
+pub struct Share {
+    /// The device.
+    pub device: DeviceId,
+    /// What it does with the folder.
+    pub kind: FolderKind,
+    /// The id of its index for the folder.
+    pub index_id: IndexId,
+    /// The greatest sequence number that this index gave, 0 where it gave none.
+    pub max_sequence: u64,
+    /// The records of this index, each under its name.
+    pub own: NameMap<Record>,
+    /// What its store holds, read out.
+    pub store: NameMap<Node>,
+}
+
+/// A folder, and the devices that share it.
+#[derive(Drop)]
+pub struct SharedFolder {
+    /// The folder.
+    pub folder: FolderName,
+    /// What each device has of it, devices rising.
+    pub shares: Items<Share>,
+}
