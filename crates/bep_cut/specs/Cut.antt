@@ -1,6 +1,5 @@
 -- A cut of a cluster, and the tables that it says (this project's profile).
-use Rattle.std.specs.Prelude.{◌≡◌, ℕ, ◌==◌, ◌≤◌, Bool, List, [], ◌∷◌, Option, Some, None, All, Contains, length, map, option_map, unwrap_or, option_and_then}
-use Rattle.std.specs.declared.cmp.Ordering.TheVariants.{Less}
+use Rattle.std.specs.Prelude.{◌≤◌, Bool, List, [], Option, None, All, Contains, length, map, option_map, unwrap_or, option_and_then}
 use Rattle.std.specs.Ordering.{nat_cmp, is_eq}
 use Rattle.std.specs.Cmp.Lexicographic.{slice_cmp}
 use Rattle.std.specs.List.{find}
@@ -46,9 +45,13 @@ is_folder folder held = is_eq (slice_cmp nat_cmp held.folder folder)
 abbrev pub shares_of : Folder → List SharedFolder → List Share
 shares_of folder folders = unwrap_or (option_map (λ held. held.shares) (find (is_folder folder) folders)) []
 
+-- whether this is the share of the device
+abbrev pub is_device : Device → Share → Bool
+is_device device share = is_eq (nat_cmp share.device device)
+
 -- what a device has of a folder
 abbrev pub share_of : Device → List Share → Option Share
-share_of device shares = find (λ share. share.device == device) shares
+share_of device shares = find (is_device device) shares
 
 -- what the cut says
 unfoldable pub tables_of : CutParts → Tables

@@ -1,5 +1,5 @@
 -- The names that are known in a folder (this project's profile).
-use Rattle.std.specs.Prelude.{Unit, List, [], ◌∷◌}
+use Rattle.std.specs.Prelude.{List, [], ◌∷◌}
 use Rattle.std.specs.FinMap.{empty, insert, keys}
 use Rattle.bep_map.specs.NameMap.{ByName}
 use Rattle.bep_model.specs.Tables.{FileName}
