@@ -1,3 +1,5 @@
 pub mod RowsFacts
 pub mod RowSearch
 pub mod WinnerFacts
+pub mod CandidateFacts
+pub mod CutFacts

@@ -44,3 +44,8 @@ choice_exactly chooser lent place one row at only is =
           let both : Some (candidate_of one) ≡ Some row = sym there ∙ ap (slice_get (candidates_of lent)) same_place ∙ found.1 in
           cc,
     )
+
+-- the candidate at the place of a choice is chosen
+pub chosen_at : (chooser : ℕ) (lent : List Lent) (place : ℕ) (one : Lent) → IsChoiceAt chooser (candidates_of lent) place → one ≡ get_or lent place one → IsChoice chooser (candidates_of lent) (candidate_of one)
+chosen_at chooser lent place one at is =
+    subst (λ (o : Option Candidate). IsSomeAnd o (IsChoice chooser (candidates_of lent))) (at_place lent place one (within chooser lent place at) is) at

@@ -3,6 +3,7 @@
 //! Of a store it believes no recorded hash: it hashes the bytes that stand there. Nothing here takes memory but copies.
 #![tactic(auto)]
 
+mod candidates;
 mod device;
 mod rows;
 #[cfg(test)]
