@@ -2,4 +2,4 @@ pub mod RowsFacts
 pub mod RowSearch
 pub mod WinnerFacts
 pub mod CandidateFacts
-pub mod CutFacts
+pub mod WinnerSaid

@@ -3,28 +3,17 @@ ghost use Rattle.std.specs.Prelude.{◌≡◌, ◌≤◌, ◌↔◌, [], length,
 ghost use Rattle.std.specs.List.Sorted.{IsStrictlyIncreasing};
 ghost use Rattle.std.specs.Option.{option_copied};
 ghost use Rattle.bep_choice.specs.Choice.{Candidate, candidate_of, candidates_of, IsChoice};
-ghost use Rattle.bep_cut.specs.Cut.{devices_of, tables_of};
+ghost use Rattle.bep_cut.specs.Cut.{devices_of};
 ghost use Rattle.bep_cut.specs.declared.limits.TheConstants.{MAX_DEVICES};
-ghost use Rattle.bep_model.specs.Winner.{IsWinner};
 ghost use Rattle.bep_audit.specs.Candidates.{owned_in, chooser_of};
 
 use bep_choice::choose;
-use bep_cut::{Cut, MAX_DEVICES, Share, cut_says};
-use bep_record::{DeviceId, FolderName, Name, Record};
+use bep_cut::{MAX_DEVICES, Share};
+use bep_record::{DeviceId, Name, Record};
 use std::array;
 
-/// The device and the record that win the name in the folder; `None` exactly where the name has no winner. Takes no
-/// memory.
-pub fn winner<'a>(cut: &'a Cut, folder: &FolderName, name: &Name) -> Option<(DeviceId, &'a Record)>
-    ensures wins { IfSome result (λ one. IsWinner (tables_of cut.now) folder.now name.now (candidate_of one)) }
-    ensures none { IfNone result ((one : Candidate) → ¬ IsWinner (tables_of cut.now) folder.now name.now one) }
-{
-    cut_says();
-    winner_among(cut.shares(folder), name)
-}
-
 // The device and the record that win the name among these shares.
-fn winner_among<'a>(shares: &'a [Share], name: &Name) -> Option<(DeviceId, &'a Record)>
+pub(crate) fn winner_among<'a>(shares: &'a [Share], name: &Name) -> Option<(DeviceId, &'a Record)>
     requires few { length shares.now ≤ MAX_DEVICES }
     requires rise { IsStrictlyIncreasing (devices_of shares.now) }
     ensures wins { IfSome result (λ one. IsChoice (chooser_of shares.now) (owned_in name.now shares.now) (candidate_of one)) }
@@ -32,9 +21,7 @@ fn winner_among<'a>(shares: &'a [Share], name: &Name) -> Option<(DeviceId, &'a R
 {
     match (first_device(shares), first_own(shares, name)) {
         (Some(chooser), Some(own)) => {
-            let mut found: [(DeviceId, &'a Record); MAX_DEVICES] = array::from_fn(|_| (
-                chooser, own,
-            ));
+            let mut found: [_; MAX_DEVICES] = array::from_fn(|_| (chooser, own));
             winner_within(&mut found, chooser, shares, name)
         }
         _ => None,

@@ -17,4 +17,4 @@ pub use device::{
 };
 pub use rows::{Certificate, compare_row, compare_rows, find_row, first_disordered};
 pub use verdict::Verdict;
-pub use winner::is_winner;
+pub use winner::{is_winner, winner_of};

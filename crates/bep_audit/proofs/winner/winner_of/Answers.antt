@@ -3,8 +3,8 @@ use Rattle.bep_choice.specs.Choice.{Candidate, candidate_of, IsChoice}
 use Rattle.bep_cut.specs.Cut.{AreShares}
 use Rattle.bep_cut.specs.declared.limits.TheConstants.{MAX_DEVICES}
 use Rattle.bep_cut.specs.declared.share.Share.{Share}
-use Rattle.bep_audit.proofs.CutFacts.{are_shares, few_shares, winner_said}
-use Rattle.bep_audit.proofs.candidates.winner.Goals as goal
+use Rattle.bep_audit.proofs.WinnerSaid.{are_shares, few_shares, winner_said}
+use Rattle.bep_audit.proofs.winner.winner_of.Goals as goal
 
 pub winner_among-requires : goal.winner_among-requires
 winner_among-requires c =
