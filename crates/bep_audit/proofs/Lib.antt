@@ -10,3 +10,5 @@ pub mod RowWalk
 pub mod RowFault
 pub mod DeviceFault
 pub mod WinnerFacts
+pub mod CandidateFacts
+pub mod WinnerSaid

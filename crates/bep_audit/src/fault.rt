@@ -13,7 +13,7 @@ ghost use Rattle.bep_audit.specs.Shown.{place_shown, name_of};
 
 use crate::missing::first_missing;
 use crate::spot::Spot;
-use crate::{first_disordered, meets_share, share_is_asked};
+use crate::{first_disordered, is_winner, meets_share, share_is_asked};
 use bep_cut::{Cut, Share, cut_says};
 use bep_model::{Reason, Row};
 use bep_record::{DeviceId, FolderName, Name};
@@ -61,7 +61,7 @@ fn fault_at<'a>(cut: &Cut, row: &'a Row, reason: Reason) -> Option<Spot<'a>>
 {
     match reason {
         Reason::NameUnknown => unless(is_known(cut, &row.folder, &row.entry.entry().name), row),
-        Reason::NotWinner => None,
+        Reason::NotWinner => unless(is_winner(cut, row), row),
         _ => fault_of_device(cut, row, reason),
     }
 }

@@ -3,6 +3,7 @@
 //! Of a store it believes no recorded hash: it hashes the bytes that stand there. Nothing here takes memory but copies.
 #![tactic(auto)]
 
+mod candidates;
 mod checkers;
 mod device;
 mod fault;
@@ -21,4 +22,4 @@ pub use device::{
 };
 pub use rows::{Certificate, compare_row, compare_rows, find_row, first_disordered};
 pub use verdict::Verdict;
-pub use winner::is_winner;
+pub use winner::{is_winner, winner_of};
