@@ -1,9 +1,9 @@
 -- From the third reason on each row is asked by itself, as if it stood alone.
-use Rattle.std.proofs.Common.{◌≡◌, ◌↔◌, ◌<◌, List, [], ◌∷◌, Contains, Option, Some, None, sym, ap, subst, ◌∙◌, ⊎_elim, arith}
+use Rattle.std.proofs.Common.{◌≡◌, ◌≢◌, ◌<◌, List, [], ◌∷◌, Contains, Option, Some, None, refl, sym, ap, subst, ◌∙◌, ⊎_elim, arith}
 use Rattle.std.specs.declared.cmp.Ordering.TheVariants.{Less, Equal, Greater}
 use Rattle.bep_model.specs.declared.row.Row.{Row}
 use Rattle.bep_model.specs.declared.reason.Reason.{Reason}
-use Rattle.bep_model.specs.declared.reason.Reason.TheVariants.{CertificateOrder, NameMissing, NameUnknown, NotWinner}
+use Rattle.bep_model.specs.declared.reason.Reason.TheVariants.{CertificateOrder, NameMissing, NameUnknown, NotWinner, RecordMissing, RecordDiffers, LocalOnly, StoreDiffers, StoreUnclean, ViewAhead, FlightAhead, PullAhead}
 use Rattle.bep_model.specs.Tables.{Tables, Device, Folder, FileName}
 use Rattle.bep_model.specs.Settled.{HasRow, key_of, key_cmp}
 use Rattle.bep_model.specs.Reasons.{Place, Asks, AsksAt, AsksName, AsksDevice}
@@ -14,6 +14,39 @@ use Rattle.bep_model.proofs.Keys.{same_from_Equal, Equal_from_same, order_cases}
 -- the reason asks something of each row, or of devices at it
 abbrev pub IsOfRows : Reason → Type 0
 IsOfRows reason = number_of NameMissing < number_of reason
+
+-- the reason asks something of devices
+abbrev pub IsOfDevices : Reason → Type 0
+IsOfDevices reason = number_of NotWinner < number_of reason
+
+-- which these are
+pub of_rows_else : (reason : Reason) → reason ≢ CertificateOrder → reason ≢ NameMissing → IsOfRows reason
+of_rows_else CertificateOrder not_order not_missing = absurd (not_order refl)
+of_rows_else NameMissing not_order not_missing = absurd (not_missing refl)
+of_rows_else NameUnknown not_order not_missing = omega arith
+of_rows_else NotWinner not_order not_missing = omega arith
+of_rows_else RecordMissing not_order not_missing = omega arith
+of_rows_else RecordDiffers not_order not_missing = omega arith
+of_rows_else LocalOnly not_order not_missing = omega arith
+of_rows_else StoreDiffers not_order not_missing = omega arith
+of_rows_else StoreUnclean not_order not_missing = omega arith
+of_rows_else ViewAhead not_order not_missing = omega arith
+of_rows_else FlightAhead not_order not_missing = omega arith
+of_rows_else PullAhead not_order not_missing = omega arith
+
+pub of_devices_else : (reason : Reason) → IsOfRows reason → reason ≢ NameUnknown → reason ≢ NotWinner → IsOfDevices reason
+of_devices_else CertificateOrder of_rows not_unknown not_winner = absurd (omega (arith, of_rows))
+of_devices_else NameMissing of_rows not_unknown not_winner = absurd (omega (arith, of_rows))
+of_devices_else NameUnknown of_rows not_unknown not_winner = absurd (not_unknown refl)
+of_devices_else NotWinner of_rows not_unknown not_winner = absurd (not_winner refl)
+of_devices_else RecordMissing of_rows not_unknown not_winner = omega arith
+of_devices_else RecordDiffers of_rows not_unknown not_winner = omega arith
+of_devices_else LocalOnly of_rows not_unknown not_winner = omega arith
+of_devices_else StoreDiffers of_rows not_unknown not_winner = omega arith
+of_devices_else StoreUnclean of_rows not_unknown not_winner = omega arith
+of_devices_else ViewAhead of_rows not_unknown not_winner = omega arith
+of_devices_else FlightAhead of_rows not_unknown not_winner = omega arith
+of_devices_else PullAhead of_rows not_unknown not_winner = omega arith
 
 -- the key of a place
 abbrev pub key_at : Place → Folder × FileName

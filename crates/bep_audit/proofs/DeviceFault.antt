@@ -18,15 +18,11 @@ use Rattle.bep_audit.specs.Share.{AsksHere, ShareIsAsked}
 use Rattle.bep_audit.specs.Held.{AsksOf, AsksAmong}
 use Rattle.bep_audit.specs.Search.{FailsFirst, FindsFirst, FindsFault}
 use Rattle.bep_audit.specs.Shown.{part_of}
-use Rattle.bep_audit.proofs.AskedAtRow.{only_row}
+use Rattle.bep_audit.proofs.AskedAtRow.{IsOfDevices, only_row}
 use Rattle.bep_audit.proofs.CutFacts.{CutSays, share_of_device, device_of_share}
 use Rattle.bep_audit.proofs.RowFault.{less_by_order, finds_none, finds_part}
 
--- the reason asks something of devices
-abbrev pub IsOfDevices : Reason → Type 0
-IsOfDevices reason = number_of NotWinner < number_of reason
-
--- and nothing of a name as a whole
+-- a reason that asks something of devices asks nothing of a name as a whole
 no_name : (t : Tables) (rows : List Row) (reason : Reason) (folder : Folder) (name : FileName) → IsOfDevices reason → AsksName t rows reason folder name
 no_name t rows CertificateOrder folder name of_devices = absurd (omega (arith, of_devices))
 no_name t rows NameMissing folder name of_devices = absurd (omega (arith, of_devices))
