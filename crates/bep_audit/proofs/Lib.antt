@@ -3,6 +3,7 @@ pub mod WalkFacts
 pub mod CutFacts
 pub mod UnmetFacts
 pub mod MissingFacts
+pub mod FolderWalk
 pub mod RowsFacts
 pub mod RowSearch
 pub mod AskedAtRow

@@ -8,12 +8,12 @@ use Rattle.std.proofs.lemmas.Cmp.{ranked, by_ranked}
 use Rattle.bep_choice.specs.Choice.{Candidate}
 use Rattle.bep_model.specs.declared.row.Row.{Row}
 use Rattle.bep_model.specs.declared.reason.Reason.{Reason}
-use Rattle.bep_model.specs.declared.reason.Reason.TheVariants.{NameUnknown, NotWinner}
+use Rattle.bep_model.specs.declared.reason.Reason.TheVariants.{CertificateOrder, NameUnknown, NotWinner}
 use Rattle.bep_model.specs.Tables.{Tables, Device, Folder, FileName, Shares}
 use Rattle.bep_model.specs.Foreign.{IsKnown}
 use Rattle.bep_model.specs.Winner.{IsWinner}
 use Rattle.bep_model.specs.Settled.{key_of}
-use Rattle.bep_model.specs.Reasons.{Place, place_cmp, device_rank, Asks, AsksAt, AsksName, AsksDevice, AsksShare}
+use Rattle.bep_model.specs.Reasons.{Place, place_cmp, device_rank, Asks, AsksAt, AsksName, AsksDevice, first_disordered}
 use Rattle.bep_model.proofs.Members.{Contains-first}
 use Rattle.bep_audit.specs.Search.{FindsFirst, FindsFault}
 use Rattle.bep_audit.specs.Shown.{name_of, part_of}
@@ -49,6 +49,18 @@ module _ (t : Tables) (reason : Reason) (row : Row) (of_rows : IsOfRows reason) 
         at_key place.folder place.name place.device here
         (before place.device (device_before place (record { folder = row.folder; name = row.entry.name; device = device }) (sym here) less)));
   }
+
+-- ---- the order of rows
+
+-- a row out of order is told at its name
+pub finds_disordered : (t : Tables) (rows : List Row) (row : Row) → Some (key_of row) ≡ first_disordered rows → FindsFault t rows CertificateOrder (Some (name_of row))
+finds_disordered t rows row is = record { fails = λ asked. asked (sym is); before = λ place less. before place.folder place.name place.device less }
+  where
+    before : (folder : Folder) (name : FileName) (device : Option Device) → place_cmp (record { folder = folder; name = name; device = device }) (name_of row) ≡ Less → AsksAt t rows CertificateOrder folder name device
+    before folder name None less = λ here.
+        let same : (folder, name) ≡ key_of row = let e : Some (key_of row) ≡ Some (folder, name) = is ∙ here in cc in
+        absurd (omega (arith, device_before (record { folder = folder; name = name; device = None }) (name_of row) same less))
+    before folder name (Some device) less = λ one member key shares. tt
 
 -- ---- the name as a whole
 
