@@ -10,6 +10,7 @@ pub mod AskedAtRow
 pub mod RowWalk
 pub mod RowFault
 pub mod DeviceFault
+pub mod ReasonWalk
 pub mod WinnerFacts
 pub mod CandidateFacts
 pub mod WinnerSaid
