@@ -5,8 +5,8 @@ use Rattle.bep_model.specs.declared.row.Row.{Row}
 use Rattle.bep_model.specs.declared.reason.Reason.{Reason}
 use Rattle.bep_model.specs.declared.reason.Reason.TheVariants.{CertificateOrder, NameMissing, NameUnknown, NotWinner, RecordMissing, RecordDiffers, LocalOnly, StoreDiffers, StoreUnclean, ViewAhead, FlightAhead, PullAhead}
 use Rattle.bep_model.specs.Tables.{Tables, Device, Folder, FileName}
-use Rattle.bep_model.specs.Settled.{HasRow, key_of, key_cmp}
-use Rattle.bep_model.specs.Reasons.{Place, Asks, AsksAt, AsksName, AsksDevice}
+use Rattle.bep_model.specs.Settled.{key_of, key_cmp}
+use Rattle.bep_model.specs.Reasons.{Place, Asks, AsksAt, AsksName}
 use Rattle.bep_model.specs.Verdict.{number_of}
 use Rattle.bep_model.proofs.Members.{not_in_none, Contains-first, Contains-cons_cases}
 use Rattle.bep_model.proofs.Keys.{same_from_Equal, Equal_from_same, order_cases}

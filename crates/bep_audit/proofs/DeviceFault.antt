@@ -1,5 +1,5 @@
 -- What is found of the devices that share a row's folder.
-use Rattle.std.proofs.Common.{◌≡◌, ◌↔◌, ◌<◌, List, [], ◌∷◌, Contains, Option, Some, None, option_map, refl, sym, ap, subst, inl, inr, ⊎_elim, arith}
+use Rattle.std.proofs.Common.{◌≡◌, ◌↔◌, ◌<◌, List, [], ◌∷◌, Contains, Option, Some, None, option_map, refl, sym, subst, inl, inr, arith}
 use Rattle.std.specs.Ordering.{nat_cmp}
 use Rattle.std.specs.FinMap.{get}
 use Rattle.bep_record.specs.declared.node.NodeParts.{NodeParts}
@@ -8,7 +8,7 @@ use Rattle.bep_model.specs.declared.row.Row.{Row}
 use Rattle.bep_model.specs.declared.reason.Reason.{Reason}
 use Rattle.bep_model.specs.declared.reason.Reason.TheVariants.{CertificateOrder, NameMissing, NameUnknown, NotWinner, RecordMissing, RecordDiffers, LocalOnly, StoreDiffers, StoreUnclean, ViewAhead, FlightAhead, PullAhead}
 use Rattle.bep_model.specs.Tables.{Tables, Device, Folder, FileName, Shares}
-use Rattle.bep_model.specs.Reasons.{Place, device_rank, AsksAt, AsksName, AsksDevice, AsksShare}
+use Rattle.bep_model.specs.Reasons.{device_rank, AsksAt, AsksName, AsksDevice, AsksShare}
 use Rattle.bep_model.specs.Verdict.{number_of}
 use Rattle.bep_model.proofs.Members.{Contains-first}
 use Rattle.bep_cut.specs.declared.share.Share.{Share}
@@ -16,7 +16,7 @@ use Rattle.bep_cut.specs.declared.cut.CutParts.{CutParts}
 use Rattle.bep_cut.specs.Cut.{IsCut, shares_of, tables_of}
 use Rattle.bep_audit.specs.Share.{AsksHere, ShareIsAsked}
 use Rattle.bep_audit.specs.Held.{AsksOf, AsksAmong}
-use Rattle.bep_audit.specs.Search.{FailsFirst, FindsFirst, FindsFault}
+use Rattle.bep_audit.specs.Search.{FindsFirst, FindsFault}
 use Rattle.bep_audit.specs.Shown.{part_of}
 use Rattle.bep_audit.proofs.AskedAtRow.{IsOfDevices, only_row}
 use Rattle.bep_audit.proofs.CutFacts.{CutSays, share_of_device, device_of_share}

@@ -16,7 +16,7 @@ use Rattle.bep_model.proofs.Keys.{order_cases}
 use Rattle.bep_cut.specs.declared.share.Share.{Share}
 use Rattle.bep_cut.specs.declared.share.SharedFolder.{SharedFolder}
 use Rattle.bep_cut.specs.declared.cut.CutParts.{CutParts}
-use Rattle.bep_cut.specs.Cut.{IsCut, shares_of, tables_of}
+use Rattle.bep_cut.specs.Cut.{IsCut, tables_of}
 use Rattle.bep_audit.specs.Held.{HasName, HasRowIfHeld}
 use Rattle.bep_audit.specs.Search.{FindsFirst, FindsFault}
 use Rattle.bep_audit.proofs.SearchFacts.{AllSay, finds_as}

@@ -3,7 +3,7 @@ use Rattle.std.proofs.Common.{◌≡◌, ◌↔◌, Bool, true, false, ◌&&◌,
 use Rattle.std.proofs.Math.Dec.{T}
 use Rattle.std.specs.declared.cmp.Ordering.{Ordering}
 use Rattle.std.specs.declared.cmp.Ordering.TheVariants.{Less, Equal, Greater}
-use Rattle.std.specs.Ordering.{nat_cmp, is_lt, is_eq, eq_by_cmp, ordering_reverse}
+use Rattle.std.specs.Ordering.{nat_cmp, is_lt, is_eq, ordering_reverse}
 use Rattle.std.specs.Cmp.{eq_by_cmp_equiv}
 use Rattle.std.specs.Cmp.Lexicographic.{slice_cmp, nat_list_cmp_total}
 use Rattle.std.specs.FinMap.Entries.{below_all}
@@ -19,7 +19,7 @@ use Rattle.bep_model.specs.Settled.{HasRow}
 use Rattle.bep_model.proofs.Members.{not_in_none, Contains-cons_cases}
 use Rattle.bep_cut.specs.declared.share.Share.{Share}
 use Rattle.bep_audit.specs.Held.{HasName, HasRowIfHeld}
-use Rattle.bep_audit.specs.Search.{FailsFirst, FindsFirst, lesser}
+use Rattle.bep_audit.specs.Search.{FindsFirst, lesser}
 use Rattle.bep_audit.proofs.SearchFacts.{AllSay, finds_as, goes_on, fails_here, ends, lesser_finds}
 
 abbrev by_name : FileName → FileName → Ordering

@@ -5,7 +5,7 @@ use Rattle.std.proofs.lemmas.Bool.{cases_eq}
 use Rattle.bep_model.specs.declared.row.Row.{Row}
 use Rattle.bep_model.specs.declared.reason.Reason.{Reason}
 use Rattle.bep_model.specs.declared.reason.Reason.TheVariants.{CertificateOrder, NameMissing, NameUnknown, NotWinner, RecordMissing, RecordDiffers, LocalOnly, StoreDiffers, StoreUnclean, ViewAhead, FlightAhead, PullAhead}
-use Rattle.bep_model.specs.Tables.{Tables, Device, Folder, FileName}
+use Rattle.bep_model.specs.Tables.{Tables, Folder, FileName}
 use Rattle.bep_model.specs.Settled.{IsSettled, Rise}
 use Rattle.bep_model.specs.Reasons.{Place, Asks, first_disordered}
 use Rattle.bep_model.specs.Verdict.{Verdict, Settled, Not, number_of, IsFirstFault, IsVerdict}
@@ -80,10 +80,10 @@ module _ (t : Tables) (rows : List Row) where
   rows_rise place below before differs =
       let number = number_of_reason_at place below in
       let later : 1 ≤ place =
-          ⊎_elim
-          (λ first. absurd (differs (same_from_number (reason_at place) CertificateOrder (omega (arith, number, first)))))
-          (λ others. omega (arith, others))
-          (cases_eq place 0) in
+      ⊎_elim
+      (λ first. absurd (differs (same_from_number (reason_at place) CertificateOrder (omega (arith, number, first)))))
+      (λ others. omega (arith, others))
+      (cases_eq place 0) in
       rise_from_none rows
       (none_from_no_key (first_disordered rows)
       (λ folder name. before.holds CertificateOrder (record { folder = folder; name = name; device = None }) later))

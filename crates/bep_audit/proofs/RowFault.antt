@@ -1,23 +1,21 @@
 -- What is found at one row: of its name as a whole, and of the devices.
-use Rattle.std.proofs.Common.{◌≡◌, ◌↔◌, ◌<◌, ◌+◌, ℕ, Bool, true, false, true≢false, List, [], ◌∷◌, Contains, Option, Some, None, IsTrue, option_map, refl, sym, ap, subst, ◌∙◌, inl, ⊎_elim, arith}
+use Rattle.std.proofs.Common.{◌≡◌, ◌↔◌, ◌<◌, ℕ, Bool, true, false, true≢false, List, [], ◌∷◌, Option, Some, None, IsTrue, refl, sym, subst, ◌∙◌, arith}
 use Rattle.std.specs.Prelude.{if◌then◌else◌}
-use Rattle.std.specs.declared.cmp.Ordering.{Ordering}
-use Rattle.std.specs.declared.cmp.Ordering.TheVariants.{Less, Equal, Greater}
+use Rattle.std.specs.declared.cmp.Ordering.TheVariants.{Less}
 use Rattle.std.specs.Ordering.{nat_cmp}
 use Rattle.std.proofs.lemmas.Cmp.{ranked, by_ranked}
-use Rattle.bep_choice.specs.Choice.{Candidate}
 use Rattle.bep_model.specs.declared.row.Row.{Row}
 use Rattle.bep_model.specs.declared.reason.Reason.{Reason}
 use Rattle.bep_model.specs.declared.reason.Reason.TheVariants.{CertificateOrder, NameUnknown, NotWinner}
-use Rattle.bep_model.specs.Tables.{Tables, Device, Folder, FileName, Shares}
+use Rattle.bep_model.specs.Tables.{Tables, Device, Folder, FileName}
 use Rattle.bep_model.specs.Foreign.{IsKnown}
 use Rattle.bep_model.specs.Winner.{IsWinner}
 use Rattle.bep_model.specs.Settled.{key_of}
-use Rattle.bep_model.specs.Reasons.{Place, place_cmp, device_rank, Asks, AsksAt, AsksName, AsksDevice, first_disordered}
+use Rattle.bep_model.specs.Reasons.{Place, place_cmp, device_rank, AsksAt, AsksName, AsksDevice, first_disordered}
 use Rattle.bep_model.proofs.Members.{Contains-first}
-use Rattle.bep_audit.specs.Search.{FindsFirst, FindsFault}
-use Rattle.bep_audit.specs.Shown.{name_of, part_of}
-use Rattle.bep_audit.proofs.AskedAtRow.{IsOfRows, key_at, only_row, asked_if_here}
+use Rattle.bep_audit.specs.Search.{FindsFault}
+use Rattle.bep_audit.specs.Shown.{name_of}
+use Rattle.bep_audit.proofs.AskedAtRow.{IsOfRows, only_row, asked_if_here}
 use Rattle.bep_audit.proofs.RowWalk.{device_before}
 
 -- the lesser of two numbers is less by the order of numbers

@@ -1,6 +1,5 @@
 -- A walk over the devices of a folder, which rise, for the first that doesn't meet a reason beside a row.
-use Rattle.std.proofs.Common.{◌≡◌, ◌<◌, ℕ, List, Contains, Option, Some, refl, sym, subst, ⊎_elim, arith}
-use Rattle.std.specs.Prelude.{map}
+use Rattle.std.proofs.Common.{◌≡◌, ◌<◌, List, Some, refl, sym, ⊎_elim, arith}
 use Rattle.std.specs.declared.cmp.Ordering.TheVariants.{Less}
 use Rattle.std.specs.Ordering.{nat_cmp}
 use Rattle.std.specs.List.Sorted.{IsStrictlyIncreasing}

@@ -3,6 +3,7 @@ ghost use Rattle.std.specs.Prelude.{◌≡◌, ◌≢◌, ◌∷◌, ◌<◌, �
 ghost use Rattle.std.specs.Ordering.{nat_cmp};
 ghost use Rattle.std.specs.List.Sorted.{IsStrictlyIncreasing};
 ghost use Rattle.bep_model.specs.declared.reason.Reason.TheVariants.{CertificateOrder, NameMissing, NotWinner};
+ghost use Rattle.bep_model.specs.Tables.{Tables};
 ghost use Rattle.bep_model.specs.Foreign.{IsKnown};
 ghost use Rattle.bep_model.specs.Settled.{Rise};
 ghost use Rattle.bep_model.specs.Verdict.{number_of};
@@ -24,15 +25,15 @@ pub fn first_fault<'a>(cut: &'a Cut, rows: &'a [Row], reason: Reason) -> Option<
     ensures { FindsFault (tables_of cut.now) rows.now reason (option_map place_shown result) }
 {
     match reason {
-        Reason::CertificateOrder => first_out_of_order(cut, rows),
+        Reason::CertificateOrder => first_out_of_order(rows),
         Reason::NameMissing => first_missing(cut, rows),
         _ => first_at_row(cut, rows, reason),
     }
 }
 
-// The name of the first row that isn't above the row before it. The cut isn't asked.
-fn first_out_of_order<'a>(_cut: &Cut, rows: &'a [Row]) -> Option<Spot<'a>>
-    ensures { FindsFault (tables_of _cut.now) rows.now CertificateOrder (option_map place_shown result) }
+// The name of the first row that isn't above the row before it, whatever the cut.
+fn first_out_of_order(rows: &[Row]) -> Option<Spot<'_>>
+    ensures { (t : Tables) → FindsFault t rows.now CertificateOrder (option_map place_shown result) }
 {
     match first_disordered(rows) {
         None => None,

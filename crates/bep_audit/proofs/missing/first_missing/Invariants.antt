@@ -1,5 +1,4 @@
 use Rattle.bep_model.specs.Reasons.{place_cmp}
-use Rattle.bep_audit.proofs.CutFacts.{CutSays}
 use Rattle.bep_audit.proofs.FolderWalk.{AsksFolder}
 use Rattle.bep_audit.proofs.WalkFacts.{IsLeftFrom}
 use Rattle.bep_audit.proofs.missing.first_missing.Given as goal
