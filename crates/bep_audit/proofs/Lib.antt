@@ -1,3 +1,16 @@
+pub mod SearchFacts
+pub mod WalkFacts
+pub mod CutFacts
+pub mod UnmetFacts
+pub mod MissingFacts
+pub mod FolderWalk
 pub mod RowsFacts
 pub mod RowSearch
+pub mod AskedAtRow
+pub mod RowWalk
+pub mod RowFault
+pub mod DeviceFault
+pub mod ReasonWalk
 pub mod WinnerFacts
+pub mod CandidateFacts
+pub mod WinnerSaid

@@ -11,12 +11,12 @@ use Rattle.bep_model.specs.Settled.{HasRow, Rise, key_of, key_cmp}
 use Rattle.bep_model.proofs.Members.{not_in_none, Contains-first, Contains-more, Contains-cons_cases}
 use Rattle.bep_model.proofs.Keys.{key_total, not_less_itself, same_from_Equal}
 
-tail_rises : (row : Row) (more : List Row) → Rise (row ∷ more) → Rise more
+pub tail_rises : (row : Row) (more : List Row) → Rise (row ∷ more) → Rise more
 tail_rises row [] rise = tt
 tail_rises row (next ∷ more) rise = rise.1
 
 -- each later row is above the first
-first_is_below : (row : Row) (more : List Row) → Rise (row ∷ more) → (later : Row) → Contains more later → key_cmp (key_of row) (key_of later) ≡ Less
+pub first_is_below : (row : Row) (more : List Row) → Rise (row ∷ more) → (later : Row) → Contains more later → key_cmp (key_of row) (key_of later) ≡ Less
 first_is_below row [] rise later h = absurd (not_in_none later h)
 first_is_below row (next ∷ more) rise later h =
     ⊎_elim

@@ -5,6 +5,10 @@ use Rattle.std.specs.List.{slice_get}
 use Rattle.std.proofs.lemmas.List.{length-map, get_or-map}
 use Rattle.std.proofs.lemmas.Option.{slice_get-get_or, slice_get_cases}
 use Rattle.bep_record.specs.declared.entry.Entry.{Entry}
+use Rattle.bep_model.specs.declared.row.Row.{Row}
+use Rattle.bep_model.specs.Tables.{Tables}
+use Rattle.bep_model.specs.Winner.{IsWinner}
+use Rattle.bep_model.proofs.Winners.{OneChoice, same_winner}
 use Rattle.bep_choice.specs.Choice.{Candidate, candidate_of, candidates_of, IsChoice, IsChoiceAt}
 
 -- a candidate as it is lent
@@ -25,22 +29,19 @@ at_place lent place one below is =
     slice_get-get_or (candidates_of lent) place (candidate_of one) (omega (arith, length-map lent candidate_of))
     ∙ ap Some (get_or-map candidate_of lent place one (candidate_of one) below ∙ ap candidate_of (sym is))
 
--- a choice stands somewhere
-pub choice_place : (chooser : ℕ) (candidates : List Candidate) (one : Candidate) → IsChoice chooser candidates one → (place : ℕ) × (slice_get candidates place ≡ Some one) × IsChoiceAt chooser candidates place
-choice_place chooser candidates one h =
-    let stands = h.left.valid.0 in
-    let there : slice_get candidates stands.0 ≡ Some one = slice_get-get_or candidates stands.0 one stands.1 ∙ ap Some stands.2 in
-    (stands.0, there, subst (λ (o : Option Candidate). IsSomeAnd o (IsChoice chooser candidates)) (sym there) h)
+-- the candidate at the place of a choice is chosen
+pub chosen_at : (chooser : ℕ) (lent : List Lent) (place : ℕ) (one : Lent) → IsChoiceAt chooser (candidates_of lent) place → one ≡ get_or lent place one → IsChoice chooser (candidates_of lent) (candidate_of one)
+chosen_at chooser lent place one at is =
+    subst (λ (o : Option Candidate). IsSomeAnd o (IsChoice chooser (candidates_of lent))) (at_place lent place one (within chooser lent place at) is) at
 
--- a candidate is the choice exactly where it stands at the choice's only place
-pub choice_exactly : (chooser : ℕ) (lent : List Lent) (place : ℕ) (one : Lent) (row : Candidate) → IsChoiceAt chooser (candidates_of lent) place → ((k : ℕ) → IsChoiceAt chooser (candidates_of lent) k → Some place ≡ Some k) → one ≡ get_or lent place one → (candidate_of one ≡ row) ↔ IsChoice chooser (candidates_of lent) row
-choice_exactly chooser lent place one row at only is =
-    let there = at_place lent place one (within chooser lent place at) is in
-    let held : IsChoice chooser (candidates_of lent) (candidate_of one) = subst (λ (o : Option Candidate). IsSomeAnd o (IsChoice chooser (candidates_of lent))) there at in (
-      λ same. subst (IsChoice chooser (candidates_of lent)) same held,
-      λ choice. let found = choice_place chooser (candidates_of lent) row choice in
-          let place_is = only found.0 found.2 in
-          let same_place : place ≡ found.0 = cc in
-          let both : Some (candidate_of one) ≡ Some row = sym there ∙ ap (slice_get (candidates_of lent)) same_place ∙ found.1 in
-          cc,
+-- a row holds the winner exactly where it holds the one that wins
+pub row_exactly : OneChoice → (t : Tables) (row : Row) (entry : Entry) (one : Candidate) → entry ≡ row.entry → IsWinner t row.folder entry.name one → (one ≡ (row.device, row.entry)) ↔ IsWinner t row.folder row.entry.name (row.device, row.entry)
+row_exactly unique t row entry one is wins =
+    let here : IsWinner t row.folder row.entry.name one = subst (λ (e : Entry). IsWinner t row.folder e.name one) is wins in (
+      λ same. subst (IsWinner t row.folder row.entry.name) same here,
+      λ row_wins. same_winner unique t row.folder row.entry.name one (row.device, row.entry) here row_wins,
     )
+
+-- and doesn't where nothing wins
+pub row_unwon : (t : Tables) (row : Row) (entry : Entry) → entry ≡ row.entry → ((one : Candidate) → ¬ IsWinner t row.folder entry.name one) → ¬ IsWinner t row.folder row.entry.name (row.device, row.entry)
+row_unwon t row entry is none wins = none (row.device, row.entry) (subst (λ (e : Entry). IsWinner t row.folder e.name (row.device, row.entry)) (sym is) wins)

@@ -3,17 +3,23 @@
 //! Of a store it believes no recorded hash: it hashes the bytes that stand there. Nothing here takes memory but copies.
 #![tactic(auto)]
 
+mod candidates;
+mod checkers;
 mod device;
+mod fault;
+mod missing;
 mod rows;
+mod spot;
 #[cfg(test)]
 mod tests;
 mod verdict;
 mod winner;
 
+pub use checkers::{check, check_plain};
 pub use device::{
     is_clean, is_harmless, is_there, is_valid, meets_share, says_as_winner, share_is_asked,
     store_holds,
 };
 pub use rows::{Certificate, compare_row, compare_rows, find_row, first_disordered};
 pub use verdict::Verdict;
-pub use winner::is_winner;
+pub use winner::{is_winner, winner_of};

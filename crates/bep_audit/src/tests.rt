@@ -159,25 +159,3 @@ fn rows_go_by_folder_and_then_by_name(rt: HostRuntime) -> Result<(), Fail> {
     assert!(rt; !rise(alloc, ("pics", "a"), ("docs", "b"))?);
     Ok(())
 }
-
-// Whether the row is the winner, where devices 1 and 2 have these records.
-fn is_won(row: &Row, one: &Record, two: &Record) -> Result<bool, RecordError> {
-    let first = device(1)?;
-    let second = device(2)?;
-    Ok(is_winner(row, first, &[(first, one), (second, two)]))
-}
-
-// Whether the file of device 1 wins its name, where device 2 has the file in this version.
-fn wins_beside(alloc: Global, counter: (u64, u64)) -> Result<bool, RecordError> {
-    let won = row(alloc, "docs", "hello")?;
-    let other = record(hello(alloc, "hello", counter)?)?;
-    is_won(&won, &won.entry, &other)
-}
-
-#[test]
-fn of_equal_records_the_smaller_device_wins(rt: HostRuntime) -> Result<(), Fail> {
-    let alloc = rt.alloc();
-    assert!(rt; wins_beside(alloc, (1, 1))?);
-    assert!(rt; !wins_beside(alloc, (1, 2))?);
-    Ok(())
-}

@@ -1,8 +1,9 @@
-ghost use Rattle.std.specs.Prelude.{◌≡◌, Some};
+ghost use Rattle.std.specs.Prelude.{◌≡◌};
 ghost use Rattle.bep_model.specs.Verdict.{Not};
 ghost use Rattle.bep_audit.specs.Shown.{verdict_shown};
 
-use bep_model::{Reason, Row};
+use crate::spot::Spot;
+use bep_model::Reason;
 use bep_record::{DeviceId, FolderName, Name};
 
 /// What the auditor finds, lent from what it was asked about.
@@ -15,10 +16,10 @@ pub enum Verdict<'a> {
 }
 
 impl<'a> Verdict<'a> {
-    /// That the reason fails at the row, on this device.
-    pub fn at_row(reason: Reason, row: &'a Row, device: DeviceId) -> Self
-        ensures { verdict_shown result ≡ Not reason row.now.folder row.now.entry.name (Some device) }
+    /// That the reason fails at this place.
+    pub(crate) fn at(reason: Reason, spot: Spot<'a>) -> Self
+        ensures { verdict_shown result ≡ Not reason spot.entry.folder.now spot.entry.name.now spot.entry.device }
     {
-        Verdict::Not(reason, &row.folder, &row.entry.entry().name, Some(device))
+        Verdict::Not(reason, spot.folder, spot.name, spot.device)
     }
 }

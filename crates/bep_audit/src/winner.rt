@@ -1,31 +1,45 @@
-//! Whether a row is the winner of its name.
-ghost use Rattle.std.specs.Prelude.{◌≡◌, ◌↔◌, IsTrue, map};
-ghost use Rattle.std.specs.List.Sorted.{IsStrictlyIncreasing};
-ghost use Rattle.bep_choice.specs.Choice.{candidate_of, candidates_of, IsChoice};
+//! The winner of a name in a cut, and whether a row holds it.
+ghost use Rattle.std.specs.Prelude.{◌≡◌, ◌↔◌, IsTrue, IfSome, IfNone};
+ghost use Rattle.bep_choice.specs.Choice.{Candidate, candidate_of};
+ghost use Rattle.bep_cut.specs.Cut.{tables_of};
+ghost use Rattle.bep_model.specs.Winner.{IsWinner};
 
-use bep_choice::choose;
+use crate::candidates::winner_among;
+use bep_choice::laws::choice_is_unique;
+use bep_cut::{Cut, cut_says};
 use bep_model::Row;
-use bep_record::{DeviceId, Record};
+use bep_record::{DeviceId, FolderName, Name, Record};
 
-/// Whether the row holds the device and the record that the chooser takes of the candidates, the record in all fields.
-///
-/// Candidates are pairs of a sharing device and its own record of the row's name, devices rising; the winner is the
-/// choice of the smallest sharing device.
-pub fn is_winner(row: &Row, chooser: DeviceId, candidates: &[(DeviceId, &Record)]) -> bool
-    requires { IsStrictlyIncreasing (map (λ one. one.0) candidates.now) }
-    ensures { IsTrue result ↔ IsChoice chooser (candidates_of candidates.now) (row.now.device, row.now.entry) }
+/// The device and the record that win the name in the folder; `None` exactly where the name has no winner. Takes no
+/// memory.
+pub fn winner_of<'a>(
+    cut: &'a Cut,
+    folder: &FolderName,
+    name: &Name,
+) -> Option<(DeviceId, &'a Record)>
+    ensures wins { IfSome result (λ one. IsWinner (tables_of cut.now) folder.now name.now (candidate_of one)) }
+    ensures none { IfNone result ((one : Candidate) → ¬ IsWinner (tables_of cut.now) folder.now name.now one) }
 {
-    match choose(chooser, candidates) {
+    cut_says();
+    winner_among(cut.shares(folder), name)
+}
+
+/// Whether the row holds the winner of its name: the device and the record in all fields. Takes no memory.
+pub fn is_winner(cut: &Cut, row: &Row) -> bool
+    ensures { IsTrue result ↔ IsWinner (tables_of cut.now) row.now.folder row.now.entry.name (row.now.device, row.now.entry) }
+{
+    choice_is_unique();
+    match winner_of(cut, &row.folder, &row.entry.entry().name) {
         None => false,
-        Some(place) => is_of_row(&candidates[place], row),
+        Some(one) => is_of_row(&one, row),
     }
 }
 
-// Whether the candidate is the row's device with the row's record.
-fn is_of_row(candidate: &(DeviceId, &Record), row: &Row) -> bool
-    ensures { IsTrue result ↔ (candidate_of candidate.now ≡ (row.now.device, row.now.entry)) }
+// Whether this is the row's device with the row's record.
+fn is_of_row(one: &(DeviceId, &Record), row: &Row) -> bool
+    ensures { IsTrue result ↔ (candidate_of one.now ≡ (row.now.device, row.now.entry)) }
 {
-    candidate.0 == row.device && is_same(candidate.1, &row.entry)
+    one.0 == row.device && is_same(one.1, &row.entry)
 }
 
 // Whether the records are equal in all fields, the sequence too.

@@ -19,11 +19,12 @@ use Rattle.bep_model.specs.declared.reason.Reason.TheVariants.{CertificateOrder,
 use Rattle.bep_model.specs.Tables.{Tables, Device, Folder, FileName, Flight, Shares}
 use Rattle.bep_model.specs.Foreign.{IsViewed, IsFlying, IsTarget, IsForeign, IsHarmless, HasTrace, IsKnown, IsFinite}
 use Rattle.bep_model.specs.Winner.{IsWinner, own_candidates, smallest}
+use Rattle.bep_model.specs.WithoutWinner.{HasWinner}
 use Rattle.bep_model.specs.Settled.{HasRow, content_of_node, key_of}
 use Rattle.bep_model.specs.Reasons.{Place, Asks, AsksAt, AsksName, AsksDevice, AsksShare, AsksHarmless, first_disordered}
 use Rattle.bep_model.proofs.Deciding.{OrNot, both_or_not, either_or_not, implies_or_not, not_or_not, or_not_as, same_or_not, true_or_not, false_or_not, Finite, finite_list, finite_option, finite_as, finite_or, finite_where, finite_union, finite_filter, each_in, some_in}
 use Rattle.bep_model.proofs.VersionsDecided.{below_or_not}
-use Rattle.bep_model.proofs.Winners.{OneChoice, one_each}
+use Rattle.bep_model.proofs.Winners.{OneChoice, same_winner}
 
 -- ---- values
 
@@ -150,19 +151,24 @@ module _ (t : Tables) (finite : IsFinite t) where
 abbrev pub SomeChoice : Type 0
 SomeChoice = (chooser : ℕ) (candidates : List Candidate) → (one : Candidate) × IsValidAmong candidates one → (one : Candidate) × IsChoice chooser candidates one
 
+pub has_winner_or_not : SomeChoice → (t : Tables) (folder : Folder) (name : FileName) → OrNot (HasWinner t folder name)
+has_winner_or_not some_choice t folder name =
+    let candidates = own_candidates t folder name in
+    or_not_as
+    (some_choice (smallest (t.sharing folder)) candidates)
+    (λ has. (has.0, has.1.left.valid))
+    (some_in (Contains candidates) (λ (c : Candidate). c.1.invalid ≡ false) (finite_list candidates) (λ c. false_or_not c.1.invalid))
+
 winner_or_not : SomeChoice → OneChoice → (t : Tables) (folder : Folder) (name : FileName) (one : Candidate) → OrNot (IsWinner t folder name one)
 winner_or_not some_choice one_choice t folder name one =
-    let chooser = smallest (t.sharing folder) in
-    let candidates = own_candidates t folder name in
     ⊎_elim
-    (λ valid.
-    let best = some_choice chooser candidates valid in
+    (λ best.
     or_not_as
     (λ (same : best.0 ≡ one). subst (λ (c : Candidate). IsWinner t folder name c) same best.1)
-    (λ wins. one_choice chooser candidates best.0 one (one_each t folder name) best.1 wins)
+    (λ wins. same_winner one_choice t folder name best.0 one best.1 wins)
     (same_candidate best.0 one))
-    (λ none. inr (λ wins. none (one, wins.left.valid)))
-    (some_in (Contains candidates) (λ (c : Candidate). c.1.invalid ≡ false) (finite_list candidates) (λ c. false_or_not c.1.invalid))
+    (λ none. inr (λ wins. none (one, wins)))
+    (has_winner_or_not some_choice t folder name)
 
 -- ---- what is asked
 

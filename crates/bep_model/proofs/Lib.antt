@@ -9,3 +9,4 @@ pub mod VersionsDecided
 pub mod CutDecided
 pub mod FirstFault
 pub mod VerdictFound
+pub mod WithoutFacts

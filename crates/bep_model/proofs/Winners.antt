@@ -28,7 +28,7 @@ beside_says device (Some entry) one h =
     (Contains-cons_cases (device, entry) [] one h)
 
 -- a candidate is its device's own record
-owned_says : (t : Tables) (folder : Folder) (name : FileName) (shares : List (Device × FolderKind)) (one : Candidate) → Contains (owned t folder name shares) one → t.own one.0 folder name ≡ Some one.1
+pub owned_says : (t : Tables) (folder : Folder) (name : FileName) (shares : List (Device × FolderKind)) (one : Candidate) → Contains (owned t folder name shares) one → t.own one.0 folder name ≡ Some one.1
 owned_says t folder name [] one h = absurd (not_in_none one h)
 owned_says t folder name (share ∷ more) one h =
     ⊎_elim
@@ -54,12 +54,12 @@ same_winner unique t folder name one other = unique _ (own_candidates t folder n
 
 -- ---- one list
 
-tail_rises : (row : Row) (more : List Row) → Rise (row ∷ more) → Rise more
+pub tail_rises : (row : Row) (more : List Row) → Rise (row ∷ more) → Rise more
 tail_rises row [] rise = tt
 tail_rises row (next ∷ more) rise = rise.1
 
 -- each later row is above the first
-first_is_below : (row : Row) (more : List Row) → Rise (row ∷ more) → (later : Row) → Contains more later → key_cmp (key_of row) (key_of later) ≡ Less
+pub first_is_below : (row : Row) (more : List Row) → Rise (row ∷ more) → (later : Row) → Contains more later → key_cmp (key_of row) (key_of later) ≡ Less
 first_is_below row [] rise later h = absurd (not_in_none later h)
 first_is_below row (next ∷ more) rise later h =
     ⊎_elim

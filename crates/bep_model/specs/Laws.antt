@@ -1,10 +1,11 @@
 -- What follows from the definitions alone; the functions of src/laws.rt have these as contracts.
-use Rattle.std.specs.Prelude.{◌≡◌, ◌↔◌, List}
+use Rattle.std.specs.Prelude.{◌≡◌, ◌⊎◌, ◌↔◌, List}
 use Rattle.bep_model.specs.declared.row.Row.{Row}
 use Rattle.bep_model.specs.declared.reason.Reason.{Reason}
-use Rattle.bep_model.specs.Tables.{Tables}
+use Rattle.bep_model.specs.Tables.{Tables, Folder, FileName}
 use Rattle.bep_model.specs.Foreign.{IsFinite}
 use Rattle.bep_model.specs.Settled.{IsListOfWinners, IsSettled}
+use Rattle.bep_model.specs.WithoutWinner.{IsWithoutWinner, IsFirstWithoutWinner, OwnRecordsAreNamed}
 use Rattle.bep_model.specs.Reasons.{Place, Asks}
 use Rattle.bep_model.specs.Verdict.{Verdict, IsVerdict}
 use Rattle.bep_model.specs.Calm.{IsCalm, contents_of}
@@ -36,6 +37,21 @@ CertificateIsUnique = (t : Tables) (rows others : List Row) → IsSettled t rows
 -- a list of winners is settled wherever any list is
 abbrev pub WinnersAreSettledIfAny : Type 0
 WinnersAreSettledIfAny = (t : Tables) (rows others : List Row) → IsListOfWinners t rows → IsSettled t others → IsSettled t rows
+
+-- where there is a list of winners, no known name is without winner
+abbrev pub WinnersLeaveNoneOut : Type 0
+WinnersLeaveNoneOut = (t : Tables) (rows : List Row) (folder : Folder) (name : FileName) → IsListOfWinners t rows → ¬ IsWithoutWinner t folder name
+
+-- there is one first name without winner at most
+abbrev pub FirstWithoutIsUnique : Type 0
+FirstWithoutIsUnique =
+    (t : Tables) (one other : Folder × FileName) → IsFirstWithoutWinner t one.0 one.1 → IsFirstWithoutWinner t other.0 other.1 → one ≡ other
+
+-- on every finite cut there is a list of winners, or a first name without winner
+abbrev pub WinnersOrFirstWithout : Type 0
+WinnersOrFirstWithout =
+    (t : Tables) → IsFinite t → OwnRecordsAreNamed t →
+    ((rows : List Row) × IsListOfWinners t rows) ⊎ ((key : Folder × FileName) × IsFirstWithoutWinner t key.0 key.1)
 
 -- what is settled is calm for the contents of its rows
 abbrev pub SettledIsCalm : Type 0

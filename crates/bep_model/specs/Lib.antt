@@ -2,6 +2,7 @@ pub mod Tables
 pub mod Foreign
 pub mod Winner
 pub mod Settled
+pub mod WithoutWinner
 pub mod Reasons
 pub mod Verdict
 pub mod Calm

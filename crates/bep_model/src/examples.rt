@@ -7,6 +7,7 @@ ghost use Rattle.bep_record.specs.Node.{IsClean};
 ghost use Rattle.bep_model.specs.declared.reason.Reason.TheVariants.{CertificateOrder, NameMissing, RecordDiffers, StoreDiffers, FlightAhead};
 ghost use Rattle.bep_model.specs.Foreign.{IsHarmless};
 ghost use Rattle.bep_model.specs.Winner.{IsWinner};
+ghost use Rattle.bep_model.specs.WithoutWinner.{IsFirstWithoutWinner};
 ghost use Rattle.bep_model.specs.Reasons.{Asks};
 ghost use Rattle.bep_model.specs.Verdict.{Settled, Not, IsVerdict};
 ghost use Rattle.bep_model.specs.Calm.{SameFile};
@@ -50,11 +51,15 @@ pub fn old_version_flies()
         (place_of 2) }
 {}
 
-/// A local-only record, which is invalid, doesn't win even where no other record is; a valid one does.
+/// A local-only record, which is invalid, doesn't win even where no other record is, so that its name is without
+/// winner; a valid one does.
 pub fn local_only_record_is_no_candidate()
     ensures local_only { (one : Candidate) → ¬ IsWinner
         (two_devices SendReceive (Some (record (link 1 98 by_one) { invalid = true })) None)
         folder_f name_a one }
+    ensures without_winner { IsFirstWithoutWinner
+        (two_devices SendReceive (Some (record (link 1 98 by_one) { invalid = true })) None)
+        folder_f name_a }
     ensures valid { IsWinner
         (two_devices SendReceive (Some (link 1 98 by_one)) None)
         folder_f name_a (1, link 1 98 by_one) }

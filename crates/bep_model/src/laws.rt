@@ -1,4 +1,4 @@
-ghost use Rattle.bep_model.specs.Laws.{SettledIsFaultless, VerdictIsUnique, VerdictExists, SettledIsListOfWinners, ListOfWinnersIsUnique, CertificateIsUnique, WinnersAreSettledIfAny, SettledIsCalm};
+ghost use Rattle.bep_model.specs.Laws.{SettledIsFaultless, VerdictIsUnique, VerdictExists, SettledIsListOfWinners, ListOfWinnersIsUnique, CertificateIsUnique, WinnersAreSettledIfAny, WinnersLeaveNoneOut, FirstWithoutIsUnique, WinnersOrFirstWithout, SettledIsCalm};
 
 use bep_choice::laws::{choice_exists, choice_is_unique};
 
@@ -29,6 +29,17 @@ pub fn certificate_is_unique()
     ensures settled_if_any { WinnersAreSettledIfAny }
 {
     choice_is_unique();
+}
+
+/// No cut has a list of winners and a known name that has no winner, nor two such names that come first.
+///
+/// It has the one or the other where finitely many names are known, and each own record has the name that it stands at.
+pub fn winners_or_first_without()
+    ensures not_both { WinnersLeaveNoneOut }
+    ensures one_first { FirstWithoutIsUnique }
+    ensures either { WinnersOrFirstWithout }
+{
+    choice_exists();
 }
 
 /// A settled cut is calm for the contents that its rows name.

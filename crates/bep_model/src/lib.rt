@@ -9,7 +9,8 @@ mod reason;
 mod row;
 
 pub use laws::{
-    certificate_is_unique, settled_is_calm, settled_is_faultless, verdict_exists, verdict_is_unique,
+    certificate_is_unique, settled_is_calm, settled_is_faultless, verdict_exists,
+    verdict_is_unique, winners_or_first_without,
 };
 pub use reason::Reason;
 pub use row::Row;

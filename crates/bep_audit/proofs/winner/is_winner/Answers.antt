@@ -1,8 +1,16 @@
-use Rattle.bep_audit.proofs.WinnerFacts.{choice_exactly}
+use Rattle.bep_audit.proofs.WinnerFacts.{row_exactly, row_unwon}
+use Rattle.bep_choice.specs.Choice.{candidate_of}
+use Rattle.bep_cut.specs.Cut.{tables_of}
 use Rattle.bep_audit.proofs.winner.is_winner.Goals as goal
+
+pub returns-in-None : goal.returns-in-None
+returns-in-None c =
+    let row = c.args.row.now in
+    let none = row_unwon (tables_of c.args.cut.now) row c.entry.result.now c.entry.ensures.value c.in-None.ensures.none in
+    (λ e. absurd (cc), λ wins. absurd (none wins))
 
 pub returns-in-Some : goal.returns-in-Some
 returns-in-Some c =
     let row = c.args.row.now in
-    let exactly = choice_exactly c.args.chooser c.args.candidates.now c.in-Some.place c.index-candidates-place.result (row.device, row.entry) c.in-Some.ensures.choice c.in-Some.ensures.only c.index-candidates-place.is in
-    (λ same. exactly.0 (c.is_of_row.ensures.0 same), λ choice. c.is_of_row.ensures.1 (exactly.1 choice))
+    let exactly = row_exactly c.choice_is_unique.ensures (tables_of c.args.cut.now) row c.entry.result.now (candidate_of c.in-Some.one) c.entry.ensures.value c.in-Some.ensures.wins in
+    (λ same. exactly.0 (c.is_of_row.ensures.0 same), λ wins. c.is_of_row.ensures.1 (exactly.1 wins))

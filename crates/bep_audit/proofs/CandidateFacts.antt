@@ -1,0 +1,80 @@
+-- The own records of a name in shares whose devices rise.
+use Rattle.std.proofs.Common.{◌≡◌, ◌<◌, ◌≤◌, ℕ, List, [], ◌∷◌, ◌++◌, Option, Some, None, Contains, length, get_or, refl, sym, ap, subst, ◌∙◌, ⊎_elim, arith}
+use Rattle.std.specs.Prelude.{map}
+use Rattle.std.specs.Ordering.{nat_cmp}
+use Rattle.std.specs.declared.cmp.Ordering.TheVariants.{Less}
+use Rattle.std.specs.Borrow.{Bor}
+use Rattle.std.specs.FinMap.{get}
+use Rattle.std.specs.List.{AllByRecursion}
+use Rattle.std.specs.List.Sorted.{IsStrictlyIncreasing, IsStrictlySortedBy}
+use Rattle.std.proofs.lemmas.Map.Keys.{sorted_tail, sorted_from_strictly_increasing, IsStrictlyIncreasing-from_sorted}
+use Rattle.std.proofs.lemmas.List.Elements.{Contains-append_right}
+use Rattle.bep_record.specs.declared.entry.Entry.{Entry}
+use Rattle.bep_choice.specs.Choice.{Candidate, candidates_of}
+use Rattle.bep_cut.specs.Cut.{devices_of}
+use Rattle.bep_cut.specs.declared.share.Share.{Share}
+use Rattle.bep_model.specs.Tables.{FileName}
+use Rattle.bep_model.specs.Winner.{beside}
+use Rattle.bep_model.proofs.Members.{not_in_none, Contains-first, Contains-cons_cases}
+use Rattle.bep_audit.specs.Candidates.{owned_in, chooser_of}
+
+-- the candidates' devices
+abbrev devices : List Candidate → List ℕ
+devices = map (λ (one : Candidate). one.0)
+
+all_owned : (P : ℕ → Type 0) (name : FileName) (shares : List Share) → AllByRecursion P (devices_of shares) → AllByRecursion P (devices (owned_in name shares))
+all_owned P name [] all = tt
+all_owned P name (share ∷ more) all = cases (get share.own name) (all_owned P name more all.1)
+  where
+    cases : (own : Option Entry) → AllByRecursion P (devices (owned_in name more)) → AllByRecursion P (devices (beside share.device own ++ owned_in name more))
+    cases None rest = rest
+    cases (Some entry) rest = (all.0, rest)
+
+owned_rise : (name : FileName) (shares : List Share) → IsStrictlySortedBy nat_cmp (devices_of shares) → IsStrictlySortedBy nat_cmp (devices (owned_in name shares))
+unfolding IsStrictlySortedBy
+owned_rise name [] rise = tt
+owned_rise name (share ∷ more) rise = cases (get share.own name) (owned_rise name more rise.1)
+  where
+    cases : (own : Option Entry) → IsStrictlySortedBy nat_cmp (devices (owned_in name more)) → IsStrictlySortedBy nat_cmp (devices (beside share.device own ++ owned_in name more))
+    cases None rest = rest
+    cases (Some entry) rest = (all_owned (λ device. nat_cmp share.device device ≡ Less) name more rise.0, rest)
+
+devices_lent : (lent : List (ℕ × Bor Entry)) → devices (candidates_of lent) ≡ map (λ (one : ℕ × Bor Entry). one.0) lent
+devices_lent [] = refl
+devices_lent (one ∷ lent) = ap (λ more. one.0 ∷ more) (devices_lent lent)
+
+-- so their devices rise where they are lent
+pub lent_rise : (name : FileName) (shares : List Share) (lent : List (ℕ × Bor Entry)) → candidates_of lent ≡ owned_in name shares → IsStrictlyIncreasing (devices_of shares) → IsStrictlyIncreasing (map (λ (one : ℕ × Bor Entry). one.0) lent)
+lent_rise name shares lent same rise =
+    subst IsStrictlyIncreasing
+    (ap devices (sym same) ∙ devices_lent lent)
+    (IsStrictlyIncreasing-from_sorted _ (owned_rise name shares (sorted_from_strictly_increasing (devices_of shares) rise)))
+
+-- a share's record of the name is among them
+pub owned_has : (name : FileName) (shares : List Share) (share : Share) (entry : Entry) → Contains shares share → get share.own name ≡ Some entry → Contains (owned_in name shares) (share.device, entry)
+owned_has name [] share entry member has = absurd (not_in_none share member)
+owned_has name (first ∷ more) share entry member has =
+    ⊎_elim
+    (λ same. here (ap (λ (s : Share). get s.own name) same ∙ has) (ap (λ (s : Share). s.device) same))
+    (λ later. Contains-append_right (beside first.device (get first.own name)) (owned_in name more) (share.device, entry) (owned_has name more share entry later has))
+    (Contains-cons_cases first more share member)
+  where
+    here : get first.own name ≡ Some entry → first.device ≡ share.device → Contains (beside first.device (get first.own name) ++ owned_in name more) (share.device, entry)
+    here has same =
+        subst (λ (own : Option Entry). Contains (beside first.device own ++ owned_in name more) (share.device, entry)) (sym has)
+        (subst (λ (device : ℕ). Contains ((first.device, entry) ∷ owned_in name more) (device, entry)) same (Contains-first (first.device, entry) (owned_in name more)))
+
+tail_increases : (x : ℕ) (xs : List ℕ) → IsStrictlyIncreasing (x ∷ xs) → IsStrictlyIncreasing xs
+tail_increases x xs rise = IsStrictlyIncreasing-from_sorted xs (sorted_tail nat_cmp x xs (sorted_from_strictly_increasing (x ∷ xs) rise))
+
+-- the first device is the smallest
+chooser_is_head : (share : Share) (more : List Share) → IsStrictlyIncreasing (devices_of (share ∷ more)) → chooser_of (share ∷ more) ≡ share.device
+chooser_is_head share [] rise = refl
+chooser_is_head share (next ∷ more) rise =
+    let below : share.device < next.device = rise 0 (omega arith) in
+    let rest : chooser_of (next ∷ more) ≡ next.device = chooser_is_head next more (tail_increases share.device (devices_of (next ∷ more)) rise) in
+    omega (arith, below, rest)
+
+pub chooser_is_first : (shares : List Share) (first : Share) → 1 ≤ length shares → first ≡ get_or shares 0 first → IsStrictlyIncreasing (devices_of shares) → first.device ≡ chooser_of shares
+chooser_is_first [] first some is rise = absurd (omega arith)
+chooser_is_first (share ∷ more) first some is rise = ap (λ (s : Share). s.device) is ∙ sym (chooser_is_head share more rise)

@@ -1,0 +1,142 @@
+-- A walk over the names of a map, in order, for the first that has no row.
+use Rattle.std.proofs.Common.{◌≡◌, ◌↔◌, Bool, true, false, ◌&&◌, List, [], ◌∷◌, ◌++◌, map, Contains, Option, Some, None, IsTrue, refl, sym, ap, subst, ◌∙◌, inl, inr, ⊎_elim}
+use Rattle.std.proofs.Math.Dec.{T}
+use Rattle.std.specs.declared.cmp.Ordering.{Ordering}
+use Rattle.std.specs.declared.cmp.Ordering.TheVariants.{Less, Equal, Greater}
+use Rattle.std.specs.Ordering.{nat_cmp, is_lt, is_eq, ordering_reverse}
+use Rattle.std.specs.Cmp.{eq_by_cmp_equiv}
+use Rattle.std.specs.Cmp.Lexicographic.{slice_cmp, nat_list_cmp_total}
+use Rattle.std.specs.FinMap.Entries.{below_all}
+use Rattle.std.specs.FinMap.{is_sorted, contains_key, contains_key-keys, entries, entries_sorted, keys}
+use Rattle.std.proofs.lemmas.Cmp.{tied_itself}
+use Rattle.std.proofs.lemmas.Map.Lookups.{exact_bytes}
+use Rattle.std.proofs.lemmas.Map.Views.{list_any-from_Contains, Contains-from_any}
+use Rattle.std.proofs.lemmas.List.Elements.{Contains-push, Contains-push_cases, Contains-append_left}
+use Rattle.bep_map.specs.NameMap.{ByName}
+use Rattle.bep_model.specs.declared.row.Row.{Row}
+use Rattle.bep_model.specs.Tables.{Folder, FileName}
+use Rattle.bep_model.specs.Settled.{HasRow}
+use Rattle.bep_model.proofs.Members.{not_in_none, Contains-cons_cases}
+use Rattle.bep_cut.specs.declared.share.Share.{Share}
+use Rattle.bep_audit.specs.Held.{HasName, HasRowIfHeld}
+use Rattle.bep_audit.specs.Search.{FindsFirst, lesser}
+use Rattle.bep_audit.proofs.SearchFacts.{AllSay, finds_as, goes_on, fails_here, ends, lesser_finds}
+
+abbrev by_name : FileName → FileName → Ordering
+by_name = slice_cmp nat_cmp
+
+-- a name is a key of the map exactly where it stands among the keys
+is_Equal : (o : Ordering) → is_eq o ≡ true → o ≡ Equal
+is_Equal Less e = absurd (cc)
+is_Equal Equal e = refl
+is_Equal Greater e = absurd (cc)
+
+key_stands : {V : Type 0} (held : ByName V) (name : FileName) → IsTrue (contains_key held name) ↔ Contains (keys held) name
+key_stands held name = (
+  λ has. Contains-from_any (λ x y e. exact_bytes x y (is_Equal _ e)) name (keys held) (sym (contains_key-keys held name) ∙ has),
+  λ stands. contains_key-keys held name ∙ list_any-from_Contains (eq_by_cmp_equiv nat_list_cmp_total) name (keys held) stands,
+)
+
+both_hold : (a b : Bool) → T (a && b) → T a × T b
+both_hold true true h = (tt, tt)
+both_hold true false h = absurd h
+both_hold false b h = absurd h
+
+is_Less : (o : Ordering) → T (is_lt o) → o ≡ Less
+is_Less Less h = refl
+is_Less Equal h = absurd h
+is_Less Greater h = absurd h
+
+-- each later key is above the first
+later_is_above : {V : Type 0} (name : FileName) (es : List (FileName × V)) (later : FileName) → T (below_all by_name name es) → Contains (map (λ e. e.0) es) later → by_name name later ≡ Less
+later_is_above name [] later below h = absurd (not_in_none later h)
+later_is_above name (e ∷ es) later below h =
+    let parts = both_hold _ _ below in
+    ⊎_elim
+    (λ same. subst (λ n. by_name name n ≡ Less) same (is_Less _ parts.0))
+    (λ more. later_is_above name es later parts.1 more)
+    (Contains-cons_cases e.0 (map (λ (one : FileName × _). one.0) es) later h)
+
+module _ (rows : List Row) (folder : Folder) where
+  -- a name of the list has a row
+  abbrev pub HasRowIfHere : FileName → FileName → Type 0
+  HasRowIfHere here name = here ≡ name → HasRow rows folder name
+
+  abbrev pub HasRowIfKey : {V : Type 0} → ByName V → FileName → Type 0
+  HasRowIfKey held name = IsTrue (contains_key held name) → HasRow rows folder name
+
+  -- what is found among the names that are left is found among all names of the map
+  pub record IsLeft {V : Type 0} (held : ByName V) (rest : List (FileName × V)) : Type 0 where
+    pub sorted : T (is_sorted by_name rest)
+    pub finds : (found : Option FileName) → FindsFirst by_name (AllSay by_name HasRowIfHere (map (λ e. e.0) rest)) found → FindsFirst by_name (HasRowIfKey held) found
+
+  pub all_are_left : {V : Type 0} (held : ByName V) (all : List (FileName × V)) → all ≡ entries held → IsLeft held all
+  all_are_left held all is = subst (IsLeft held) (sym is) (record {
+    sorted = entries_sorted held;
+    finds = finds_as by_name (AllSay by_name HasRowIfHere (keys held)) (HasRowIfKey held)
+        (λ name all has. all name ((key_stands held name).0 has) refl)
+        (λ name has_row other member same. has_row ((key_stands held name).1 (subst (Contains (keys held)) same member)));
+  })
+
+  next_left : {V : Type 0} (held : ByName V) (e : FileName × V) (rest : List (FileName × V)) → IsLeft held (e ∷ rest) → HasRow rows folder e.0 → IsLeft held rest
+  next_left held e rest left has = record {
+    sorted = (both_hold _ _ left.sorted).1;
+    finds = λ found finds. left.finds found (goes_on by_name HasRowIfHere e.0 (map (λ (one : FileName × _). one.0) rest) (λ name same. subst (HasRow rows folder) same has) found finds);
+  }
+
+  pub next_is_left : {V : Type 0} (held : ByName V) (left rest : List (FileName × V)) (e : FileName × V) → left ≡ e ∷ rest → IsLeft held left → HasRow rows folder e.0 → IsLeft held rest
+  next_is_left held left rest e is all has = next_left held e rest (subst (IsLeft held) is all) has
+
+  first_found : {V : Type 0} (held : ByName V) (e : FileName × V) (rest : List (FileName × V)) → IsLeft held (e ∷ rest) → ¬ HasRow rows folder e.0 → FindsFirst by_name (HasRowIfKey held) (Some e.0)
+  first_found held e rest left has_none =
+      left.finds (Some e.0)
+      (fails_here by_name HasRowIfHere e.0 (map (λ (one : FileName × _). one.0) rest) e.0
+      (record { fails = λ has. has_none (has refl); before = λ name less same. absurd (not_below name less same) })
+      (λ name less later member same.
+      let above = later_is_above e.0 rest later (both_hold _ _ left.sorted).0 member in
+      let below = nat_list_cmp_total.antisymm name e.0 in
+      let more : by_name e.0 name ≡ Less = ap (by_name e.0) (sym same) ∙ above in
+      absurd (twice name less more)))
+    where
+      not_below : (name : FileName) → by_name name e.0 ≡ Less → e.0 ≡ name → ⊥
+      not_below name less same = let tied = tied_itself nat_list_cmp_total name in let other : by_name name name ≡ Less = ap (by_name name) (sym same) ∙ less in cc
+
+      twice : (name : FileName) → by_name name e.0 ≡ Less → by_name e.0 name ≡ Less → ⊥
+      twice name less more = let back = nat_list_cmp_total.antisymm name e.0 ∙ ap ordering_reverse more in cc
+
+  pub first_is_found : {V : Type 0} (held : ByName V) (left rest : List (FileName × V)) (e : FileName × V) → left ≡ e ∷ rest → IsLeft held left → ¬ HasRow rows folder e.0 → FindsFirst by_name (HasRowIfKey held) (Some e.0)
+  first_is_found held left rest e is all has_none = first_found held e rest (subst (IsLeft held) is all) has_none
+
+  pub none_is_found : {V : Type 0} (held : ByName V) (left : List (FileName × V)) → left ≡ [] → IsLeft held left → FindsFirst by_name (HasRowIfKey held) None
+  none_is_found held left is all = (subst (IsLeft held) is all).finds None (ends by_name HasRowIfHere)
+
+  -- ---- what a device recorded or holds, and what several do
+
+  pub least_of_two : (share : Share) (recorded stored found : Option FileName) → FindsFirst by_name (HasRowIfKey share.own) recorded → FindsFirst by_name (HasRowIfKey share.store) stored → found ≡ lesser by_name recorded stored → FindsFirst by_name (λ name. HasName share name → HasRow rows folder name) found
+  least_of_two share recorded stored found first second is =
+      subst (FindsFirst by_name (λ name. HasName share name → HasRow rows folder name)) (sym is)
+      (finds_as by_name
+      (λ name. HasRowIfKey share.own name × HasRowIfKey share.store name)
+      (λ name. HasName share name → HasRow rows folder name)
+      (λ name both has. ⊎_elim both.0 both.1 has)
+      (λ name each. (λ own. each (inl own), λ store. each (inr store)))
+      (lesser by_name recorded stored)
+      (lesser_finds by_name nat_list_cmp_total (HasRowIfKey share.own) (HasRowIfKey share.store) recorded stored first second))
+
+  pub none_of_none : FindsFirst by_name (HasRowIfHeld rows folder []) None
+  none_of_none name share member = absurd (not_in_none share member)
+
+  pub more_shares : (done : List Share) (share : Share) (so_far more found : Option FileName) → FindsFirst by_name (HasRowIfHeld rows folder done) so_far → FindsFirst by_name (λ name. HasName share name → HasRow rows folder name) more → found ≡ lesser by_name so_far more → FindsFirst by_name (HasRowIfHeld rows folder (done ++ share ∷ [])) found
+  more_shares done share so_far more found first second is =
+      subst (FindsFirst by_name (HasRowIfHeld rows folder (done ++ share ∷ []))) (sym is)
+      (finds_as by_name
+      (λ name. HasRowIfHeld rows folder done name × (HasName share name → HasRow rows folder name))
+      (HasRowIfHeld rows folder (done ++ share ∷ []))
+      (λ name both other member has.
+      ⊎_elim
+      (λ before. both.0 other before has)
+      (λ same. both.1 (subst (λ s. HasName s name) (sym same) has))
+      (Contains-push_cases done share other member))
+      (λ name each. (λ other member. each other (Contains-append_left done (share ∷ []) other member), each share (Contains-push done share)))
+      (lesser by_name so_far more)
+      (lesser_finds by_name nat_list_cmp_total (HasRowIfHeld rows folder done) (λ name. HasName share name → HasRow rows folder name) so_far more first second))

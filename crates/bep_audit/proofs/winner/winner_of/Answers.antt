@@ -1,0 +1,30 @@
+use Rattle.std.proofs.Common.{◌≤◌, ℕ, List, IfNone, IfSome, length, sym, subst}
+use Rattle.bep_choice.specs.Choice.{Candidate, candidate_of, IsChoice}
+use Rattle.bep_cut.specs.Cut.{AreShares}
+use Rattle.bep_cut.specs.declared.limits.TheConstants.{MAX_DEVICES}
+use Rattle.bep_cut.specs.declared.share.Share.{Share}
+use Rattle.bep_audit.proofs.WinnerSaid.{are_shares, few_shares, winner_said}
+use Rattle.bep_audit.proofs.winner.winner_of.Goals as goal
+
+pub winner_among-requires : goal.winner_among-requires
+winner_among-requires c =
+    let laws = c.cut_says.ensures in
+    let cut = c.args.cut.now in
+    let folder = c.args.folder.now in
+    let value = sym c.shares.ensures.value in
+    record {
+      few = subst (λ (shares : List Share). length shares ≤ MAX_DEVICES) value (few_shares laws.found laws.has_folder cut c.shares.ensures.a_cut folder);
+      rise = (subst AreShares value (are_shares laws.found laws.has_folder cut c.shares.ensures.a_cut folder)).rise;
+    }
+
+pub returns-clause-wins : goal.returns-clause-wins
+returns-clause-wins c =
+    subst (λ (by : ℕ × List Candidate). IfSome c.winner_among.result (λ one. IsChoice by.0 by.1 (candidate_of one)))
+    (winner_said c.cut_says.ensures.own c.args.cut.now c.args.folder.now c.args.name.now c.shares.result.now c.shares.ensures.a_cut c.shares.ensures.value)
+    c.winner_among.ensures.wins
+
+pub returns-clause-none : goal.returns-clause-none
+returns-clause-none c =
+    subst (λ (by : ℕ × List Candidate). IfNone c.winner_among.result ((one : Candidate) → ¬ IsChoice by.0 by.1 one))
+    (winner_said c.cut_says.ensures.own c.args.cut.now c.args.folder.now c.args.name.now c.shares.result.now c.shares.ensures.a_cut c.shares.ensures.value)
+    c.winner_among.ensures.none

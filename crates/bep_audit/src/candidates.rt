@@ -1,0 +1,107 @@
+//! The winner of a name among the own records of the devices that share its folder.
+ghost use Rattle.std.specs.Prelude.{◌≡◌, ◌≤◌, ◌↔◌, [], length, map, take, IsNone, IfSome, IfNone, MatchOption};
+ghost use Rattle.std.specs.List.Sorted.{IsStrictlyIncreasing};
+ghost use Rattle.std.specs.Option.{option_copied};
+ghost use Rattle.bep_choice.specs.Choice.{Candidate, candidate_of, candidates_of, IsChoice};
+ghost use Rattle.bep_cut.specs.Cut.{devices_of};
+ghost use Rattle.bep_cut.specs.declared.limits.TheConstants.{MAX_DEVICES};
+ghost use Rattle.bep_audit.specs.Candidates.{owned_in, chooser_of};
+
+use bep_choice::choose;
+use bep_cut::{MAX_DEVICES, Share};
+use bep_record::{DeviceId, Name, Record};
+use std::array;
+
+// The device and the record that win the name among these shares.
+pub(crate) fn winner_among<'a>(shares: &'a [Share], name: &Name) -> Option<(DeviceId, &'a Record)>
+    requires few { length shares.now ≤ MAX_DEVICES }
+    requires rise { IsStrictlyIncreasing (devices_of shares.now) }
+    ensures wins { IfSome result (λ one. IsChoice (chooser_of shares.now) (owned_in name.now shares.now) (candidate_of one)) }
+    ensures none { IfNone result ((one : Candidate) → ¬ IsChoice (chooser_of shares.now) (owned_in name.now shares.now) one) }
+{
+    match (first_device(shares), first_own(shares, name)) {
+        (Some(chooser), Some(own)) => {
+            let mut found: [_; MAX_DEVICES] = array::from_fn(|_| (chooser, own));
+            winner_within(&mut found, chooser, shares, name)
+        }
+        _ => None,
+    }
+}
+
+// The first of the devices, which choose.
+fn first_device(shares: &[Share]) -> Option<DeviceId>
+    requires { IsStrictlyIncreasing (devices_of shares.now) }
+    ensures { MatchOption result (shares.now ≡ []) (λ device. device ≡ chooser_of shares.now) }
+{
+    match shares {
+        [] => None,
+        [first, ..] => Some(first.device),
+    }
+}
+
+// The winner, with room for the candidates.
+fn winner_within<'a>(
+    found: &mut [(DeviceId, &'a Record)],
+    chooser: DeviceId,
+    shares: &'a [Share],
+    name: &Name,
+) -> Option<(DeviceId, &'a Record)>
+    requires room { length shares.now ≤ length found.old }
+    requires rise { IsStrictlyIncreasing (devices_of shares.now) }
+    ensures wins { IfSome result (λ one. IsChoice chooser (owned_in name.now shares.now) (candidate_of one)) }
+    ensures none { IfNone result ((one : Candidate) → ¬ IsChoice chooser (owned_in name.now shares.now) one) }
+{
+    let count = gather(found, shares, name);
+    chosen(chooser, &found[..count])
+}
+
+// The choice of the candidates, whose devices rise.
+fn chosen<'a>(
+    chooser: DeviceId,
+    candidates: &[(DeviceId, &'a Record)],
+) -> Option<(DeviceId, &'a Record)>
+    requires { IsStrictlyIncreasing (map (λ one. one.0) candidates.now) }
+    ensures wins { IfSome result (λ one. IsChoice chooser (candidates_of candidates.now) (candidate_of one)) }
+    ensures none { IfNone result ((one : Candidate) → ¬ IsChoice chooser (candidates_of candidates.now) one) }
+{
+    match choose(chooser, candidates) {
+        None => None,
+        Some(place) => {
+            let one = &candidates[place];
+            Some((one.0, one.1))
+        }
+    }
+}
+
+// The first of the own records of the name.
+fn first_own<'a>(shares: &'a [Share], name: &Name) -> Option<&'a Record>
+    ensures { IsNone result ↔ (owned_in name.now shares.now ≡ []) }
+{
+    for share in shares {
+        match share.own.get(name) {
+            Some(own) => return Some(own),
+            None => {}
+        }
+    }
+    None
+}
+
+// Puts the own records of the name to the front, each beside its device, and tells how many there are.
+fn gather<'a>(found: &mut [(DeviceId, &'a Record)], shares: &'a [Share], name: &Name) -> usize
+    requires { length shares.now ≤ length found.old }
+    ensures candidates { candidates_of (take result found.new) ≡ owned_in name.now shares.now }
+    ensures within { result ≤ length found.new }
+    ensures length { length found.new ≡ length found.old }
+{
+    let mut count = 0;
+    for share in shares {
+        match share.own.get(name) {
+            Some(own) => {
+                found[count] = (share.device, own);
+                count += 1;
+            }
+            None => {}
+        }
+    }
+    count
+}

@@ -1,0 +1,62 @@
+//! The checkers: whether a cut and a certificate are settled, or why not.
+ghost use Rattle.std.specs.Prelude.{◌≡◌, ◌↔◌, IfOk};
+ghost use Rattle.bep_model.specs.Calm.{IsCalm, contents_of};
+ghost use Rattle.bep_model.specs.Settled.{IsSettled};
+ghost use Rattle.bep_model.specs.Verdict.{IsVerdict};
+ghost use Rattle.bep_cut.specs.Cut.{tables_of};
+ghost use Rattle.bep_audit.specs.declared.verdict.Verdict.TheVariants.{Settled};
+ghost use Rattle.bep_audit.specs.Shown.{verdict_shown};
+
+use crate::fault::first_fault;
+use crate::{Certificate, Verdict};
+use bep_cut::Cut;
+use bep_model::{Reason, settled_is_calm, settled_is_faultless};
+use std::alloc::{AllocError, Global};
+
+/// All reasons, in the order in which they are told.
+pub const REASONS: [Reason; 12] = [
+    Reason::CertificateOrder,
+    Reason::NameMissing,
+    Reason::NameUnknown,
+    Reason::NotWinner,
+    Reason::RecordMissing,
+    Reason::RecordDiffers,
+    Reason::LocalOnly,
+    Reason::StoreDiffers,
+    Reason::StoreUnclean,
+    Reason::ViewAhead,
+    Reason::FlightAhead,
+    Reason::PullAhead,
+];
+
+/// Whether the cut and the certificate are settled; if not, the first reason that fails, at its first place.
+///
+/// Takes no memory, and believes no recorded hash of a store. Each reason is looked for by itself, in the order of the
+/// reasons.
+pub fn check_plain<'a>(cut: &'a Cut, certificate: &'a Certificate) -> Verdict<'a>
+    ensures verdict { IsVerdict (tables_of cut.now) certificate.now (verdict_shown result) }
+    ensures settled { (result ≡ Settled) ↔ IsSettled (tables_of cut.now) certificate.now }
+    ensures calm { result ≡ Settled → IsCalm (tables_of cut.now) (contents_of certificate.now) }
+{
+    settled_is_faultless();
+    settled_is_calm();
+    for reason in REASONS {
+        if let Some(spot) = first_fault(cut, certificate.rows(), reason) {
+            return Verdict::at(reason, spot);
+        }
+    }
+    Verdict::Settled
+}
+
+/// What `check_plain` answers, or want of memory.
+pub fn check<'a>(
+    _alloc: Global,
+    cut: &'a Cut,
+    certificate: &'a Certificate,
+) -> Result<Verdict<'a>, AllocError>
+    ensures verdict { IfOk result (λ verdict. IsVerdict (tables_of cut.now) certificate.now (verdict_shown verdict)) }
+    ensures settled { IfOk result (λ verdict. (verdict ≡ Settled) ↔ IsSettled (tables_of cut.now) certificate.now) }
+    ensures calm { IfOk result (λ verdict. verdict ≡ Settled → IsCalm (tables_of cut.now) (contents_of certificate.now)) }
+{
+    Ok(check_plain(cut, certificate))
+}
