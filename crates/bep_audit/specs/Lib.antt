@@ -1,3 +1,4 @@
 pub mod Candidates
+pub mod Certifier
 pub mod Share
 pub mod Shown
