@@ -1,10 +1,13 @@
 -- What a search by a key finds in a list whose keys rise.
-use Rattle.std.proofs.Common.{◌≡◌, Bool, true, false, cond, List, [], ◌∷◌, map, Option, Some, None, Contains, refl, ap, subst, ◌∙◌, ⊎_elim}
+use Rattle.std.proofs.Common.{◌≡◌, Bool, true, false, cond, List, [], ◌∷◌, map, Option, Some, None, Contains, refl, sym, ap, subst, ◌∙◌, ⊎_elim, ◌⊎◌, ◌||◌, inl, inr, get_or, All}
 use Rattle.std.specs.declared.cmp.Ordering.{Ordering}
 use Rattle.std.specs.declared.cmp.Ordering.TheVariants.{Less}
-use Rattle.std.specs.Ordering.{is_eq}
+use Rattle.std.specs.Ordering.{is_eq, eq_by_cmp}
+use Rattle.std.specs.FinMap.{IsAntisymmetric}
+use Rattle.bep_model.proofs.Keys.{Equal_from_is_eq}
+use Rattle.std.proofs.lemmas.List.Elements.{Contains-get_or}
 use Rattle.std.specs.Cmp.{IsTotalOrder}
-use Rattle.std.specs.List.{find, AllByRecursion}
+use Rattle.std.specs.List.{find, list_any, AllByRecursion}
 use Rattle.std.specs.List.Sorted.{IsStrictlySortedBy}
 use Rattle.std.proofs.lemmas.Cmp.{tied_itself}
 use Rattle.std.proofs.lemmas.Map.Keys.{sorted_head, sorted_tail}
@@ -56,3 +59,32 @@ Contains-from_image f (x ∷ xs) y h =
     (λ same. (x, Contains-first x xs, same))
     (λ more. let found = Contains-from_image f xs y more in (found.0, Contains-more x xs found.0 found.1, found.2))
     (Contains-cons_cases (f x) (map f xs) y h)
+
+-- an element ties with some element
+pub any_tied : {K : Type 0} {R : K → K → Ordering} (o : IsTotalOrder R) (key : K) (keys : List K) → Contains keys key → list_any (eq_by_cmp R key) keys ≡ true
+any_tied o key [] h = absurd (not_in_none key h)
+any_tied {K = K} {R = R} o key (first ∷ more) h = cases (eq_by_cmp R key first) refl (any_tied o key more) (Contains-cons_cases first more key h) where
+  cases : (b : Bool) → eq_by_cmp R key first ≡ b → (Contains more key → list_any (eq_by_cmp R key) more ≡ true) → (first ≡ key) ⊎ Contains more key → (b || list_any (eq_by_cmp R key) more) ≡ true
+  cases true e later either = refl
+  cases false e later (inl same) = let tied = ap is_eq (tied_itself o key) in let f = ap (λ (other : K). eq_by_cmp R key other) same in absurd (cc)
+  cases false e later (inr there) = later there
+
+-- what ties with an element is one, where only equal keys tie
+pub one_tied : {K : Type 0} {R : K → K → Ordering} → IsAntisymmetric R → (key : K) (keys : List K) → list_any (eq_by_cmp R key) keys ≡ true → Contains keys key
+one_tied exact key [] h = absurd (cc)
+one_tied {R = R} exact key (first ∷ more) h = cases (eq_by_cmp R key first) refl (one_tied exact key more) h where
+  cases : (b : Bool) → eq_by_cmp R key first ≡ b → (list_any (eq_by_cmp R key) more ≡ true → Contains more key) → (b || list_any (eq_by_cmp R key) more) ≡ true → Contains (first ∷ more) key
+  cases true e later h = subst (Contains (first ∷ more)) (sym (exact key first (Equal_from_is_eq _ e))) (Contains-first first more)
+  cases false e later h = Contains-more first more key (later h)
+
+-- what holds of all is what holds of each element
+pub all_from_each : {X : Type 0} (P : X → Type 0) (xs : List X) → ((x : X) → Contains xs x → P x) → All P xs
+all_from_each P xs each = λ k d below. each (get_or xs k d) (Contains-get_or xs k d below)
+
+pub each_from_recursion : {X : Type 0} (P : X → Type 0) (xs : List X) (x : X) → AllByRecursion P xs → Contains xs x → P x
+each_from_recursion P [] x all h = absurd (not_in_none x h)
+each_from_recursion P (y ∷ xs) x all h =
+    ⊎_elim
+    (λ same. subst P same all.0)
+    (λ more. each_from_recursion P xs x all.1 more)
+    (Contains-cons_cases y xs x h)

@@ -1,7 +1,6 @@
 -- The names that are known in a folder are those of its own records and stores.
-use Rattle.std.proofs.Common.{◌≡◌, ◌⊎◌, ◌↔◌, Bool, true, false, cond, ◌||◌, List, [], ◌∷◌, ◌++◌, Some, IsSome, IsTrue, is_some, Contains, refl, sym, ap, subst, ◌∙◌, inl, inr, ⊎_elim}
+use Rattle.std.proofs.Common.{◌≡◌, ◌⊎◌, ◌↔◌, Bool, true, false, cond, List, [], ◌∷◌, ◌++◌, Some, IsSome, IsTrue, is_some, Contains, refl, sym, ap, subst, ◌∙◌, inl, inr, ⊎_elim}
 use Rattle.std.specs.Prelude.{map}
-use Rattle.std.specs.List.{list_any}
 use Rattle.std.specs.Ordering.{nat_cmp, eq_by_cmp, is_eq}
 use Rattle.std.specs.Cmp.Lexicographic.{slice_cmp, nat_list_cmp_total}
 use Rattle.std.specs.FinMap.{get, contains_key, insert, empty, keys, get-empty, get-insert, contains_key-keys}
@@ -19,7 +18,7 @@ use Rattle.bep_cut.specs.declared.cut.CutParts.{CutParts}
 use Rattle.bep_cut.specs.Cut.{shares_of, tables_of}
 use Rattle.bep_cut.specs.Laws.{NamesAreKnown, CutIsFinite}
 use Rattle.bep_cut.specs.Names.{Names, with_names, with_shares, known_names}
-use Rattle.bep_cut.proofs.Found.{Contains-image}
+use Rattle.bep_cut.proofs.Found.{Contains-image, any_tied, one_tied}
 use Rattle.bep_cut.proofs.Tables.{folder_is_found, share_has_folder, sharing_is_said, own_is_said, node_is_said, nothing_is_foreign}
 
 -- the name is in the set
@@ -60,25 +59,10 @@ named names (new ∷ more) name =
     )
 
 -- a key of a map has a value
-any_tied : (name : FileName) (names : List FileName) → Contains names name → list_any (eq_by_cmp (slice_cmp nat_cmp) name) names ≡ true
-any_tied name [] h = absurd (not_in_none name h)
-any_tied name (first ∷ more) h = cases (eq_by_cmp (slice_cmp nat_cmp) name first) refl (any_tied name more) (Contains-cons_cases first more name h) where
-  cases : (b : Bool) → eq_by_cmp (slice_cmp nat_cmp) name first ≡ b → (Contains more name → list_any (eq_by_cmp (slice_cmp nat_cmp) name) more ≡ true) → (first ≡ name) ⊎ Contains more name → (b || list_any (eq_by_cmp (slice_cmp nat_cmp) name) more) ≡ true
-  cases true e later either = refl
-  cases false e later (inl same) = let tied = ap is_eq (tied_itself nat_list_cmp_total name) in let f = ap (λ other. eq_by_cmp (slice_cmp nat_cmp) name other) same in absurd (cc)
-  cases false e later (inr there) = later there
-
-one_tied : (name : FileName) (names : List FileName) → list_any (eq_by_cmp (slice_cmp nat_cmp) name) names ≡ true → Contains names name
-one_tied name [] h = absurd (cc)
-one_tied name (first ∷ more) h = cases (eq_by_cmp (slice_cmp nat_cmp) name first) refl (one_tied name more) h where
-  cases : (b : Bool) → eq_by_cmp (slice_cmp nat_cmp) name first ≡ b → (list_any (eq_by_cmp (slice_cmp nat_cmp) name) more ≡ true → Contains more name) → (b || list_any (eq_by_cmp (slice_cmp nat_cmp) name) more) ≡ true → Contains (first ∷ more) name
-  cases true e later h = subst (Contains (first ∷ more)) (sym (exact_bytes name first (Equal_from_is_eq _ e))) (Contains-first first more)
-  cases false e later h = Contains-more first more name (later h)
-
 pub key_has_value : {V : Type 0} (m : ByName V) (name : FileName) → Contains (keys m) name ↔ IsSome (get m name)
 key_has_value m name = (
-  λ h. contains_key-keys m name ∙ any_tied name (keys m) h,
-  λ h. one_tied name (keys m) (sym (contains_key-keys m name) ∙ h),
+  λ h. contains_key-keys m name ∙ any_tied nat_list_cmp_total name (keys m) h,
+  λ h. one_tied exact_bytes name (keys m) (sym (contains_key-keys m name) ∙ h),
 )
 
 -- a device recorded or holds something at the name

@@ -1,3 +1,6 @@
 mod Found
 mod Tables
 mod Known
+mod SortingFacts
+mod WrittenFacts
+mod AsWrittenFacts

@@ -39,6 +39,16 @@ impl Model for Cut {
 }
 
 impl Cut {
+    // The cut of these folders.
+    pub(crate) fn of(folders: Items<SharedFolder>) -> Self
+        requires { IsCut (record { folders = folders }) }
+        ensures { result ≡ record { folders = folders } }
+    {
+        Cut {
+            parts: CutParts { folders },
+        }
+    }
+
     /// The folders, names rising, each with the devices that share it.
     pub fn folders(&self) -> &[SharedFolder]
         ensures value { result.now ≡ self.now.folders }

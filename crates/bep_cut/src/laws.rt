@@ -1,4 +1,7 @@
 ghost use Rattle.bep_cut.specs.Laws.{FolderIsFound, ShareHasFolder, SharingIsSaid, OwnIsSaid, NodeIsSaid, NothingIsForeign, NamesAreKnown, CutIsFinite};
+ghost use Rattle.bep_cut.specs.AsWritten.{SharingIsAsWritten, OwnIsAsWritten, NodeIsAsWritten};
+
+use bep_index::records_make_an_index;
 
 /// The tables of a cut are what its folders and devices have.
 pub fn cut_says()
@@ -15,3 +18,13 @@ pub fn names_are_known()
     ensures known { NamesAreKnown }
     ensures finite { CutIsFinite }
 {}
+
+/// The cut that a document without faults writes down says what the document lists: who shares what, and each device's
+/// own records and nodes.
+pub fn cut_is_as_written()
+    ensures sharing { SharingIsAsWritten }
+    ensures own { OwnIsAsWritten }
+    ensures node { NodeIsAsWritten }
+{
+    records_make_an_index();
+}

@@ -42,7 +42,7 @@ at_most : (b : Bool) (n k : ℕ) → n ≤ k → cond b 0 1 + n ≤ suc k
 at_most true n k h = omega arith
 at_most false n k h = omega arith
 
-new_names_le : (m : ByName Entry) (es : List Entry) → new_names m es ≤ length es
+pub new_names_le : (m : ByName Entry) (es : List Entry) → new_names m es ≤ length es
 new_names_le m [] = omega arith
 new_names_le m (e ∷ es) = at_most (contains_key m e.name) (new_names m es) (length es) (new_names_le m es)
 

@@ -3,3 +3,4 @@ pub mod IndexFacts
 pub mod BatchFacts
 pub mod AfterFacts
 pub mod LawFacts
+mod MadeFacts

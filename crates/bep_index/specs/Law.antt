@@ -1,12 +1,13 @@
 -- What a receiver has that takes a sender's batches in order and without a gap (BEP v1, 'Index' and 'Index Update').
-use Rattle.std.specs.Prelude.{◌≡◌, ℕ, nat_le, List, [], ◌∷◌, Option, Some, None, if◌then◌else◌}
-use Rattle.std.specs.FinMap.{get}
+use Rattle.std.specs.Prelude.{◌≡◌, ◌↔◌, ℕ, ◌≤◌, nat_le, List, [], ◌∷◌, length, Option, Some, None, if◌then◌else◌}
+use Rattle.std.specs.FinMap.{empty, get}
 use Rattle.bep_record.specs.declared.entry.Entry.{Entry}
 use Rattle.bep_index.specs.Listing.{Listing}
 use Rattle.bep_index.specs.Index.{IsIndex}
-use Rattle.bep_index.specs.Batch.{last_sequence}
-use Rattle.bep_index.specs.After.{IsRun}
+use Rattle.bep_index.specs.Batch.{NamesDiffer, last_sequence, with_all}
+use Rattle.bep_index.specs.After.{IsAmong, IsRun}
 use Rattle.bep_index.specs.View.{replaced, amended}
+use Rattle.bep_index.specs.declared.limits.TheConstants.{MAX_NAMES, MAX_SEQUENCE}
 
 -- each batch begins where the one before ended, and leaves none of the index's records out
 abbrev pub FollowInOrder : Listing → ℕ → List (List Entry) → Type 0
@@ -39,3 +40,21 @@ BatchesBringTheIndex =
 abbrev pub SamePointSameIndex : Type 0
 SamePointSameIndex =
     (index view : Listing) → IsIndex index → HoldsUpTo index view → view.id ≡ index.id → view.sequence ≡ index.sequence → view ≡ index
+
+-- each of these has a number from 1 to the greatest, and no two have the same one
+pub record HaveIndexNumbers (greatest : ℕ) (entries : List Entry) : Type 0 where
+  pub within : (entry : Entry) → IsAmong entry entries → (1 ≤ entry.sequence) × (entry.sequence ≤ greatest)
+  pub different : (one other : Entry) → IsAmong one entries → IsAmong other entries → one.sequence ≡ other.sequence → one ≡ other
+
+-- records of different names with such numbers, each at its name, are those of an index
+abbrev pub RecordsMakeAnIndex : Type 0
+RecordsMakeAnIndex =
+    (id greatest : ℕ) (entries : List Entry) → greatest ≤ MAX_SEQUENCE → length entries ≤ MAX_NAMES → NamesDiffer entries →
+    HaveIndexNumbers greatest entries →
+    IsIndex (record { id = id; sequence = greatest; records = with_all empty entries })
+
+-- the record at a name is the one of these that has the name
+abbrev pub RecordsAreFound : Type 0
+RecordsAreFound =
+    (entries : List Entry) (name : List ℕ) (entry : Entry) → NamesDiffer entries →
+    (get (with_all empty entries) name ≡ Some entry) ↔ (IsAmong entry entries × (entry.name ≡ name))

@@ -22,7 +22,7 @@ pub use batch::Batch;
 pub use error::IndexError;
 pub use id::IndexId;
 pub use index::Index;
-pub use law::batches_bring_the_index;
+pub use law::{batches_bring_the_index, records_make_an_index};
 pub use limits::{MAX_NAMES, MAX_RECORDS, MAX_SEQUENCE};
 pub use receiver::plan;
 pub use send::Plan;

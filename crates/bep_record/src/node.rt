@@ -35,6 +35,15 @@ impl NodeParts {
         })
     }
 
+    /// Whether the parts make a node.
+    pub fn is_node(&self) -> bool
+        ensures { IsTrue result ↔ IsNode self.now }
+    {
+        self.bytes.as_slice().len() as u64 <= MAX_FILE_SIZE
+            && self.modified_ns <= MAX_NANOSECONDS
+            && self.fits_kind()
+    }
+
     // Whether bytes and target stand only where the kind has them.
     fn fits_kind(&self) -> bool
         ensures { IsTrue result ↔ FitsKind self.now.kind self.now }
@@ -78,7 +87,7 @@ impl Node {
         if parts.bytes.as_slice().len() as u64 > MAX_FILE_SIZE {
             return Err(RecordError::FileTooLarge);
         }
-        if parts.modified_ns > MAX_NANOSECONDS || !parts.fits_kind() {
+        if !parts.is_node() {
             return Err(RecordError::NodeBad);
         }
         Ok(Node { parts })

@@ -1,0 +1,38 @@
+//! The reading of check documents.
+ghost use Rattle.std.specs.Prelude.{◌≡◌, IfOk, map};
+ghost use Rattle.bep_document.specs.Faultless.{IsFaultless};
+ghost use Rattle.bep_document.specs.Reading.{AnswersBy};
+ghost use Rattle.bep_cut.specs.Written.{cut_written, row_written, check_of};
+
+use crate::written::{folders_written, rows_written};
+use crate::{Cut, DocError};
+use bep_document::{CheckParts, read_parts, readings_are_faultless};
+use bep_index::records_make_an_index;
+use bep_model::Row;
+use std::alloc::{AllocError, Global};
+
+/// The cut and the certificate's rows that the bytes of a check document say, or the one fault for which the document is
+/// refused: the smallest number that applies, at its first place. `Memory` may come in place of any answer.
+pub fn read_check(alloc: Global, bytes: &[u8]) -> Result<(Cut, Vec<Row>), DocError>
+    ensures { AnswersBy (λ read. (read.0, read.1.items)) result (check_of bytes.now) }
+{
+    readings_are_faultless();
+    match read_parts(alloc, bytes) {
+        Ok(parts) => match check_written(alloc, parts) {
+            Ok(read) => Ok(read),
+            Err(_) => Err(DocError::Memory),
+        },
+        Err(error) => Err(error),
+    }
+}
+
+// The cut and the rows that parts without faults write down.
+fn check_written(alloc: Global, parts: CheckParts) -> Result<(Cut, Vec<Row>), AllocError>
+    requires { IsFaultless parts }
+    ensures { IfOk result (λ read. (read.0 ≡ cut_written parts.folders) × (read.1.items ≡ map row_written parts.certificate)) }
+{
+    records_make_an_index();
+    let folders = folders_written(alloc, parts.folders)?;
+    let rows = rows_written(alloc, parts.certificate)?;
+    Ok((Cut::of(folders), rows))
+}

@@ -1,0 +1,12 @@
+pub mod FewFacts
+pub mod PlacesFacts
+pub mod SeenFacts
+pub mod RecordTests
+pub mod TreeFacts
+pub mod DevicesFacts
+pub mod NoFault
+pub mod Steps
+pub mod ReadFacts
+pub mod DevicesKnown
+pub mod FaultlessFacts
+pub mod ReadFaultless

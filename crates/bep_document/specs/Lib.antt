@@ -1,0 +1,12 @@
+pub mod Fault
+pub mod Few
+pub mod Shares
+pub mod Folders
+pub mod Devices
+pub mod Checks
+pub mod Places
+pub mod Twice
+pub mod Records
+pub mod Sequences
+pub mod Reading
+pub mod Faultless

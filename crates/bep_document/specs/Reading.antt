@@ -1,0 +1,92 @@
+-- The reading of a check document: what its bytes say, or the one fault for which it is refused. The smallest number
+-- that applies is told, at its first place (this project's profile).
+use Rattle.std.specs.Prelude.{◌≡◌, ℕ, nat_le, Bool, ⊤, List, [], length, Option, Some, None, Result, Ok, Err, if◌then◌else◌}
+use Rattle.std.specs.Str.{is_utf8}
+use Rattle.serde_json.specs.Data.{Data}
+use Rattle.serde_json.specs.Read as json
+use Rattle.bep_document.specs.declared.error.DocError.{DocError}
+use Rattle.bep_document.specs.declared.error.DocError.TheVariants as errors
+use Rattle.bep_document.specs.declared.fault.DocFault.{DocFault}
+use Rattle.bep_document.specs.declared.fault.Fault.{Fault}
+use Rattle.bep_document.specs.declared.fault.Fault.TheVariants.{NotJson, VersionBad, Shape, Range}
+use Rattle.bep_document.specs.declared.parts.CheckParts.{CheckParts}
+use Rattle.bep_document.specs.Fault.{nowhere}
+use Rattle.bep_document.specs.Places.{◌else_at◌, first_in}
+use Rattle.bep_document.specs.Twice.{twice_at_folder}
+use Rattle.bep_document.specs.Records.{first_bad}
+use Rattle.bep_document.specs.Sequences.{sequence_at_folder}
+use Rattle.bep_document.specs.Checks.{has_version, is_check, read_check}
+
+-- a thing, or the fault in place of it
+pub data Reading (T : Type 0) : Type 0 where
+  Read : T → Reading T
+  Refused : DocFault → Reading T
+
+-- the refusal is the fault, unless memory ran out
+abbrev pub IsRefusal : {T : Type 0} → DocError → Reading T → Type 0
+IsRefusal (errors.Refused fault) reading = reading ≡ Refused fault
+IsRefusal errors.Memory reading = ⊤
+
+-- the answer is what was read, or the fault; or memory ran out
+abbrev pub Answers : {T : Type 0} → Result T DocError → Reading T → Type 0
+Answers (Ok x) reading = reading ≡ Read x
+Answers (Err error) reading = IsRefusal error reading
+
+-- the same, where what is read is seen by a view
+abbrev pub AnswersBy : {X T : Type 0} → (X → T) → Result X DocError → Reading T → Type 0
+AnswersBy view (Ok x) reading = reading ≡ Read (view x)
+AnswersBy view (Err error) reading = IsRefusal error reading
+
+-- the second step, if the first gave a thing
+infixl 10 ◌>>=◌
+abbrev pub ◌>>=◌ : {A B : Type 0} → Reading A → (A → Reading B) → Reading B
+(Read x) >>= next = next x
+(Refused fault) >>= next = Refused fault
+
+-- the thing, if there is one; else a fault of the whole document
+abbrev pub given : {T : Type 0} → Fault → Option T → Reading T
+given fault None = Refused (nowhere fault)
+given fault (Some x) = Read x
+
+-- the thing, if it passes a test; else a fault of the whole document
+abbrev pub passed : {T : Type 0} → Fault → (T → Bool) → T → Reading T
+passed fault test x = if test x then Read x else Refused (nowhere fault)
+
+-- the thing, where there is no fault
+abbrev pub unless : {T : Type 0} → Option DocFault → T → Reading T
+unless None x = Read x
+unless (Some fault) x = Refused fault
+
+-- the most bytes of a document
+abbrev pub most_bytes : ℕ
+most_bytes = 67108864
+
+-- a document isn't too long
+abbrev pub is_short : List ℕ → Bool
+is_short bytes = nat_le (length bytes) most_bytes
+
+-- the tree of UTF-8 bytes
+abbrev pub tree_of : List ℕ → Option Data
+tree_of bytes = if is_utf8 bytes then json.read bytes else None
+
+-- the first fault that has a place: what stands twice, then what isn't well formed, then a sequence
+unfoldable pub first_fault : CheckParts → Option DocFault
+first_fault parts =
+    first_in twice_at_folder [] parts.folders
+    else_at (first_bad parts
+    else_at first_in sequence_at_folder [] parts.folders)
+
+-- what the tree of a document says
+unfoldable pub reading_of_tree : Data → Reading CheckParts
+reading_of_tree tree = do
+  known ← passed VersionBad has_version tree
+  shaped ← passed Shape is_check known
+  parts ← given Range (read_check shaped)
+  unless (first_fault parts) parts
+
+-- what the bytes of a document say
+unfoldable pub reading_of : List ℕ → Reading CheckParts
+reading_of bytes = do
+  short ← passed Range is_short bytes
+  tree ← given NotJson (tree_of short)
+  reading_of_tree tree

@@ -1,0 +1,101 @@
+ghost use Rattle.std.specs.Prelude.{◌≡◌, List};
+ghost use Rattle.serde_json.specs.View.{view};
+ghost use Rattle.bep_document.specs.Checks.{is_cut, read_cut, is_one, has_version, is_check, read_check};
+
+use crate::devices::has_few_devices;
+use crate::few::{Few, may_have_none};
+use crate::{CheckParts, FolderParts, RowParts};
+use bep_json::{ReadError, Readable, Whole, has, has_only, member};
+use bep_record::Items;
+use serde_json::Value;
+use std::alloc::Global;
+use std::marker::Model;
+
+// The folders of a cut.
+#[derive(Debug, Drop)]
+struct CutParts {
+    folders: Items<FolderParts>,
+}
+
+impl Model for CutParts {
+    ghost use Rattle.std.specs.Prelude.{List};
+    ghost use Rattle.bep_document.specs.declared.parts.FolderParts.{FolderParts};
+
+    ghost Value = { List FolderParts };
+
+    ghost view = { λ cut. cut.folders };
+}
+
+impl CutParts {
+    fn into_folders(self) -> Items<FolderParts>
+        ensures { result ≡ self }
+    {
+        self.folders
+    }
+}
+
+impl Readable for CutParts {
+    ghost has_shape = { is_cut };
+
+    ghost reads = { read_cut };
+
+    #[tactic(auto, unfolding(crate::specs::Checks::is_cut))]
+    fn has_shape(value: &Value) -> bool {
+        has_only(value, &["folders", "links"])
+            && has::<Items<FolderParts>>(value, "folders")
+            && may_have_none(value, "links")
+    }
+
+    #[tactic(auto, unfolding(crate::specs::Checks::read_cut))]
+    fn read(alloc: Global, value: &Value) -> Result<Self, ReadError> {
+        let folders = member::<Few<FolderParts, 16>>(alloc, value, "folders")?.into_items();
+        if !has_few_devices(alloc, folders.as_slice())? {
+            return Err(ReadError::Range);
+        }
+        Ok(CutParts { folders })
+    }
+}
+
+// Whether the version of the document is the whole number 1.
+pub(crate) fn has_version(value: &Value) -> bool
+    ensures { result ≡ has_version (view value.now) }
+{
+    match value.get("version") {
+        Some(version) => is_one(version),
+        None => false,
+    }
+}
+
+fn is_one(value: &Value) -> bool
+    ensures { result ≡ is_one (view value.now) }
+{
+    match value.as_u64() {
+        Some(number) => number == 1,
+        None => false,
+    }
+}
+
+// A check document.
+impl Readable for CheckParts {
+    ghost has_shape = { is_check };
+
+    ghost reads = { read_check };
+
+    #[tactic(auto, unfolding(crate::specs::Checks::is_check))]
+    fn has_shape(value: &Value) -> bool {
+        has_only(value, &["version", "cut", "certificate"])
+            && has::<Whole<1, 1>>(value, "version")
+            && has::<CutParts>(value, "cut")
+            && has::<Items<RowParts>>(value, "certificate")
+    }
+
+    #[tactic(auto, unfolding(crate::specs::Checks::read_check))]
+    fn read(alloc: Global, value: &Value) -> Result<Self, ReadError> {
+        let cut = member::<CutParts>(alloc, value, "cut")?;
+        let certificate = member::<Items<RowParts>>(alloc, value, "certificate")?;
+        Ok(CheckParts {
+            folders: cut.into_folders(),
+            certificate,
+        })
+    }
+}

@@ -1,0 +1,162 @@
+ghost use Rattle.std.specs.Prelude.{◌≡◌, IfOk};
+ghost use Rattle.bep_document.specs.Fault.{number_of, name_of, nowhere, at_folder, at_device, at_name};
+
+use bep_record::{DeviceId, FolderName, Name};
+use std::alloc::{AllocError, Global};
+
+/// Why a document is refused. Where several apply, the one with the smallest number is told.
+#[derive(Clone, Copy, Debug, PartialEq, Eq)]
+pub enum Fault {
+    /// The bytes aren't JSON, or their brackets nest too deep.
+    NotJson,
+    /// The document isn't an object, or its `version` isn't the number 1.
+    VersionBad,
+    /// A member is missing, isn't known or is of another kind.
+    Shape,
+    /// A number, text, hash or list is outside its range, or the document is too long.
+    Range,
+    /// A thing that may stand once stands twice.
+    Twice,
+    /// A folder is spoken of that isn't shared.
+    Unshared,
+    /// A record isn't well formed, or a node doesn't fit its kind.
+    RecordBad,
+    /// A sequence is 0, above the greatest, or there already.
+    SequenceBad,
+    /// A link joins no two devices in order, or is down and has messages.
+    LinkBad,
+}
+
+impl Fault {
+    /// The number that the product prints.
+    pub fn number(self) -> u32
+        ensures { result ≡ number_of self }
+    {
+        match self {
+            Fault::NotJson => 181,
+            Fault::VersionBad => 182,
+            Fault::Shape => 183,
+            Fault::Range => 184,
+            Fault::Twice => 185,
+            Fault::Unshared => 186,
+            Fault::RecordBad => 187,
+            Fault::SequenceBad => 188,
+            Fault::LinkBad => 189,
+        }
+    }
+
+    /// The name that the product prints.
+    pub fn name(self) -> &'static str
+        ensures { result.now ≡ name_of self }
+    {
+        match self {
+            Fault::NotJson => "NotJson",
+            Fault::VersionBad => "VersionBad",
+            Fault::Shape => "Shape",
+            Fault::Range => "Range",
+            Fault::Twice => "Twice",
+            Fault::Unshared => "Unshared",
+            Fault::RecordBad => "RecordBad",
+            Fault::SequenceBad => "SequenceBad",
+            Fault::LinkBad => "LinkBad",
+        }
+    }
+}
+
+/// The fault for which a document is refused, with its place as far as it has one.
+#[derive(Debug, Drop)]
+pub struct DocFault {
+    /// What the fault is.
+    pub fault: Fault,
+    /// The folder where it is.
+    pub folder: Option<FolderName>,
+    /// The device that holds it.
+    pub device: Option<DeviceId>,
+    /// The name that it is about.
+    pub name: Option<Name>,
+}
+
+impl DocFault {
+    // A fault of the whole document.
+    pub(crate) fn nowhere(fault: Fault) -> Self
+        ensures { result ≡ nowhere fault }
+    {
+        DocFault {
+            fault,
+            folder: None,
+            device: None,
+            name: None,
+        }
+    }
+
+    // A fault of a folder.
+    pub(crate) fn at_folder(
+        alloc: Global,
+        fault: Fault,
+        folder: &FolderName,
+    ) -> Result<Self, AllocError>
+        ensures { IfOk result (λ found. found ≡ at_folder fault folder.now) }
+    {
+        Ok(DocFault {
+            fault,
+            folder: Some(folder.copy(alloc)?),
+            device: None,
+            name: None,
+        })
+    }
+
+    // A fault of a device in a folder.
+    pub(crate) fn at_device(
+        alloc: Global,
+        fault: Fault,
+        folder: &FolderName,
+        device: DeviceId,
+    ) -> Result<Self, AllocError>
+        ensures { IfOk result (λ found. found ≡ at_device fault folder.now device) }
+    {
+        Ok(DocFault {
+            fault,
+            folder: Some(folder.copy(alloc)?),
+            device: Some(device),
+            name: None,
+        })
+    }
+
+    // A fault at a name that a device holds in a folder.
+    pub(crate) fn at_name(
+        alloc: Global,
+        fault: Fault,
+        folder: &FolderName,
+        device: DeviceId,
+        name: &Name,
+    ) -> Result<Self, AllocError>
+        ensures { IfOk result (λ found. found ≡ at_name fault folder.now device name.now) }
+    {
+        Ok(DocFault {
+            fault,
+            folder: Some(folder.copy(alloc)?),
+            device: Some(device),
+            name: Some(name.copy(alloc)?),
+        })
+    }
+
+    /// An equal fault of its own, or want of memory.
+    pub fn copy(&self, alloc: Global) -> Result<Self, AllocError>
+        ensures { IfOk result (λ made. made ≡ self.now) }
+    {
+        let folder = match &self.folder {
+            Some(folder) => Some(folder.copy(alloc)?),
+            None => None,
+        };
+        let name = match &self.name {
+            Some(name) => Some(name.copy(alloc)?),
+            None => None,
+        };
+        Ok(DocFault {
+            fault: self.fault,
+            folder,
+            device: self.device,
+            name,
+        })
+    }
+}

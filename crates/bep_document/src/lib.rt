@@ -1,0 +1,26 @@
+//! The check document: from bytes to plain lists of what it says, or to the one fault for which it is refused.
+//!
+//! What is read may still be no cut of a cluster that any device could have; but it has none of the faults that are
+//! told by a number, and a law says what follows from that.
+#![tactic(auto)]
+
+mod check;
+mod devices;
+mod error;
+mod fault;
+mod few;
+mod folders;
+mod judge;
+mod laws;
+mod parts;
+mod read;
+mod records;
+mod sequences;
+mod shares;
+mod twice;
+
+pub use error::DocError;
+pub use fault::{DocFault, Fault};
+pub use laws::readings_are_faultless;
+pub use parts::{CheckParts, FolderParts, RowParts, ShareParts};
+pub use read::{MAX_BYTES, read_parts};
