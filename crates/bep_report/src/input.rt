@@ -1,7 +1,7 @@
 //! Reading a document.
-ghost use Rattle.std.specs.Prelude.{◌≡◌, ◌⊎◌, ◌++◌, ◌<◌, ◌≤◌, IfOk, IfErr, IfSome, length, take};
+ghost use Rattle.std.specs.Prelude.{◌≡◌, ◌⊎◌, ◌++◌, ◌<◌, ◌≤◌, IfOk, IfErr, length, take};
 ghost use Rattle.std.specs.Io.KnownBytes.{Consumes, IsAtEnd};
-ghost use Rattle.bep_report.specs.Input.{most_read};
+ghost use Rattle.bep_report.specs.Input.{IsRead, IsReadUpTo};
 
 use crate::ReportError;
 use std::alloc::{AllocError, Global};
@@ -47,11 +47,7 @@ pub(crate) fn read_up_to<R: Read>(
     reader: &mut R,
     most: usize,
 ) -> Result<Vec<u8>, ReportError>
-    ensures first { IfOk result (λ bytes. IfSome (R.remaining reader.old) (λ all. bytes.items ≡ take most all)) }
-    ensures taken { IfOk result (λ bytes. Consumes (R.remaining reader.old) (R.remaining reader.new) bytes.items) }
-    ensures whole { IfOk result (λ bytes. length bytes.items < most → IsAtEnd (R.remaining reader.new)) }
-    ensures bound { IfOk result (λ bytes. length bytes.items ≤ most) }
-
+    ensures read { IfOk result (λ bytes. IsReadUpTo most (R.remaining reader.old) (R.remaining reader.new) bytes.items) }
     ensures only { IfErr result (λ e. (e ≡ ReportError.Read) ⊎ (e ≡ ReportError.Memory)) }
 {
     let mut bytes = Vec::new(alloc);
@@ -72,11 +68,7 @@ pub(crate) fn read_up_to<R: Read>(
 /// in place of the bytes.
 #[tactic(auto, unfolding(crate::specs::Input::most_read))]
 pub fn read_document<R: Read>(alloc: Global, reader: &mut R) -> Result<Vec<u8>, ReportError>
-    ensures first { IfOk result (λ bytes. IfSome (R.remaining reader.old) (λ all. bytes.items ≡ take most_read all)) }
-    ensures taken { IfOk result (λ bytes. Consumes (R.remaining reader.old) (R.remaining reader.new) bytes.items) }
-    ensures whole { IfOk result (λ bytes. length bytes.items < most_read → IsAtEnd (R.remaining reader.new)) }
-    ensures bound { IfOk result (λ bytes. length bytes.items ≤ most_read) }
-
+    ensures read { IfOk result (λ bytes. IsRead (R.remaining reader.old) (R.remaining reader.new) bytes.items) }
     ensures only { IfErr result (λ e. (e ≡ ReportError.Read) ⊎ (e ≡ ReportError.Memory)) }
 {
     read_up_to(alloc, reader, MOST_READ)

@@ -1,18 +1,20 @@
 //! `syncaudit`: says whether a Syncthing cluster is settled, and why not.
 #![tactic(auto)]
 
+mod check;
 mod mode;
 mod outcome;
 #[cfg(test)]
 mod tests;
 
+use crate::check::check_text;
 use crate::mode::{Mode, mode_of};
 use crate::outcome::{Outcome, status_of};
 use bep_report::ReportError;
 use clap::error::ErrorKind;
 use std::env::{self, Env};
 use std::fmt::Display;
-use std::io;
+use std::io::{self, Read, Write};
 use std::process::ExitCode;
 
 // The exit status for words that aren't understood, and for help.
@@ -20,7 +22,7 @@ const USAGE: u8 = 3;
 
 fn main(rt: HostRuntime) -> ExitCode {
     let status = match words_of(&rt) {
-        Ok(words) => run(&rt, words.as_slice()),
+        Ok(words) => run(&rt, rt.stdin(), rt.stdout(), words.as_slice()),
         Err(error) if error.kind() == io::ErrorKind::OutOfMemory => {
             end(&rt, Err(ReportError::Memory))
         }
@@ -31,14 +33,18 @@ fn main(rt: HostRuntime) -> ExitCode {
 
 // The words of the command line, the program's name first.
 fn words_of<R: Env + AllocGlobal>(rt: &R) -> io::Result<Vec<String>> {
-    let words = env::args(rt)?.collect(rt.alloc())?;
-    Ok(words)
+    Ok(env::args(rt)?.collect(rt.alloc())?)
 }
 
 // Does what the words ask for, and answers the exit status.
-fn run<R: AllocGlobal + Eprint>(rt: &R, words: &[String]) -> u8 {
+fn run<P: AllocGlobal + Eprint, R: Read + Drop, W: Write + Drop>(
+    rt: &P,
+    mut reader: R,
+    mut writer: W,
+    words: &[String],
+) -> u8 {
     match mode_of(rt.alloc(), words) {
-        Ok(Mode::Check) => end(rt, Ok(Outcome::Refused)),
+        Ok(Mode::Check) => end(rt, check_text(rt.alloc(), &mut reader, &mut writer)),
         Err(error) if error.kind() == ErrorKind::OutOfMemory => end(rt, Err(ReportError::Memory)),
         Err(error) => refuse(rt, error),
     }
