@@ -2,3 +2,4 @@ pub mod Input
 pub mod Lines
 pub mod Output
 pub mod Text
+pub mod Report

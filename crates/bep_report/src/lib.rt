@@ -7,6 +7,7 @@ mod error;
 mod input;
 mod lines;
 mod output;
+mod report;
 #[cfg(test)]
 mod tests;
 mod text;
@@ -16,5 +17,6 @@ pub use error::ReportError;
 pub use input::read_document;
 pub use lines::{push_folder, push_not_settled, push_refused, push_settled};
 pub use output::write_all;
+pub use report::push_report;
 pub use text::push_printed;
 pub use words::word_of;
