@@ -2,6 +2,8 @@
 // worked out by hand.
 ghost use Rattle.std.specs.Prelude.{◌≡◌, IfOk};
 
+mod checks;
+
 use crate::*;
 use bep_model::{Reason, Row};
 use bep_record::{
