@@ -3,6 +3,7 @@
 ghost use Rattle.std.specs.Prelude.{◌≡◌, IfOk};
 
 mod certifier;
+mod checks;
 mod cuts;
 
 use crate::*;
