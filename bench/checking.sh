@@ -1,0 +1,51 @@
+#!/usr/bin/env bash
+# Measures 'syncaudit check' on a settled document near the limits, beside a Rust program that parses the same bytes with
+# Rust's own serde_json (Debian's package librust-serde-json-dev) and does nothing else: seconds of the whole process
+# (the best of RUNS runs each) and peak memory.
+set -euo pipefail
+runs=${1:-3}
+top=$(cd "$(dirname "$0")/.." && pwd)
+registry=/usr/share/cargo/registry
+if ! ls -d "$registry"/serde_json-* > /dev/null 2>&1; then
+  echo "checking.sh: apt-get install librust-serde-json-dev first" >&2
+  exit 1
+fi
+work=$(mktemp -d)
+trap 'rm -rf "$work"' EXIT
+
+# The first call builds the program, if it isn't built.
+"$top/syncaudit" check < "$top/examples/one-equal-file.json" > /dev/null
+. "$top/bench/measure.sh"
+
+mkdir -p "$work/serde/src" "$work/serde/.cargo"
+cat > "$work/serde/.cargo/config.toml" <<CONFIG
+[source.crates-io]
+replace-with = "debian"
+[source.debian]
+directory = "$registry"
+CONFIG
+cat > "$work/serde/Cargo.toml" <<'MANIFEST'
+[package]
+name = "parse"
+version = "0.0.0"
+edition = "2021"
+[dependencies]
+serde_json = "1"
+MANIFEST
+cat > "$work/serde/src/main.rs" <<'PROGRAM'
+use std::io::Read;
+
+fn main() {
+    let mut bytes = Vec::new();
+    std::io::stdin().read_to_end(&mut bytes).unwrap();
+    let tree: serde_json::Value = serde_json::from_slice(&bytes).unwrap();
+    println!("{}", tree.is_object());
+}
+PROGRAM
+(cd "$work/serde" && cargo build --release --offline > "$work/log" 2>&1) || { cat "$work/log"; exit 1; }
+
+measure serde_json "$work/serde/target/release/parse"
+measure check "$top/crates/syncaudit/out/syncaudit" check
+grep -qx true "$work/serde_json.out"
+grep -qx settled "$work/check.out"
+compare serde_json check
