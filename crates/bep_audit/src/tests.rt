@@ -2,7 +2,9 @@
 // worked out by hand.
 ghost use Rattle.std.specs.Prelude.{◌≡◌, IfOk};
 
+mod certifier;
 mod checks;
+mod cuts;
 
 use crate::*;
 use bep_model::{Reason, Row};

@@ -17,6 +17,8 @@ mod read;
 mod records;
 mod sequences;
 mod shares;
+#[cfg(test)]
+mod tests;
 mod twice;
 
 pub use error::DocError;

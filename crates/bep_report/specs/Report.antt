@@ -1,0 +1,33 @@
+-- The report on a cut: its verdict, and a line for each folder (this project's profile).
+use Rattle.std.specs.Prelude.{ℕ, ◌+◌, ◌++◌, Bool, if◌then◌else◌, List, [], ◌∷◌, length}
+use Rattle.std.specs.List.{list_any}
+use Rattle.std.specs.FinMap.{contains_key, keys, len}
+use Rattle.bep_model.specs.Tables.{FileName}
+use Rattle.bep_model.specs.Verdict.{Verdict}
+use Rattle.bep_cut.specs.declared.share.Share.{Share}
+use Rattle.bep_cut.specs.declared.share.SharedFolder.{SharedFolder}
+use Rattle.bep_cut.specs.Names.{known_names}
+use Rattle.bep_report.specs.Lines.{verdict_line, folder_line}
+
+-- some device's store holds the name
+abbrev pub is_stored : List Share → FileName → Bool
+is_stored shares name = list_any (λ share. contains_key share.store name) shares
+
+-- how many of these names no store holds
+abbrev pub count_deleted : List Share → List FileName → ℕ
+count_deleted shares [] = 0
+count_deleted shares (name ∷ more) = (if is_stored shares name then 0 else 1) + count_deleted shares more
+
+-- the line of a folder
+unfoldable pub folder_text : SharedFolder → List ℕ
+folder_text held =
+    folder_line held.folder (len (known_names held.shares)) (count_deleted held.shares (keys (known_names held.shares))) (length held.shares)
+
+-- the lines of these folders
+abbrev pub folders_text : List SharedFolder → List ℕ
+folders_text [] = []
+folders_text (held ∷ more) = folder_text held ++ folders_text more
+
+-- the report: the verdict, then the folders
+abbrev pub report_text : List SharedFolder → Verdict → List ℕ
+report_text folders verdict = verdict_line verdict ++ folders_text folders

@@ -1,0 +1,22 @@
+//! The lines of the report, and the bytes that come in and go out.
+//!
+//! A text is made in memory and then written, so that no line stands half printed where memory runs out.
+#![tactic(auto)]
+
+mod error;
+mod input;
+mod lines;
+mod output;
+mod report;
+#[cfg(test)]
+mod tests;
+mod text;
+mod words;
+
+pub use error::ReportError;
+pub use input::read_document;
+pub use lines::{push_folder, push_not_settled, push_refused, push_settled};
+pub use output::write_all;
+pub use report::push_report;
+pub use text::push_printed;
+pub use words::word_of;

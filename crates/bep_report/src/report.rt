@@ -1,0 +1,83 @@
+//! The report on a cut.
+ghost use Rattle.std.specs.Prelude.{◌≡◌, ◌++◌, IfErr, OnOk, OnErr};
+ghost use Rattle.std.specs.FinMap.{keys};
+ghost use Rattle.std.specs.Io.KnownBytes.{Appends};
+ghost use Rattle.bep_audit.specs.Shown.{verdict_shown};
+ghost use Rattle.bep_report.specs.Lines.{verdict_line};
+ghost use Rattle.bep_report.specs.Output.{AppendsBeginning};
+ghost use Rattle.bep_report.specs.Report.{is_stored, count_deleted, folder_text, folders_text, report_text};
+
+use crate::lines::{push_folder, push_not_settled, push_settled};
+use bep_audit::Verdict;
+use bep_cut::{Cut, Share, SharedFolder};
+use bep_map::NameMap;
+use bep_record::Name;
+use std::alloc::{AllocError, Global};
+
+/// Appends the report on the cut: the line of the verdict, then a line for each folder, names rising.
+pub fn push_report(
+    alloc: Global,
+    text: &mut Vec<u8>,
+    cut: &Cut,
+    verdict: &Verdict<'_>,
+) -> Result<(), AllocError>
+    ensures { OnOk result (text.new.items ≡ text.old.items ++ report_text cut.now.folders (verdict_shown verdict.now)) }
+{
+    push_verdict(text, verdict)?;
+    push_folders(alloc, text, cut.folders())
+}
+
+fn push_verdict(text: &mut Vec<u8>, verdict: &Verdict<'_>) -> Result<(), AllocError>
+    ensures { OnOk result (text.new.items ≡ text.old.items ++ verdict_line (verdict_shown verdict.now)) }
+{
+    match *verdict {
+        Verdict::Settled => push_settled(text),
+        Verdict::Not(reason, folder, name, device) => {
+            push_not_settled(text, reason, folder, name, device)
+        }
+    }
+}
+
+fn push_folders(
+    alloc: Global,
+    text: &mut Vec<u8>,
+    folders: &[SharedFolder],
+) -> Result<(), AllocError>
+    ensures { OnOk result (text.new.items ≡ text.old.items ++ folders_text folders.now) }
+{
+    for held in folders {
+        push_held(alloc, text, held)?;
+    }
+    Ok(())
+}
+
+#[tactic(auto, unfolding(crate::specs::Report::folder_text))]
+fn push_held(alloc: Global, text: &mut Vec<u8>, held: &SharedFolder) -> Result<(), AllocError>
+    ensures { OnOk result (text.new.items ≡ text.old.items ++ folder_text held.now) }
+{
+    let names = held.known_names(alloc)?;
+    let shares = held.shares.as_slice();
+    let deleted = count_deleted(shares, &names);
+    push_folder(text, &held.folder, names.len(), deleted, shares.len())
+}
+
+// How many of the names no store holds.
+fn count_deleted(shares: &[Share], names: &NameMap<()>) -> usize
+    ensures { result ≡ count_deleted shares.now (keys names.now) }
+{
+    let most = names.len();
+    let mut count = 0;
+    for (name, _known) in names.iter() {
+        if !is_stored(shares, name) {
+            count += 1;
+        }
+    }
+    prove!(count <= most);
+    count
+}
+
+fn is_stored(shares: &[Share], name: &Name) -> bool
+    ensures { result ≡ is_stored shares.now name.now }
+{
+    shares.iter().any(|share| share.store.contains(name))
+}

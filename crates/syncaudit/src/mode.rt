@@ -1,0 +1,50 @@
+//! What the words of the command line ask for.
+ghost use Rattle.std.specs.Prelude.{◌≡◌, IfOk, map};
+ghost use Rattle.clap.specs.Words.{FailsBy, app_of, fault_of};
+ghost use Rattle.syncaudit.specs.Mode.{Asks, program};
+
+use clap::{Command, Error};
+use std::alloc::{AllocError, Global};
+use std::convert::AsStr;
+
+/// What the program is asked to do.
+#[derive(Clone, Copy, Debug, PartialEq, Eq)]
+pub enum Mode {
+    /// Audit the check document that comes on standard input.
+    Check,
+}
+
+const STATUSES: &str =
+    "Exit status: 0 settled, 1 not settled, 2 document refused, 3 usage or help, 4 out of memory, \
+     5 read or write fault";
+
+// The command line of the program.
+fn command<'a>(alloc: Global) -> Result<Command<'a>, AllocError>
+    ensures { IfOk result (λ made. app_of made ≡ program) }
+{
+    let check = Command::new(alloc, "check")
+        .about("Audits the check document on standard input")
+        .after_help(STATUSES);
+    Command::new(alloc, "syncaudit")
+        .bin_name("syncaudit")?
+        .version("0.1.0")
+        .about("Says whether a Syncthing cluster is settled, and if not, why")
+        .subcommand_required(true)
+        .arg_required_else_help(true)
+        .subcommand(check)
+}
+
+/// What the words ask for, of which the first is the program's name.
+///
+/// Refuses what clap refuses: words that the program doesn't know, none at all, and those that ask for help or for the
+/// version. The error is clap's, and its text is for the user.
+pub fn mode_of<'a, S: AsStr>(alloc: Global, words: &'a [S]) -> Result<Mode, Error>
+    ensures asked { IfOk result (Asks (map S.text words.entry.now)) }
+    ensures faults { FailsBy (fault_of program (map S.text words.entry.now)) result }
+{
+    let matches = command(alloc)?.try_get_matches_from(words)?;
+    match matches.subcommand_name() {
+        Some("check") => Ok(Mode::Check),
+        _ => unreachable!(),
+    }
+}
