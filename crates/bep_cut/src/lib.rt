@@ -8,6 +8,8 @@ mod names;
 mod order;
 mod read;
 mod share;
+#[cfg(test)]
+mod tests;
 mod written;
 
 pub use bep_document::{DocError, DocFault, Fault, MAX_BYTES};
