@@ -1,5 +1,5 @@
 // Faults that have a place, by docs/DOCUMENTS.md.
-use crate::tests::{BLOCKLESS, DEVICE, DOCUMENT, END, FOLDER, NODE, RECORD, answer, text_of};
+use crate::tests::{BLOCKLESS, DEVICE, DOCUMENT, END, FOLDER, RECORD, STORE, answer, text_of};
 use crate::*;
 use bep_choice::FolderKind;
 use std::alloc::{AllocError, Global};
@@ -74,18 +74,6 @@ fn records_are_refused(rt: HostRuntime) -> Result<(), Fail> {
 #[test]
 fn nodes_are_refused(rt: HostRuntime) -> Result<(), Fail> {
     let alloc = rt.alloc();
-    let front = text_of(
-        alloc,
-        &[
-            DOCUMENT,
-            FOLDER,
-            DEVICE,
-            ",\"store\":[",
-            NODE,
-            ",\"name\":\"a\"},",
-            NODE,
-        ],
-    )?;
     for (second, want) in [
         (",\"name\":\"b\"}", "read"),
         (",\"name\":\"a\"}", "185 docs 1 a"),
@@ -98,7 +86,7 @@ fn nodes_are_refused(rt: HostRuntime) -> Result<(), Fail> {
         (",\"name\":\"b\",\"type\":4}", "183"),
         (",\"name\":\"b\",\"modified_ns\":1000000000}", "184"),
     ] {
-        let told = answer(alloc, &[front.as_str(), second, "]", END])?;
+        let told = answer(alloc, &[DOCUMENT, FOLDER, DEVICE, STORE, second, "]", END])?;
         assert_eq!(rt; told.as_str(), want, "{second}");
     }
     Ok(())

@@ -15,8 +15,9 @@ pub(crate) const END: &str = "}]}]},\"certificate\":[]}";
 pub(crate) const RECORD: &str =
     "{\"type\":1,\"modified_s\":0,\"modified_by\":1,\"version\":[[1,1]]";
 
-// A directory's node, without its name.
-pub(crate) const NODE: &str = "{\"type\":1,\"modified_s\":0";
+// A store of the directory `a` and a second one, without the second's name.
+pub(crate) const STORE: &str =
+    ",\"store\":[{\"name\":\"a\",\"type\":1,\"modified_s\":0},{\"type\":1,\"modified_s\":0";
 
 // A file of five bytes, without its blocks.
 pub(crate) const BLOCKLESS: &str =
