@@ -25,16 +25,9 @@ pub fn check_text<R: Read, W: Write>(
     reader: &mut R,
     writer: &mut W,
 ) -> Result<Outcome, ReportError>
-<<<<<<< HEAD
     ensures ok { IfOk result (IsAnswered (R.remaining reader.old) (R.remaining reader.new) (W.contents writer.old) (W.contents writer.new)) }
     ensures err { OnErr result (IsCutShort (R.remaining reader.old) (R.remaining reader.new) (W.contents writer.old) (W.contents writer.new)) }
     ensures settled { IfOk result (λ outcome. outcome ≡ outcomes.Settled → SaysSettled (R.remaining reader.old) (R.remaining reader.new)) }
-=======
-    ensures ok { IfOk result (IsAnswered
-        (R.remaining reader.old) (R.remaining reader.new) (W.contents writer.old) (W.contents writer.new)) }
-    ensures err { OnErr result (IsCutShort
-        (R.remaining reader.old) (R.remaining reader.new) (W.contents writer.old) (W.contents writer.new)) }
->>>>>>> prog
 {
     let bytes = read_document(alloc, reader)?;
     let (outcome, text) = answer_to(alloc, bytes.as_slice())?;
