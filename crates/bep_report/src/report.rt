@@ -68,7 +68,7 @@ fn count_deleted(shares: &[Share], names: &NameMap<()>) -> usize
     let most = names.len();
     let mut count = 0;
     for (name, _known) in names.iter() {
-        if is_stored(shares, name) {
+        if !is_stored(shares, name) {
             count += 1;
         }
     }
