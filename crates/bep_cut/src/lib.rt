@@ -13,8 +13,8 @@ mod tests;
 mod written;
 
 pub use bep_document::{DocError, DocFault, Fault, MAX_BYTES};
-pub use cut::{Cut, CutParts};
 pub use bep_model::Row;
+pub use cut::{Cut, CutParts};
 pub use laws::{cut_is_as_written, cut_says, names_are_known};
 pub use limits::{MAX_DEVICES, MAX_FOLDERS};
 pub use read::read_check;
