@@ -1,18 +1,18 @@
 -- What the laws of cuts say of known names and of the devices that share a folder.
-use Rattle.std.proofs.Common.{◌≡◌, ◌↔◌, List, [], ◌∷◌, ◌++◌, Contains, Option, IsSome, refl, sym, ap, subst, ◌∙◌, inl, inr, ⊎_elim, arith}
+use Rattle.std.proofs.Common.{◌≡◌, ◌↔◌, List, [], ◌∷◌, ◌++◌, Contains, Option, IsSome, refl, sym, subst, inl, inr, ⊎_elim}
 use Rattle.std.specs.List.Sorted.{IsStrictlyIncreasing}
-use Rattle.std.proofs.lemmas.List.Elements.{All-contains, Contains-push_cases}
+use Rattle.std.proofs.lemmas.List.Elements.{Contains-push_cases}
 use Rattle.bep_record.specs.declared.node.NodeParts.{NodeParts}
 use Rattle.bep_record.specs.declared.entry.Entry.{Entry}
-use Rattle.bep_model.proofs.Members.{not_in_none, Contains-first}
+use Rattle.bep_model.proofs.Members.{not_in_none}
 use Rattle.bep_model.specs.Tables.{Device, Folder, FileName, Shares}
 use Rattle.bep_model.specs.Foreign.{HasTrace, IsKnown}
 use Rattle.bep_cut.specs.declared.share.Share.{Share}
-use Rattle.bep_cut.specs.declared.share.SharedFolder.{SharedFolder}
 use Rattle.bep_cut.specs.declared.cut.CutParts.{CutParts}
-use Rattle.bep_cut.specs.Cut.{AreShares, IsCut, devices_of, shares_of, tables_of}
+use Rattle.bep_cut.specs.Cut.{IsCut, devices_of, shares_of, tables_of}
 use Rattle.bep_cut.specs.Laws.{FolderIsFound, ShareHasFolder, SharingIsSaid, OwnIsSaid, NodeIsSaid, NothingIsForeign}
 use Rattle.bep_audit.specs.Held.{HasName}
+use Rattle.bep_audit.proofs.WinnerSaid.{are_shares}
 
 -- the law of bep_cut
 pub record CutSays : Type 0 where
@@ -47,16 +47,9 @@ module _ (said : CutSays) (cut : CutParts) (is_cut : IsCut cut) where
   device_of_share folder share member = (share.kind, (said.sharing cut folder share.device share.kind).1 (share, member, refl, refl))
 
   -- the devices that share a folder rise
-  rise_if_some : (folder : Folder) (share : Share) → Contains (shares_of folder cut.folders) share → IsStrictlyIncreasing (devices_of (shares_of folder cut.folders))
-  rise_if_some folder share member =
-      let held = said.has_folder cut folder share member in
-      let same : held.0.shares ≡ shares_of folder cut.folders = sym (said.found cut held.0 is_cut held.1) ∙ ap (λ f. shares_of f cut.folders) held.2 in
-      subst (λ shares. IsStrictlyIncreasing (devices_of shares)) same (All-contains (λ (one : SharedFolder). AreShares one.shares) cut.folders held.0 is_cut.shares held.1).rise
-
   pub devices_rise : (folder : Folder) (shares : List Share) → shares ≡ shares_of folder cut.folders → IsStrictlyIncreasing (devices_of shares)
-  devices_rise folder [] is = λ k below. absurd (omega arith)
-  devices_rise folder (share ∷ more) is =
-      subst (λ all. IsStrictlyIncreasing (devices_of all)) (sym is) (rise_if_some folder share (subst (λ all. Contains all share) is (Contains-first share more)))
+  devices_rise folder shares is =
+      subst (λ all. IsStrictlyIncreasing (devices_of all)) (sym is) (are_shares said.found said.has_folder cut is_cut folder).rise
 
   name_of_trace : (folder : Folder) (name : FileName) (share : Share) → Contains (shares_of folder cut.folders) share → HasTrace (tables_of cut) share.device folder name → HasName share name
   name_of_trace folder name share member trace =

@@ -1,3 +1,4 @@
+pub mod MapFacts
 pub mod SearchFacts
 pub mod WalkFacts
 pub mod CutFacts

@@ -1,16 +1,12 @@
 -- A walk over the names of a map, in order, for the first that has no row.
-use Rattle.std.proofs.Common.{◌≡◌, ◌↔◌, Bool, true, false, ◌&&◌, List, [], ◌∷◌, ◌++◌, map, Contains, Option, Some, None, IsTrue, refl, sym, ap, subst, ◌∙◌, inl, inr, ⊎_elim}
+use Rattle.std.proofs.Common.{◌≡◌, List, [], ◌∷◌, ◌++◌, map, Contains, Option, Some, None, IsTrue, refl, sym, ap, subst, ◌∙◌, inl, inr, ⊎_elim}
 use Rattle.std.proofs.Math.Dec.{T}
-use Rattle.std.specs.declared.cmp.Ordering.{Ordering}
-use Rattle.std.specs.declared.cmp.Ordering.TheVariants.{Less, Equal, Greater}
-use Rattle.std.specs.Ordering.{nat_cmp, is_lt, is_eq, ordering_reverse}
-use Rattle.std.specs.Cmp.{eq_by_cmp_equiv}
-use Rattle.std.specs.Cmp.Lexicographic.{slice_cmp, nat_list_cmp_total}
+use Rattle.std.specs.declared.cmp.Ordering.TheVariants.{Less}
+use Rattle.std.specs.Ordering.{ordering_reverse}
+use Rattle.std.specs.Cmp.Lexicographic.{nat_list_cmp_total}
 use Rattle.std.specs.FinMap.Entries.{below_all}
-use Rattle.std.specs.FinMap.{is_sorted, contains_key, contains_key-keys, entries, entries_sorted, keys}
+use Rattle.std.specs.FinMap.{is_sorted, contains_key, entries, entries_sorted, keys}
 use Rattle.std.proofs.lemmas.Cmp.{tied_itself}
-use Rattle.std.proofs.lemmas.Map.Lookups.{exact_bytes}
-use Rattle.std.proofs.lemmas.Map.Views.{list_any-from_Contains, Contains-from_any}
 use Rattle.std.proofs.lemmas.List.Elements.{Contains-push, Contains-push_cases, Contains-append_left}
 use Rattle.bep_map.specs.NameMap.{ByName}
 use Rattle.bep_model.specs.declared.row.Row.{Row}
@@ -20,32 +16,8 @@ use Rattle.bep_model.proofs.Members.{not_in_none, Contains-cons_cases}
 use Rattle.bep_cut.specs.declared.share.Share.{Share}
 use Rattle.bep_audit.specs.Held.{HasName, HasRowIfHeld}
 use Rattle.bep_audit.specs.Search.{FindsFirst, lesser}
+use Rattle.bep_audit.proofs.MapFacts.{by_name, key_stands, both_hold, is_Less}
 use Rattle.bep_audit.proofs.SearchFacts.{AllSay, finds_as, goes_on, fails_here, ends, lesser_finds}
-
-abbrev by_name : FileName → FileName → Ordering
-by_name = slice_cmp nat_cmp
-
--- a name is a key of the map exactly where it stands among the keys
-is_Equal : (o : Ordering) → is_eq o ≡ true → o ≡ Equal
-is_Equal Less e = absurd (cc)
-is_Equal Equal e = refl
-is_Equal Greater e = absurd (cc)
-
-key_stands : {V : Type 0} (held : ByName V) (name : FileName) → IsTrue (contains_key held name) ↔ Contains (keys held) name
-key_stands held name = (
-  λ has. Contains-from_any (λ x y e. exact_bytes x y (is_Equal _ e)) name (keys held) (sym (contains_key-keys held name) ∙ has),
-  λ stands. contains_key-keys held name ∙ list_any-from_Contains (eq_by_cmp_equiv nat_list_cmp_total) name (keys held) stands,
-)
-
-both_hold : (a b : Bool) → T (a && b) → T a × T b
-both_hold true true h = (tt, tt)
-both_hold true false h = absurd h
-both_hold false b h = absurd h
-
-is_Less : (o : Ordering) → T (is_lt o) → o ≡ Less
-is_Less Less h = refl
-is_Less Equal h = absurd h
-is_Less Greater h = absurd h
 
 -- each later key is above the first
 later_is_above : {V : Type 0} (name : FileName) (es : List (FileName × V)) (later : FileName) → T (below_all by_name name es) → Contains (map (λ e. e.0) es) later → by_name name later ≡ Less

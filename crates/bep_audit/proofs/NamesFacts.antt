@@ -1,56 +1,31 @@
 -- The names of a map rise; and the known names of a cut, folder by folder, rise and are all that are known.
-use Rattle.std.proofs.Common.{◌≡◌, ◌↔◌, ◌&&◌, Bool, true, false, List, [], ◌∷◌, ◌++◌, map, Contains, IsTrue, refl, sym, ap, subst, ◌∙◌, ⊎_elim}
+use Rattle.std.proofs.Common.{◌≡◌, List, [], ◌∷◌, ◌++◌, map, Contains, IsTrue, sym, ap, subst, ◌∙◌, ⊎_elim}
 use Rattle.std.proofs.Math.Dec.{T}
-use Rattle.std.specs.declared.cmp.Ordering.{Ordering}
-use Rattle.std.specs.declared.cmp.Ordering.TheVariants.{Less, Equal, Greater}
-use Rattle.std.specs.Ordering.{nat_cmp, is_lt, ordering_then}
-use Rattle.std.specs.Cmp.{eq_by_cmp_equiv}
-use Rattle.std.specs.Cmp.Lexicographic.{slice_cmp, nat_list_cmp_total}
+use Rattle.std.specs.declared.cmp.Ordering.TheVariants.{Less}
+use Rattle.std.specs.Ordering.{ordering_then}
+use Rattle.std.specs.Cmp.Lexicographic.{nat_list_cmp_total}
 use Rattle.std.specs.FinMap.Entries.{below_all}
-use Rattle.std.specs.FinMap.{is_sorted, contains_key, contains_key-keys, entries, entries_sorted, keys}
+use Rattle.std.specs.FinMap.{is_sorted, contains_key, entries, entries_sorted, keys}
 use Rattle.std.specs.List.{AllByRecursion}
 use Rattle.std.specs.List.Sorted.{IsStrictlySortedBy}
 use Rattle.std.proofs.lemmas.Cmp.{tied_itself}
-use Rattle.std.proofs.lemmas.Map.Lookups.{exact_bytes}
-use Rattle.std.proofs.lemmas.Map.Views.{list_any-from_Contains, Contains-from_any}
 use Rattle.std.proofs.lemmas.List.Elements.{Contains-append_left, Contains-append_right, Contains-append_cases}
-use Rattle.bep_map.specs.NameMap.{ByName}
 use Rattle.bep_cut.specs.Cut.{IsCut, shares_of, tables_of}
 use Rattle.bep_cut.specs.Laws.{FolderIsFound, ShareHasFolder, SharingIsSaid, NamesAreKnown}
 use Rattle.bep_cut.specs.Names.{known_names}
 use Rattle.bep_cut.specs.declared.cut.CutParts.{CutParts}
 use Rattle.bep_cut.specs.declared.share.SharedFolder.{SharedFolder}
-use Rattle.bep_model.proofs.Keys.{Equal_from_is_eq}
 use Rattle.bep_model.proofs.Members.{not_in_none, Contains-first, Contains-more, Contains-cons_cases}
 use Rattle.bep_model.specs.Foreign.{IsKnown}
 use Rattle.bep_model.specs.Settled.{key_cmp}
 use Rattle.bep_model.specs.Tables.{Folder, FileName}
 use Rattle.bep_audit.specs.Certifier.{names_of, all_names}
+use Rattle.bep_audit.proofs.MapFacts.{by_name, key_stands, both_hold, is_Less}
 
 abbrev Key : Type 0
 Key = Folder × FileName
 
-abbrev by_name : FileName → FileName → Ordering
-by_name = slice_cmp nat_cmp
-
 -- ---- the names of a map
-
--- a name is in the map exactly where it stands among its names
-key_stands : {V : Type 0} (held : ByName V) (name : FileName) → IsTrue (contains_key held name) ↔ Contains (keys held) name
-key_stands held name = (
-  λ has. Contains-from_any (λ x y e. exact_bytes x y (Equal_from_is_eq _ e)) name (keys held) (sym (contains_key-keys held name) ∙ has),
-  λ stands. contains_key-keys held name ∙ list_any-from_Contains (eq_by_cmp_equiv nat_list_cmp_total) name (keys held) stands,
-)
-
-both_hold : (a b : Bool) → T (a && b) → T a × T b
-both_hold true true h = (tt, tt)
-both_hold true false h = absurd h
-both_hold false b h = absurd h
-
-is_Less : (o : Ordering) → T (is_lt o) → o ≡ Less
-is_Less Less h = refl
-is_Less Equal h = absurd h
-is_Less Greater h = absurd h
 
 names_above : {V : Type 0} (name : FileName) (es : List (FileName × V)) → T (below_all by_name name es) → AllByRecursion (λ later. by_name name later ≡ Less) (map (λ e. e.0) es)
 names_above name [] below = tt

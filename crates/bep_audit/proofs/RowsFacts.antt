@@ -23,7 +23,7 @@ stops rows place one next positive below one_is next_is not_less so_far =
     let two = ap first_disordered (two_rows rows place one next positive below one_is next_is) in
     sym (cond-false _ _ _ not_less) ∙ sym two ∙ so_far
 
-Less_from_is_lt : (o : Ordering) → is_lt o ≡ true → o ≡ Less
+pub Less_from_is_lt : (o : Ordering) → is_lt o ≡ true → o ≡ Less
 Less_from_is_lt Less e = refl
 Less_from_is_lt Equal e = absurd (cc)
 Less_from_is_lt Greater e = absurd (cc)

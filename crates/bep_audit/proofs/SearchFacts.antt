@@ -1,5 +1,5 @@
 -- Searches for the first of what doesn't hold: over a list, element by element, and over two things at once.
-use Rattle.std.proofs.Common.{◌≡◌, ◌⊎◌, true, false, List, [], ◌∷◌, Contains, Option, Some, None, refl, sym, ap, subst, ◌∙◌, inl, inr, ⊎_elim}
+use Rattle.std.proofs.Common.{◌≡◌, ◌⊎◌, false, List, [], ◌∷◌, Contains, Option, Some, None, refl, sym, ap, subst, ◌∙◌, inl, inr, ⊎_elim}
 use Rattle.std.proofs.lemmas.Bool.{cases_Bool, cond-true, cond-false}
 use Rattle.std.specs.declared.cmp.Ordering.{Ordering}
 use Rattle.std.specs.declared.cmp.Ordering.TheVariants.{Less, Equal, Greater}
@@ -7,6 +7,7 @@ use Rattle.std.specs.Ordering.{is_lt, ordering_reverse}
 use Rattle.std.specs.Cmp.{IsTotalOrder}
 use Rattle.std.proofs.lemmas.Cmp.{alike_right}
 use Rattle.bep_model.proofs.Members.{not_in_none, Contains-first, Contains-more, Contains-cons_cases}
+use Rattle.bep_audit.proofs.RowsFacts.{Less_from_is_lt}
 use Rattle.bep_audit.specs.Search.{FailsFirst, FindsFirst, lesser}
 
 -- a search for the same
@@ -50,11 +51,6 @@ not_less Less e = absurd (cc)
 not_less Equal e = inl refl
 not_less Greater e = inr refl
 
-is_Less : (o : Ordering) → is_lt o ≡ true → o ≡ Less
-is_Less Less e = refl
-is_Less Equal e = absurd (cc)
-is_Less Greater e = absurd (cc)
-
 module _ {X : Type 0} (cmp : X → X → Ordering) (total : IsTotalOrder cmp) (One Other : X → Type 0) where
   first_is_other : (one other : X) → FailsFirst cmp One one → FailsFirst cmp Other other → cmp other one ≡ Less → FailsFirst cmp (λ x. One x × Other x) other
   first_is_other one other first second less = record {
@@ -81,6 +77,6 @@ module _ {X : Type 0} (cmp : X → X → Ordering) (total : IsTotalOrder cmp) (O
   lesser_finds (Some one) None first second = finds_as cmp One (λ x. One x × Other x) (λ x holds. (holds, second x)) (λ x both. both.0) (Some one) first
   lesser_finds (Some one) (Some other) first second =
       ⊎_elim
-      (λ less. subst (FindsFirst cmp (λ x. One x × Other x)) (sym (cond-true _ _ _ less)) (first_is_other one other first second (is_Less _ less)))
+      (λ less. subst (FindsFirst cmp (λ x. One x × Other x)) (sym (cond-true _ _ _ less)) (first_is_other one other first second (Less_from_is_lt _ less)))
       (λ not. subst (FindsFirst cmp (λ x. One x × Other x)) (sym (cond-false _ _ _ not)) (first_is_one one other first second (not_less _ not)))
       (cases_Bool (is_lt (cmp other one)))

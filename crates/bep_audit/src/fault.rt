@@ -41,7 +41,7 @@ fn first_out_of_order(rows: &[Row]) -> Option<Spot<'_>>
     }
 }
 
-// Of the reasons that ask something of each row: where it first fails.
+// Where a reason that asks something of each row first fails.
 fn first_at_row<'a>(cut: &Cut, rows: &'a [Row], reason: Reason) -> Option<Spot<'a>>
     requires rise { Rise rows.now }
     requires of_rows { number_of NameMissing < number_of reason }
@@ -55,7 +55,7 @@ fn first_at_row<'a>(cut: &Cut, rows: &'a [Row], reason: Reason) -> Option<Spot<'
     None
 }
 
-// Where the reason fails at the row, were there no other.
+// Where the reason first fails at the row, as if there were no other row.
 fn fault_at<'a>(cut: &Cut, row: &'a Row, reason: Reason) -> Option<Spot<'a>>
     requires { number_of NameMissing < number_of reason }
     ensures { FindsFault (tables_of cut.now) (row.now ∷ []) reason (option_map place_shown result) }
@@ -94,7 +94,7 @@ fn has_name(share: &Share, name: &Name) -> bool
     share.own.contains(name) || share.store.contains(name)
 }
 
-// Of the reasons that ask something of a device: the first device of which it fails at the row.
+// The first device, if any, of which a reason that asks something of devices fails at the row.
 fn fault_of_device<'a>(cut: &Cut, row: &'a Row, reason: Reason) -> Option<Spot<'a>>
     requires { number_of NotWinner < number_of reason }
     ensures { FindsFault (tables_of cut.now) (row.now ∷ []) reason (option_map place_shown result) }
@@ -120,7 +120,8 @@ fn first_unmet(shares: &[Share], row: &Row, reason: Reason) -> Option<DeviceId>
     None
 }
 
-// Whether the device meets what the reason asks of it beside the row.
+// Whether the device meets what the reason asks of it beside the row. A cut has no foreign records yet, so the reasons
+// on them ask nothing; their own tests belong here.
 fn meets(share: &Share, row: &Row, reason: Reason) -> bool
     ensures { IsTrue result ↔ AsksOf reason row.now share.now }
 {

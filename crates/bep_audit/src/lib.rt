@@ -1,6 +1,7 @@
-//! The auditor: what a certificate says, and what each reason asks of a device at a row of it.
+//! The auditor: whether a cut and a certificate are settled, or the first reason why not, and the certificate of a cut.
 //!
-//! Of a store it believes no recorded hash: it hashes the bytes that stand there. Nothing here takes memory but copies.
+//! `check` and `check_plain` answer the verdict, and `certify` the certificate. Of a store they believe no recorded
+//! hash: they hash the bytes that stand there. Nothing here takes memory but copies and `certify`.
 #![tactic(auto)]
 
 mod candidates;

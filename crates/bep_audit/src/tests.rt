@@ -5,6 +5,7 @@ ghost use Rattle.std.specs.Prelude.{◌≡◌, IfOk};
 mod certifier;
 mod checks;
 mod cuts;
+mod documents;
 
 use crate::*;
 use bep_model::{Reason, Row};

@@ -8,9 +8,12 @@ mod names;
 mod order;
 mod read;
 mod share;
+#[cfg(test)]
+mod tests;
 mod written;
 
 pub use bep_document::{DocError, DocFault, Fault, MAX_BYTES};
+pub use bep_model::Row;
 pub use cut::{Cut, CutParts};
 pub use laws::{cut_is_as_written, cut_says, names_are_known};
 pub use limits::{MAX_DEVICES, MAX_FOLDERS};

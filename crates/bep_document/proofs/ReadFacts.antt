@@ -17,7 +17,7 @@ use Rattle.bep_document.specs.declared.parts.ShareParts.{ShareParts}
 use Rattle.bep_document.specs.declared.parts.FolderParts.{FolderParts}
 use Rattle.bep_document.specs.declared.parts.RowParts.{RowParts}
 use Rattle.bep_document.specs.declared.parts.CheckParts.{CheckParts}
-use Rattle.bep_document.specs.Checks.{read_cut, read_check, if_few_devices}
+use Rattle.bep_document.specs.Checks.{most_folders, read_cut, read_check, if_few_devices}
 use Rattle.bep_document.specs.Devices.{has_few_devices}
 use Rattle.bep_document.specs.Few.{read_few}
 use Rattle.bep_document.specs.Folders.{read_folder, read_row}
@@ -59,14 +59,14 @@ member_number high name d n e =
     let found = both_gave (get name d) (read_number 0 high) n e in
     number_read 0 high found.0 n found.2
 
-few_records : (d : Data) (own : List Entry) → read_member_or (codes "own") (read_few 4096 read_record) [] d ≡ Some own → length own ≤ MAX_NAMES
+few_records : (d : Data) (own : List Entry) → read_member_or (codes "own") (read_few MAX_NAMES read_record) [] d ≡ Some own → length own ≤ MAX_NAMES
 few_records d own e =
-    read_or_default (read_few 4096 read_record) (λ records. length records ≤ MAX_NAMES) (λ value records is. (few_read 4096 read_record value records is).1) [] (omega arith) (get (codes "own") d) own e
+    read_or_default (read_few MAX_NAMES read_record) (λ records. length records ≤ MAX_NAMES) (λ value records is. (few_read MAX_NAMES read_record value records is).1) [] (omega arith) (get (codes "own") d) own e
 
 pub share_in_range : (d : Data) (share : ShareParts) → read_share d ≡ Some share → IsInRange share
 unfolding read_share
 share_in_range d share e =
-    let made = share_made (read_member (codes "device") (read_number 1 greatest_id) d) (read_member (codes "kind") read_folder_kind d) (read_member (codes "index_id") (read_number 1 greatest_id) d) (read_member (codes "max") (read_number 0 9223372036854775807) d) (read_member_or (codes "own") (read_few 4096 read_record) [] d) (read_member_or (codes "store") (read_list read_node) [] d) share e in
+    let made = share_made (read_member (codes "device") (read_number 1 greatest_id) d) (read_member (codes "kind") read_folder_kind d) (read_member (codes "index_id") (read_number 1 greatest_id) d) (read_member (codes "max") (read_number 0 9223372036854775807) d) (read_member_or (codes "own") (read_few MAX_NAMES read_record) [] d) (read_member_or (codes "store") (read_list read_node) [] d) share e in
     record { greatest = member_number 9223372036854775807 (codes "max") d share.max made.0; few = few_records d share.own made.1 }
 
 folder_made : (a : Option (List ℕ)) (b : Option (List ShareParts)) (folder : FolderParts) → (do
@@ -89,17 +89,17 @@ folder_in_range d folder e =
 
 -- the folders of a cut
 pub record AreInRange (folders : List FolderParts) : Type 0 where
-  pub few : length folders ≤ 16
+  pub few : length folders ≤ most_folders
   pub few_devices : has_few_devices folders ≡ true
   pub shares : AllByRecursion (λ folder. AllByRecursion IsInRange folder.devices) folders
 
 pub cut_in_range : (d : Data) (folders : List FolderParts) → read_cut d ≡ Some folders → AreInRange folders
 unfolding read_cut
 cut_in_range d folders e =
-    let read = both_gave (read_member (codes "folders") (read_few 16 read_folder) d) if_few_devices folders e in
+    let read = both_gave (read_member (codes "folders") (read_few most_folders read_folder) d) if_few_devices folders e in
     let few = passes (has_few_devices read.0) read.0 folders read.2 in
-    let found = both_gave (get (codes "folders") d) (read_few 16 read_folder) read.0 read.1 in
-    let listed = few_read 16 read_folder found.0 read.0 found.2 in
+    let found = both_gave (get (codes "folders") d) (read_few most_folders read_folder) read.0 read.1 in
+    let listed = few_read most_folders read_folder found.0 read.0 found.2 in
     subst AreInRange few.1 (record {
       few = listed.1;
       few_devices = few.0;

@@ -23,13 +23,17 @@ is_cut d =
     && (has_member (codes "folders") (is_list is_folder) d
     && may_have_member (codes "links") is_empty_list d)
 
+-- the most folders of a cut
+abbrev pub most_folders : ℕ
+most_folders = 16
+
 -- the folders, if not too many different devices share them
 abbrev pub if_few_devices : List FolderParts → Option (List FolderParts)
 if_few_devices folders = if has_few_devices folders then Some folders else None
 
--- the folders of a cut, at most 16
+-- the folders of a cut
 unfoldable pub read_cut : Data → Option (List FolderParts)
-read_cut d = read_member (codes "folders") (read_few 16 read_folder) d >>= if_few_devices
+read_cut d = read_member (codes "folders") (read_few most_folders read_folder) d >>= if_few_devices
 
 -- the whole number 1
 abbrev pub is_one : Data → Bool

@@ -6,6 +6,7 @@ use Rattle.bep_record.specs.Entry.{IsWellFormed}
 use Rattle.bep_record.specs.Node.{IsNode}
 use Rattle.bep_index.specs.Batch.{NamesDiffer}
 use Rattle.bep_index.specs.declared.limits.TheConstants.{MAX_NAMES, MAX_SEQUENCE}
+use Rattle.bep_document.specs.Checks.{most_folders}
 use Rattle.bep_document.specs.Devices.{is_one_of, most_devices}
 use Rattle.bep_document.specs.Reading.{Read, reading_of}
 use Rattle.bep_document.specs.declared.parts.ShareParts.{ShareParts}
@@ -54,7 +55,7 @@ AreOf devices folders =
 
 -- the cut and its certificate
 pub record IsFaultless (parts : CheckParts) : Type 0 where
-  pub few_folders : length parts.folders ≤ 16
+  pub few_folders : length parts.folders ≤ most_folders
   pub few_devices : (devices : List ℕ) × (length devices ≤ most_devices) × AreOf devices parts.folders
   pub different : KeysDiffer (λ folder. folder.folder) parts.folders
   pub each_folder : AllByRecursion IsFaultlessFolder parts.folders

@@ -7,6 +7,7 @@ pub mod Checks
 pub mod Places
 pub mod Twice
 pub mod Records
+pub mod Told
 pub mod Sequences
 pub mod Reading
 pub mod Faultless

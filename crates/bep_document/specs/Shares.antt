@@ -5,6 +5,7 @@ use Rattle.serde_json.specs.Data.{Data}
 use Rattle.serde_json.specs.Find.{as_str}
 use Rattle.bep_choice.specs.declared.folder_kind.FolderKind.{FolderKind}
 use Rattle.bep_choice.specs.declared.folder_kind.FolderKind.TheVariants.{SendReceive, SendOnly, ReceiveOnly}
+use Rattle.bep_index.specs.declared.limits.TheConstants.{MAX_NAMES}
 use Rattle.bep_json.specs.Tree.{has_only, has_member, may_have_member}
 use Rattle.bep_json.specs.Reading.{◌>>=◌, read_member, read_member_or}
 use Rattle.bep_json.specs.Numbers.{is_whole, read_number, greatest_id}
@@ -59,6 +60,6 @@ read_share d = do
   kind ← read_member (codes "kind") read_folder_kind d
   index_id ← read_member (codes "index_id") (read_number 1 greatest_id) d
   max ← read_member (codes "max") (read_number 0 9223372036854775807) d
-  own ← read_member_or (codes "own") (read_few 4096 read_record) [] d
+  own ← read_member_or (codes "own") (read_few MAX_NAMES read_record) [] d
   store ← read_member_or (codes "store") (read_list read_node) [] d
   Some (record { device = device; kind = kind; index_id = index_id; max = max; own = own; store = store })

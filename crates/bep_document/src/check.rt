@@ -11,6 +11,9 @@ use serde_json::Value;
 use std::alloc::Global;
 use std::marker::Model;
 
+// The most folders of a cut.
+const MOST_FOLDERS: usize = 16;
+
 // The folders of a cut.
 #[derive(Debug, Drop)]
 struct CutParts {
@@ -48,7 +51,9 @@ impl Readable for CutParts {
 
     #[tactic(auto, unfolding(crate::specs::Checks::read_cut))]
     fn read(alloc: Global, value: &Value) -> Result<Self, ReadError> {
-        let folders = member::<Few<FolderParts, 16>>(alloc, value, "folders")?.into_items();
+        let folders = member::<Few<FolderParts, MOST_FOLDERS>>(
+            alloc, value, "folders",
+        )?.into_items();
         if !has_few_devices(alloc, folders.as_slice())? {
             return Err(ReadError::Range);
         }

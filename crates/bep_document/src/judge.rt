@@ -21,8 +21,8 @@ pub(crate) trait Judge<T> {
         ensures { IfOk result (λ found. found ≡ fault_at self.now earlier.now item.now) };
 }
 
-#[tactic(auto, using(crate::proofs::PlacesFacts::first_in_next))]
 // The first fault among the items, or want of memory.
+#[tactic(auto, using(crate::proofs::PlacesFacts::first_in_next))]
 pub(crate) fn first_fault<T, J: Judge<T>>(
     alloc: Global,
     judge: &J,

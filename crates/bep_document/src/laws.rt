@@ -1,7 +1,15 @@
 ghost use Rattle.bep_document.specs.Faultless.{ReadingsAreFaultless};
+ghost use Rattle.bep_document.specs.Told.{RecordsAreTold, NodesAreTold};
 
 /// That what is read has no fault: folders, devices and names stand once, records and nodes are well formed, sequences
 /// are numbered, and all is within its limits. A law, which does nothing when it runs.
 pub fn readings_are_faultless()
     ensures { ReadingsAreFaultless }
+{}
+
+/// That the tests by which records and nodes are found bad tell what fields are a record and what parts are a node: a
+/// law, which does nothing when it runs.
+pub fn tests_tell()
+    ensures records { RecordsAreTold }
+    ensures nodes { NodesAreTold }
 {}

@@ -13,6 +13,8 @@ mod folders;
 mod judge;
 mod laws;
 mod parts;
+#[cfg(test)]
+mod place_tests;
 mod read;
 mod records;
 mod sequences;
@@ -23,6 +25,6 @@ mod twice;
 
 pub use error::DocError;
 pub use fault::{DocFault, Fault};
-pub use laws::readings_are_faultless;
+pub use laws::{readings_are_faultless, tests_tell};
 pub use parts::{CheckParts, FolderParts, RowParts, ShareParts};
 pub use read::{MAX_BYTES, read_parts};

@@ -8,7 +8,7 @@ ghost use Rattle.bep_document.specs.Shares.{read_folder_kind, is_share, has_shar
 use crate::ShareParts;
 use crate::few::{Few, may_have_none};
 use bep_choice::FolderKind;
-use bep_index::IndexId;
+use bep_index::{IndexId, MAX_NAMES};
 use bep_json::{
     NamedParts, ReadError, Readable, Sequence, has, has_only, may_have, member, member_or,
 };
@@ -120,7 +120,7 @@ impl Readable for ShareParts {
         let index_id = member::<NumberedId>(alloc, value, "index_id")?;
         let max = member::<Sequence>(alloc, value, "max")?;
         let none = Few::none(alloc);
-        let own = member_or::<Few<Entry, 4096>>(alloc, value, "own", none)?;
+        let own = member_or::<Few<Entry, MAX_NAMES>>(alloc, value, "own", none)?;
         let empty = Items::new(Vec::new(alloc));
         let store = member_or::<Items<NamedParts>>(alloc, value, "store", empty)?;
         Ok(ShareParts {

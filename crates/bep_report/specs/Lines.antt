@@ -45,7 +45,8 @@ verdict_line (Not reason folder name device) =
 -- the line of a folder: how many names are known in it, how many of them no store holds, how many devices share it
 abbrev pub folder_line : Folder → ℕ → ℕ → ℕ → List ℕ
 folder_line folder names deleted devices =
-    concat (codes "folder " ∷ folder ∷ codes ": " ∷ decimal names ∷ codes " names, " ∷ decimal deleted ∷ codes " deleted, " ∷ decimal devices ∷ codes " devices" ∷ newline ∷ [])
+    concat (codes "folder " ∷ folder ∷ codes ": " ∷ decimal names ∷ codes " names, " ∷ decimal deleted ∷ codes " deleted, "
+    ∷ decimal devices ∷ codes " devices" ∷ newline ∷ [])
 
 -- a part of a place after a space, `-` where there is none
 abbrev pub part_text : Option (List ℕ) → List ℕ
@@ -64,4 +65,5 @@ has_place number = nat_le 185 number && nat_le number 189
 -- the line of a refused document: the fault's number and word, and its place
 abbrev pub refused_line : ℕ → List ℕ → Option Folder → Option Device → Option FileName → List ℕ
 refused_line number word folder device name =
-    concat (codes "refused: " ∷ decimal number ∷ codes " " ∷ word ∷ (if has_place number then place_text folder device name else []) ∷ newline ∷ [])
+    concat (codes "refused: " ∷ decimal number ∷ codes " " ∷ word
+    ∷ (if has_place number then place_text folder device name else []) ∷ newline ∷ [])

@@ -55,7 +55,8 @@ pub fn push_not_settled(
     name: &Name,
     device: Option<DeviceId>,
 ) -> Result<(), AllocError>
-    ensures { OnOk result (text.new.items ≡ text.old.items ++ spec.verdict_line (Not reason folder.now name.now device)) }
+    ensures { OnOk result (text.new.items
+        ≡ text.old.items ++ spec.verdict_line (Not reason folder.now name.now device)) }
 {
     push_str(text, "not settled: ")?;
     push_str(text, word_of(reason))?;
@@ -66,7 +67,8 @@ pub fn push_not_settled(
 
 // Appends a count, with what stands before and after it.
 fn push_count(text: &mut Vec<u8>, before: &str, count: usize, after: &str) -> Result<(), AllocError>
-    ensures { OnOk result (text.new.items ≡ text.old.items ++ concat (before.now ∷ decimal count ∷ after.now ∷ [])) }
+    ensures { OnOk result (text.new.items
+        ≡ text.old.items ++ concat (before.now ∷ decimal count ∷ after.now ∷ [])) }
 {
     push_str(text, before)?;
     push_number(text, count as u64)?;
@@ -119,7 +121,8 @@ fn push_device_part(text: &mut Vec<u8>, device: Option<DeviceId>) -> Result<(), 
 
 // Appends a space and the name, `-` where there is none.
 fn push_name_part(text: &mut Vec<u8>, name: Option<&Name>) -> Result<(), AllocError>
-    ensures { OnOk result (text.new.items ≡ text.old.items ++ spec.part_text (option_map printed (option_copied name.entry))) }
+    ensures { OnOk result (text.new.items
+        ≡ text.old.items ++ spec.part_text (option_map printed (option_copied name.entry))) }
 {
     match name {
         None => push_str(text, " -"),
@@ -137,7 +140,8 @@ fn push_place(
     device: Option<DeviceId>,
     name: Option<&Name>,
 ) -> Result<(), AllocError>
-    ensures { OnOk result (text.new.items ≡ text.old.items ++ spec.place_text (option_copied folder.entry) device (option_copied name.entry)) }
+    ensures { OnOk result (text.new.items
+        ≡ text.old.items ++ spec.place_text (option_copied folder.entry) device (option_copied name.entry)) }
 {
     push_folder_part(text, folder)?;
     push_device_part(text, device)?;
@@ -146,7 +150,8 @@ fn push_place(
 
 // Appends a fault's number and word.
 fn push_fault(text: &mut Vec<u8>, number: u32, word: &str) -> Result<(), AllocError>
-    ensures { OnOk result (text.new.items ≡ text.old.items ++ concat (codes "refused: " ∷ decimal number ∷ codes " " ∷ word.now ∷ [])) }
+    ensures { OnOk result (text.new.items
+        ≡ text.old.items ++ concat (codes "refused: " ∷ decimal number ∷ codes " " ∷ word.now ∷ [])) }
 {
     push_str(text, "refused: ")?;
     push_number(text, u64::from(number))?;
@@ -164,8 +169,8 @@ pub fn push_refused(
     device: Option<DeviceId>,
     name: Option<&Name>,
 ) -> Result<(), AllocError>
-    ensures { OnOk result (text.new.items
-        ≡ text.old.items ++ spec.refused_line number word.now (option_copied folder.entry) device (option_copied name.entry)) }
+    ensures { OnOk result (text.new.items ≡ text.old.items
+        ++ spec.refused_line number word.now (option_copied folder.entry) device (option_copied name.entry)) }
 {
     push_fault(text, number, word)?;
     if matches!(number, 185..=189) {

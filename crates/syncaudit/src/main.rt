@@ -2,6 +2,8 @@
 #![tactic(auto)]
 
 mod check;
+#[cfg(test)]
+mod documents;
 mod mode;
 mod outcome;
 #[cfg(test)]

@@ -1,0 +1,35 @@
+-- Where a name stands in a map, and tests of order.
+use Rattle.std.proofs.Common.{◌≡◌, ◌↔◌, ◌&&◌, Bool, true, false, Contains, IsTrue, refl, sym, ◌∙◌}
+use Rattle.std.proofs.Math.Dec.{T}
+use Rattle.std.specs.declared.cmp.Ordering.{Ordering}
+use Rattle.std.specs.declared.cmp.Ordering.TheVariants.{Less, Equal, Greater}
+use Rattle.std.specs.Ordering.{nat_cmp, is_lt}
+use Rattle.std.specs.Cmp.{eq_by_cmp_equiv}
+use Rattle.std.specs.Cmp.Lexicographic.{slice_cmp, nat_list_cmp_total}
+use Rattle.std.specs.FinMap.{contains_key, contains_key-keys, keys}
+use Rattle.std.proofs.lemmas.Map.Lookups.{exact_bytes}
+use Rattle.std.proofs.lemmas.Map.Views.{list_any-from_Contains, Contains-from_any}
+use Rattle.bep_map.specs.NameMap.{ByName}
+use Rattle.bep_model.proofs.Keys.{Equal_from_is_eq}
+use Rattle.bep_model.specs.Tables.{FileName}
+
+-- names are compared by their bytes
+abbrev pub by_name : FileName → FileName → Ordering
+by_name = slice_cmp nat_cmp
+
+-- a name is in the map exactly where it stands among its names
+pub key_stands : {V : Type 0} (held : ByName V) (name : FileName) → IsTrue (contains_key held name) ↔ Contains (keys held) name
+key_stands held name = (
+  λ has. Contains-from_any (λ x y e. exact_bytes x y (Equal_from_is_eq _ e)) name (keys held) (sym (contains_key-keys held name) ∙ has),
+  λ stands. contains_key-keys held name ∙ list_any-from_Contains (eq_by_cmp_equiv nat_list_cmp_total) name (keys held) stands,
+)
+
+pub both_hold : (a b : Bool) → T (a && b) → T a × T b
+both_hold true true h = (tt, tt)
+both_hold true false h = absurd h
+both_hold false b h = absurd h
+
+pub is_Less : (o : Ordering) → T (is_lt o) → o ≡ Less
+is_Less Less h = refl
+is_Less Equal h = absurd h
+is_Less Greater h = absurd h
