@@ -8,14 +8,14 @@ use Rattle.std.specs.FinMap.{get}
 use Rattle.std.specs.List.{AllByRecursion}
 use Rattle.std.specs.List.Sorted.{IsStrictlyIncreasing, IsStrictlySortedBy}
 use Rattle.std.proofs.lemmas.Map.Keys.{sorted_tail, sorted_from_strictly_increasing, IsStrictlyIncreasing-from_sorted}
-use Rattle.std.proofs.lemmas.List.Elements.{Contains-append_right}
+use Rattle.std.proofs.lemmas.List.Elements.{Contains-append_right, Contains-append_cases}
 use Rattle.bep_record.specs.declared.entry.Entry.{Entry}
 use Rattle.bep_choice.specs.Choice.{Candidate, candidates_of}
 use Rattle.bep_cut.specs.Cut.{devices_of}
 use Rattle.bep_cut.specs.declared.share.Share.{Share}
 use Rattle.bep_model.specs.Tables.{FileName}
 use Rattle.bep_model.specs.Winner.{beside}
-use Rattle.bep_model.proofs.Members.{not_in_none, Contains-first, Contains-cons_cases}
+use Rattle.bep_model.proofs.Members.{not_in_none, Contains-first, Contains-more, Contains-cons_cases}
 use Rattle.bep_audit.specs.Candidates.{owned_in, chooser_of}
 
 -- the candidates' devices
@@ -78,3 +78,20 @@ chooser_is_head share (next ∷ more) rise =
 pub chooser_is_first : (shares : List Share) (first : Share) → 1 ≤ length shares → first ≡ get_or shares 0 first → IsStrictlyIncreasing (devices_of shares) → first.device ≡ chooser_of shares
 chooser_is_first [] first some is rise = absurd (omega arith)
 chooser_is_first (share ∷ more) first some is rise = ap (λ (s : Share). s.device) is ∙ sym (chooser_is_head share more rise)
+
+-- a candidate is some share's record of the name
+pub owned_from : (name : FileName) (shares : List Share) (one : Candidate) → Contains (owned_in name shares) one → (share : Share) × Contains shares share × (get share.own name ≡ Some one.1)
+owned_from name [] one member = absurd (not_in_none one member)
+owned_from name (first ∷ more) one member =
+    ⊎_elim
+    (λ here. (first, Contains-first first more, is_it (get first.own name) here))
+    (λ later. let found = owned_from name more one later in (found.0, Contains-more first more found.0 found.1, found.2))
+    (Contains-append_cases (beside first.device (get first.own name)) (owned_in name more) one member)
+  where
+    is_it : (own : Option Entry) → Contains (beside first.device own) one → own ≡ Some one.1
+    is_it None here = absurd (not_in_none one here)
+    is_it (Some entry) here =
+        ⊎_elim
+        (λ same. ap (λ (c : Candidate). Some c.1) same)
+        (λ none. absurd (not_in_none one none))
+        (Contains-cons_cases (first.device, entry) [] one here)

@@ -14,3 +14,6 @@ pub mod ReasonWalk
 pub mod WinnerFacts
 pub mod CandidateFacts
 pub mod WinnerSaid
+pub mod NamesFacts
+pub mod AddedFacts
+pub mod CertifierFacts

@@ -1,12 +1,13 @@
 -- The winner of a name in a cut is the choice over the shares of its folder.
-use Rattle.std.proofs.Common.{◌≡◌, ◌≤◌, ℕ, List, [], ◌∷◌, ◌++◌, Contains, length, refl, sym, ap, subst, ◌∙◌, ⊎_elim, arith}
+use Rattle.std.proofs.Common.{◌≡◌, ◌≤◌, ℕ, List, [], ◌∷◌, ◌++◌, Option, Some, None, IfSome, Contains, length, refl, sym, ap, subst, ◌∙◌, ⊎_elim, arith}
 use Rattle.std.specs.Prelude.{map}
 use Rattle.std.specs.FinMap.{get}
 use Rattle.std.proofs.lemmas.List.{length-map}
 use Rattle.std.proofs.lemmas.List.Elements.{All-contains, All-contains_itself}
 use Rattle.bep_choice.specs.Choice.{Candidate}
 use Rattle.bep_choice.specs.declared.folder_kind.FolderKind.{FolderKind}
-use Rattle.bep_cut.specs.Cut.{AreShares, IsCut, HasDevice, devices_of, shares_of, tables_of}
+use Rattle.bep_index.specs.Index.{IsIndex}
+use Rattle.bep_cut.specs.Cut.{AreShares, IsCut, HasDevice, index_of, devices_of, shares_of, tables_of}
 use Rattle.bep_cut.specs.Laws.{FolderIsFound, ShareHasFolder, OwnIsSaid}
 use Rattle.bep_cut.specs.declared.cut.CutParts.{CutParts}
 use Rattle.bep_cut.specs.declared.limits.TheConstants.{MAX_DEVICES}
@@ -14,8 +15,9 @@ use Rattle.bep_cut.specs.declared.share.Share.{Share}
 use Rattle.bep_cut.specs.declared.share.SharedFolder.{SharedFolder}
 use Rattle.bep_model.proofs.Members.{not_in_none, Contains-first, Contains-more, Contains-cons_cases}
 use Rattle.bep_model.specs.Tables.{Tables, Device, Folder, FileName}
-use Rattle.bep_model.specs.Winner.{beside, owned, own_candidates, smallest}
+use Rattle.bep_model.specs.Winner.{beside, owned, own_candidates, smallest, IsWinner}
 use Rattle.bep_audit.specs.Candidates.{owned_in, chooser_of}
+use Rattle.bep_audit.proofs.CandidateFacts.{owned_from}
 
 -- a device that shares a folder, with its kind
 abbrev kind_of : Share → Device × FolderKind
@@ -86,3 +88,17 @@ winner_said said cut folder name shares is_cut value =
     let chooser : chooser_of shares ≡ smallest ((tables_of cut).sharing folder) = ap chooser_of value ∙ ap smallest (sym (sharing_said cut folder)) in
     let candidates : owned_in name shares ≡ own_candidates (tables_of cut) folder name = ap (owned_in name) value ∙ sym (candidates_said said cut folder name is_cut) in
     λ i. (chooser i, candidates i)
+
+-- the winner's record has the name
+pub winner_is_named : FolderIsFound → ShareHasFolder → OwnIsSaid → (cut : CutParts) (folder : Folder) (name : FileName) → IsCut cut → (one : Candidate) → IsWinner (tables_of cut) folder name one → one.1.name ≡ name
+winner_is_named found has_folder said cut folder name is_cut one wins =
+    let shares = shares_of folder cut.folders in
+    let among = subst (λ (candidates : List Candidate). Contains candidates one) (candidates_said said cut folder name is_cut) wins.left.valid.0 in
+    let share = owned_from name shares one among in
+    let index = All-contains (λ (s : Share). IsIndex (index_of s)) shares share.0 (are_shares found has_folder cut is_cut folder).indexes share.1 in
+    (index.numbered name one.1 share.2).0
+
+-- what follows of each value follows of an option's
+pub if_some-map : {X : Type 0} {P Q : X → Type 0} → ((x : X) → P x → Q x) → (o : Option X) → IfSome o P → IfSome o Q
+if_some-map f None h = h
+if_some-map f (Some x) h = f x h

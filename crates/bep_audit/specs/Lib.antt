@@ -1,5 +1,6 @@
+pub mod Candidates
+pub mod Certifier
+pub mod Held
 pub mod Search
 pub mod Share
-pub mod Held
-pub mod Candidates
 pub mod Shown

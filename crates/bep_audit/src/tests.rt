@@ -2,6 +2,9 @@
 // worked out by hand.
 ghost use Rattle.std.specs.Prelude.{◌≡◌, IfOk};
 
+mod certifier;
+mod cuts;
+
 use crate::*;
 use bep_model::{Reason, Row};
 use bep_record::{

@@ -10,14 +10,15 @@ use bep_cut::{Cut, cut_says};
 use bep_model::Row;
 use bep_record::{DeviceId, FolderName, Name, Record};
 
-/// The device and the record that win the name in the folder; `None` exactly where the name has no winner. Takes no
-/// memory.
+/// The device and the record that win the name in the folder; `None` exactly where the name has no winner. The record
+/// has this name. Takes no memory.
 pub fn winner_of<'a>(
     cut: &'a Cut,
     folder: &FolderName,
     name: &Name,
 ) -> Option<(DeviceId, &'a Record)>
     ensures wins { IfSome result (λ one. IsWinner (tables_of cut.now) folder.now name.now (candidate_of one)) }
+    ensures named { IfSome result (λ one. one.1.now.name ≡ name.now) }
     ensures none { IfNone result ((one : Candidate) → ¬ IsWinner (tables_of cut.now) folder.now name.now one) }
 {
     cut_says();

@@ -3,7 +3,7 @@ use Rattle.bep_choice.specs.Choice.{Candidate, candidate_of, IsChoice}
 use Rattle.bep_cut.specs.Cut.{AreShares}
 use Rattle.bep_cut.specs.declared.limits.TheConstants.{MAX_DEVICES}
 use Rattle.bep_cut.specs.declared.share.Share.{Share}
-use Rattle.bep_audit.proofs.WinnerSaid.{are_shares, few_shares, winner_said}
+use Rattle.bep_audit.proofs.WinnerSaid.{are_shares, few_shares, winner_said, winner_is_named, if_some-map}
 use Rattle.bep_audit.proofs.winner.winner_of.Goals as goal
 
 pub winner_among-requires : goal.winner_among-requires
@@ -28,3 +28,11 @@ returns-clause-none c =
     subst (λ (by : ℕ × List Candidate). IfNone c.winner_among.result ((one : Candidate) → ¬ IsChoice by.0 by.1 one))
     (winner_said c.cut_says.ensures.own c.args.cut.now c.args.folder.now c.args.name.now c.shares.result.now c.shares.ensures.a_cut c.shares.ensures.value)
     c.winner_among.ensures.none
+
+pub returns-clause-named : goal.returns-clause-named
+returns-clause-named c =
+    let laws = c.cut_says.ensures in
+    if_some-map
+    (λ one wins. winner_is_named laws.found laws.has_folder laws.own c.args.cut.now c.args.folder.now c.args.name.now c.shares.ensures.a_cut (candidate_of one) wins)
+    c.winner_among.result
+    (returns-clause-wins c)

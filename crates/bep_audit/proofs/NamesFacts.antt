@@ -1,0 +1,167 @@
+-- The names of a map rise; and the known names of a cut, folder by folder, rise and are all that are known.
+use Rattle.std.proofs.Common.{◌≡◌, ◌↔◌, ◌&&◌, Bool, true, false, List, [], ◌∷◌, ◌++◌, map, Contains, IsTrue, refl, sym, ap, subst, ◌∙◌, ⊎_elim}
+use Rattle.std.proofs.Math.Dec.{T}
+use Rattle.std.specs.declared.cmp.Ordering.{Ordering}
+use Rattle.std.specs.declared.cmp.Ordering.TheVariants.{Less, Equal, Greater}
+use Rattle.std.specs.Ordering.{nat_cmp, is_lt, ordering_then}
+use Rattle.std.specs.Cmp.{eq_by_cmp_equiv}
+use Rattle.std.specs.Cmp.Lexicographic.{slice_cmp, nat_list_cmp_total}
+use Rattle.std.specs.FinMap.Entries.{below_all}
+use Rattle.std.specs.FinMap.{is_sorted, contains_key, contains_key-keys, entries, entries_sorted, keys}
+use Rattle.std.specs.List.{AllByRecursion}
+use Rattle.std.specs.List.Sorted.{IsStrictlySortedBy}
+use Rattle.std.proofs.lemmas.Cmp.{tied_itself}
+use Rattle.std.proofs.lemmas.Map.Lookups.{exact_bytes}
+use Rattle.std.proofs.lemmas.Map.Views.{list_any-from_Contains, Contains-from_any}
+use Rattle.std.proofs.lemmas.List.Elements.{Contains-append_left, Contains-append_right, Contains-append_cases}
+use Rattle.bep_map.specs.NameMap.{ByName}
+use Rattle.bep_cut.specs.Cut.{IsCut, shares_of, tables_of}
+use Rattle.bep_cut.specs.Laws.{FolderIsFound, ShareHasFolder, SharingIsSaid, NamesAreKnown}
+use Rattle.bep_cut.specs.Names.{known_names}
+use Rattle.bep_cut.specs.declared.cut.CutParts.{CutParts}
+use Rattle.bep_cut.specs.declared.share.SharedFolder.{SharedFolder}
+use Rattle.bep_model.proofs.Keys.{Equal_from_is_eq}
+use Rattle.bep_model.proofs.Members.{not_in_none, Contains-first, Contains-more, Contains-cons_cases}
+use Rattle.bep_model.specs.Foreign.{IsKnown}
+use Rattle.bep_model.specs.Settled.{key_cmp}
+use Rattle.bep_model.specs.Tables.{Folder, FileName}
+use Rattle.bep_audit.specs.Certifier.{names_of, all_names}
+
+abbrev Key : Type 0
+Key = Folder × FileName
+
+abbrev by_name : FileName → FileName → Ordering
+by_name = slice_cmp nat_cmp
+
+-- ---- the names of a map
+
+-- a name is in the map exactly where it stands among its names
+key_stands : {V : Type 0} (held : ByName V) (name : FileName) → IsTrue (contains_key held name) ↔ Contains (keys held) name
+key_stands held name = (
+  λ has. Contains-from_any (λ x y e. exact_bytes x y (Equal_from_is_eq _ e)) name (keys held) (sym (contains_key-keys held name) ∙ has),
+  λ stands. contains_key-keys held name ∙ list_any-from_Contains (eq_by_cmp_equiv nat_list_cmp_total) name (keys held) stands,
+)
+
+both_hold : (a b : Bool) → T (a && b) → T a × T b
+both_hold true true h = (tt, tt)
+both_hold true false h = absurd h
+both_hold false b h = absurd h
+
+is_Less : (o : Ordering) → T (is_lt o) → o ≡ Less
+is_Less Less h = refl
+is_Less Equal h = absurd h
+is_Less Greater h = absurd h
+
+names_above : {V : Type 0} (name : FileName) (es : List (FileName × V)) → T (below_all by_name name es) → AllByRecursion (λ later. by_name name later ≡ Less) (map (λ e. e.0) es)
+names_above name [] below = tt
+names_above name (e ∷ es) below = let parts = both_hold _ _ below in (is_Less _ parts.0, names_above name es parts.1)
+
+names_rise : {V : Type 0} (es : List (FileName × V)) → T (is_sorted by_name es) → IsStrictlySortedBy by_name (map (λ e. e.0) es)
+unfolding IsStrictlySortedBy
+names_rise [] sorted = tt
+names_rise (e ∷ es) sorted = let parts = both_hold _ _ sorted in (names_above e.0 es parts.0, names_rise es parts.1)
+
+-- ---- in a folder
+
+in_folder : (folder : Folder) (name : FileName) (names : List FileName) → AllByRecursion (λ later. by_name name later ≡ Less) names → AllByRecursion (λ key. key_cmp (folder, name) key ≡ Less) (map (λ n. (folder, n)) names)
+in_folder folder name [] all = tt
+in_folder folder name (later ∷ more) all = (
+  ap (λ o. ordering_then o (by_name name later)) (tied_itself nat_list_cmp_total folder) ∙ all.0,
+  in_folder folder name more all.1,
+)
+
+folder_rises : (folder : Folder) (names : List FileName) → IsStrictlySortedBy by_name names → IsStrictlySortedBy key_cmp (map (λ n. (folder, n)) names)
+unfolding IsStrictlySortedBy
+folder_rises folder [] rise = tt
+folder_rises folder (name ∷ names) rise = (in_folder folder name names rise.0, folder_rises folder names rise.1)
+
+-- ---- in all folders
+
+-- below the first names and below the later ones
+all_both : (P : Key → Type 0) (ones others : List Key) → AllByRecursion P ones → AllByRecursion P others → AllByRecursion P (ones ++ others)
+all_both P [] others all more = more
+all_both P (key ∷ ones) others all more = (all.0, all_both P ones others all.1 more)
+
+rise_together : (ones others : List Key) → IsStrictlySortedBy key_cmp ones → IsStrictlySortedBy key_cmp others → AllByRecursion (λ one. AllByRecursion (λ other. key_cmp one other ≡ Less) others) ones → IsStrictlySortedBy key_cmp (ones ++ others)
+unfolding IsStrictlySortedBy
+rise_together [] others rise more apart = more
+rise_together (key ∷ ones) others rise more apart =
+    (all_both (λ other. key_cmp key other ≡ Less) ones others rise.0 apart.0, rise_together ones others rise.1 more apart.1)
+
+-- a folder's names are above what is in an earlier folder
+folder_above : (key : Key) (folder : Folder) (names : List FileName) → by_name key.0 folder ≡ Less → AllByRecursion (λ other. key_cmp key other ≡ Less) (map (λ n. (folder, n)) names)
+folder_above key folder [] less = tt
+folder_above key folder (name ∷ names) less = (ap (λ o. ordering_then o (by_name key.1 name)) less, folder_above key folder names less)
+
+folders_above : (key : Key) (folders : List SharedFolder) → AllByRecursion (λ folder. by_name key.0 folder ≡ Less) (map (λ (held : SharedFolder). held.folder) folders) → AllByRecursion (λ other. key_cmp key other ≡ Less) (all_names folders)
+folders_above key [] above = tt
+folders_above key (held ∷ more) above =
+    all_both (λ other. key_cmp key other ≡ Less) (names_of held) (all_names more)
+    (folder_above key held.folder (keys (known_names held.shares)) above.0)
+    (folders_above key more above.1)
+
+names_below : (folder : Folder) (names : List FileName) (folders : List SharedFolder) → AllByRecursion (λ other. by_name folder other ≡ Less) (map (λ (held : SharedFolder). held.folder) folders) → AllByRecursion (λ one. AllByRecursion (λ other. key_cmp one other ≡ Less) (all_names folders)) (map (λ n. (folder, n)) names)
+names_below folder [] folders above = tt
+names_below folder (name ∷ names) folders above = (folders_above (folder, name) folders above, names_below folder names folders above)
+
+-- the known names of all folders rise
+pub all_names_rise : (folders : List SharedFolder) → IsStrictlySortedBy by_name (map (λ (held : SharedFolder). held.folder) folders) → IsStrictlySortedBy key_cmp (all_names folders)
+unfolding IsStrictlySortedBy
+all_names_rise [] rise = tt
+all_names_rise (held ∷ more) rise =
+    let names = known_names held.shares in
+    rise_together (names_of held) (all_names more)
+    (folder_rises held.folder (keys names) (names_rise (entries names) (entries_sorted names)))
+    (all_names_rise more rise.1)
+    (names_below held.folder (keys names) more rise.0)
+
+-- ---- they are all that are known
+
+stands_in_folder : (folder : Folder) (names : List FileName) (name : FileName) → Contains names name → Contains {X = Key} (map (λ n. (folder, n)) names) (folder, name)
+stands_in_folder folder [] name member = absurd (not_in_none name member)
+stands_in_folder folder (first ∷ more) name member =
+    ⊎_elim
+    (λ same. subst (λ (n : FileName). Contains {X = Key} (map (λ n. (folder, n)) (first ∷ more)) (folder, n)) same (Contains-first (folder, first) _))
+    (λ later. Contains-more (folder, first) _ (folder, name) (stands_in_folder folder more name later))
+    (Contains-cons_cases first more name member)
+
+name_in_folder : (folder : Folder) (names : List FileName) (key : Key) → Contains {X = Key} (map (λ n. (folder, n)) names) key → (folder ≡ key.0) × Contains names key.1
+name_in_folder folder [] key member = absurd (not_in_none key member)
+name_in_folder folder (first ∷ more) key member =
+    ⊎_elim
+    (λ same. (ap (λ (k : Key). k.0) same, subst (λ (n : FileName). Contains (first ∷ more) n) (ap (λ (k : Key). k.1) same) (Contains-first first more)))
+    (λ later. let found = name_in_folder folder more key later in (found.0, Contains-more first more key.1 found.1))
+    (Contains-cons_cases (folder, first) _ key member)
+
+stands_in_all : (folders : List SharedFolder) (held : SharedFolder) (key : Key) → Contains folders held → Contains (names_of held) key → Contains (all_names folders) key
+stands_in_all [] held key member stands = absurd (not_in_none held member)
+stands_in_all (first ∷ more) held key member stands =
+    ⊎_elim
+    (λ same. Contains-append_left (names_of first) (all_names more) key (subst (λ (h : SharedFolder). Contains (names_of h) key) (sym same) stands))
+    (λ later. Contains-append_right (names_of first) (all_names more) key (stands_in_all more held key later stands))
+    (Contains-cons_cases first more held member)
+
+some_folder_has : (folders : List SharedFolder) (key : Key) → Contains (all_names folders) key → (held : SharedFolder) × Contains folders held × Contains (names_of held) key
+some_folder_has [] key stands = absurd (not_in_none key stands)
+some_folder_has (first ∷ more) key stands =
+    ⊎_elim
+    (λ here. (first, Contains-first first more, here))
+    (λ later. let found = some_folder_has more key later in (found.0, Contains-more first more found.0 found.1, found.2))
+    (Contains-append_cases (names_of first) (all_names more) key stands)
+
+module _ (found : FolderIsFound) (has_folder : ShareHasFolder) (sharing : SharingIsSaid) (known : NamesAreKnown) (cut : CutParts) (is_cut : IsCut cut) where
+  pub known_from_stands : (key : Key) → Contains (all_names cut.folders) key → IsKnown (tables_of cut) key.0 key.1
+  known_from_stands key stands =
+      let held = some_folder_has cut.folders key stands in
+      let name = name_in_folder held.0.folder (keys (known_names held.0.shares)) key held.2 in
+      let same : held.0.shares ≡ shares_of key.0 cut.folders = sym (found cut held.0 is_cut held.1) ∙ ap (λ f. shares_of f cut.folders) name.0 in
+      (known cut key.0 key.1 is_cut).0 (subst (λ shares. IsTrue (contains_key (known_names shares) key.1)) same ((key_stands (known_names held.0.shares) key.1).1 name.1))
+
+  pub stands_from_known : (key : Key) → IsKnown (tables_of cut) key.0 key.1 → Contains (all_names cut.folders) key
+  stands_from_known key is_known =
+      let share = (sharing cut key.0 is_known.0 is_known.1.0).0 is_known.1.1 in
+      let held = has_folder cut key.0 share.0 share.1 in
+      let same : shares_of key.0 cut.folders ≡ held.0.shares = ap (λ f. shares_of f cut.folders) (sym held.2) ∙ found cut held.0 is_cut held.1 in
+      let has : IsTrue (contains_key (known_names held.0.shares) key.1) = subst (λ shares. IsTrue (contains_key (known_names shares) key.1)) same ((known cut key.0 key.1 is_cut).1 is_known) in
+      let stands = stands_in_folder held.0.folder (keys (known_names held.0.shares)) key.1 ((key_stands (known_names held.0.shares) key.1).0 has) in
+      stands_in_all cut.folders held.0 key held.1 (subst (λ (f : Folder). Contains (names_of held.0) (f, key.1)) held.2 stands)

@@ -1,0 +1,7 @@
+use Rattle.std.proofs.Common.{[], take}
+use Rattle.bep_cut.specs.Cut.{tables_of}
+use Rattle.bep_audit.specs.Certifier.{Adds, all_names}
+use Rattle.bep_audit.proofs.certifier.certify.Given as goal
+
+abbrev pub invariant-loop-held : goal.invariant-loop-held
+invariant-loop-held l = Adds (tables_of l.cut) (all_names (take l.held-index l.held-items)) [] l.rows.items
