@@ -65,6 +65,9 @@ fn documents_are_refused(rt: HostRuntime) -> Result<(), Fail> {
     for (text, want) in [
         ("", "181"),
         ("{\"version\":1", "181"),
+        // Half of a surrogate pair is no character; a whole one is.
+        ("{\"version\":\"\\ud83d\"}", "181"),
+        ("{\"version\":\"\\ud83d\\ude00\"}", "182"),
         ("[1]", "182"),
         ("{}", "182"),
         ("{\"version\":1.0}", "182"),
