@@ -5,13 +5,19 @@ use bep_cut::DocError;
 use std::alloc::Global;
 use std::test::Fail;
 
+// The device of the row of a copy, where there is one row.
+fn device_of_copy(alloc: Global, certificate: &Certificate) -> Result<Option<u64>, DocError> {
+    let copy = certificate.copy(alloc)?;
+    match copy.rows() {
+        [row] => Ok(Some(row.device.number())),
+        _ => Ok(None),
+    }
+}
+
 // The device of the certificate's row, where there is one row.
 fn winning_device(alloc: Global, shares: &[(&str, &str)]) -> Result<Option<u64>, DocError> {
     match certify(alloc, &cut_of(alloc, shares)?) {
-        Ok(certificate) => match certificate.rows() {
-            [row] => Ok(Some(row.device.number())),
-            _ => Ok(None),
-        },
+        Ok(certificate) => device_of_copy(alloc, &certificate),
         Err(CertifyError::NoWinner(_, _)) => Ok(None),
         Err(CertifyError::Memory) => Err(DocError::Memory),
     }
