@@ -4,7 +4,6 @@ ghost use Rattle.std.specs.Option.{option_copied};
 ghost use Rattle.bep_record.specs.Block.{base_block_size};
 ghost use Rattle.bep_record.specs.Content.{content_of, content_of_kind};
 ghost use Rattle.bep_record.specs.Node.{IsClean};
-ghost use Rattle.bep_record.specs.Vector.{IsBelow};
 ghost use Rattle.bep_blocks.specs.Plain.{plain_blocks};
 ghost use Rattle.bep_model.specs.Foreign.{IsHarmless};
 ghost use Rattle.bep_model.specs.Settled.{content_of_node};
@@ -12,7 +11,7 @@ ghost use Rattle.bep_audit.specs.Share.{AsksRecord, AsksContent, AsksValid, Asks
 
 use bep_blocks::{matches, plain_blocks_match};
 use bep_model::Reason;
-use bep_record::{Block, BlockSize, Entry, Kind, Node, NodeParts, Order, Record, cut_whole};
+use bep_record::{Block, BlockSize, Entry, Kind, Node, NodeParts, Record, cut_whole};
 
 /// Whether the device meets what the reason asks of it at a row, by its own record and its node alone.
 ///
@@ -117,12 +116,8 @@ pub fn is_harmless(own: Option<&Record>, winner: &Record, foreign: &Record) -> b
 {
     match own {
         None => foreign.same_content(winner),
-        Some(own) => foreign.same_content(winner) || is_below(foreign, own),
+        Some(own) => {
+            foreign.same_content(winner) || foreign.entry().version.is_below(&own.entry().version)
+        }
     }
-}
-
-fn is_below(one: &Record, other: &Record) -> bool
-    ensures { IsTrue result ↔ IsBelow one.now.version other.now.version }
-{
-    one.entry().version.order(&other.entry().version) == Order::Below
 }

@@ -1,10 +1,9 @@
 //! Which of the candidates a device holds for the best.
 ghost use Rattle.std.specs.Prelude.{◌≡◌, ◌↔◌, ℕ, IsTrue, IsSome, IfSome, Contains, map};
 ghost use Rattle.std.specs.List.Sorted.{IsStrictlyIncreasing};
-ghost use Rattle.bep_record.specs.Vector.{IsBelow};
 ghost use Rattle.bep_choice.specs.Choice.{Candidate, candidate_of, candidates_of, choice_cmp, IsDominated, IsLeft, IsValidAmong, IsChoiceAt};
 
-use bep_record::{DeviceId, Order, Record};
+use bep_record::{DeviceId, Record};
 use std::cmp::Ordering;
 
 /// The place of the choice among the candidates, for the device that chooses; `None` exactly where each of them is
@@ -52,13 +51,7 @@ fn is_left(candidates: &[(DeviceId, &Record)], one: &(DeviceId, &Record)) -> boo
 fn is_dominated(one: &Record, other: &Record) -> bool
     ensures { IsTrue result ↔ IsDominated one.now other.now }
 {
-    !other.entry().invalid && is_below(one, other)
-}
-
-fn is_below(one: &Record, other: &Record) -> bool
-    ensures { IsTrue result ↔ IsBelow one.now.version other.now.version }
-{
-    one.entry().version.order(&other.entry().version) == Order::Below
+    !other.entry().invalid && one.entry().version.is_below(&other.entry().version)
 }
 
 // Whether the first of the two comes before the second, for the device that chooses.

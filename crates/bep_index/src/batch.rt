@@ -2,7 +2,7 @@ ghost use Rattle.std.specs.Prelude.{◌≡◌, ◌↔◌, IsTrue, IsOk, IfOk, If
 ghost use Rattle.bep_index.specs.Batch.{Rises, HasNo, NamesDiffer, IsBatch};
 
 use crate::{IndexError, MAX_RECORDS, MAX_SEQUENCE};
-use bep_record::{Items, Name, Record};
+use bep_record::{Duplicate, Items, Name, Record};
 use std::alloc::{AllocError, Global};
 use std::marker::Model;
 
@@ -64,7 +64,7 @@ impl Batch {
         ensures { IfOk result (λ made. made ≡ self.now) }
     {
         Ok(Batch {
-            records: Items::new(copy_of(alloc, self.records.as_slice())?),
+            records: self.records.duplicate(alloc)?,
         })
     }
 }
@@ -117,14 +117,4 @@ fn names_differ(records: &[Record]) -> bool
         }
     }
     true
-}
-
-fn copy_of(alloc: Global, records: &[Record]) -> Result<Vec<Record>, AllocError>
-    ensures { IfOk result (λ made. made.items ≡ records.now) }
-{
-    let mut made = Vec::with_capacity(alloc, records.len())?;
-    for entry in records {
-        made.push(entry.copy(alloc)?)?;
-    }
-    Ok(made)
 }

@@ -144,6 +144,20 @@ fn copies_are_the_same(rt: HostRuntime) -> Result<(), Fail> {
 }
 
 #[test]
+fn a_list_of_records_is_copied(rt: HostRuntime) -> Result<(), Fail> {
+    let alloc = rt.alloc();
+    let mut records = Vec::new(alloc);
+    records.push(record(hello(alloc)?)?)?;
+    records.push(record(deletion(alloc)?)?)?;
+    let copy = Items::new(records).duplicate(alloc)?;
+    let [first, second] = copy.as_slice() else {
+        panic!(rt; "a copy of two records has two");
+    };
+    assert!(rt; !first.entry().deleted && second.entry().deleted);
+    Ok(())
+}
+
+#[test]
 fn a_change_of_equal_size_and_time_is_missed(rt: HostRuntime) -> Result<(), Fail> {
     let alloc = rt.alloc();
     let file = record(hello(alloc)?)?;

@@ -95,6 +95,13 @@ impl Vector {
         is_at_most(self.counters(), other.counters())
     }
 
+    /// Whether this vector is strictly below the other.
+    pub fn is_below(&self, other: &Vector) -> bool
+        ensures { IsTrue result ↔ IsBelow self.now other.now }
+    {
+        self.order(other) == Order::Below
+    }
+
     /// How this vector stands to the other.
     pub fn order(&self, other: &Vector) -> Order
         ensures order { IsOrder self.now other.now result }
@@ -323,6 +330,8 @@ mod tests {
         assert_eq!(rt; two.order(&one), Order::Above);
         assert_eq!(rt; two.order(&other), Order::Concurrent);
         assert_eq!(rt; Vector::empty().order(&one), Order::Below);
+        assert!(rt; one.is_below(&two) && !two.is_below(&one));
+        assert!(rt; !one.is_below(&one.copy()) && !two.is_below(&other));
         Ok(())
     }
 

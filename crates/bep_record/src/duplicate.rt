@@ -1,9 +1,9 @@
 ghost use Rattle.std.specs.Prelude.{◌≡◌, IfOk};
 
-use bep_record::{Node, Record};
+use crate::{Items, Node, Record};
 use std::alloc::{AllocError, Global};
 
-/// What can be copied into memory of its own.
+/// What can be copied into memory of its own. Types that are `Copy` don't need it.
 pub trait Duplicate: Drop {
     /// An equal value of its own, or want of memory.
     fn duplicate(&self, alloc: Global) -> Result<Self, AllocError>
@@ -19,5 +19,15 @@ impl Duplicate for Record {
 impl Duplicate for Node {
     fn duplicate(&self, alloc: Global) -> Result<Self, AllocError> {
         self.copy(alloc)
+    }
+}
+
+impl<T: Duplicate> Duplicate for Items<T> {
+    fn duplicate(&self, alloc: Global) -> Result<Self, AllocError> {
+        let mut made = Vec::with_capacity(alloc, self.as_slice().len())?;
+        for item in self.as_slice() {
+            made.push(item.duplicate(alloc)?)?;
+        }
+        Ok(Items::new(made))
     }
 }
