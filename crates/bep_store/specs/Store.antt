@@ -9,17 +9,17 @@ use Rattle.bep_store.specs.declared.error.StoreError.TheVariants.{Fault, Memory}
 
 -- the node with this time, in seconds and nanoseconds
 abbrev pub at_time : NodeParts → ℤ → ℕ → NodeParts
-at_time node s ns = record node { modified_s = s; modified_ns = ns }
+at_time node seconds nanoseconds = record node { modified_s = seconds; modified_ns = nanoseconds }
 
 -- the name's node, if it has one, has this time
 abbrev pub with_time : ByName NodeParts → List ℕ → Option NodeParts → ℤ → ℕ → ByName NodeParts
-with_time nodes name None s ns = nodes
-with_time nodes name (Some node) s ns = insert nodes name (at_time node s ns)
+with_time nodes name None seconds nanoseconds = nodes
+with_time nodes name (Some node) seconds nanoseconds = insert nodes name (at_time node seconds nanoseconds)
 
 -- what is held after a time was set: more than 999999999 nanoseconds change nothing
 abbrev pub after_set_time : ByName NodeParts → List ℕ → ℤ → ℕ → ByName NodeParts
-after_set_time nodes name s ns =
-    if nat_le ns MAX_NANOSECONDS then with_time nodes name (get nodes name) s ns else nodes
+after_set_time nodes name seconds nanoseconds =
+    if nat_le nanoseconds MAX_NANOSECONDS then with_time nodes name (get nodes name) seconds nanoseconds else nodes
 
 -- the count of faults rises in a call that answers a fault, and in no other
 abbrev pub CountsFault : {A : Type 0} → ℕ → ℕ → Result A StoreError → Type 0

@@ -2,9 +2,13 @@
 #![tactic(auto)]
 
 mod error;
+mod fault_store;
 mod mem_store;
 mod store;
+#[cfg(test)]
+mod tests;
 
 pub use error::{StoreError, StoreFault};
+pub use fault_store::FaultStore;
 pub use mem_store::MemStore;
 pub use store::Store;

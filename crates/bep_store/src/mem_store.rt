@@ -68,9 +68,9 @@ impl Store for MemStore {
         Ok(())
     }
 
-    fn set_time(&mut self, name: &Name, s: i64, ns: u32) -> Result<(), StoreFault> {
-        if ns <= MAX_NANOSECONDS {
-            set_node_time(&mut self.nodes, self.alloc, name, s, ns);
+    fn set_time(&mut self, name: &Name, seconds: i64, nanoseconds: u32) -> Result<(), StoreFault> {
+        if nanoseconds <= MAX_NANOSECONDS {
+            set_node_time(&mut self.nodes, self.alloc, name, seconds, nanoseconds);
         }
         Ok(())
     }
@@ -99,13 +99,19 @@ fn names_of(alloc: Global, nodes: &NameMap<Node>) -> Result<Vec<Name>, AllocErro
 // Gives the name's node, if it has one, this time. While the node is changed an empty directory, which takes no memory,
 // keeps its place.
 #[tactic(auto, using(crate::proofs::InsertFacts::get_insert, crate::proofs::InsertFacts::insert_insert))]
-fn set_node_time(nodes: &mut NameMap<Node>, alloc: Global, name: &Name, s: i64, ns: u32)
-    requires { ns ≤ MAX_NANOSECONDS }
-    ensures { nodes.new ≡ with_time nodes.old name.now (map.get nodes.old name.now) s ns }
+fn set_node_time(
+    nodes: &mut NameMap<Node>,
+    alloc: Global,
+    name: &Name,
+    seconds: i64,
+    nanoseconds: u32,
+)
+    requires { nanoseconds ≤ MAX_NANOSECONDS }
+    ensures { nodes.new ≡ with_time nodes.old name.now (map.get nodes.old name.now) seconds nanoseconds }
 {
     match nodes.replace(name, directory(alloc)) {
         Ok(node) => {
-            let _directory = nodes.replace(name, node_at(node, s, ns));
+            let _directory = nodes.replace(name, node_at(node, seconds, nanoseconds));
         }
         Err(_directory) => {}
     }
@@ -127,13 +133,13 @@ fn directory(alloc: Global) -> Node {
 }
 
 // The node with this time.
-fn node_at(node: Node, s: i64, ns: u32) -> Node
-    requires { ns ≤ MAX_NANOSECONDS }
-    ensures { result ≡ at_time node s ns }
+fn node_at(node: Node, seconds: i64, nanoseconds: u32) -> Node
+    requires { nanoseconds ≤ MAX_NANOSECONDS }
+    ensures { result ≡ at_time node seconds nanoseconds }
 {
     let mut parts = node.into_parts();
-    parts.modified_s = s;
-    parts.modified_ns = ns;
+    parts.modified_s = seconds;
+    parts.modified_ns = nanoseconds;
     match Node::read(parts) {
         Ok(node) => node,
         Err(_) => unreachable!(),

@@ -39,8 +39,8 @@ pub trait Store: Drop {
 
     /// Gives the name's node this time, in seconds since 1970 and nanoseconds. Changes nothing where the name has no
     /// node, nor for 1000000000 nanoseconds or more. Takes no memory.
-    fn set_time(&mut self, name: &Name, s: i64, ns: u32) -> Result<(), StoreFault>
-        ensures ok { OnOk result (contents self.new ≡ after_set_time (contents self.old) name.now s ns) }
+    fn set_time(&mut self, name: &Name, seconds: i64, nanoseconds: u32) -> Result<(), StoreFault>
+        ensures ok { OnOk result (contents self.new ≡ after_set_time (contents self.old) name.now seconds nanoseconds) }
         ensures err { OnErr result (contents self.new ≡ contents self.old) }
         ensures steady { OnOk result (faults self.new ≡ faults self.old) }
         ensures risen { OnErr result (faults self.old < faults self.new) };
