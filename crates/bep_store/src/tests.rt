@@ -48,24 +48,34 @@ fn example(alloc: Global) -> Result<MemStore, Fail> {
     Ok(MemStore::of(alloc, nodes))
 }
 
+fn put<S: Store>(alloc: Global, store: &mut S, text: &str, bytes: &str) -> Result<(), Fail> {
+    store.write(&name(alloc, text)?, &file(alloc, bytes, 1)?)?;
+    Ok(())
+}
+
 #[test]
 fn a_store_is_a_map(rt: HostRuntime) -> Result<(), Fail> {
     let alloc = rt.alloc();
-    let (a, b) = (name(alloc, "a")?, name(alloc, "b")?);
     let mut store = MemStore::new(alloc);
-    assert!(rt; shows(alloc, &mut store, "")?);
+    for (text, bytes, wanted) in [
+        ("b", "B", " b:B@1.1"),
+        ("a", "A", " a:A@1.1 b:B@1.1"),
+        ("b", "bb", " a:A@1.1 b:bb@1.1"),
+    ] {
+        put(alloc, &mut store, text, bytes)?;
+        assert!(rt; shows(alloc, &mut store, wanted)?);
+    }
+    Ok(())
+}
 
-    store.write(&b, &file(alloc, "B", 2)?)?;
-    store.write(&a, &file(alloc, "A", 1)?)?;
-    assert!(rt; shows(alloc, &mut store, " a:A@1.1 b:B@2.1")?);
-    store.write(&b, &file(alloc, "bb", 3)?)?;
-    assert!(rt; shows(alloc, &mut store, " a:A@1.1 b:bb@3.1")?);
-
-    store.remove(&a)?;
-    store.remove(&a)?;
-    assert!(rt; shows(alloc, &mut store, " b:bb@3.1")?);
-    assert!(rt; store.read(alloc, &a)?.is_none());
-    assert_eq!(rt; store.faults(), 0);
+#[test]
+fn nodes_are_removed(rt: HostRuntime) -> Result<(), Fail> {
+    let alloc = rt.alloc();
+    let mut store = example(alloc)?;
+    for (text, wanted) in [("a", " r:R@2.1"), ("a", " r:R@2.1"), ("r", "")] {
+        store.remove(&name(alloc, text)?)?;
+        assert!(rt; shows(alloc, &mut store, wanted)?);
+    }
     Ok(())
 }
 
@@ -80,7 +90,7 @@ fn times_are_set(rt: HostRuntime) -> Result<(), Fail> {
         ("r", 8, 0, " a:A@-7.999999999 r:R@8.0"),
     ] {
         store.set_time(&name(alloc, text)?, seconds, nanoseconds)?;
-        assert!(rt; shows(alloc, &mut store, wanted)?, "{text}");
+        assert!(rt; shows(alloc, &mut store, wanted)?);
     }
     Ok(())
 }
@@ -102,6 +112,22 @@ fn make_call<S: Store>(alloc: Global, store: &mut S, call: u64) -> Result<Option
     }
 }
 
+// Whether the calls from one to before another succeed.
+fn all_succeed<S: Store>(alloc: Global, store: &mut S, from: u64, to: u64) -> Result<bool, Fail> {
+    for call in from..to {
+        if make_call(alloc, store, call)?.is_some() {
+            return Ok(false);
+        }
+    }
+    Ok(true)
+}
+
+// Whether of the calls up to this one it alone fails.
+fn fails_at<S: Store>(alloc: Global, store: &mut S, failing: u64) -> Result<bool, Fail> {
+    let fine_before = all_succeed(alloc, store, 1, failing)?;
+    Ok(fine_before && make_call(alloc, store, failing)? == Some(131))
+}
+
 #[test]
 fn one_call_fails(rt: HostRuntime) -> Result<(), Fail> {
     let alloc = rt.alloc();
@@ -113,30 +139,10 @@ fn one_call_fails(rt: HostRuntime) -> Result<(), Fail> {
         (5, " a:A@7.0 r:R@2.1 w:W@3.1"),
     ] {
         let mut store = FaultStore::new(example(alloc)?, failing);
-        for call in 1..failing {
-            assert_eq!(rt;
-                make_call(alloc, &mut store, call)?,
-                None,
-                "{call} before {failing}"
-            );
-        }
-        assert_eq!(rt;
-            make_call(alloc, &mut store, failing)?,
-            Some(131),
-            "{failing}"
-        );
-        assert_eq!(rt; store.faults(), 1);
-        assert!(rt; shows(alloc, &mut store, left)?, "{failing}");
-
-        for call in failing..6 {
-            assert_eq!(rt;
-                make_call(alloc, &mut store, call)?,
-                None,
-                "{call} after {failing}"
-            );
-        }
-        assert!(rt; shows(alloc, &mut store, " a:A@7.0 w:W@3.1")?, "{failing}");
-        assert_eq!(rt; store.faults(), 1);
+        assert!(rt; fails_at(alloc, &mut store, failing)?);
+        assert!(rt; shows(alloc, &mut store, left)?);
+        assert!(rt; all_succeed(alloc, &mut store, failing, 6)?);
+        assert!(rt; shows(alloc, &mut store, " a:A@7.0 w:W@3.1")?);
     }
     Ok(())
 }
@@ -150,13 +156,19 @@ fn faults_add_up(rt: HostRuntime) -> Result<(), Fail> {
         assert_eq!(rt; make_call(alloc, &mut store, 3)?, answer);
         assert_eq!(rt; store.faults(), faults);
     }
+    Ok(())
+}
 
-    let mut store = FaultStore::new(example(alloc)?, 0);
-    for call in 1..6 {
-        assert_eq!(rt; make_call(alloc, &mut store, call)?, None, "{call}");
-    }
+#[test]
+fn no_call_fails(rt: HostRuntime) -> Result<(), Fail> {
+    let mut store = FaultStore::new(example(rt.alloc())?, 0);
+    assert!(rt; all_succeed(rt.alloc(), &mut store, 1, 6)?);
     assert_eq!(rt; store.faults(), 0);
+    Ok(())
+}
+
+#[test]
+fn errors_have_numbers(rt: HostRuntime) {
     assert_eq!(rt; StoreFault.number(), Some(131));
     assert_eq!(rt; StoreError::Memory.number(), None);
-    Ok(())
 }
