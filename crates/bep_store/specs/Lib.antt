@@ -1,0 +1,3 @@
+pub mod FaultStore
+pub mod Store
+pub mod StoreError

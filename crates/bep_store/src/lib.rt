@@ -1,0 +1,14 @@
+//! Stores, in which a device keeps the files of a folder, seen as maps from names to nodes that may fail.
+#![tactic(auto)]
+
+mod error;
+mod fault_store;
+mod mem_store;
+mod store;
+#[cfg(test)]
+mod tests;
+
+pub use error::{StoreError, StoreFault};
+pub use fault_store::FaultStore;
+pub use mem_store::MemStore;
+pub use store::Store;

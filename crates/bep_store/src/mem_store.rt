@@ -1,0 +1,147 @@
+ghost use Rattle.std.specs.Prelude.{◌≡◌, ◌≤◌, [], IfOk};
+ghost use Rattle.std.specs.FinMap as map;
+ghost use Rattle.bep_store.specs.Store.{at_time, with_time};
+
+use crate::{Store, StoreError, StoreFault};
+use bep_map::NameMap;
+use bep_record::{Items, Kind, MAX_NANOSECONDS, Name, Node, NodeParts, Target};
+use std::alloc::{AllocError, Global};
+use std::marker::Model;
+
+/// A store in memory, which never fails.
+#[derive(Drop)]
+pub struct MemStore {
+    nodes: NameMap<Node>,
+    alloc: Global,
+}
+
+impl Model for MemStore {
+    ghost use Rattle.std.specs.FinMap as map;
+    ghost use Rattle.std.specs.Coded.{coded_ℕ, coded_list};
+    ghost use Rattle.bep_map.specs.NameMap.{ByName};
+    ghost use Rattle.bep_record.specs.declared.node.NodeParts.{NodeParts};
+    ghost use Rattle.bep_record.specs.contracts.node.NodeParts as parts;
+
+    ghost Value = { ByName NodeParts };
+
+    ghost coded = { map.code (coded_list coded_ℕ) parts.the_row.coded };
+
+    ghost view = { λ store. store.nodes };
+}
+
+impl MemStore {
+    /// The store that holds nothing.
+    pub fn new(alloc: Global) -> Self
+        ensures { result ≡ map.empty }
+    {
+        MemStore::of(alloc, NameMap::new(alloc))
+    }
+
+    /// The store that holds these nodes.
+    pub fn of(alloc: Global, nodes: NameMap<Node>) -> Self
+        ensures { result ≡ nodes }
+    {
+        MemStore { nodes, alloc }
+    }
+}
+
+impl Store for MemStore {
+    ghost contents = { λ store. store };
+
+    ghost faults = { λ _. 0 };
+
+    fn names(&mut self, alloc: Global) -> Result<Vec<Name>, StoreError> {
+        Ok(names_of(alloc, &self.nodes)?)
+    }
+
+    fn read(&mut self, alloc: Global, name: &Name) -> Result<Option<Node>, StoreError> {
+        match self.nodes.get(name) {
+            Some(node) => Ok(Some(node.copy(alloc)?)),
+            None => Ok(None),
+        }
+    }
+
+    fn write(&mut self, name: &Name, node: &Node) -> Result<(), StoreError> {
+        let key = name.copy(self.alloc)?;
+        let copy = node.copy(self.alloc)?;
+        self.nodes.insert(key, copy)?;
+        Ok(())
+    }
+
+    fn set_time(&mut self, name: &Name, seconds: i64, nanoseconds: u32) -> Result<(), StoreFault> {
+        if nanoseconds <= MAX_NANOSECONDS {
+            set_node_time(&mut self.nodes, self.alloc, name, seconds, nanoseconds);
+        }
+        Ok(())
+    }
+
+    fn remove(&mut self, name: &Name) -> Result<(), StoreFault> {
+        self.nodes.remove(name);
+        Ok(())
+    }
+
+    fn faults(&self) -> u64 {
+        0
+    }
+}
+
+// The map's names, in order.
+fn names_of(alloc: Global, nodes: &NameMap<Node>) -> Result<Vec<Name>, AllocError>
+    ensures { IfOk result (λ names. names.items ≡ map.keys nodes.now) }
+{
+    let mut names = Vec::new(alloc);
+    for (name, _node) in nodes.iter() {
+        names.push(name.copy(alloc)?)?;
+    }
+    Ok(names)
+}
+
+// Gives the name's node, if it has one, this time. While the node is changed an empty directory, which takes no memory,
+// keeps its place.
+#[tactic(auto, using(crate::proofs::InsertFacts::get_insert, crate::proofs::InsertFacts::insert_insert))]
+fn set_node_time(
+    nodes: &mut NameMap<Node>,
+    alloc: Global,
+    name: &Name,
+    seconds: i64,
+    nanoseconds: u32,
+)
+    requires { nanoseconds ≤ MAX_NANOSECONDS }
+    ensures { nodes.new ≡ with_time nodes.old name.now (map.get nodes.old name.now) seconds nanoseconds }
+{
+    match nodes.replace(name, directory(alloc)) {
+        Ok(node) => {
+            let _directory = nodes.replace(name, node_at(node, seconds, nanoseconds));
+        }
+        Err(_directory) => {}
+    }
+}
+
+// A directory, made without memory.
+fn directory(alloc: Global) -> Node {
+    let made = Node::read(NodeParts {
+        kind: Kind::Directory,
+        bytes: Items::new(Vec::new(alloc)),
+        target: Target::empty(alloc),
+        modified_s: 0,
+        modified_ns: 0,
+    });
+    match made {
+        Ok(node) => node,
+        Err(_) => unreachable!(),
+    }
+}
+
+// The node with this time.
+fn node_at(node: Node, seconds: i64, nanoseconds: u32) -> Node
+    requires { nanoseconds ≤ MAX_NANOSECONDS }
+    ensures { result ≡ at_time node seconds nanoseconds }
+{
+    let mut parts = node.into_parts();
+    parts.modified_s = seconds;
+    parts.modified_ns = nanoseconds;
+    match Node::read(parts) {
+        Ok(node) => node,
+        Err(_) => unreachable!(),
+    }
+}
