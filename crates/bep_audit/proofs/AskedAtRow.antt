@@ -8,8 +8,8 @@ use Rattle.bep_model.specs.Tables.{Tables, Device, Folder, FileName}
 use Rattle.bep_model.specs.Settled.{key_of, key_cmp}
 use Rattle.bep_model.specs.Reasons.{Place, Asks, AsksAt, AsksName}
 use Rattle.bep_model.specs.Verdict.{number_of}
-use Rattle.bep_model.proofs.Members.{not_in_none, Contains-first, Contains-cons_cases}
-use Rattle.bep_model.proofs.Keys.{same_from_Equal, Equal_from_same, order_cases}
+use Rattle.bep_facts.specs.Members.{not_in_none, Contains-first, Contains-cons_cases}
+use Rattle.bep_facts.specs.Orders.{texts_exact, Equal_from_same, texts_total, order_cases}
 
 -- the reason asks something of each row, or of devices at it
 abbrev pub IsOfRows : Reason → Type 0
@@ -77,10 +77,10 @@ module _ (t : Tables) where
   pub here_if_unmet : (reason : Reason) (row : Row) (place : Place) → IsOfRows reason → ¬ Asks t (row ∷ []) reason place → key_of row ≡ key_at place
   here_if_unmet reason row place of_rows unmet =
       ⊎_elim
-      (λ less. absurd (unmet (asked_if_here reason row place of_rows (λ here. let e : Less ≡ Equal = sym less ∙ Equal_from_same (key_of row) (key_at place) here in absurd (cc)))))
+      (λ less. absurd (unmet (asked_if_here reason row place of_rows (λ here. let e : Less ≡ Equal = sym less ∙ Equal_from_same texts_total (key_of row) (key_at place) here in absurd (cc)))))
       (⊎_elim
-      (λ equal. same_from_Equal (key_of row) (key_at place) equal)
-      (λ greater. absurd (unmet (asked_if_here reason row place of_rows (λ here. let e : Greater ≡ Equal = sym greater ∙ Equal_from_same (key_of row) (key_at place) here in absurd (cc))))))
+      (λ equal. texts_exact (key_of row) (key_at place) equal)
+      (λ greater. absurd (unmet (asked_if_here reason row place of_rows (λ here. let e : Greater ≡ Equal = sym greater ∙ Equal_from_same texts_total (key_of row) (key_at place) here in absurd (cc))))))
       (order_cases (key_cmp (key_of row) (key_at place)))
 
   -- ---- all rows are asked just what each is

@@ -15,7 +15,7 @@ use Rattle.bep_cut.specs.Cut.{devices_of}
 use Rattle.bep_cut.specs.declared.share.Share.{Share}
 use Rattle.bep_model.specs.Tables.{FileName}
 use Rattle.bep_model.specs.Winner.{beside}
-use Rattle.bep_model.proofs.Members.{not_in_none, Contains-first, Contains-more, Contains-cons_cases}
+use Rattle.bep_facts.specs.Members.{not_in_none, Contains-first, Contains-more, Contains-cons_cases}
 use Rattle.bep_audit.specs.Candidates.{owned_in, chooser_of}
 
 -- the candidates' devices

@@ -3,8 +3,8 @@ use Rattle.std.proofs.Common.{◌≡◌, List, [], ◌∷◌, Contains, sym, ap,
 use Rattle.std.specs.declared.cmp.Ordering.TheVariants.{Less}
 use Rattle.std.specs.List.{AllByRecursion}
 use Rattle.std.specs.List.Sorted.{IsStrictlySortedBy}
-use Rattle.bep_model.proofs.Keys.{key_total, not_less_itself}
-use Rattle.bep_model.proofs.Members.{not_in_none, Contains-first, Contains-more, Contains-cons_cases}
+use Rattle.bep_facts.specs.Orders.{texts_total, not_less_itself}
+use Rattle.bep_facts.specs.Members.{not_in_none, Contains-first, Contains-more, Contains-cons_cases}
 use Rattle.bep_model.specs.declared.row.Row.{Row}
 use Rattle.bep_model.specs.Foreign.{IsKnown}
 use Rattle.bep_model.specs.Laws.{SettledIsListOfWinners, ListOfWinnersIsUnique, WinnersLeaveNoneOut}
@@ -83,8 +83,8 @@ module _ (t : Tables) where
       (λ here.
       let below : key_cmp earlier key ≡ Less = ap (key_cmp earlier) here.0 ∙ less in
       ⊎_elim
-      (λ same. absurd (not_less_itself key (ap (λ (k : Key). key_cmp k key) same ∙ below)))
-      (λ later. absurd (not_less_itself key (key_total.trans key earlier key (above_first key keys earlier rise.0 later) below)))
+      (λ same. absurd (not_less_itself texts_total key (ap (λ (k : Key). key_cmp k key) same ∙ below)))
+      (λ later. absurd (not_less_itself texts_total key (texts_total.trans key earlier key (above_first key keys earlier rise.0 later) below)))
       (Contains-cons_cases key keys earlier member))
       (λ after.
       ⊎_elim

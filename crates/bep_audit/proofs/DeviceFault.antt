@@ -10,7 +10,7 @@ use Rattle.bep_model.specs.declared.reason.Reason.TheVariants.{CertificateOrder,
 use Rattle.bep_model.specs.Tables.{Tables, Device, Folder, FileName, Shares}
 use Rattle.bep_model.specs.Reasons.{device_rank, AsksAt, AsksName, AsksDevice, AsksShare}
 use Rattle.bep_model.specs.Verdict.{number_of}
-use Rattle.bep_model.proofs.Members.{Contains-first}
+use Rattle.bep_facts.specs.Members.{Contains-first}
 use Rattle.bep_cut.specs.declared.share.Share.{Share}
 use Rattle.bep_cut.specs.declared.cut.CutParts.{CutParts}
 use Rattle.bep_cut.specs.Cut.{IsCut, shares_of, tables_of}

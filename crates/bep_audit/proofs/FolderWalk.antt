@@ -12,7 +12,7 @@ use Rattle.bep_model.specs.Tables.{Device, Folder, FileName}
 use Rattle.bep_model.specs.Foreign.{IsKnown}
 use Rattle.bep_model.specs.Settled.{HasRow}
 use Rattle.bep_model.specs.Reasons.{Place, place_cmp, Asks, AsksAt}
-use Rattle.bep_model.proofs.Keys.{order_cases}
+use Rattle.bep_facts.specs.Orders.{order_cases}
 use Rattle.bep_cut.specs.declared.share.Share.{Share}
 use Rattle.bep_cut.specs.declared.share.SharedFolder.{SharedFolder}
 use Rattle.bep_cut.specs.declared.cut.CutParts.{CutParts}

@@ -10,7 +10,7 @@ use Rattle.std.specs.FinMap.{contains_key, contains_key-keys, keys}
 use Rattle.std.proofs.lemmas.Map.Lookups.{exact_bytes}
 use Rattle.std.proofs.lemmas.Map.Views.{list_any-from_Contains, Contains-from_any}
 use Rattle.bep_map.specs.NameMap.{ByName}
-use Rattle.bep_model.proofs.Keys.{Equal_from_is_eq}
+use Rattle.std.specs.Cmp.{Equal-is}
 use Rattle.bep_model.specs.Tables.{FileName}
 
 -- names are compared by their bytes
@@ -20,7 +20,7 @@ by_name = slice_cmp nat_cmp
 -- a name is in the map exactly where it stands among its names
 pub key_stands : {V : Type 0} (held : ByName V) (name : FileName) → IsTrue (contains_key held name) ↔ Contains (keys held) name
 key_stands held name = (
-  λ has. Contains-from_any (λ x y e. exact_bytes x y (Equal_from_is_eq _ e)) name (keys held) (sym (contains_key-keys held name) ∙ has),
+  λ has. Contains-from_any (λ x y e. exact_bytes x y ((Equal-is _).0 e)) name (keys held) (sym (contains_key-keys held name) ∙ has),
   λ stands. contains_key-keys held name ∙ list_any-from_Contains (eq_by_cmp_equiv nat_list_cmp_total) name (keys held) stands,
 )
 

@@ -12,7 +12,7 @@ use Rattle.bep_map.specs.NameMap.{ByName}
 use Rattle.bep_model.specs.declared.row.Row.{Row}
 use Rattle.bep_model.specs.Tables.{Folder, FileName}
 use Rattle.bep_model.specs.Settled.{HasRow}
-use Rattle.bep_model.proofs.Members.{not_in_none, Contains-cons_cases}
+use Rattle.bep_facts.specs.Members.{not_in_none, Contains-cons_cases}
 use Rattle.bep_cut.specs.declared.share.Share.{Share}
 use Rattle.bep_audit.specs.Held.{HasName, HasRowIfHeld}
 use Rattle.bep_audit.specs.Search.{FindsFirst, lesser}

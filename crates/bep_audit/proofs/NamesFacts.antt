@@ -15,7 +15,7 @@ use Rattle.bep_cut.specs.Laws.{FolderIsFound, ShareHasFolder, SharingIsSaid, Nam
 use Rattle.bep_cut.specs.Names.{known_names}
 use Rattle.bep_cut.specs.declared.cut.CutParts.{CutParts}
 use Rattle.bep_cut.specs.declared.share.SharedFolder.{SharedFolder}
-use Rattle.bep_model.proofs.Members.{not_in_none, Contains-first, Contains-more, Contains-cons_cases}
+use Rattle.bep_facts.specs.Members.{not_in_none, Contains-first, Contains-more, Contains-cons_cases}
 use Rattle.bep_model.specs.Foreign.{IsKnown}
 use Rattle.bep_model.specs.Settled.{key_cmp}
 use Rattle.bep_model.specs.Tables.{Folder, FileName}

@@ -12,7 +12,7 @@ use Rattle.bep_model.specs.Foreign.{IsKnown}
 use Rattle.bep_model.specs.Winner.{IsWinner}
 use Rattle.bep_model.specs.Settled.{key_of}
 use Rattle.bep_model.specs.Reasons.{Place, place_cmp, device_rank, AsksAt, AsksName, AsksDevice, first_disordered}
-use Rattle.bep_model.proofs.Members.{Contains-first}
+use Rattle.bep_facts.specs.Members.{Contains-first}
 use Rattle.bep_audit.specs.Search.{FindsFault}
 use Rattle.bep_audit.specs.Shown.{name_of}
 use Rattle.bep_audit.proofs.AskedAtRow.{IsOfRows, only_row, asked_if_here}

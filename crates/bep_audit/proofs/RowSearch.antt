@@ -8,8 +8,8 @@ use Rattle.std.proofs.lemmas.List.Elements.{Contains-append_left, Contains-appen
 use Rattle.bep_model.specs.declared.row.Row.{Row}
 use Rattle.bep_model.specs.Tables.{Folder, FileName}
 use Rattle.bep_model.specs.Settled.{HasRow, Rise, key_of, key_cmp}
-use Rattle.bep_model.proofs.Members.{not_in_none, Contains-first, Contains-more, Contains-cons_cases}
-use Rattle.bep_model.proofs.Keys.{key_total, not_less_itself, same_from_Equal}
+use Rattle.bep_facts.specs.Members.{not_in_none, Contains-first, Contains-more, Contains-cons_cases}
+use Rattle.bep_facts.specs.Orders.{texts_total, not_less_itself, texts_exact}
 
 pub tail_rises : (row : Row) (more : List Row) → Rise (row ∷ more) → Rise more
 tail_rises row [] rise = tt
@@ -21,7 +21,7 @@ first_is_below row [] rise later h = absurd (not_in_none later h)
 first_is_below row (next ∷ more) rise later h =
     ⊎_elim
     (λ same. subst (λ (r : Row). key_cmp (key_of row) (key_of r) ≡ Less) same rise.0)
-    (λ more_h. key_total.trans (key_of row) (key_of next) (key_of later) rise.0 (first_is_below next more rise.1 later more_h))
+    (λ more_h. texts_total.trans (key_of row) (key_of next) (key_of later) rise.0 (first_is_below next more rise.1 later more_h))
     (Contains-cons_cases next more later h)
 
 back_rises : (front back : List Row) → Rise (front ++ back) → Rise back
@@ -59,7 +59,7 @@ back_is_left rows front middle back folder name less s = record {
   has = λ has.
       let found = s.has has in
       ⊎_elim
-      (λ in_front. absurd (not_at (key_total.trans (key_of found.0) (key_of middle) (folder, name) (front_is_below front middle back s.rise found.0 in_front) less) found.2))
+      (λ in_front. absurd (not_at (texts_total.trans (key_of found.0) (key_of middle) (folder, name) (front_is_below front middle back s.rise found.0 in_front) less) found.2))
       (λ later.
       ⊎_elim
       (λ same. absurd (not_at less (ap key_of same ∙ found.2)))
@@ -69,7 +69,7 @@ back_is_left rows front middle back folder name less s = record {
 }
   where
     not_at : {key at : Folder × FileName} → key_cmp key at ≡ Less → ¬ (key ≡ at)
-    not_at {key} {at} less same = not_less_itself at (subst (λ (k : Folder × FileName). key_cmp k at ≡ Less) same less)
+    not_at {key} {at} less same = not_less_itself texts_total at (subst (λ (k : Folder × FileName). key_cmp k at ≡ Less) same less)
 
 -- the middle row is above the name
 front_is_left : (rows front : List Row) (middle : Row) (back : List Row) (folder : Folder) (name : FileName) → key_cmp (key_of middle) (folder, name) ≡ Greater → IsSearched rows (front ++ middle ∷ back) folder name → IsSearched rows front folder name
@@ -89,7 +89,7 @@ front_is_left rows front middle back folder name greater s = record {
 }
   where
     not_at : ¬ (key_of middle ≡ (folder, name))
-    not_at same = let tied = tied_itself key_total (folder, name) in let other = subst (λ (k : Folder × FileName). key_cmp k (folder, name) ≡ Greater) same greater in cc
+    not_at same = let tied = tied_itself texts_total (folder, name) in let other = subst (λ (k : Folder × FileName). key_cmp k (folder, name) ≡ Greater) same greater in cc
 
     not_below : ¬ (key_cmp (key_of middle) (folder, name) ≡ Less)
     not_below less = cc
@@ -114,7 +114,7 @@ go_left rows place middle folder name rise below is greater =
     (subst (λ (l : List Row). IsSearched rows l folder name) (sym (around rows place middle below is)) (searched_all rows folder name rise))
 
 pub found_here : (rows : List Row) (place : ℕ) (row : Row) (folder : Folder) (name : FileName) → place < length rows → row ≡ get_or rows place row → key_cmp (key_of row) (folder, name) ≡ Equal → Contains rows row × (key_of row ≡ (folder, name))
-found_here rows place row folder name below is tied = ((place, below, sym is), same_from_Equal (key_of row) (folder, name) tied)
+found_here rows place row folder name below is tied = ((place, below, sym is), texts_exact (key_of row) (folder, name) tied)
 
 -- what is left has the row exactly where all rows have it
 pub has_exactly : (rows rest : List Row) (folder : Folder) (name : FileName) → IsSearched rows rest folder name → HasRow rest folder name ↔ HasRow rows folder name

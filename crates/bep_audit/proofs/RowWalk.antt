@@ -10,7 +10,7 @@ use Rattle.bep_model.specs.declared.reason.Reason.{Reason}
 use Rattle.bep_model.specs.Tables.{Tables, Folder, FileName}
 use Rattle.bep_model.specs.Settled.{Rise, key_of, key_cmp}
 use Rattle.bep_model.specs.Reasons.{Place, place_cmp, device_rank, Asks}
-use Rattle.bep_model.proofs.Keys.{key_total}
+use Rattle.bep_facts.specs.Orders.{texts_total}
 use Rattle.bep_audit.specs.Search.{FindsFirst, FindsFault}
 use Rattle.bep_audit.proofs.SearchFacts.{AllSay, finds_as}
 use Rattle.bep_audit.proofs.WalkFacts.{IsBefore, AreInOrder}
@@ -56,7 +56,7 @@ module _ (t : Tables) (reason : Reason) (of_rows : IsOfRows reason) where
       asked_if_here t reason other x of_rows (λ here.
       let there = here_if_unmet t reason one first of_rows unmet in
       let below : key_cmp (key_at first) (key_at x) ≡ Less = ap (λ (key : Folder × FileName). key_cmp key (key_at x)) (sym there) ∙ ap (key_cmp (key_of one)) (sym here) ∙ less in
-      let above : key_cmp (key_at x) (key_at first) ≡ Greater = key_total.antisymm (key_at x) (key_at first) ∙ ap ordering_reverse below in
+      let above : key_cmp (key_at x) (key_at first) ≡ Greater = texts_total.antisymm (key_at x) (key_at first) ∙ ap ordering_reverse below in
       absurd (key_not_above x first before above))
 
   pub rows_in_order : (rows : List Row) → Rise rows → AreInOrder place_cmp (AsksRow t reason) rows

@@ -7,7 +7,7 @@ use Rattle.std.specs.List.{AllByRecursion}
 use Rattle.std.specs.List.Sorted.{IsStrictlySortedBy}
 use Rattle.std.proofs.lemmas.Map.Keys.{sorted_head, sorted_tail}
 use Rattle.std.proofs.lemmas.List.{drop_more, drop_all, take_more, take-append-drop}
-use Rattle.bep_model.proofs.Members.{not_in_none, Contains-cons_cases}
+use Rattle.bep_facts.specs.Members.{not_in_none, Contains-cons_cases}
 use Rattle.bep_audit.specs.Search.{FindsFirst}
 use Rattle.bep_audit.proofs.SearchFacts.{AllSay, goes_on, fails_here, ends}
 

@@ -12,8 +12,8 @@ use Rattle.bep_index.specs.After.{IsAmong}
 use Rattle.bep_index.specs.Law.{RecordsMakeAnIndex, RecordsAreFound}
 use Rattle.bep_json.specs.declared.nodes.NamedParts.{NamedParts}
 use Rattle.bep_model.specs.Tables.{FileName}
-use Rattle.bep_model.proofs.Keys.{Equal_from_is_eq}
-use Rattle.bep_model.proofs.Members.{not_in_none, Contains-first, Contains-more, Contains-cons_cases}
+use Rattle.std.specs.Cmp.{Equal-is}
+use Rattle.bep_facts.specs.Members.{not_in_none, Contains-first, Contains-more, Contains-cons_cases, Contains-image, holds_of_member}
 use Rattle.bep_document.specs.declared.parts.ShareParts.{ShareParts}
 use Rattle.bep_document.specs.declared.parts.FolderParts.{FolderParts}
 use Rattle.bep_document.specs.declared.parts.CheckParts.{CheckParts}
@@ -23,7 +23,6 @@ use Rattle.bep_cut.specs.declared.share.SharedFolder.{SharedFolder}
 use Rattle.bep_cut.specs.AsWritten.{IsWrittenIn, SharingIsAsWritten, OwnIsAsWritten, NodeIsAsWritten}
 use Rattle.bep_cut.specs.Cut.{shares_of}
 use Rattle.bep_cut.specs.Written.{with_nodes, share_written, folder_written, cut_written}
-use Rattle.bep_cut.proofs.Found.{Contains-image, each_from_recursion}
 use Rattle.bep_cut.proofs.SortingFacts.{in_in_order}
 use Rattle.bep_cut.proofs.Tables.{folder_is_found, share_has_folder, sharing_is_said, own_is_said, node_is_said}
 use Rattle.bep_cut.proofs.WrittenFacts.{from_part, cut_is_written}
@@ -61,7 +60,7 @@ sharing_is_as_written law parts name device kind faultless = (
 -- ---- its records and nodes
 faultless_share : (parts : CheckParts) (folder : FolderParts) (share : ShareParts) → IsFaultless parts → IsWrittenIn parts folder share → IsFaultlessShare share
 faultless_share parts folder share faultless h =
-    each_from_recursion IsFaultlessShare folder.devices share (each_from_recursion IsFaultlessFolder parts.folders folder faultless.each_folder h.0).shares h.1
+    holds_of_member IsFaultlessShare folder.devices share (holds_of_member IsFaultlessFolder parts.folders folder faultless.each_folder h.0).shares h.1
 
 among_is_contained : (entries : List Entry) (entry : Entry) → IsAmong entry entries ↔ Contains entries entry
 among_is_contained [] entry = (λ h. absurd h, λ h. absurd (not_in_none entry h))
@@ -87,7 +86,7 @@ named name node = record { name = name; parts = node }
 after_insert : (m : ByName NodeParts) (name : FileName) (node : NodeParts) (q : FileName) (found : NodeParts) → get (insert m name node) q ≡ Some found → ((name ≡ q) × (node ≡ found)) ⊎ (get m q ≡ Some found)
 after_insert m name node q found is = cases (eq_by_cmp (slice_cmp nat_cmp) q name) refl (sym (get-insert nat_list_cmp_total m name node q) ∙ is) where
   cases : (b : Bool) → eq_by_cmp (slice_cmp nat_cmp) q name ≡ b → cond b (Some node) (get m q) ≡ Some found → ((name ≡ q) × (node ≡ found)) ⊎ (get m q ≡ Some found)
-  cases true e f = inl (sym (exact_bytes q name (Equal_from_is_eq _ e)), cc)
+  cases true e f = inl (sym (exact_bytes q name ((Equal-is _).0 e)), cc)
   cases false e f = inr f
 
 insert_here : (m : ByName NodeParts) (name : FileName) (node : NodeParts) → get (insert m name node) name ≡ Some node
@@ -98,7 +97,7 @@ insert_here m name node =
 insert_apart : (m : ByName NodeParts) (name : FileName) (node : NodeParts) (q : FileName) → name ≢ q → get (insert m name node) q ≡ get m q
 insert_apart m name node q apart = get-insert nat_list_cmp_total m name node q ∙ there (eq_by_cmp (slice_cmp nat_cmp) q name) refl where
   there : (b : Bool) → eq_by_cmp (slice_cmp nat_cmp) q name ≡ b → cond b (Some node) (get m q) ≡ get m q
-  there true e = absurd (apart (sym (exact_bytes q name (Equal_from_is_eq _ e))))
+  there true e = absurd (apart (sym (exact_bytes q name ((Equal-is _).0 e))))
   there false e = refl
 
 found_node : (m : ByName NodeParts) (nodes : List NamedParts) (q : FileName) (found : NodeParts) → get (with_nodes m nodes) q ≡ Some found → Contains nodes (named q found) ⊎ (get m q ≡ Some found)

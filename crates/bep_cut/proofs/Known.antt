@@ -10,15 +10,15 @@ use Rattle.std.proofs.lemmas.List.Elements.{Contains-append_left, Contains-appen
 use Rattle.bep_map.specs.NameMap.{ByName}
 use Rattle.bep_model.specs.Tables.{Device, Folder, FileName}
 use Rattle.bep_model.specs.Foreign.{HasTrace}
-use Rattle.bep_model.proofs.Keys.{Equal_from_is_eq}
-use Rattle.bep_model.proofs.Members.{not_in_none, Contains-first, Contains-more, Contains-cons_cases}
+use Rattle.std.specs.Cmp.{Equal-is}
+use Rattle.bep_facts.specs.Members.{not_in_none, Contains-first, Contains-more, Contains-cons_cases, Contains-image}
 use Rattle.bep_cut.specs.declared.share.Share.{Share}
 use Rattle.bep_cut.specs.declared.share.SharedFolder.{SharedFolder}
 use Rattle.bep_cut.specs.declared.cut.CutParts.{CutParts}
 use Rattle.bep_cut.specs.Cut.{shares_of, tables_of}
 use Rattle.bep_cut.specs.Laws.{NamesAreKnown, CutIsFinite}
 use Rattle.bep_cut.specs.Names.{Names, with_names, with_shares, known_names}
-use Rattle.bep_cut.proofs.Found.{Contains-image, any_tied, one_tied}
+use Rattle.bep_cut.proofs.Found.{any_tied, one_tied}
 use Rattle.bep_cut.proofs.Tables.{folder_is_found, share_has_folder, sharing_is_said, own_is_said, node_is_said, nothing_is_foreign}
 
 -- the name is in the set
@@ -34,7 +34,7 @@ inserted names new name =
     )
   where
     there : (b : Bool) → eq_by_cmp (slice_cmp nat_cmp) name new ≡ b → is_some (cond b (Some tt) (get names name)) ≡ true → Has names name ⊎ (new ≡ name)
-    there true same e = inr (sym (exact_bytes name new (Equal_from_is_eq _ same)))
+    there true same e = inr (sym (exact_bytes name new ((Equal-is _).0 same)))
     there false apart e = inl e
 
     here : (b : Bool) → eq_by_cmp (slice_cmp nat_cmp) name new ≡ b → Has names name ⊎ (new ≡ name) → is_some (cond b (Some tt) (get names name)) ≡ true

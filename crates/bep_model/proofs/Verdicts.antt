@@ -15,7 +15,7 @@ use Rattle.bep_model.specs.Settled.{IsSettled}
 use Rattle.bep_model.specs.Reasons.{Place, place_cmp, device_rank}
 use Rattle.bep_model.specs.Verdict.{Settled, Not, number_of, IsFirstFault}
 use Rattle.bep_model.specs.Laws.{VerdictIsUnique}
-use Rattle.bep_model.proofs.Keys.{order_cases, both_tied}
+use Rattle.bep_facts.specs.Orders.{order_cases, both_tied}
 use Rattle.bep_model.proofs.Faultless.{settled_is_faultless_lem}
 
 -- ---- reasons

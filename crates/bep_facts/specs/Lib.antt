@@ -1,0 +1,5 @@
+pub mod Options
+pub mod Members
+pub mod Places
+pub mod Orders
+pub mod Rising
