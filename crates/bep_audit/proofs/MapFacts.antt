@@ -1,5 +1,5 @@
 -- Where a name stands in a map, and tests of order.
-use Rattle.std.proofs.Common.{◌≡◌, ◌↔◌, ◌&&◌, Bool, true, false, Contains, IsTrue, refl, sym, ◌∙◌}
+use Rattle.std.proofs.Common.{◌≡◌, ◌↔◌, ◌&&◌, Bool, true, false, Contains, IsTrue, refl, sym, ◌∙◌, List, [], ◌∷◌, map}
 use Rattle.std.proofs.Math.Dec.{T}
 use Rattle.std.specs.declared.cmp.Ordering.{Ordering}
 use Rattle.std.specs.declared.cmp.Ordering.TheVariants.{Less, Equal, Greater}
@@ -11,6 +11,8 @@ use Rattle.std.proofs.lemmas.Map.Lookups.{exact_bytes}
 use Rattle.std.proofs.lemmas.Map.Views.{list_any-from_Contains, Contains-from_any}
 use Rattle.bep_map.specs.NameMap.{ByName}
 use Rattle.std.specs.Cmp.{Equal-is}
+use Rattle.std.specs.FinMap.Entries.{below_all}
+use Rattle.std.specs.List.{AllByRecursion}
 use Rattle.bep_model.specs.Tables.{FileName}
 
 -- names are compared by their bytes
@@ -33,3 +35,8 @@ pub is_Less : (o : Ordering) → T (is_lt o) → o ≡ Less
 is_Less Less h = refl
 is_Less Equal h = absurd h
 is_Less Greater h = absurd h
+
+-- each later name is above the first
+pub names_above : {V : Type 0} (name : FileName) (es : List (FileName × V)) → T (below_all by_name name es) → AllByRecursion (λ later. by_name name later ≡ Less) (map (λ e. e.0) es)
+names_above name [] below = tt
+names_above name (e ∷ es) below = let parts = both_hold _ _ below in (is_Less _ parts.0, names_above name es parts.1)

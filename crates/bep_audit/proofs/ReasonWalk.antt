@@ -1,11 +1,12 @@
 -- A walk over the reasons in their order: the first that fails, with its place, is the verdict.
-use Rattle.std.proofs.Common.{◌≡◌, ◌≢◌, ◌↔◌, ◌+◌, ◌<◌, ◌≤◌, ℕ, zero, suc, List, [], ◌∷◌, Option, Some, None, length, get_or, refl, sym, ap, subst, ◌∙◌, ⊎_elim, arith}
+use Rattle.std.proofs.Common.{◌≡◌, ◌≢◌, ◌↔◌, ◌+◌, ◌<◌, ◌≤◌, ℕ, zero, suc, List, [], ◌∷◌, Some, None, length, get_or, refl, sym, ap, subst, ◌∙◌, ⊎_elim, arith}
 use Rattle.std.specs.Prelude.{⊤}
 use Rattle.std.proofs.lemmas.Bool.{cases_eq}
+use Rattle.bep_facts.specs.Options.{none_from_no_value}
 use Rattle.bep_model.specs.declared.row.Row.{Row}
 use Rattle.bep_model.specs.declared.reason.Reason.{Reason}
 use Rattle.bep_model.specs.declared.reason.Reason.TheVariants.{CertificateOrder, NameMissing, NameUnknown, NotWinner, RecordMissing, RecordDiffers, LocalOnly, StoreDiffers, StoreUnclean, ViewAhead, FlightAhead, PullAhead}
-use Rattle.bep_model.specs.Tables.{Tables, Folder, FileName}
+use Rattle.bep_model.specs.Tables.{Tables}
 use Rattle.bep_model.specs.Settled.{IsSettled, Rise}
 use Rattle.bep_model.specs.Reasons.{Place, Asks, first_disordered}
 use Rattle.bep_model.specs.Verdict.{Verdict, Settled, Not, number_of, IsFirstFault, IsVerdict}
@@ -58,10 +59,6 @@ number_within PullAhead = (omega arith, omega arith)
 pub record HoldBefore (t : Tables) (rows : List Row) (place : ℕ) : Type 0 where
   pub holds : (lesser : Reason) (any : Place) → number_of lesser ≤ place → Asks t rows lesser any
 
-none_from_no_key : (o : Option (Folder × FileName)) → ((folder : Folder) (name : FileName) → o ≢ Some (folder, name)) → o ≡ None
-none_from_no_key None no_key = refl
-none_from_no_key (Some key) no_key = absurd (no_key key.0 key.1 refl)
-
 module _ (t : Tables) (rows : List Row) where
   pub reasons_start : HoldBefore t rows 0
   reasons_start = record { holds = λ lesser any below. let positive = (number_within lesser).0 in absurd (omega (arith, positive)) }
@@ -85,8 +82,8 @@ module _ (t : Tables) (rows : List Row) where
       (λ others. omega (arith, others))
       (cases_eq place 0) in
       rise_from_none rows
-      (none_from_no_key (first_disordered rows)
-      (λ folder name. before.holds CertificateOrder (record { folder = folder; name = name; device = None }) later))
+      (none_from_no_value (first_disordered rows)
+      (λ key. before.holds CertificateOrder (record { folder = key.0; name = key.1; device = None }) later))
 
   pub first_fault_at : (place : ℕ) → place < 12 → HoldBefore t rows place → (spot : Place) → FindsFault t rows (reason_at place) (Some spot) → IsFirstFault t rows (reason_at place) spot
   first_fault_at place below before spot first = record {

@@ -14,12 +14,12 @@ use Rattle.std.proofs.lemmas.List.Elements.{All-contains}
 use Rattle.std.proofs.lemmas.Map.Keys.{IsStrictlyIncreasing-from_sorted, sorted_from_strictly_increasing, IsDistinct-from_sorted}
 use Rattle.std.proofs.lemmas.Map.Lookups.{exact_bytes}
 use Rattle.std.proofs.lemmas.Map.Made.{length-le_from_is_member}
+use Rattle.bep_facts.specs.Members.{not_in_none, Contains-first, Contains-more, Contains-from_image, holds_of_member}
 use Rattle.bep_record.specs.declared.entry.Entry.{Entry}
 use Rattle.bep_index.specs.After.{IsAmong}
 use Rattle.bep_index.specs.Index.{IsIndex}
 use Rattle.bep_index.specs.Law.{HaveIndexNumbers, RecordsMakeAnIndex}
 use Rattle.bep_model.specs.Tables.{Device}
-use Rattle.bep_facts.specs.Members.{not_in_none, Contains-first, Contains-more, Contains-from_image, holds_of_member}
 use Rattle.bep_document.specs.declared.parts.ShareParts.{ShareParts}
 use Rattle.bep_document.specs.declared.parts.FolderParts.{FolderParts}
 use Rattle.bep_document.specs.declared.parts.CheckParts.{CheckParts}

@@ -2,6 +2,10 @@
 use Rattle.std.proofs.Common.{◌≡◌, ◌⊎◌, true, false, List, [], ◌∷◌, Contains, Option, Some, None, refl, sym, ap, subst, ◌∙◌, inl, inr, ⊎_elim}
 use Rattle.std.proofs.lemmas.Bool.{cases_Bool, cond-true, cond-false}
 use Rattle.std.specs.Ordering.{is_eq}
+use Rattle.std.specs.Cmp.{Equal-is}
+use Rattle.bep_facts.specs.Members.{not_in_none, Contains-first, Contains-more, Contains-cons_cases}
+use Rattle.bep_facts.specs.Options.{none_from_not_some}
+use Rattle.bep_facts.specs.Orders.{texts_exact, Equal_from_same, texts_total}
 use Rattle.bep_record.specs.declared.entry.Entry.{Entry}
 use Rattle.bep_record.specs.declared.node.NodeParts.{NodeParts}
 use Rattle.bep_record.specs.Content.{Content, Deleted, content_of}
@@ -10,10 +14,6 @@ use Rattle.bep_model.specs.Tables.{Tables, Device, Folder, FileName, Shares}
 use Rattle.bep_model.specs.Foreign.{IsKnown}
 use Rattle.bep_model.specs.Settled.{IsSettled, HasRow, OwnAgrees, StoreAgrees, ForeignAgrees, key_of, key_cmp}
 use Rattle.bep_model.specs.Calm.{Contents, IsCalm, IsCalmAt, content_due, contents_of}
-use Rattle.bep_facts.specs.Members.{not_in_none, Contains-first, Contains-more, Contains-cons_cases}
-use Rattle.bep_facts.specs.Options.{none_from_not_some}
-use Rattle.std.specs.Cmp.{Equal-is}
-use Rattle.bep_facts.specs.Orders.{texts_exact, Equal_from_same, texts_total}
 
 -- a row of the name, and its content is the name's
 pub record HasContent (rows : List Row) (folder : Folder) (name : FileName) : Type 0 where

@@ -2,6 +2,8 @@
 use Rattle.std.proofs.Common.{◌≡◌, false, List, [], ◌∷◌, Contains, Option, Some, None, refl, sym, ap, subst, ◌∙◌, inl, inr, ⊎_elim}
 use Rattle.std.proofs.lemmas.Bool.{cases_Bool, cond-true, cond-false}
 use Rattle.std.specs.Ordering.{is_lt}
+use Rattle.bep_facts.specs.Options.{none_from_no_value}
+use Rattle.bep_facts.specs.Orders.{Less_from_is_lt}
 use Rattle.bep_record.specs.declared.entry.Entry.{Entry}
 use Rattle.bep_record.specs.Content.{Content, Deleted, content_of}
 use Rattle.bep_model.specs.declared.row.Row.{Row}
@@ -12,8 +14,6 @@ use Rattle.bep_model.specs.Winner.{IsWinner}
 use Rattle.bep_model.specs.Settled.{IsSettled, Rise, OwnAgrees, key_of, key_cmp}
 use Rattle.bep_model.specs.Reasons.{Place, Asks, AsksAt, AsksName, AsksShare, first_disordered}
 use Rattle.bep_model.specs.Laws.{SettledIsFaultless}
-use Rattle.bep_facts.specs.Options.{none_from_no_value}
-use Rattle.bep_facts.specs.Orders.{Less_from_is_lt}
 
 -- ---- the order of rows
 

@@ -5,8 +5,8 @@ use Rattle.std.specs.declared.cmp.Ordering.TheVariants.{Less, Equal, Greater}
 use Rattle.std.specs.Ordering.{ordering_reverse}
 use Rattle.std.specs.Cmp.{IsTotalOrder}
 use Rattle.std.proofs.lemmas.Cmp.{alike_right}
-use Rattle.bep_facts.specs.Orders.{order_cases, not_less_itself}
 use Rattle.bep_facts.specs.Members.{not_in_none, Contains-cons_cases, each_or_one}
+use Rattle.bep_facts.specs.Orders.{order_cases, not_less_itself}
 use Rattle.bep_model.proofs.Deciding.{OrNot}
 
 module _ {X : Type 0} (R : X → X → Ordering) (total : IsTotalOrder R) (A : X → Type 0) (decide : (x : X) → OrNot (A x)) where

@@ -7,6 +7,7 @@ use Rattle.std.specs.Cmp.{IsTotalOrder}
 use Rattle.std.proofs.lemmas.Bool.{cases_order}
 use Rattle.std.proofs.lemmas.Cmp.{then_total, on_total, nat_cmp_total, nat_list_cmp_total}
 use Rattle.std.proofs.lemmas.Map.Lookups.{exact_bytes, exact_unsigned}
+use Rattle.bep_facts.specs.Orders.{order_cases, both_tied}
 use Rattle.bep_model.specs.declared.row.Row.{Row}
 use Rattle.bep_model.specs.declared.reason.Reason.{Reason}
 use Rattle.bep_model.specs.declared.reason.Reason.TheVariants.{CertificateOrder, NameMissing, NameUnknown, NotWinner, RecordMissing, RecordDiffers, LocalOnly, StoreDiffers, StoreUnclean, ViewAhead, FlightAhead, PullAhead}
@@ -15,7 +16,6 @@ use Rattle.bep_model.specs.Settled.{IsSettled}
 use Rattle.bep_model.specs.Reasons.{Place, place_cmp, device_rank}
 use Rattle.bep_model.specs.Verdict.{Settled, Not, number_of, IsFirstFault}
 use Rattle.bep_model.specs.Laws.{VerdictIsUnique}
-use Rattle.bep_facts.specs.Orders.{order_cases, both_tied}
 use Rattle.bep_model.proofs.Faultless.{settled_is_faultless_lem}
 
 -- ---- reasons

@@ -2,6 +2,9 @@
 use Rattle.std.proofs.Common.{◌≡◌, ◌⊎◌, ℕ, List, [], ◌∷◌, Contains, Option, Some, None, refl, sym, ap, subst, ◌∙◌, inl, inr, ⊎_elim}
 use Rattle.std.specs.declared.cmp.Ordering.TheVariants.{Less}
 use Rattle.std.proofs.lemmas.List.Elements.{Contains-append_cases}
+use Rattle.bep_facts.specs.Members.{not_in_none, Contains-first, Contains-more, Contains-one, Contains-cons_cases}
+use Rattle.bep_facts.specs.Orders.{texts_total, not_less_itself}
+use Rattle.bep_facts.specs.Rising.{below_later, sorted_from_steps}
 use Rattle.bep_record.specs.declared.entry.Entry.{Entry}
 use Rattle.bep_choice.specs.declared.folder_kind.FolderKind.{FolderKind}
 use Rattle.bep_choice.specs.Choice.{Candidate, IsChoice, HasOneEach}
@@ -10,9 +13,6 @@ use Rattle.bep_model.specs.Tables.{Tables, Device, Folder, FileName}
 use Rattle.bep_model.specs.Winner.{beside, owned, own_candidates, IsWinner}
 use Rattle.bep_model.specs.Settled.{HasRow, Rise, key_of, key_cmp, IsSettled}
 use Rattle.bep_model.specs.Laws.{ListOfWinnersIsUnique, CertificateIsUnique, WinnersAreSettledIfAny}
-use Rattle.bep_facts.specs.Members.{not_in_none, Contains-first, Contains-more, Contains-one, Contains-cons_cases}
-use Rattle.bep_facts.specs.Orders.{texts_total, not_less_itself}
-use Rattle.bep_facts.specs.Rising.{below_later, sorted_from_steps}
 
 -- the law of bep_choice: where each device has one record at most, there is one choice at most
 abbrev pub OneChoice : Type 0

@@ -2,6 +2,8 @@
 use Rattle.std.proofs.Common.{◌≡◌, ◌⊎◌, List, [], ◌∷◌, Contains, refl, sym, ap, subst, ◌∙◌, inl, inr, ⊎_elim}
 use Rattle.std.specs.Ordering.{ordering_reverse}
 use Rattle.std.specs.declared.cmp.Ordering.TheVariants.{Less, Equal, Greater}
+use Rattle.bep_facts.specs.Members.{not_in_none, Contains-first, Contains-more, Contains-cons_cases}
+use Rattle.bep_facts.specs.Orders.{texts_total, texts_exact, order_cases}
 use Rattle.bep_model.specs.declared.row.Row.{Row}
 use Rattle.bep_model.specs.Tables.{Tables, Folder, FileName}
 use Rattle.bep_model.specs.Foreign.{IsKnown}
@@ -9,8 +11,6 @@ use Rattle.bep_model.specs.Winner.{IsWinner}
 use Rattle.bep_model.specs.Settled.{IsListOfWinners, HasRow, Rise, key_of, key_cmp}
 use Rattle.bep_model.specs.WithoutWinner.{HasWinner, IsFirstWithoutWinner, OwnRecordsAreNamed}
 use Rattle.bep_model.specs.Laws.{WinnersLeaveNoneOut, FirstWithoutIsUnique, WinnersOrFirstWithout}
-use Rattle.bep_facts.specs.Members.{not_in_none, Contains-first, Contains-more, Contains-cons_cases}
-use Rattle.bep_facts.specs.Orders.{texts_total, texts_exact, order_cases}
 use Rattle.bep_model.proofs.Deciding.{OrNot, implies_or_not}
 use Rattle.bep_model.proofs.FirstFault.{holds_or_first}
 use Rattle.bep_model.proofs.Winners.{owned_says, first_is_below, tail_rises}

@@ -1,6 +1,10 @@
 use Rattle.std.proofs.Common.{◌≡◌, ◌==◌, Bool, true, false, cond, [], ◌∷◌, Contains, Option, Some, None, IsSome, is_some, inl, inr, refl, sym, ap, subst, ◌∙◌, ⊎_elim, ◌<◌, arith}
 use Rattle.std.proofs.lemmas.Bool.{cases_Bool, cond-false}
 use Rattle.std.specs.Ordering.{is_eq}
+use Rattle.std.specs.declared.cmp.Ordering.TheVariants.{Less}
+use Rattle.std.specs.Cmp.{Equal-is}
+use Rattle.bep_facts.specs.Members.{not_in_none, Contains-first, Contains-one, Contains-pair_cases}
+use Rattle.bep_facts.specs.Orders.{texts_exact}
 use Rattle.bep_record.specs.declared.entry.Entry.{Entry}
 use Rattle.bep_record.specs.Content.{Deleted, content_of}
 use Rattle.bep_choice.specs.Choice.{Candidate, IsDominated, IsNotBehind}
@@ -15,10 +19,6 @@ use Rattle.bep_model.specs.Reasons.{AsksAt, place_cmp}
 use Rattle.bep_model.specs.Verdict.{number_of}
 use Rattle.bep_model.specs.declared.reason.Reason.{Reason}
 use Rattle.bep_model.specs.declared.reason.Reason.TheVariants.{CertificateOrder, NameMissing}
-use Rattle.std.specs.declared.cmp.Ordering.TheVariants.{Less}
-use Rattle.std.specs.Cmp.{Equal-is}
-use Rattle.bep_facts.specs.Orders.{texts_exact}
-use Rattle.bep_facts.specs.Members.{not_in_none, Contains-first, Contains-one, Contains-pair_cases}
 use Rattle.bep_model.proofs.examples.deletion_known_by_two.Goals as goal
 
 abbrev gone : Entry

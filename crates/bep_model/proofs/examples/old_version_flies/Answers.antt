@@ -1,5 +1,6 @@
 use Rattle.std.proofs.Common.{◌≡◌, false, List, [], ◌∷◌, Contains, Some, None, refl, sym, subst, inr, arith}
 use Rattle.std.proofs.lemmas.Bool.Decides.{nat_tests}
+use Rattle.bep_facts.specs.Members.{Contains-first, Contains-more, Contains-one}
 use Rattle.bep_record.specs.declared.entry.Entry.{Entry}
 use Rattle.bep_record.specs.Content.{Deleted, content_of}
 use Rattle.bep_choice.specs.declared.folder_kind.FolderKind.{FolderKind}
@@ -9,7 +10,6 @@ use Rattle.bep_model.specs.Tables.{Tables, Device, Flight}
 use Rattle.bep_model.specs.Foreign.{IsFlying}
 use Rattle.bep_model.specs.Reasons.{AsksHarmless}
 use Rattle.bep_model.specs.Examples.{folder_f, name_a, by_one, twice_by_one, deletion, link, old_link_flies, row_of}
-use Rattle.bep_facts.specs.Members.{Contains-first, Contains-more, Contains-one}
 use Rattle.bep_model.proofs.examples.old_version_flies.Goals as goal
 
 abbrev both : List (Device × FolderKind)
