@@ -17,12 +17,12 @@ use Rattle.bep_model.specs.Laws.{SettledIsFaultless}
 
 -- ---- the order of rows
 
-none_disordered : (rows : List Row) → Rise rows → first_disordered rows ≡ None
+pub none_disordered : (rows : List Row) → Rise rows → first_disordered rows ≡ None
 none_disordered [] rise = refl
 none_disordered (row ∷ []) rise = refl
 none_disordered (row ∷ next ∷ more) rise = cond-true _ _ _ (ap is_lt rise.0) ∙ none_disordered (next ∷ more) rise.1
 
-rise_from_none_disordered : (rows : List Row) → first_disordered rows ≡ None → Rise rows
+pub rise_from_none_disordered : (rows : List Row) → first_disordered rows ≡ None → Rise rows
 rise_from_none_disordered [] none = tt
 rise_from_none_disordered (row ∷ []) none = tt
 rise_from_none_disordered (row ∷ next ∷ more) none =

@@ -12,7 +12,7 @@ use Rattle.bep_model.specs.declared.row.Row.{Row}
 use Rattle.bep_model.specs.Tables.{Tables, Device, Folder, FileName}
 use Rattle.bep_model.specs.Winner.{beside, owned, own_candidates, IsWinner}
 use Rattle.bep_model.specs.Settled.{HasRow, Rise, key_of, key_cmp, IsSettled}
-use Rattle.bep_model.specs.Laws.{ListOfWinnersIsUnique, CertificateIsUnique, WinnersAreSettledIfAny}
+use Rattle.bep_model.specs.Laws.{WinnerIsUnique, ListOfWinnersIsUnique, CertificateIsUnique, WinnersAreSettledIfAny}
 
 -- the law of bep_choice: where each device has one record at most, there is one choice at most
 abbrev pub OneChoice : Type 0
@@ -48,7 +48,7 @@ one_each t folder name one other h k same =
         let e : one.1 ≡ other.1 = cc in
         λ i. (device i, e i)
 
-pub same_winner : OneChoice → (t : Tables) (folder : Folder) (name : FileName) (one other : Candidate) → IsWinner t folder name one → IsWinner t folder name other → one ≡ other
+pub same_winner : OneChoice → WinnerIsUnique
 same_winner unique t folder name one other = unique _ (own_candidates t folder name) one other (one_each t folder name)
 
 -- ---- one list
