@@ -9,7 +9,8 @@ use Rattle.bep_model.specs.declared.row.Row.{Row}
 use Rattle.bep_model.specs.Tables.{Tables, Folder, FileName}
 use Rattle.bep_audit.specs.declared.error.CertifyError.{CertifyError}
 use Rattle.bep_audit.specs.declared.error.CertifyError.TheVariants.{NoWinner, Memory}
-use Rattle.bep_audit.specs.Certifier.{TellsOf, names_of, all_names, AreWon, Adds, FailsIn, IsUnwon, IsWon}
+use Rattle.bep_cut.specs.Names.{names_of, all_names}
+use Rattle.bep_audit.specs.Certifier.{TellsOf, AreWon, Adds, FailsIn, IsUnwon, IsWon}
 
 abbrev Key : Type 0
 Key = Folder × FileName

@@ -13,18 +13,16 @@ use Rattle.bep_map.specs.NameMap.{ByName}
 use Rattle.std.specs.Cmp.{Equal-is}
 use Rattle.std.specs.FinMap.Entries.{below_all}
 use Rattle.std.specs.List.{AllByRecursion}
+use Rattle.bep_facts.specs.Maps.{key_has_value}
 use Rattle.bep_model.specs.Tables.{FileName}
 
 -- names are compared by their bytes
 abbrev pub by_name : FileName → FileName → Ordering
 by_name = slice_cmp nat_cmp
 
--- a name is in the map exactly where it stands among its names
-pub key_stands : {V : Type 0} (held : ByName V) (name : FileName) → IsTrue (contains_key held name) ↔ Contains (keys held) name
-key_stands held name = (
-  λ has. Contains-from_any (λ x y e. exact_bytes x y ((Equal-is _).0 e)) name (keys held) (sym (contains_key-keys held name) ∙ has),
-  λ stands. contains_key-keys held name ∙ list_any-from_Contains (eq_by_cmp_equiv nat_list_cmp_total) name (keys held) stands,
-)
+-- a name stands among the names of the map exactly where it is in the map
+pub key_stands : {V : Type 0} (held : ByName V) (name : FileName) → Contains (keys held) name ↔ IsTrue (contains_key held name)
+key_stands = key_has_value nat_list_cmp_total exact_bytes
 
 pub both_hold : (a b : Bool) → T (a && b) → T a × T b
 both_hold true true h = (tt, tt)

@@ -35,8 +35,8 @@ module _ (rows : List Row) (folder : Folder) where
   all_are_left held all is = subst (IsLeft held) (sym is) (record {
     sorted = entries_sorted held;
     finds = finds_as by_name (AllSay by_name HasRowIfHere (keys held)) (HasRowIfKey held)
-        (λ name all has. all name ((key_stands held name).0 has) refl)
-        (λ name has_row other member same. has_row ((key_stands held name).1 (subst (Contains (keys held)) same member)));
+        (λ name all has. all name ((key_stands held name).1 has) refl)
+        (λ name has_row other member same. has_row ((key_stands held name).0 (subst (Contains (keys held)) same member)));
   })
 
   next_left : {V : Type 0} (held : ByName V) (e : FileName × V) (rest : List (FileName × V)) → IsLeft held (e ∷ rest) → HasRow rows folder e.0 → IsLeft held rest

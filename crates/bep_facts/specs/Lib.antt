@@ -3,3 +3,4 @@ pub mod Members
 pub mod Places
 pub mod Orders
 pub mod Rising
+pub mod Maps

@@ -1,6 +1,6 @@
 -- What is in a list, by its first and the rest, and what holds of all that is in it.
-use Rattle.std.proofs.Common.{◌≡◌, ◌⊎◌, List, [], ◌∷◌, Contains, map, subst, inl, inr, ⊎_elim, arith}
-use Rattle.std.specs.List.{AllByRecursion}
+use Rattle.std.proofs.Common.{◌≡◌, ◌⊎◌, List, [], ◌∷◌, Contains, map, subst, inl, inr, ⊎_elim, arith, sym}
+use Rattle.std.specs.List.{AllByRecursion, flat_map}
 use Rattle.std.proofs.lemmas.List.Elements.{All-contains, All-from_recursion, Contains-append_left, Contains-append_right, Contains-append_cases, Contains-push, Contains-push_cases}
 
 pub not_in_none : {X : Type 0} (x : X) → ¬ Contains [] x
@@ -39,6 +39,23 @@ Contains-from_image f (x ∷ xs) y h =
     (λ same. (x, Contains-first x xs, same))
     (λ more. let found = Contains-from_image f xs y more in (found.0, Contains-more x xs found.0 found.1, found.2))
     (Contains-cons_cases (f x) (map f xs) y h)
+
+-- an element of one of the lists that are put together is in the whole, and each of these is in some one's list
+pub Contains-flat_map : {X Y : Type 0} (f : X → List Y) (xs : List X) (x : X) (y : Y) → Contains xs x → Contains (f x) y → Contains (flat_map f xs) y
+Contains-flat_map f [] x y member here = absurd (not_in_none x member)
+Contains-flat_map f (first ∷ xs) x y member here =
+    ⊎_elim
+    (λ same. Contains-append_left (f first) (flat_map f xs) y (subst (λ z. Contains (f z) y) (sym same) here))
+    (λ later. Contains-append_right (f first) (flat_map f xs) y (Contains-flat_map f xs x y later here))
+    (Contains-cons_cases first xs x member)
+
+pub Contains-from_flat_map : {X Y : Type 0} (f : X → List Y) (xs : List X) (y : Y) → Contains (flat_map f xs) y → (x : X) × Contains xs x × Contains (f x) y
+Contains-from_flat_map f [] y member = absurd (not_in_none y member)
+Contains-from_flat_map f (first ∷ xs) y member =
+    ⊎_elim
+    (λ here. (first, Contains-first first xs, here))
+    (λ later. let found = Contains-from_flat_map f xs y later in (found.0, Contains-more first xs found.0 found.1, found.2))
+    (Contains-append_cases (f first) (flat_map f xs) y member)
 
 -- what holds of each holds of one that is there, and what holds of each key of one's key
 pub holds_of_member : {X : Type 0} (P : X → Type 0) (xs : List X) (x : X) → AllByRecursion P xs → Contains xs x → P x
