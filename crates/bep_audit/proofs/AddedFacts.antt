@@ -1,14 +1,16 @@
 -- Rows that are added name by name, and folder by folder, up to the end or to a name without winner.
 use Rattle.std.proofs.Common.{◌≡◌, List, [], ◌∷◌, ◌++◌, map, ℕ, ◌+◌, ◌<◌, length, get_or, take, drop, append_assoc, refl, sym, ap, subst, ◌∙◌, inl, inr, ⊎_elim}
 use Rattle.std.specs.Prelude.{Result, Ok, Err, IsErrAnd, IfErr}
-use Rattle.std.proofs.lemmas.List.{append-nil, take_more, take-append-drop}
+use Rattle.std.proofs.lemmas.List.{append-nil, take_more}
 use Rattle.std.proofs.lemmas.Grind.{flat_map-append}
+use Rattle.bep_facts.specs.Places.{split_at}
 use Rattle.bep_cut.specs.declared.share.SharedFolder.{SharedFolder}
 use Rattle.bep_model.specs.declared.row.Row.{Row}
 use Rattle.bep_model.specs.Tables.{Tables, Folder, FileName}
 use Rattle.bep_audit.specs.declared.error.CertifyError.{CertifyError}
 use Rattle.bep_audit.specs.declared.error.CertifyError.TheVariants.{NoWinner, Memory}
-use Rattle.bep_audit.specs.Certifier.{TellsOf, names_of, all_names, AreWon, Adds, FailsIn, IsUnwon, IsWon}
+use Rattle.bep_cut.specs.Names.{names_of, all_names}
+use Rattle.bep_audit.specs.Certifier.{TellsOf, AreWon, Adds, FailsIn, IsUnwon, IsWon}
 
 abbrev Key : Type 0
 Key = Folder × FileName
@@ -89,13 +91,6 @@ module _ (t : Tables) (before : List SharedFolder) (held : SharedFolder) (old ne
       (fails_after t (all_names before) (names_of held ++ all_names after) [] old (folder, name) first (fails_before t (names_of held) (all_names after) (folder, name) fails))
   fails_in_folder after Memory first fails = tt
 
--- a list up to an element, the element, and the rest
-split_at : {X : Type 0} (xs : List X) (i : ℕ) (x : X) → i < length xs → x ≡ get_or xs i x → take i xs ++ x ∷ drop (i + 1) xs ≡ xs
-split_at xs i x below is =
-    sym (append_assoc (take i xs) (x ∷ []) (drop (i + 1) xs))
-    ∙ ap (λ front. front ++ drop (i + 1) xs) (ap (λ y. take i xs ++ y ∷ []) is ∙ sym (take_more xs i x below))
-    ∙ take-append-drop (i + 1) xs
-
 -- ---- in all folders
 
 module _ (t : Tables) (folders : List SharedFolder) (i : ℕ) (held : SharedFolder) (below : i < length folders) (is : held ≡ get_or folders i held) (old new : List Row) where
@@ -114,8 +109,3 @@ module _ (t : Tables) (folders : List SharedFolder) (i : ℕ) (held : SharedFold
 pub if_err : {X E : Type 0} (P : E → Type 0) (result : Result X E) (error : E) → IsErrAnd result (λ other. other ≡ error) → P error → IfErr result P
 if_err P (Ok x) error is holds = absurd is
 if_err P (Err other) error is holds = subst P (sym is) holds
-
--- what follows of each error follows of a result's
-pub if_err-map : {X E : Type 0} {P Q : E → Type 0} → ((error : E) → P error → Q error) → (result : Result X E) → IfErr result P → IfErr result Q
-if_err-map f (Ok x) h = h
-if_err-map f (Err error) h = f error h

@@ -1,6 +1,8 @@
 -- From the third reason on each row is asked by itself, as if it stood alone.
 use Rattle.std.proofs.Common.{◌≡◌, ◌≢◌, ◌<◌, List, [], ◌∷◌, Contains, Option, Some, None, refl, sym, ap, subst, ◌∙◌, ⊎_elim, arith}
 use Rattle.std.specs.declared.cmp.Ordering.TheVariants.{Less, Equal, Greater}
+use Rattle.bep_facts.specs.Members.{Contains-first, Contains-one}
+use Rattle.bep_facts.specs.Orders.{texts_exact, Equal_from_same, texts_total, order_cases}
 use Rattle.bep_model.specs.declared.row.Row.{Row}
 use Rattle.bep_model.specs.declared.reason.Reason.{Reason}
 use Rattle.bep_model.specs.declared.reason.Reason.TheVariants.{CertificateOrder, NameMissing, NameUnknown, NotWinner, RecordMissing, RecordDiffers, LocalOnly, StoreDiffers, StoreUnclean, ViewAhead, FlightAhead, PullAhead}
@@ -8,8 +10,6 @@ use Rattle.bep_model.specs.Tables.{Tables, Device, Folder, FileName}
 use Rattle.bep_model.specs.Settled.{key_of, key_cmp}
 use Rattle.bep_model.specs.Reasons.{Place, Asks, AsksAt, AsksName}
 use Rattle.bep_model.specs.Verdict.{number_of}
-use Rattle.bep_model.proofs.Members.{not_in_none, Contains-first, Contains-cons_cases}
-use Rattle.bep_model.proofs.Keys.{same_from_Equal, Equal_from_same, order_cases}
 
 -- the reason asks something of each row, or of devices at it
 abbrev pub IsOfRows : Reason → Type 0
@@ -52,23 +52,19 @@ of_devices_else PullAhead of_rows not_unknown not_winner = omega arith
 abbrev pub key_at : Place → Folder × FileName
 key_at place = (place.folder, place.name)
 
--- the only row
-pub only_row : (row one : Row) → Contains (row ∷ []) one → row ≡ one
-only_row row one h = ⊎_elim (λ same. same) (λ none. absurd (not_in_none one none)) (Contains-cons_cases row [] one h)
-
 module _ (t : Tables) where
   -- ---- a row is asked nothing elsewhere
 
   name_if_here : (reason : Reason) (row : Row) (folder : Folder) (name : FileName) → IsOfRows reason → (key_of row ≡ (folder, name) → AsksName t (row ∷ []) reason folder name) → AsksName t (row ∷ []) reason folder name
   name_if_here CertificateOrder row folder name of_rows asked = absurd (omega (arith, of_rows))
   name_if_here NameMissing row folder name of_rows asked = absurd (omega (arith, of_rows))
-  name_if_here NameUnknown row folder name of_rows asked = λ has. asked (ap key_of (only_row row has.0 has.1) ∙ has.2) has
-  name_if_here NotWinner row folder name of_rows asked = λ one member key. asked (ap key_of (only_row row one member) ∙ key) one member key
+  name_if_here NameUnknown row folder name of_rows asked = λ has. asked (ap key_of (Contains-one row has.0 has.1) ∙ has.2) has
+  name_if_here NotWinner row folder name of_rows asked = λ one member key. asked (ap key_of (Contains-one row one member) ∙ key) one member key
   name_if_here _ row folder name of_rows asked = tt
 
   at_if_here : (reason : Reason) (row : Row) (folder : Folder) (name : FileName) (device : Option Device) → IsOfRows reason → (key_of row ≡ (folder, name) → AsksAt t (row ∷ []) reason folder name device) → AsksAt t (row ∷ []) reason folder name device
   at_if_here reason row folder name None of_rows asked = name_if_here reason row folder name of_rows asked
-  at_if_here reason row folder name (Some device) of_rows asked = λ one member key shares. asked (ap key_of (only_row row one member) ∙ key) one member key shares
+  at_if_here reason row folder name (Some device) of_rows asked = λ one member key shares. asked (ap key_of (Contains-one row one member) ∙ key) one member key shares
 
   pub asked_if_here : (reason : Reason) (row : Row) (place : Place) → IsOfRows reason → (key_of row ≡ key_at place → Asks t (row ∷ []) reason place) → Asks t (row ∷ []) reason place
   asked_if_here reason row place of_rows asked = at_if_here reason row place.folder place.name place.device of_rows asked
@@ -77,10 +73,10 @@ module _ (t : Tables) where
   pub here_if_unmet : (reason : Reason) (row : Row) (place : Place) → IsOfRows reason → ¬ Asks t (row ∷ []) reason place → key_of row ≡ key_at place
   here_if_unmet reason row place of_rows unmet =
       ⊎_elim
-      (λ less. absurd (unmet (asked_if_here reason row place of_rows (λ here. let e : Less ≡ Equal = sym less ∙ Equal_from_same (key_of row) (key_at place) here in absurd (cc)))))
+      (λ less. absurd (unmet (asked_if_here reason row place of_rows (λ here. let e : Less ≡ Equal = sym less ∙ Equal_from_same texts_total (key_of row) (key_at place) here in absurd (cc)))))
       (⊎_elim
-      (λ equal. same_from_Equal (key_of row) (key_at place) equal)
-      (λ greater. absurd (unmet (asked_if_here reason row place of_rows (λ here. let e : Greater ≡ Equal = sym greater ∙ Equal_from_same (key_of row) (key_at place) here in absurd (cc))))))
+      (λ equal. texts_exact (key_of row) (key_at place) equal)
+      (λ greater. absurd (unmet (asked_if_here reason row place of_rows (λ here. let e : Greater ≡ Equal = sym greater ∙ Equal_from_same texts_total (key_of row) (key_at place) here in absurd (cc))))))
       (order_cases (key_cmp (key_of row) (key_at place)))
 
   -- ---- all rows are asked just what each is
@@ -100,7 +96,7 @@ module _ (t : Tables) where
   asked_of_each rows reason place of_rows each = at_of_each rows reason place.folder place.name place.device of_rows each
 
   among : (rows : List Row) (row one : Row) → Contains rows row → Contains (row ∷ []) one → Contains rows one
-  among rows row one member only = subst (Contains rows) (only_row row one only) member
+  among rows row one member only = subst (Contains rows) (Contains-one row one only) member
 
   name_of_one : (rows : List Row) (reason : Reason) (folder : Folder) (name : FileName) → IsOfRows reason → AsksName t rows reason folder name → (row : Row) → Contains rows row → AsksName t (row ∷ []) reason folder name
   name_of_one rows CertificateOrder folder name of_rows asked row member = absurd (omega (arith, of_rows))

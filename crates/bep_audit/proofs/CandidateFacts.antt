@@ -9,13 +9,13 @@ use Rattle.std.specs.List.{AllByRecursion}
 use Rattle.std.specs.List.Sorted.{IsStrictlyIncreasing, IsStrictlySortedBy}
 use Rattle.std.proofs.lemmas.Map.Keys.{sorted_tail, sorted_from_strictly_increasing, IsStrictlyIncreasing-from_sorted}
 use Rattle.std.proofs.lemmas.List.Elements.{Contains-append_right, Contains-append_cases}
+use Rattle.bep_facts.specs.Members.{not_in_none, Contains-first, Contains-more, Contains-cons_cases, Contains-one}
 use Rattle.bep_record.specs.declared.entry.Entry.{Entry}
 use Rattle.bep_choice.specs.Choice.{Candidate, candidates_of}
 use Rattle.bep_cut.specs.Cut.{devices_of}
 use Rattle.bep_cut.specs.declared.share.Share.{Share}
 use Rattle.bep_model.specs.Tables.{FileName}
 use Rattle.bep_model.specs.Winner.{beside}
-use Rattle.bep_model.proofs.Members.{not_in_none, Contains-first, Contains-more, Contains-cons_cases}
 use Rattle.bep_audit.specs.Candidates.{owned_in, chooser_of}
 
 -- the candidates' devices
@@ -90,8 +90,4 @@ owned_from name (first ∷ more) one member =
   where
     is_it : (own : Option Entry) → Contains (beside first.device own) one → own ≡ Some one.1
     is_it None here = absurd (not_in_none one here)
-    is_it (Some entry) here =
-        ⊎_elim
-        (λ same. ap (λ (c : Candidate). Some c.1) same)
-        (λ none. absurd (not_in_none one none))
-        (Contains-cons_cases (first.device, entry) [] one here)
+    is_it (Some entry) here = ap (λ (c : Candidate). Some c.1) (Contains-one (first.device, entry) one here)

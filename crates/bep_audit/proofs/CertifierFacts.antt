@@ -1,10 +1,9 @@
 -- The rows of all known names, in order, are the list of the winners; or the first name without winner is found.
 use Rattle.std.proofs.Common.{◌≡◌, List, [], ◌∷◌, Contains, sym, ap, subst, ◌∙◌, ⊎_elim}
 use Rattle.std.specs.declared.cmp.Ordering.TheVariants.{Less}
-use Rattle.std.specs.List.{AllByRecursion}
 use Rattle.std.specs.List.Sorted.{IsStrictlySortedBy}
-use Rattle.bep_model.proofs.Keys.{key_total, not_less_itself}
-use Rattle.bep_model.proofs.Members.{not_in_none, Contains-first, Contains-more, Contains-cons_cases}
+use Rattle.bep_facts.specs.Members.{not_in_none, Contains-first, Contains-more, Contains-cons_cases, holds_of_member}
+use Rattle.bep_facts.specs.Orders.{texts_total, not_less_itself}
 use Rattle.bep_model.specs.declared.row.Row.{Row}
 use Rattle.bep_model.specs.Foreign.{IsKnown}
 use Rattle.bep_model.specs.Laws.{SettledIsListOfWinners, ListOfWinnersIsUnique, WinnersLeaveNoneOut}
@@ -67,14 +66,6 @@ module _ (t : Tables) where
       (λ later. let found = stands_failed keys failed later.1 in (Contains-more key keys failed found.0, found.1))
       fails
 
-  above_first : (key : Key) (keys : List Key) (later : Key) → AllByRecursion (λ other. key_cmp key other ≡ Less) keys → Contains keys later → key_cmp key later ≡ Less
-  above_first key [] later above member = absurd (not_in_none later member)
-  above_first key (next ∷ keys) later above member =
-      ⊎_elim
-      (λ same. subst (λ (k : Key). key_cmp key k ≡ Less) same above.0)
-      (above_first key keys later above.1)
-      (Contains-cons_cases next keys later member)
-
   won_before : (keys : List Key) (failed earlier : Key) → IsStrictlySortedBy key_cmp keys → FailsIn t keys failed → Contains keys earlier → key_cmp earlier failed ≡ Less → HasWinner t earlier.0 earlier.1
   unfolding IsStrictlySortedBy
   won_before [] failed earlier rise fails member less = absurd fails
@@ -83,8 +74,8 @@ module _ (t : Tables) where
       (λ here.
       let below : key_cmp earlier key ≡ Less = ap (key_cmp earlier) here.0 ∙ less in
       ⊎_elim
-      (λ same. absurd (not_less_itself key (ap (λ (k : Key). key_cmp k key) same ∙ below)))
-      (λ later. absurd (not_less_itself key (key_total.trans key earlier key (above_first key keys earlier rise.0 later) below)))
+      (λ same. absurd (not_less_itself texts_total key (ap (λ (k : Key). key_cmp k key) same ∙ below)))
+      (λ later. absurd (not_less_itself texts_total key (texts_total.trans key earlier key (holds_of_member (λ other. key_cmp key other ≡ Less) keys earlier rise.0 later) below)))
       (Contains-cons_cases key keys earlier member))
       (λ after.
       ⊎_elim

@@ -2,9 +2,9 @@
 use Rattle.std.proofs.Common.{◌≡◌, ◌↔◌, List, [], ◌∷◌, ◌++◌, Contains, Option, IsSome, refl, sym, subst, inl, inr, ⊎_elim}
 use Rattle.std.specs.List.Sorted.{IsStrictlyIncreasing}
 use Rattle.std.proofs.lemmas.List.Elements.{Contains-push_cases}
+use Rattle.bep_facts.specs.Members.{not_in_none}
 use Rattle.bep_record.specs.declared.node.NodeParts.{NodeParts}
 use Rattle.bep_record.specs.declared.entry.Entry.{Entry}
-use Rattle.bep_model.proofs.Members.{not_in_none}
 use Rattle.bep_model.specs.Tables.{Device, Folder, FileName, Shares}
 use Rattle.bep_model.specs.Foreign.{HasTrace, IsKnown}
 use Rattle.bep_cut.specs.declared.share.Share.{Share}

@@ -2,6 +2,7 @@
 use Rattle.std.proofs.Common.{◌≡◌, ◌↔◌, ◌<◌, List, [], ◌∷◌, Contains, Option, Some, None, option_map, refl, sym, subst, inl, inr, arith}
 use Rattle.std.specs.Ordering.{nat_cmp}
 use Rattle.std.specs.FinMap.{get}
+use Rattle.bep_facts.specs.Members.{Contains-first, Contains-one}
 use Rattle.bep_record.specs.declared.node.NodeParts.{NodeParts}
 use Rattle.bep_record.specs.declared.entry.Entry.{Entry}
 use Rattle.bep_model.specs.declared.row.Row.{Row}
@@ -10,7 +11,6 @@ use Rattle.bep_model.specs.declared.reason.Reason.TheVariants.{CertificateOrder,
 use Rattle.bep_model.specs.Tables.{Tables, Device, Folder, FileName, Shares}
 use Rattle.bep_model.specs.Reasons.{device_rank, AsksAt, AsksName, AsksDevice, AsksShare}
 use Rattle.bep_model.specs.Verdict.{number_of}
-use Rattle.bep_model.proofs.Members.{Contains-first}
 use Rattle.bep_cut.specs.declared.share.Share.{Share}
 use Rattle.bep_cut.specs.declared.cut.CutParts.{CutParts}
 use Rattle.bep_cut.specs.Cut.{IsCut, shares_of, tables_of}
@@ -18,7 +18,7 @@ use Rattle.bep_audit.specs.Share.{AsksHere, ShareIsAsked}
 use Rattle.bep_audit.specs.Held.{AsksOf, AsksAmong}
 use Rattle.bep_audit.specs.Search.{FindsFirst, FindsFault}
 use Rattle.bep_audit.specs.Shown.{part_of}
-use Rattle.bep_audit.proofs.AskedAtRow.{IsOfDevices, only_row}
+use Rattle.bep_audit.proofs.AskedAtRow.{IsOfDevices}
 use Rattle.bep_audit.proofs.CutFacts.{CutSays, share_of_device, device_of_share}
 use Rattle.bep_audit.proofs.RowFault.{less_by_order, finds_none, finds_part}
 
@@ -72,7 +72,7 @@ module _ (said : CutSays) (asked_here : ShareIsAsked) (cut : CutParts) (is_cut :
         let share = share_of_device said cut is_cut row.folder device shares in
         let asked = (asked_exactly reason share.0 share.1).0 (met share.0 share.1 share.2) in
         let of_device = subst (λ (d : Device). AsksShare (tables_of cut) reason row d) share.2 asked in
-        subst (λ (r : Row). AsksShare (tables_of cut) reason r device) (only_row row one member) of_device,
+        subst (λ (r : Row). AsksShare (tables_of cut) reason r device) (Contains-one row one member) of_device,
     λ asked share member same.
         let shares = subst (λ (d : Device). Shares (tables_of cut) d row.folder) same (device_of_share said cut is_cut row.folder share member) in
         let of_device = asked row (Contains-first row []) refl shares in

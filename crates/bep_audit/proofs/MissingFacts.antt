@@ -4,30 +4,19 @@ use Rattle.std.proofs.Math.Dec.{T}
 use Rattle.std.specs.declared.cmp.Ordering.TheVariants.{Less}
 use Rattle.std.specs.Ordering.{ordering_reverse}
 use Rattle.std.specs.Cmp.Lexicographic.{nat_list_cmp_total}
-use Rattle.std.specs.FinMap.Entries.{below_all}
 use Rattle.std.specs.FinMap.{is_sorted, contains_key, entries, entries_sorted, keys}
 use Rattle.std.proofs.lemmas.Cmp.{tied_itself}
 use Rattle.std.proofs.lemmas.List.Elements.{Contains-push, Contains-push_cases, Contains-append_left}
+use Rattle.bep_facts.specs.Members.{not_in_none, holds_of_member}
 use Rattle.bep_map.specs.NameMap.{ByName}
 use Rattle.bep_model.specs.declared.row.Row.{Row}
 use Rattle.bep_model.specs.Tables.{Folder, FileName}
 use Rattle.bep_model.specs.Settled.{HasRow}
-use Rattle.bep_model.proofs.Members.{not_in_none, Contains-cons_cases}
 use Rattle.bep_cut.specs.declared.share.Share.{Share}
 use Rattle.bep_audit.specs.Held.{HasName, HasRowIfHeld}
 use Rattle.bep_audit.specs.Search.{FindsFirst, lesser}
-use Rattle.bep_audit.proofs.MapFacts.{by_name, key_stands, both_hold, is_Less}
+use Rattle.bep_audit.proofs.MapFacts.{by_name, key_stands, both_hold, names_above}
 use Rattle.bep_audit.proofs.SearchFacts.{AllSay, finds_as, goes_on, fails_here, ends, lesser_finds}
-
--- each later key is above the first
-later_is_above : {V : Type 0} (name : FileName) (es : List (FileName × V)) (later : FileName) → T (below_all by_name name es) → Contains (map (λ e. e.0) es) later → by_name name later ≡ Less
-later_is_above name [] later below h = absurd (not_in_none later h)
-later_is_above name (e ∷ es) later below h =
-    let parts = both_hold _ _ below in
-    ⊎_elim
-    (λ same. subst (λ n. by_name name n ≡ Less) same (is_Less _ parts.0))
-    (λ more. later_is_above name es later parts.1 more)
-    (Contains-cons_cases e.0 (map (λ (one : FileName × _). one.0) es) later h)
 
 module _ (rows : List Row) (folder : Folder) where
   -- a name of the list has a row
@@ -46,8 +35,8 @@ module _ (rows : List Row) (folder : Folder) where
   all_are_left held all is = subst (IsLeft held) (sym is) (record {
     sorted = entries_sorted held;
     finds = finds_as by_name (AllSay by_name HasRowIfHere (keys held)) (HasRowIfKey held)
-        (λ name all has. all name ((key_stands held name).0 has) refl)
-        (λ name has_row other member same. has_row ((key_stands held name).1 (subst (Contains (keys held)) same member)));
+        (λ name all has. all name ((key_stands held name).1 has) refl)
+        (λ name has_row other member same. has_row ((key_stands held name).0 (subst (Contains (keys held)) same member)));
   })
 
   next_left : {V : Type 0} (held : ByName V) (e : FileName × V) (rest : List (FileName × V)) → IsLeft held (e ∷ rest) → HasRow rows folder e.0 → IsLeft held rest
@@ -65,7 +54,7 @@ module _ (rows : List Row) (folder : Folder) where
       (fails_here by_name HasRowIfHere e.0 (map (λ (one : FileName × _). one.0) rest) e.0
       (record { fails = λ has. has_none (has refl); before = λ name less same. absurd (not_below name less same) })
       (λ name less later member same.
-      let above = later_is_above e.0 rest later (both_hold _ _ left.sorted).0 member in
+      let above = holds_of_member (λ n. by_name e.0 n ≡ Less) (map (λ (one : FileName × _). one.0) rest) later (names_above e.0 rest (both_hold _ _ left.sorted).0) member in
       let below = nat_list_cmp_total.antisymm name e.0 in
       let more : by_name e.0 name ≡ Less = ap (by_name e.0) (sym same) ∙ above in
       absurd (twice name less more)))

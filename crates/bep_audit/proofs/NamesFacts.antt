@@ -4,32 +4,26 @@ use Rattle.std.proofs.Math.Dec.{T}
 use Rattle.std.specs.declared.cmp.Ordering.TheVariants.{Less}
 use Rattle.std.specs.Ordering.{ordering_then}
 use Rattle.std.specs.Cmp.Lexicographic.{nat_list_cmp_total}
-use Rattle.std.specs.FinMap.Entries.{below_all}
 use Rattle.std.specs.FinMap.{is_sorted, contains_key, entries, entries_sorted, keys}
 use Rattle.std.specs.List.{AllByRecursion}
 use Rattle.std.specs.List.Sorted.{IsStrictlySortedBy}
 use Rattle.std.proofs.lemmas.Cmp.{tied_itself}
 use Rattle.std.proofs.lemmas.List.Elements.{Contains-append_left, Contains-append_right, Contains-append_cases}
+use Rattle.bep_facts.specs.Members.{not_in_none, Contains-first, Contains-more, Contains-cons_cases, Contains-image, Contains-from_image, Contains-flat_map, Contains-from_flat_map}
 use Rattle.bep_cut.specs.Cut.{IsCut, shares_of, tables_of}
 use Rattle.bep_cut.specs.Laws.{FolderIsFound, ShareHasFolder, SharingIsSaid, NamesAreKnown}
-use Rattle.bep_cut.specs.Names.{known_names}
+use Rattle.bep_cut.specs.Names.{known_names, names_of, all_names}
 use Rattle.bep_cut.specs.declared.cut.CutParts.{CutParts}
 use Rattle.bep_cut.specs.declared.share.SharedFolder.{SharedFolder}
-use Rattle.bep_model.proofs.Members.{not_in_none, Contains-first, Contains-more, Contains-cons_cases}
 use Rattle.bep_model.specs.Foreign.{IsKnown}
 use Rattle.bep_model.specs.Settled.{key_cmp}
 use Rattle.bep_model.specs.Tables.{Folder, FileName}
-use Rattle.bep_audit.specs.Certifier.{names_of, all_names}
-use Rattle.bep_audit.proofs.MapFacts.{by_name, key_stands, both_hold, is_Less}
+use Rattle.bep_audit.proofs.MapFacts.{by_name, key_stands, both_hold, names_above}
 
 abbrev Key : Type 0
 Key = Folder × FileName
 
 -- ---- the names of a map
-
-names_above : {V : Type 0} (name : FileName) (es : List (FileName × V)) → T (below_all by_name name es) → AllByRecursion (λ later. by_name name later ≡ Less) (map (λ e. e.0) es)
-names_above name [] below = tt
-names_above name (e ∷ es) below = let parts = both_hold _ _ below in (is_Less _ parts.0, names_above name es parts.1)
 
 names_rise : {V : Type 0} (es : List (FileName × V)) → T (is_sorted by_name es) → IsStrictlySortedBy by_name (map (λ e. e.0) es)
 unfolding IsStrictlySortedBy
@@ -93,44 +87,20 @@ all_names_rise (held ∷ more) rise =
 -- ---- they are all that are known
 
 stands_in_folder : (folder : Folder) (names : List FileName) (name : FileName) → Contains names name → Contains {X = Key} (map (λ n. (folder, n)) names) (folder, name)
-stands_in_folder folder [] name member = absurd (not_in_none name member)
-stands_in_folder folder (first ∷ more) name member =
-    ⊎_elim
-    (λ same. subst (λ (n : FileName). Contains {X = Key} (map (λ n. (folder, n)) (first ∷ more)) (folder, n)) same (Contains-first (folder, first) _))
-    (λ later. Contains-more (folder, first) _ (folder, name) (stands_in_folder folder more name later))
-    (Contains-cons_cases first more name member)
+stands_in_folder folder names name = Contains-image (λ n. (folder, n)) names name
 
 name_in_folder : (folder : Folder) (names : List FileName) (key : Key) → Contains {X = Key} (map (λ n. (folder, n)) names) key → (folder ≡ key.0) × Contains names key.1
-name_in_folder folder [] key member = absurd (not_in_none key member)
-name_in_folder folder (first ∷ more) key member =
-    ⊎_elim
-    (λ same. (ap (λ (k : Key). k.0) same, subst (λ (n : FileName). Contains (first ∷ more) n) (ap (λ (k : Key). k.1) same) (Contains-first first more)))
-    (λ later. let found = name_in_folder folder more key later in (found.0, Contains-more first more key.1 found.1))
-    (Contains-cons_cases (folder, first) _ key member)
-
-stands_in_all : (folders : List SharedFolder) (held : SharedFolder) (key : Key) → Contains folders held → Contains (names_of held) key → Contains (all_names folders) key
-stands_in_all [] held key member stands = absurd (not_in_none held member)
-stands_in_all (first ∷ more) held key member stands =
-    ⊎_elim
-    (λ same. Contains-append_left (names_of first) (all_names more) key (subst (λ (h : SharedFolder). Contains (names_of h) key) (sym same) stands))
-    (λ later. Contains-append_right (names_of first) (all_names more) key (stands_in_all more held key later stands))
-    (Contains-cons_cases first more held member)
-
-some_folder_has : (folders : List SharedFolder) (key : Key) → Contains (all_names folders) key → (held : SharedFolder) × Contains folders held × Contains (names_of held) key
-some_folder_has [] key stands = absurd (not_in_none key stands)
-some_folder_has (first ∷ more) key stands =
-    ⊎_elim
-    (λ here. (first, Contains-first first more, here))
-    (λ later. let found = some_folder_has more key later in (found.0, Contains-more first more found.0 found.1, found.2))
-    (Contains-append_cases (names_of first) (all_names more) key stands)
+name_in_folder folder names key member =
+    let found = Contains-from_image {Y = Key} (λ n. (folder, n)) names key member in
+    (ap (λ (k : Key). k.0) found.2, subst (Contains names) (ap (λ (k : Key). k.1) found.2) found.1)
 
 module _ (found : FolderIsFound) (has_folder : ShareHasFolder) (sharing : SharingIsSaid) (known : NamesAreKnown) (cut : CutParts) (is_cut : IsCut cut) where
   pub known_from_stands : (key : Key) → Contains (all_names cut.folders) key → IsKnown (tables_of cut) key.0 key.1
   known_from_stands key stands =
-      let held = some_folder_has cut.folders key stands in
+      let held = Contains-from_flat_map names_of cut.folders key stands in
       let name = name_in_folder held.0.folder (keys (known_names held.0.shares)) key held.2 in
       let same : held.0.shares ≡ shares_of key.0 cut.folders = sym (found cut held.0 is_cut held.1) ∙ ap (λ f. shares_of f cut.folders) name.0 in
-      (known cut key.0 key.1 is_cut).0 (subst (λ shares. IsTrue (contains_key (known_names shares) key.1)) same ((key_stands (known_names held.0.shares) key.1).1 name.1))
+      (known cut key.0 key.1 is_cut).0 (subst (λ shares. IsTrue (contains_key (known_names shares) key.1)) same ((key_stands (known_names held.0.shares) key.1).0 name.1))
 
   pub stands_from_known : (key : Key) → IsKnown (tables_of cut) key.0 key.1 → Contains (all_names cut.folders) key
   stands_from_known key is_known =
@@ -138,5 +108,5 @@ module _ (found : FolderIsFound) (has_folder : ShareHasFolder) (sharing : Sharin
       let held = has_folder cut key.0 share.0 share.1 in
       let same : shares_of key.0 cut.folders ≡ held.0.shares = ap (λ f. shares_of f cut.folders) (sym held.2) ∙ found cut held.0 is_cut held.1 in
       let has : IsTrue (contains_key (known_names held.0.shares) key.1) = subst (λ shares. IsTrue (contains_key (known_names shares) key.1)) same ((known cut key.0 key.1 is_cut).1 is_known) in
-      let stands = stands_in_folder held.0.folder (keys (known_names held.0.shares)) key.1 ((key_stands (known_names held.0.shares) key.1).0 has) in
-      stands_in_all cut.folders held.0 key held.1 (subst (λ (f : Folder). Contains (names_of held.0) (f, key.1)) held.2 stands)
+      let stands = stands_in_folder held.0.folder (keys (known_names held.0.shares)) key.1 ((key_stands (known_names held.0.shares) key.1).1 has) in
+      Contains-flat_map names_of cut.folders held.0 key held.1 (subst (λ (f : Folder). Contains (names_of held.0) (f, key.1)) held.2 stands)

@@ -1,22 +1,21 @@
 -- A walk over the reasons in their order: the first that fails, with its place, is the verdict.
-use Rattle.std.proofs.Common.{◌≡◌, ◌≢◌, ◌↔◌, ◌+◌, ◌<◌, ◌≤◌, ℕ, zero, suc, List, [], ◌∷◌, Option, Some, None, length, get_or, refl, sym, ap, subst, ◌∙◌, ⊎_elim, arith}
+use Rattle.std.proofs.Common.{◌≡◌, ◌≢◌, ◌↔◌, ◌+◌, ◌<◌, ◌≤◌, ℕ, zero, suc, List, [], ◌∷◌, Some, None, length, get_or, refl, sym, ap, subst, ◌∙◌, ⊎_elim, arith}
 use Rattle.std.specs.Prelude.{⊤}
 use Rattle.std.proofs.lemmas.Bool.{cases_eq}
+use Rattle.bep_facts.specs.Options.{none_from_no_value}
 use Rattle.bep_model.specs.declared.row.Row.{Row}
 use Rattle.bep_model.specs.declared.reason.Reason.{Reason}
-use Rattle.bep_model.specs.declared.reason.Reason.TheVariants.{CertificateOrder, NameMissing, NameUnknown, NotWinner, RecordMissing, RecordDiffers, LocalOnly, StoreDiffers, StoreUnclean, ViewAhead, FlightAhead, PullAhead}
-use Rattle.bep_model.specs.Tables.{Tables, Folder, FileName}
+use Rattle.bep_model.specs.declared.reason.Reason.TheVariants.{CertificateOrder}
+use Rattle.bep_model.specs.Tables.{Tables}
 use Rattle.bep_model.specs.Settled.{IsSettled, Rise}
 use Rattle.bep_model.specs.Reasons.{Place, Asks, first_disordered}
 use Rattle.bep_model.specs.Verdict.{Verdict, Settled, Not, number_of, IsFirstFault, IsVerdict}
-use Rattle.bep_model.specs.Laws.{SettledIsFaultless}
-use Rattle.bep_model.proofs.Verdicts.{same_from_number}
+use Rattle.bep_model.specs.Laws.{RowsRiseInOrder, NumbersAreWithin, NumbersDiffer, SettledIsFaultless}
 use Rattle.bep_audit.specs.declared.verdict.Verdict as program
 use Rattle.bep_audit.specs.declared.verdict.Verdict.TheVariants as lends
 use Rattle.bep_audit.specs.declared.checkers.TheConstants.{REASONS}
 use Rattle.bep_audit.specs.Search.{FindsFault}
 use Rattle.bep_audit.specs.Shown.{verdict_shown}
-use Rattle.bep_audit.proofs.RowsFacts.{rise_from_none}
 
 -- ---- the order of reasons
 
@@ -38,55 +37,37 @@ number_of_reason_at : (place : ℕ) → place < 12 → number_of (reason_at plac
 number_of_reason_at place below =
     number_at REASONS 1 place CertificateOrder (refl, (refl, (refl, (refl, (refl, (refl, (refl, (refl, (refl, (refl, (refl, (refl, tt)))))))))))) below ∙ omega arith
 
-number_within : (reason : Reason) → (1 ≤ number_of reason) × (number_of reason ≤ 12)
-number_within CertificateOrder = (omega arith, omega arith)
-number_within NameMissing = (omega arith, omega arith)
-number_within NameUnknown = (omega arith, omega arith)
-number_within NotWinner = (omega arith, omega arith)
-number_within RecordMissing = (omega arith, omega arith)
-number_within RecordDiffers = (omega arith, omega arith)
-number_within LocalOnly = (omega arith, omega arith)
-number_within StoreDiffers = (omega arith, omega arith)
-number_within StoreUnclean = (omega arith, omega arith)
-number_within ViewAhead = (omega arith, omega arith)
-number_within FlightAhead = (omega arith, omega arith)
-number_within PullAhead = (omega arith, omega arith)
-
 -- ---- the walk
 
 -- none of the reasons before this place fails anywhere
 pub record HoldBefore (t : Tables) (rows : List Row) (place : ℕ) : Type 0 where
   pub holds : (lesser : Reason) (any : Place) → number_of lesser ≤ place → Asks t rows lesser any
 
-none_from_no_key : (o : Option (Folder × FileName)) → ((folder : Folder) (name : FileName) → o ≢ Some (folder, name)) → o ≡ None
-none_from_no_key None no_key = refl
-none_from_no_key (Some key) no_key = absurd (no_key key.0 key.1 refl)
-
 module _ (t : Tables) (rows : List Row) where
-  pub reasons_start : HoldBefore t rows 0
-  reasons_start = record { holds = λ lesser any below. let positive = (number_within lesser).0 in absurd (omega (arith, positive)) }
+  pub reasons_start : NumbersAreWithin → HoldBefore t rows 0
+  reasons_start within = record { holds = λ lesser any below. let positive = (within lesser).0 in absurd (omega (arith, positive)) }
 
-  pub reasons_go_on : (place : ℕ) → place < 12 → HoldBefore t rows place → FindsFault t rows (reason_at place) None → HoldBefore t rows (place + 1)
-  reasons_go_on place below before here = record {
+  pub reasons_go_on : NumbersDiffer → (place : ℕ) → place < 12 → HoldBefore t rows place → FindsFault t rows (reason_at place) None → HoldBefore t rows (place + 1)
+  reasons_go_on different place below before here = record {
     holds = λ lesser any up_to.
         ⊎_elim
-        (λ same. subst (λ reason. Asks t rows reason any) (sym (same_from_number lesser (reason_at place) (same ∙ sym (number_of_reason_at place below)))) (here any))
+        (λ same. subst (λ reason. Asks t rows reason any) (sym (different lesser (reason_at place) (same ∙ sym (number_of_reason_at place below)))) (here any))
         (λ differs. before.holds lesser any (omega arith))
         (cases_eq (number_of lesser) (place + 1));
   }
 
   -- past the first reason the rows rise
-  pub rows_rise : (place : ℕ) → place < 12 → HoldBefore t rows place → reason_at place ≢ CertificateOrder → Rise rows
-  rows_rise place below before differs =
+  pub rows_rise : RowsRiseInOrder → NumbersDiffer → (place : ℕ) → place < 12 → HoldBefore t rows place → reason_at place ≢ CertificateOrder → Rise rows
+  rows_rise in_order different place below before differs =
       let number = number_of_reason_at place below in
       let later : 1 ≤ place =
       ⊎_elim
-      (λ first. absurd (differs (same_from_number (reason_at place) CertificateOrder (omega (arith, number, first)))))
+      (λ first. absurd (differs (different (reason_at place) CertificateOrder (omega (arith, number, first)))))
       (λ others. omega (arith, others))
       (cases_eq place 0) in
-      rise_from_none rows
-      (none_from_no_key (first_disordered rows)
-      (λ folder name. before.holds CertificateOrder (record { folder = folder; name = name; device = None }) later))
+      (in_order rows).0
+      (none_from_no_value (first_disordered rows)
+      (λ key. before.holds CertificateOrder (record { folder = key.0; name = key.1; device = None }) later))
 
   pub first_fault_at : (place : ℕ) → place < 12 → HoldBefore t rows place → (spot : Place) → FindsFault t rows (reason_at place) (Some spot) → IsFirstFault t rows (reason_at place) spot
   first_fault_at place below before spot first = record {
@@ -95,9 +76,9 @@ module _ (t : Tables) (rows : List Row) where
     first = first.before;
   }
 
-  pub settled_at_last : SettledIsFaultless → (place : ℕ) → 12 ≤ place → HoldBefore t rows place → IsSettled t rows
-  settled_at_last faultless place past before =
-      (faultless t rows).1 (λ reason any. before.holds reason any (let within = (number_within reason).1 in omega (arith, within)))
+  pub settled_at_last : SettledIsFaultless → NumbersAreWithin → (place : ℕ) → 12 ≤ place → HoldBefore t rows place → IsSettled t rows
+  settled_at_last faultless within place past before =
+      (faultless t rows).1 (λ reason any. before.holds reason any (let up_to = (within reason).1 in omega (arith, up_to)))
 
   -- ---- what the verdict says
 

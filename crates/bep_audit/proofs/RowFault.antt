@@ -4,6 +4,7 @@ use Rattle.std.specs.Prelude.{if◌then◌else◌}
 use Rattle.std.specs.declared.cmp.Ordering.TheVariants.{Less}
 use Rattle.std.specs.Ordering.{nat_cmp}
 use Rattle.std.proofs.lemmas.Cmp.{ranked, by_ranked}
+use Rattle.bep_facts.specs.Members.{Contains-first, Contains-one}
 use Rattle.bep_model.specs.declared.row.Row.{Row}
 use Rattle.bep_model.specs.declared.reason.Reason.{Reason}
 use Rattle.bep_model.specs.declared.reason.Reason.TheVariants.{CertificateOrder, NameUnknown, NotWinner}
@@ -12,10 +13,9 @@ use Rattle.bep_model.specs.Foreign.{IsKnown}
 use Rattle.bep_model.specs.Winner.{IsWinner}
 use Rattle.bep_model.specs.Settled.{key_of}
 use Rattle.bep_model.specs.Reasons.{Place, place_cmp, device_rank, AsksAt, AsksName, AsksDevice, first_disordered}
-use Rattle.bep_model.proofs.Members.{Contains-first}
 use Rattle.bep_audit.specs.Search.{FindsFault}
 use Rattle.bep_audit.specs.Shown.{name_of}
-use Rattle.bep_audit.proofs.AskedAtRow.{IsOfRows, only_row, asked_if_here}
+use Rattle.bep_audit.proofs.AskedAtRow.{IsOfRows, asked_if_here}
 use Rattle.bep_audit.proofs.RowWalk.{device_before}
 
 -- the lesser of two numbers is less by the order of numbers
@@ -80,6 +80,6 @@ finds_unknown t row known found exactly =
 pub finds_loser : (t : Tables) (row : Row) (wins : Bool) (found : Option Place) → IsTrue wins ↔ IsWinner t row.folder row.entry.name (row.device, row.entry) → found ≡ (if wins then None else Some (name_of row)) → FindsFault t (row ∷ []) NotWinner found
 finds_loser t row wins found exactly =
     finds_name t NotWinner row (omega arith) (λ device one member key shares. tt) wins found (
-      λ is one member key. subst (λ (r : Row). IsWinner t row.folder row.entry.name (r.device, r.entry)) (only_row row one member) (exactly.0 is),
+      λ is one member key. subst (λ (r : Row). IsWinner t row.folder row.entry.name (r.device, r.entry)) (Contains-one row one member) (exactly.0 is),
       λ asked. exactly.1 (asked row (Contains-first row []) refl),
     )

@@ -1,46 +1,19 @@
 -- Rows that rise are halved: which half a name's row is in.
-use Rattle.std.proofs.Common.{◌≡◌, ◌↔◌, ◌+◌, ◌-◌, ◌<◌, ◌∙◌, ℕ, List, [], ◌∷◌, ◌++◌, Contains, length, get_or, take, drop, sym, ap, subst, ⊎_elim, zero, suc, Bool, false, arith, length-drop}
+use Rattle.std.proofs.Common.{◌≡◌, ◌↔◌, ◌+◌, ◌-◌, ◌<◌, ◌∙◌, ℕ, List, ◌∷◌, ◌++◌, Contains, length, get_or, take, drop, sym, ap, subst, ⊎_elim, zero, suc, Bool, false, arith, length-drop, map}
 use Rattle.std.specs.Prelude.{◌/◌, ◌==◌}
 use Rattle.std.specs.declared.cmp.Ordering.TheVariants.{Less, Equal, Greater}
 use Rattle.std.proofs.lemmas.Cmp.{tied_itself}
-use Rattle.std.proofs.lemmas.List.{drop_more, length-take, take_all, take-append-drop}
+use Rattle.std.proofs.lemmas.List.{length-take, take_all}
 use Rattle.std.proofs.lemmas.List.Elements.{Contains-append_left, Contains-append_right, Contains-append_cases}
+use Rattle.std.proofs.lemmas.Map.Keys.{sorted_tail}
+use Rattle.bep_facts.specs.Members.{Contains-more, Contains-cons_cases}
+use Rattle.bep_facts.specs.Orders.{texts_total, not_less_itself, texts_exact}
+use Rattle.bep_facts.specs.Places.{split_at}
+use Rattle.bep_facts.specs.Rising.{below_later, back_is_sorted, front_is_sorted, front_is_below}
+use Rattle.bep_audit.proofs.RowsFacts.{rows_sorted, rise_from_sorted}
 use Rattle.bep_model.specs.declared.row.Row.{Row}
 use Rattle.bep_model.specs.Tables.{Folder, FileName}
 use Rattle.bep_model.specs.Settled.{HasRow, Rise, key_of, key_cmp}
-use Rattle.bep_model.proofs.Members.{not_in_none, Contains-first, Contains-more, Contains-cons_cases}
-use Rattle.bep_model.proofs.Keys.{key_total, not_less_itself, same_from_Equal}
-
-pub tail_rises : (row : Row) (more : List Row) → Rise (row ∷ more) → Rise more
-tail_rises row [] rise = tt
-tail_rises row (next ∷ more) rise = rise.1
-
--- each later row is above the first
-pub first_is_below : (row : Row) (more : List Row) → Rise (row ∷ more) → (later : Row) → Contains more later → key_cmp (key_of row) (key_of later) ≡ Less
-first_is_below row [] rise later h = absurd (not_in_none later h)
-first_is_below row (next ∷ more) rise later h =
-    ⊎_elim
-    (λ same. subst (λ (r : Row). key_cmp (key_of row) (key_of r) ≡ Less) same rise.0)
-    (λ more_h. key_total.trans (key_of row) (key_of next) (key_of later) rise.0 (first_is_below next more rise.1 later more_h))
-    (Contains-cons_cases next more later h)
-
-back_rises : (front back : List Row) → Rise (front ++ back) → Rise back
-back_rises [] back rise = rise
-back_rises (row ∷ front) back rise = back_rises front back (tail_rises row (front ++ back) rise)
-
-front_rises : (front back : List Row) → Rise (front ++ back) → Rise front
-front_rises [] back rise = tt
-front_rises (row ∷ []) back rise = tt
-front_rises (row ∷ next ∷ front) back rise = (rise.0, front_rises (next ∷ front) back rise.1)
-
-front_is_below : (front : List Row) (middle : Row) (back : List Row) → Rise (front ++ middle ∷ back) → (row : Row) → Contains front row → key_cmp (key_of row) (key_of middle) ≡ Less
-front_is_below [] middle back rise row h = absurd (not_in_none row h)
-front_is_below (first ∷ front) middle back rise row h =
-    let there = Contains-append_right front (middle ∷ back) middle (Contains-first middle back) in
-    ⊎_elim
-    (λ same. subst (λ (r : Row). key_cmp (key_of r) (key_of middle) ≡ Less) same (first_is_below first (front ++ middle ∷ back) rise middle there))
-    (λ later. front_is_below front middle back (tail_rises first (front ++ middle ∷ back) rise) row later)
-    (Contains-cons_cases first front row h)
 
 -- what is left of the rows in which a name's row may be
 pub record IsSearched (rows rest : List Row) (folder : Folder) (name : FileName) : Type 0 where
@@ -53,52 +26,50 @@ searched_all rows folder name rise = record { rise = rise; within = λ row h. h;
 
 -- the middle row is below the name
 back_is_left : (rows front : List Row) (middle : Row) (back : List Row) (folder : Folder) (name : FileName) → key_cmp (key_of middle) (folder, name) ≡ Less → IsSearched rows (front ++ middle ∷ back) folder name → IsSearched rows back folder name
-back_is_left rows front middle back folder name less s = record {
-  rise = tail_rises middle back (back_rises front (middle ∷ back) s.rise);
-  within = λ row h. s.within row (Contains-append_right front (middle ∷ back) row (Contains-more middle back row h));
-  has = λ has.
-      let found = s.has has in
-      ⊎_elim
-      (λ in_front. absurd (not_at (key_total.trans (key_of found.0) (key_of middle) (folder, name) (front_is_below front middle back s.rise found.0 in_front) less) found.2))
-      (λ later.
-      ⊎_elim
-      (λ same. absurd (not_at less (ap key_of same ∙ found.2)))
-      (λ in_back. (found.0, in_back, found.2))
-      (Contains-cons_cases middle back found.0 later))
-      (Contains-append_cases front (middle ∷ back) found.0 found.1);
-}
+back_is_left rows front middle back folder name less s =
+    let sorted = rows_sorted (front ++ middle ∷ back) s.rise in
+    record {
+      rise = rise_from_sorted back (sorted_tail key_cmp (key_of middle) (map key_of back) (back_is_sorted key_cmp key_of front (middle ∷ back) sorted));
+      within = λ row h. s.within row (Contains-append_right front (middle ∷ back) row (Contains-more middle back row h));
+      has = λ has.
+          let found = s.has has in
+          ⊎_elim
+          (λ in_front. absurd (not_at (texts_total.trans (key_of found.0) (key_of middle) (folder, name) (front_is_below key_cmp key_of front middle back sorted found.0 in_front) less) found.2))
+          (λ later.
+          ⊎_elim
+          (λ same. absurd (not_at less (ap key_of same ∙ found.2)))
+          (λ in_back. (found.0, in_back, found.2))
+          (Contains-cons_cases middle back found.0 later))
+          (Contains-append_cases front (middle ∷ back) found.0 found.1);
+    }
   where
     not_at : {key at : Folder × FileName} → key_cmp key at ≡ Less → ¬ (key ≡ at)
-    not_at {key} {at} less same = not_less_itself at (subst (λ (k : Folder × FileName). key_cmp k at ≡ Less) same less)
+    not_at {key} {at} less same = not_less_itself texts_total at (subst (λ (k : Folder × FileName). key_cmp k at ≡ Less) same less)
 
 -- the middle row is above the name
 front_is_left : (rows front : List Row) (middle : Row) (back : List Row) (folder : Folder) (name : FileName) → key_cmp (key_of middle) (folder, name) ≡ Greater → IsSearched rows (front ++ middle ∷ back) folder name → IsSearched rows front folder name
-front_is_left rows front middle back folder name greater s = record {
-  rise = front_rises front (middle ∷ back) s.rise;
-  within = λ row h. s.within row (Contains-append_left front (middle ∷ back) row h);
-  has = λ has.
-      let found = s.has has in
-      ⊎_elim
-      (λ in_front. (found.0, in_front, found.2))
-      (λ later.
-      ⊎_elim
-      (λ same. absurd (not_at (ap key_of same ∙ found.2)))
-      (λ in_back. absurd (not_below (subst (λ (k : Folder × FileName). key_cmp (key_of middle) k ≡ Less) found.2 (first_is_below middle back (back_rises front (middle ∷ back) s.rise) found.0 in_back))))
-      (Contains-cons_cases middle back found.0 later))
-      (Contains-append_cases front (middle ∷ back) found.0 found.1);
-}
+front_is_left rows front middle back folder name greater s =
+    let sorted = rows_sorted (front ++ middle ∷ back) s.rise in
+    record {
+      rise = rise_from_sorted front (front_is_sorted key_cmp key_of front (middle ∷ back) sorted);
+      within = λ row h. s.within row (Contains-append_left front (middle ∷ back) row h);
+      has = λ has.
+          let found = s.has has in
+          ⊎_elim
+          (λ in_front. (found.0, in_front, found.2))
+          (λ later.
+          ⊎_elim
+          (λ same. absurd (not_at (ap key_of same ∙ found.2)))
+          (λ in_back. absurd (not_below (subst (λ (k : Folder × FileName). key_cmp (key_of middle) k ≡ Less) found.2 (below_later key_cmp key_of middle back (back_is_sorted key_cmp key_of front (middle ∷ back) sorted) found.0 in_back))))
+          (Contains-cons_cases middle back found.0 later))
+          (Contains-append_cases front (middle ∷ back) found.0 found.1);
+    }
   where
     not_at : ¬ (key_of middle ≡ (folder, name))
-    not_at same = let tied = tied_itself key_total (folder, name) in let other = subst (λ (k : Folder × FileName). key_cmp k (folder, name) ≡ Greater) same greater in cc
+    not_at same = let tied = tied_itself texts_total (folder, name) in let other = subst (λ (k : Folder × FileName). key_cmp k (folder, name) ≡ Greater) same greater in cc
 
     not_below : ¬ (key_cmp (key_of middle) (folder, name) ≡ Less)
     not_below less = cc
-
--- a row in its place among the rows
-around : (rows : List Row) (place : ℕ) (middle : Row) → place < length rows → middle ≡ get_or rows place middle → take place rows ++ middle ∷ drop (place + 1) rows ≡ rows
-around rows place middle below is =
-    let rest : drop place rows ≡ middle ∷ drop (place + 1) rows = let d = drop_more rows place middle below in cc in
-    ap (λ (l : List Row). take place rows ++ l) (sym rest) ∙ take-append-drop place rows
 
 pub go_right : (rows : List Row) (place : ℕ) (middle : Row) (folder : Folder) (name : FileName) → Rise rows → place < length rows → middle ≡ get_or rows place middle → key_cmp (key_of middle) (folder, name) ≡ Less → IsSearched rows (take (length rows - (place + 1)) (drop (place + 1) rows)) folder name
 go_right rows place middle folder name rise below is less =
@@ -106,15 +77,15 @@ go_right rows place middle folder name rise below is less =
     let whole : take (length rows - (place + 1)) rest ≡ rest = take_all (length rows - (place + 1)) rest (omega (arith, length-drop (place + 1) rows)) in
     subst (λ (l : List Row). IsSearched rows l folder name) (sym whole)
     (back_is_left rows (take place rows) middle rest folder name less
-    (subst (λ (l : List Row). IsSearched rows l folder name) (sym (around rows place middle below is)) (searched_all rows folder name rise)))
+    (subst (λ (l : List Row). IsSearched rows l folder name) (sym (split_at rows place middle below is)) (searched_all rows folder name rise)))
 
 pub go_left : (rows : List Row) (place : ℕ) (middle : Row) (folder : Folder) (name : FileName) → Rise rows → place < length rows → middle ≡ get_or rows place middle → key_cmp (key_of middle) (folder, name) ≡ Greater → IsSearched rows (take place rows) folder name
 go_left rows place middle folder name rise below is greater =
     front_is_left rows (take place rows) middle (drop (place + 1) rows) folder name greater
-    (subst (λ (l : List Row). IsSearched rows l folder name) (sym (around rows place middle below is)) (searched_all rows folder name rise))
+    (subst (λ (l : List Row). IsSearched rows l folder name) (sym (split_at rows place middle below is)) (searched_all rows folder name rise))
 
 pub found_here : (rows : List Row) (place : ℕ) (row : Row) (folder : Folder) (name : FileName) → place < length rows → row ≡ get_or rows place row → key_cmp (key_of row) (folder, name) ≡ Equal → Contains rows row × (key_of row ≡ (folder, name))
-found_here rows place row folder name below is tied = ((place, below, sym is), same_from_Equal (key_of row) (folder, name) tied)
+found_here rows place row folder name below is tied = ((place, below, sym is), texts_exact (key_of row) (folder, name) tied)
 
 -- what is left has the row exactly where all rows have it
 pub has_exactly : (rows rest : List Row) (folder : Folder) (name : FileName) → IsSearched rows rest folder name → HasRow rest folder name ↔ HasRow rows folder name

@@ -5,16 +5,16 @@ use Rattle.std.specs.declared.cmp.Ordering.TheVariants.{Less, Equal, Greater}
 use Rattle.std.specs.Ordering.{nat_cmp, ordering_then, ordering_reverse}
 use Rattle.std.specs.Cmp.Lexicographic.{slice_cmp, nat_list_cmp_total}
 use Rattle.std.proofs.lemmas.Cmp.{ranked, tied_itself}
+use Rattle.bep_facts.specs.Orders.{texts_total}
 use Rattle.bep_model.specs.declared.row.Row.{Row}
 use Rattle.bep_model.specs.declared.reason.Reason.{Reason}
 use Rattle.bep_model.specs.Tables.{Tables, Folder, FileName}
 use Rattle.bep_model.specs.Settled.{Rise, key_of, key_cmp}
 use Rattle.bep_model.specs.Reasons.{Place, place_cmp, device_rank, Asks}
-use Rattle.bep_model.proofs.Keys.{key_total}
 use Rattle.bep_audit.specs.Search.{FindsFirst, FindsFault}
 use Rattle.bep_audit.proofs.SearchFacts.{AllSay, finds_as}
-use Rattle.bep_audit.proofs.WalkFacts.{IsBefore, AreInOrder}
-use Rattle.bep_audit.proofs.RowSearch.{tail_rises, first_is_below}
+use Rattle.bep_audit.proofs.WalkFacts.{IsBefore, AreInOrder, in_order_by_key}
+use Rattle.bep_audit.proofs.RowsFacts.{rows_sorted}
 use Rattle.bep_audit.proofs.AskedAtRow.{IsOfRows, key_at, asked_if_here, here_if_unmet, asked_of_each, asked_of_one}
 
 -- what comes before another place has no greater key
@@ -56,13 +56,11 @@ module _ (t : Tables) (reason : Reason) (of_rows : IsOfRows reason) where
       asked_if_here t reason other x of_rows (λ here.
       let there = here_if_unmet t reason one first of_rows unmet in
       let below : key_cmp (key_at first) (key_at x) ≡ Less = ap (λ (key : Folder × FileName). key_cmp key (key_at x)) (sym there) ∙ ap (key_cmp (key_of one)) (sym here) ∙ less in
-      let above : key_cmp (key_at x) (key_at first) ≡ Greater = key_total.antisymm (key_at x) (key_at first) ∙ ap ordering_reverse below in
+      let above : key_cmp (key_at x) (key_at first) ≡ Greater = texts_total.antisymm (key_at x) (key_at first) ∙ ap ordering_reverse below in
       absurd (key_not_above x first before above))
 
   pub rows_in_order : (rows : List Row) → Rise rows → AreInOrder place_cmp (AsksRow t reason) rows
-  rows_in_order [] rise = tt
-  rows_in_order (row ∷ more) rise =
-      (λ later member. row_is_before row later (first_is_below row more rise later member), rows_in_order more (tail_rises row more rise))
+  rows_in_order rows rise = in_order_by_key place_cmp (AsksRow t reason) key_cmp key_of row_is_before rows (rows_sorted rows rise)
 
   pub found_in_rows : (rows : List Row) (found : Option Place) → FindsFirst place_cmp (AllSay place_cmp (AsksRow t reason) rows) found → FindsFault t rows reason found
   found_in_rows rows =

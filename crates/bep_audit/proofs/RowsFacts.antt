@@ -1,10 +1,11 @@
 -- A walk over rows, each compared with the one before it.
-use Rattle.std.proofs.Common.{◌≡◌, ◌+◌, ◌-◌, ◌<◌, ◌≤◌, ◌∙◌, ℕ, true, false, Some, None, List, [], ◌∷◌, length, get_or, drop, refl, ap, sym, ⊎_elim, arith, length-drop}
+use Rattle.std.proofs.Common.{◌≡◌, ◌+◌, ◌-◌, ◌<◌, ◌≤◌, ◌∙◌, ℕ, false, Some, None, List, [], ◌∷◌, length, get_or, drop, refl, ap, sym, arith, length-drop, map}
 use Rattle.std.specs.Ordering.{is_lt}
-use Rattle.std.specs.declared.cmp.Ordering.{Ordering}
-use Rattle.std.specs.declared.cmp.Ordering.TheVariants.{Less, Equal, Greater}
-use Rattle.std.proofs.lemmas.Bool.{cases_Bool, cond-true, cond-false}
+use Rattle.std.proofs.lemmas.Bool.{cond-false}
 use Rattle.std.proofs.lemmas.List.{drop_more}
+use Rattle.std.specs.List.Sorted.{IsStrictlySortedBy}
+use Rattle.bep_facts.specs.Orders.{texts_total}
+use Rattle.bep_facts.specs.Rising.{sorted_from_steps}
 use Rattle.bep_model.specs.declared.row.Row.{Row}
 use Rattle.bep_model.specs.Settled.{Rise, key_of, key_cmp}
 use Rattle.bep_model.specs.Reasons.{first_disordered}
@@ -23,25 +24,15 @@ stops rows place one next positive below one_is next_is not_less so_far =
     let two = ap first_disordered (two_rows rows place one next positive below one_is next_is) in
     sym (cond-false _ _ _ not_less) ∙ sym two ∙ so_far
 
-pub Less_from_is_lt : (o : Ordering) → is_lt o ≡ true → o ≡ Less
-Less_from_is_lt Less e = refl
-Less_from_is_lt Equal e = absurd (cc)
-Less_from_is_lt Greater e = absurd (cc)
+-- rows rise exactly where each is below all later ones
+pub rows_sorted : (rows : List Row) → Rise rows → IsStrictlySortedBy key_cmp (map key_of rows)
+rows_sorted = sorted_from_steps key_cmp key_of texts_total Rise (λ row next more step. step)
 
--- rows rise exactly where none is out of order
-pub none_disordered : (rows : List Row) → Rise rows → first_disordered rows ≡ None
-none_disordered [] rise = refl
-none_disordered (row ∷ []) rise = refl
-none_disordered (row ∷ next ∷ more) rise = cond-true _ _ _ (ap is_lt rise.0) ∙ none_disordered (next ∷ more) rise.1
-
-pub rise_from_none : (rows : List Row) → first_disordered rows ≡ None → Rise rows
-rise_from_none [] none = tt
-rise_from_none (row ∷ []) none = tt
-rise_from_none (row ∷ next ∷ more) none =
-    ⊎_elim
-    (λ less. (Less_from_is_lt _ less, rise_from_none (next ∷ more) (sym (cond-true _ _ _ less) ∙ none)))
-    (λ not_less. let e = sym (cond-false _ _ _ not_less) ∙ none in absurd (cc))
-    (cases_Bool (is_lt (key_cmp (key_of row) (key_of next))))
+pub rise_from_sorted : (rows : List Row) → IsStrictlySortedBy key_cmp (map key_of rows) → Rise rows
+unfolding IsStrictlySortedBy
+rise_from_sorted [] sorted = tt
+rise_from_sorted (row ∷ []) sorted = tt
+rise_from_sorted (row ∷ next ∷ more) sorted = (sorted.0.0, rise_from_sorted (next ∷ more) sorted.1)
 
 one_is_in_order : (rows : List Row) → length rows ≤ 1 → first_disordered rows ≡ None
 one_is_in_order [] few = refl

@@ -1,29 +1,15 @@
 -- A walk over a list by its places: what is found in what is left of it is found in all of it.
-use Rattle.std.proofs.Common.{◌≡◌, ℕ, ◌+◌, ◌<◌, ◌≤◌, List, [], ◌∷◌, ◌++◌, Contains, Option, Some, None, length, get_or, take, drop, sym, ap, subst, ◌∙◌, ⊎_elim}
+use Rattle.std.proofs.Common.{◌≡◌, ℕ, ◌+◌, ◌<◌, ◌≤◌, List, [], ◌∷◌, ◌++◌, Contains, Option, Some, None, length, get_or, take, drop, sym, subst}
 use Rattle.std.specs.Prelude.{⊤, map}
 use Rattle.std.specs.declared.cmp.Ordering.{Ordering}
 use Rattle.std.specs.declared.cmp.Ordering.TheVariants.{Less}
-use Rattle.std.specs.List.{AllByRecursion}
 use Rattle.std.specs.List.Sorted.{IsStrictlySortedBy}
-use Rattle.std.proofs.lemmas.Map.Keys.{sorted_head, sorted_tail}
-use Rattle.std.proofs.lemmas.List.{drop_more, drop_all, take_more, take-append-drop}
-use Rattle.bep_model.proofs.Members.{not_in_none, Contains-cons_cases}
+use Rattle.std.proofs.lemmas.Map.Keys.{sorted_tail}
+use Rattle.std.proofs.lemmas.List.{drop_all, take-append-drop}
+use Rattle.bep_facts.specs.Places.{rest_at}
+use Rattle.bep_facts.specs.Rising.{below_later}
 use Rattle.bep_audit.specs.Search.{FindsFirst}
 use Rattle.bep_audit.proofs.SearchFacts.{AllSay, goes_on, fails_here, ends}
-
--- what is left of a list at a place, where this element stands
-pub rest_at : {Y : Type 0} (all : List Y) (place : ℕ) (y : Y) → place < length all → y ≡ get_or all place y → drop place all ≡ y ∷ drop (place + 1) all
-rest_at all place y below is = drop_more all place y below ∙ ap (λ z. z ∷ drop (place + 1) all) (sym is)
-
--- and what has gone by, with it
-pub done_with : {Y : Type 0} (all : List Y) (place : ℕ) (y : Y) → place < length all → y ≡ get_or all place y → take (place + 1) all ≡ take place all ++ y ∷ []
-done_with all place y below is = take_more all place y below ∙ ap (λ z. take place all ++ z ∷ []) (sym is)
-
--- what holds of each key holds of an element's key
-holds_of_key : {K Y : Type 0} (P : K → Type 0) (key : Y → K) (ys : List Y) (y : Y) → AllByRecursion P (map key ys) → Contains ys y → P (key y)
-holds_of_key P key [] y all h = absurd (not_in_none y h)
-holds_of_key P key (one ∷ ys) y all h =
-    ⊎_elim (λ same. subst (λ z. P (key z)) same all.0) (λ more. holds_of_key P key ys y all.1 more) (Contains-cons_cases one ys y h)
 
 module _ {X Y : Type 0} (cmp : X → X → Ordering) (Says : Y → X → Type 0) where
   -- where one fails, the other holds of all that comes before
@@ -39,7 +25,7 @@ module _ {X Y : Type 0} (cmp : X → X → Ordering) (Says : Y → X → Type 0)
   pub in_order_by_key : {K : Type 0} (R : K → K → Ordering) (key : Y → K) → ((one other : Y) → R (key one) (key other) ≡ Less → IsBefore one other) → (ys : List Y) → IsStrictlySortedBy R (map key ys) → AreInOrder ys
   in_order_by_key R key before [] rise = tt
   in_order_by_key R key before (y ∷ ys) rise = (
-    λ later member. before y later (holds_of_key (λ k. R (key y) k ≡ Less) key ys later (sorted_head R (key y) (map key ys) rise) member),
+    λ later member. before y later (below_later R key y ys rise later member),
     in_order_by_key R key before ys (sorted_tail R (key y) (map key ys) rise),
   )
 

@@ -8,7 +8,7 @@ use Rattle.bep_record.specs.declared.entry.Entry.{Entry}
 use Rattle.bep_model.specs.declared.row.Row.{Row}
 use Rattle.bep_model.specs.Tables.{Tables}
 use Rattle.bep_model.specs.Winner.{IsWinner}
-use Rattle.bep_model.proofs.Winners.{OneChoice, same_winner}
+use Rattle.bep_model.specs.Laws.{WinnerIsUnique}
 use Rattle.bep_choice.specs.Choice.{Candidate, candidate_of, candidates_of, IsChoice, IsChoiceAt}
 
 -- a candidate as it is lent
@@ -35,11 +35,11 @@ chosen_at chooser lent place one at is =
     subst (λ (o : Option Candidate). IsSomeAnd o (IsChoice chooser (candidates_of lent))) (at_place lent place one (within chooser lent place at) is) at
 
 -- a row holds the winner exactly where it holds the one that wins
-pub row_exactly : OneChoice → (t : Tables) (row : Row) (entry : Entry) (one : Candidate) → entry ≡ row.entry → IsWinner t row.folder entry.name one → (one ≡ (row.device, row.entry)) ↔ IsWinner t row.folder row.entry.name (row.device, row.entry)
+pub row_exactly : WinnerIsUnique → (t : Tables) (row : Row) (entry : Entry) (one : Candidate) → entry ≡ row.entry → IsWinner t row.folder entry.name one → (one ≡ (row.device, row.entry)) ↔ IsWinner t row.folder row.entry.name (row.device, row.entry)
 row_exactly unique t row entry one is wins =
     let here : IsWinner t row.folder row.entry.name one = subst (λ (e : Entry). IsWinner t row.folder e.name one) is wins in (
       λ same. subst (IsWinner t row.folder row.entry.name) same here,
-      λ row_wins. same_winner unique t row.folder row.entry.name one (row.device, row.entry) here row_wins,
+      λ row_wins. unique t row.folder row.entry.name one (row.device, row.entry) here row_wins,
     )
 
 -- and doesn't where nothing wins

@@ -1,9 +1,10 @@
 -- The winner of a name in a cut is the choice over the shares of its folder.
-use Rattle.std.proofs.Common.{◌≡◌, ◌≤◌, ℕ, List, [], ◌∷◌, ◌++◌, Option, Some, None, IfSome, Contains, length, refl, sym, ap, subst, ◌∙◌, ⊎_elim, arith}
+use Rattle.std.proofs.Common.{◌≡◌, ◌≤◌, ℕ, List, [], ◌∷◌, ◌++◌, Contains, length, refl, sym, ap, subst, ◌∙◌, arith}
 use Rattle.std.specs.Prelude.{map}
 use Rattle.std.specs.FinMap.{get}
 use Rattle.std.proofs.lemmas.List.{length-map}
 use Rattle.std.proofs.lemmas.List.Elements.{All-contains, All-contains_itself}
+use Rattle.bep_facts.specs.Members.{Contains-first, Contains-more, Contains-from_image}
 use Rattle.bep_choice.specs.Choice.{Candidate}
 use Rattle.bep_choice.specs.declared.folder_kind.FolderKind.{FolderKind}
 use Rattle.bep_index.specs.Index.{IsIndex}
@@ -13,7 +14,6 @@ use Rattle.bep_cut.specs.declared.cut.CutParts.{CutParts}
 use Rattle.bep_cut.specs.declared.limits.TheConstants.{MAX_DEVICES}
 use Rattle.bep_cut.specs.declared.share.Share.{Share}
 use Rattle.bep_cut.specs.declared.share.SharedFolder.{SharedFolder}
-use Rattle.bep_model.proofs.Members.{not_in_none, Contains-first, Contains-more, Contains-cons_cases}
 use Rattle.bep_model.specs.Tables.{Tables, Device, Folder, FileName}
 use Rattle.bep_model.specs.Winner.{beside, owned, own_candidates, smallest, IsWinner}
 use Rattle.bep_audit.specs.Candidates.{owned_in, chooser_of}
@@ -26,12 +26,7 @@ kind_of share = (share.device, share.kind)
 -- ---- the shares of a folder
 
 share_with : (shares : List Share) (device : Device) → Contains (devices_of shares) device → (share : Share) × Contains shares share
-share_with [] device member = absurd (not_in_none device member)
-share_with (share ∷ more) device member =
-    ⊎_elim
-    (λ same. (share, Contains-first share more))
-    (λ later. let found = share_with more device later in (found.0, Contains-more share more found.0 found.1))
-    (Contains-cons_cases share.device (devices_of more) device member)
+share_with shares device member = let found = Contains-from_image (λ (share : Share). share.device) shares device member in (found.0, found.1)
 
 none_are_shares : AreShares []
 none_are_shares = record { rise = λ k within. absurd (omega arith); indexes = λ k default within. absurd (omega arith) }
@@ -97,8 +92,3 @@ winner_is_named found has_folder said cut folder name is_cut one wins =
     let share = owned_from name shares one among in
     let index = All-contains (λ (s : Share). IsIndex (index_of s)) shares share.0 (are_shares found has_folder cut is_cut folder).indexes share.1 in
     (index.numbered name one.1 share.2).0
-
--- what follows of each value follows of an option's
-pub if_some-map : {X : Type 0} {P Q : X → Type 0} → ((x : X) → P x → Q x) → (o : Option X) → IfSome o P → IfSome o Q
-if_some-map f None h = h
-if_some-map f (Some x) h = f x h

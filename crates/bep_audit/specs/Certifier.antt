@@ -30,13 +30,6 @@ IsSettledIfAny t rows = (others : List Row) → IsSettled t others → (others �
 abbrev pub IsNeverSettled : Tables → Type 0
 IsNeverSettled t = (rows : List Row) → ¬ IsSettled t rows
 
--- the known names of a folder, rising, and those of all folders
-abbrev pub names_of : SharedFolder → List (Folder × FileName)
-names_of held = map (λ name. (held.folder, name)) (keys (known_names held.shares))
-
-abbrev pub all_names : List SharedFolder → List (Folder × FileName)
-all_names = flat_map names_of
-
 -- the row is about the name, and holds its winner
 abbrev pub IsWon : Tables → Folder × FileName → Row → Type 0
 IsWon t key row = (key_of row ≡ key) × IsWinner t key.0 key.1 (row.device, row.entry)

@@ -1,8 +1,9 @@
 //! The certificate of a cut.
 ghost use Rattle.std.specs.Prelude.{◌≡◌, IfOk, IfErr, OnOk};
 ghost use Rattle.bep_cut.specs.Cut.{tables_of};
+ghost use Rattle.bep_cut.specs.Names.{names_of};
 ghost use Rattle.bep_model.specs.Settled.{IsListOfWinners};
-ghost use Rattle.bep_audit.specs.Certifier.{TellsOf, TellsOfFirst, IsSettledIfAny, IsNeverSettled, names_of, Adds, FailsIn, IsWon, IsUnwon};
+ghost use Rattle.bep_audit.specs.Certifier.{TellsOf, TellsOfFirst, IsSettledIfAny, IsNeverSettled, Adds, FailsIn, IsWon, IsUnwon};
 
 use crate::{Certificate, CertifyError, winner_of};
 use bep_cut::{Cut, SharedFolder, cut_says, names_are_known};

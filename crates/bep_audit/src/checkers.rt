@@ -10,7 +10,9 @@ ghost use Rattle.bep_audit.specs.Shown.{verdict_shown};
 use crate::fault::first_fault;
 use crate::{Certificate, Verdict};
 use bep_cut::Cut;
-use bep_model::{Reason, settled_is_calm, settled_is_faultless};
+use bep_model::{
+    Reason, reasons_are_numbered, rows_rise_in_order, settled_is_calm, settled_is_faultless,
+};
 use std::alloc::{AllocError, Global};
 
 /// All reasons, in the order in which they are told.
@@ -40,6 +42,8 @@ pub fn check_plain<'a>(cut: &'a Cut, certificate: &'a Certificate) -> Verdict<'a
 {
     settled_is_faultless();
     settled_is_calm();
+    reasons_are_numbered();
+    rows_rise_in_order();
     for reason in REASONS {
         if let Some(spot) = first_fault(cut, certificate.rows(), reason) {
             return Verdict::at(reason, spot);

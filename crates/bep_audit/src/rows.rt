@@ -4,7 +4,7 @@ ghost use Rattle.std.specs.Option.{option_copied};
 ghost use Rattle.bep_model.specs.Settled.{key_of, key_cmp, Rise, HasRow};
 ghost use Rattle.bep_model.specs.Reasons.{first_disordered};
 
-use bep_model::Row;
+use bep_model::{Row, rows_rise_in_order};
 use bep_record::{FolderName, Items, Name};
 use std::alloc::{AllocError, Global};
 use std::cmp::Ordering;
@@ -69,6 +69,7 @@ pub fn first_disordered(rows: &[Row]) -> Option<&Row>
     ensures first { option_map key_of (option_copied result) ≡ first_disordered rows.now }
     ensures rise { IsNone result ↔ Rise rows.now }
 {
+    rows_rise_in_order();
     for place in 1..rows.len() {
         if !compare_rows(&rows[place - 1], &rows[place]).is_lt() {
             return Some(&rows[place]);

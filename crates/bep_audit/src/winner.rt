@@ -5,9 +5,8 @@ ghost use Rattle.bep_cut.specs.Cut.{tables_of};
 ghost use Rattle.bep_model.specs.Winner.{IsWinner};
 
 use crate::candidates::winner_among;
-use bep_choice::laws::choice_is_unique;
 use bep_cut::{Cut, cut_says};
-use bep_model::Row;
+use bep_model::{Row, winner_is_unique};
 use bep_record::{DeviceId, FolderName, Name, Record};
 
 /// The device and the record that win the name in the folder; `None` exactly where the name has no winner. The record
@@ -29,7 +28,7 @@ pub fn winner_of<'a>(
 pub fn is_winner(cut: &Cut, row: &Row) -> bool
     ensures { IsTrue result ↔ IsWinner (tables_of cut.now) row.now.folder row.now.entry.name (row.now.device, row.now.entry) }
 {
-    choice_is_unique();
+    winner_is_unique();
     match winner_of(cut, &row.folder, &row.entry.entry().name) {
         None => false,
         Some(one) => is_of_row(&one, row),

@@ -6,6 +6,7 @@ use Rattle.std.specs.Cmp.{IsTotalOrder, bool_cmp_total}
 use Rattle.std.specs.Ordering.{nat_cmp, int_cmp, bool_cmp, ordering_then, ordering_reverse, is_gt}
 use Rattle.std.proofs.lemmas.Bool.{ne_eqb}
 use Rattle.std.proofs.lemmas.Cmp.{ranked, tied_itself, upto, then_total, on_total, back_total, nat_cmp_total, int_cmp_total}
+use Rattle.bep_facts.specs.Orders.{both_tied}
 use Rattle.bep_choice.specs.Choice.{Candidate, choice_cmp, IsNotBehind}
 
 pub choice_total : (chooser : ℕ) → IsTotalOrder (choice_cmp chooser)
@@ -41,9 +42,7 @@ tied Equal ne back = refl
 tied Greater ne back = absurd (ne refl)
 
 second_tied : (o p : Ordering) → ordering_then o p ≡ Equal → p ≡ Equal
-second_tied Less p e = cc
-second_tied Equal p e = e
-second_tied Greater p e = cc
+second_tied o p e = (both_tied o p e).1
 
 pub behind_or_not : (chooser : ℕ) (one other : Candidate) → (choice_cmp chooser one other ≡ Greater) ⊎ IsNotBehind chooser one other
 behind_or_not chooser one other = greater_or_not (choice_cmp chooser one other)

@@ -1,22 +1,6 @@
 -- A finite set has a member that no other is above, by any order that can be decided.
-use Rattle.std.proofs.Common.{◌≡◌, ◌⊎◌, List, [], ◌∷◌, Contains, refl, sym, subst, inl, inr, ⊎_elim, arith}
-use Rattle.std.proofs.lemmas.List.Elements.{Contains-append_left, Contains-append_right, Contains-append_cases, Contains-push, Contains-push_cases}
-
-not_in_none : {X : Type 0} (x : X) → ¬ Contains [] x
-not_in_none x h = absurd (omega (arith, h.1))
-
-Contains-first : {X : Type 0} (x : X) (xs : List X) → Contains (x ∷ xs) x
-Contains-first x xs = Contains-append_left (x ∷ []) xs x (Contains-push [] x)
-
-Contains-more : {X : Type 0} (x : X) (xs : List X) (z : X) → Contains xs z → Contains (x ∷ xs) z
-Contains-more x xs z h = Contains-append_right (x ∷ []) xs z h
-
-Contains-cons_cases : {X : Type 0} (x : X) (xs : List X) (z : X) → Contains (x ∷ xs) z → (x ≡ z) ⊎ Contains xs z
-Contains-cons_cases x xs z h =
-    ⊎_elim
-    (λ here. ⊎_elim (λ none. absurd (not_in_none z none)) (λ same. inl same) (Contains-push_cases [] x z here))
-    (λ more. inr more)
-    (Contains-append_cases (x ∷ []) xs z h)
+use Rattle.std.proofs.Common.{◌≡◌, ◌⊎◌, List, [], ◌∷◌, Contains, refl, sym, subst, inl, inr, ⊎_elim}
+use Rattle.bep_facts.specs.Members.{not_in_none, Contains-first, Contains-more, Contains-cons_cases, each_or_one}
 
 module _ {X : Type 0} (V : X → Type 0) (R : X → X → Type 0) where
   -- from a value, one that is at or above it, and that none of the list is above
@@ -73,15 +57,6 @@ module _ {X : Type 0} (V : X → Type 0) (R : X → X → Type 0) where
       (λ not_v. stays x xs from (λ vx. absurd (not_v vx)) (top_from decide_V decide_R irreflexive transitive xs from v))
       (decide_V x)
 
--- a fact that can be decided holds of each member, or fails at one
+-- a fact that can be decided holds of each member or not
 pub each_or_not : {X : Type 0} (P : X → Type 0) → ((x : X) → P x ⊎ (¬ P x)) → (xs : List X) → ((x : X) → Contains xs x → P x) ⊎ (¬ ((x : X) → Contains xs x → P x))
-each_or_not P decide [] = inl (λ x in'. absurd (not_in_none x in'))
-each_or_not P decide (x ∷ xs) =
-    ⊎_elim
-    (λ here.
-    ⊎_elim
-    (λ rest. inl (λ z in'. ⊎_elim (λ same. subst P same here) (λ more. rest z more) (Contains-cons_cases x xs z in')))
-    (λ fails. inr (λ each. fails (λ z more. each z (Contains-more x xs z more))))
-    (each_or_not P decide xs))
-    (λ fails. inr (λ each. fails (each x (Contains-first x xs))))
-    (decide x)
+each_or_not P decide xs = ⊎_elim (λ each. inl each) (λ one. inr (λ each. one.1.1 (each one.0 one.1.0))) (each_or_one P decide xs)

@@ -1,10 +1,11 @@
 -- The tables of the cut that a document writes down, from what the document lists.
-use Rattle.std.proofs.Common.{◌≡◌, ◌≢◌, ◌⊎◌, ◌↔◌, inl, inr, Bool, true, false, cond, List, [], ◌∷◌, map, Option, Some, None, Contains, refl, sym, ap, subst, ◌∙◌, ⊎_elim}
-use Rattle.std.specs.Ordering.{nat_cmp, eq_by_cmp, is_eq}
+use Rattle.std.proofs.Common.{◌≡◌, ◌⊎◌, ◌↔◌, inl, inr, List, [], ◌∷◌, map, Some, Contains, refl, sym, ap, subst, ◌∙◌, ⊎_elim}
+use Rattle.std.specs.Ordering.{nat_cmp}
 use Rattle.std.specs.Cmp.Lexicographic.{slice_cmp, nat_list_cmp_total}
-use Rattle.std.specs.FinMap.{get, insert, empty, get-empty, get-insert}
-use Rattle.std.proofs.lemmas.Cmp.{tied_itself}
+use Rattle.std.specs.FinMap.{get, insert, empty}
 use Rattle.std.proofs.lemmas.Map.Lookups.{exact_bytes}
+use Rattle.bep_facts.specs.Maps.{nothing_in_empty, get-insert_here, get-insert_apart, found_after_insert}
+use Rattle.bep_facts.specs.Members.{not_in_none, Contains-first, Contains-more, Contains-cons_cases, Contains-image, holds_of_member}
 use Rattle.bep_map.specs.NameMap.{ByName}
 use Rattle.bep_record.specs.declared.entry.Entry.{Entry}
 use Rattle.bep_record.specs.declared.node.NodeParts.{NodeParts}
@@ -12,8 +13,6 @@ use Rattle.bep_index.specs.After.{IsAmong}
 use Rattle.bep_index.specs.Law.{RecordsMakeAnIndex, RecordsAreFound}
 use Rattle.bep_json.specs.declared.nodes.NamedParts.{NamedParts}
 use Rattle.bep_model.specs.Tables.{FileName}
-use Rattle.bep_model.proofs.Keys.{Equal_from_is_eq}
-use Rattle.bep_model.proofs.Members.{not_in_none, Contains-first, Contains-more, Contains-cons_cases}
 use Rattle.bep_document.specs.declared.parts.ShareParts.{ShareParts}
 use Rattle.bep_document.specs.declared.parts.FolderParts.{FolderParts}
 use Rattle.bep_document.specs.declared.parts.CheckParts.{CheckParts}
@@ -23,7 +22,6 @@ use Rattle.bep_cut.specs.declared.share.SharedFolder.{SharedFolder}
 use Rattle.bep_cut.specs.AsWritten.{IsWrittenIn, SharingIsAsWritten, OwnIsAsWritten, NodeIsAsWritten}
 use Rattle.bep_cut.specs.Cut.{shares_of}
 use Rattle.bep_cut.specs.Written.{with_nodes, share_written, folder_written, cut_written}
-use Rattle.bep_cut.proofs.Found.{Contains-image, each_from_recursion}
 use Rattle.bep_cut.proofs.SortingFacts.{in_in_order}
 use Rattle.bep_cut.proofs.Tables.{folder_is_found, share_has_folder, sharing_is_said, own_is_said, node_is_said}
 use Rattle.bep_cut.proofs.WrittenFacts.{from_part, cut_is_written}
@@ -61,7 +59,7 @@ sharing_is_as_written law parts name device kind faultless = (
 -- ---- its records and nodes
 faultless_share : (parts : CheckParts) (folder : FolderParts) (share : ShareParts) → IsFaultless parts → IsWrittenIn parts folder share → IsFaultlessShare share
 faultless_share parts folder share faultless h =
-    each_from_recursion IsFaultlessShare folder.devices share (each_from_recursion IsFaultlessFolder parts.folders folder faultless.each_folder h.0).shares h.1
+    holds_of_member IsFaultlessShare folder.devices share (holds_of_member IsFaultlessFolder parts.folders folder faultless.each_folder h.0).shares h.1
 
 among_is_contained : (entries : List Entry) (entry : Entry) → IsAmong entry entries ↔ Contains entries entry
 among_is_contained [] entry = (λ h. absurd h, λ h. absurd (not_in_none entry h))
@@ -83,57 +81,34 @@ own_is_as_written law found parts folder share name entry faultless h =
 abbrev named : FileName → NodeParts → NamedParts
 named name node = record { name = name; parts = node }
 
--- what is found after a name was given a node
-after_insert : (m : ByName NodeParts) (name : FileName) (node : NodeParts) (q : FileName) (found : NodeParts) → get (insert m name node) q ≡ Some found → ((name ≡ q) × (node ≡ found)) ⊎ (get m q ≡ Some found)
-after_insert m name node q found is = cases (eq_by_cmp (slice_cmp nat_cmp) q name) refl (sym (get-insert nat_list_cmp_total m name node q) ∙ is) where
-  cases : (b : Bool) → eq_by_cmp (slice_cmp nat_cmp) q name ≡ b → cond b (Some node) (get m q) ≡ Some found → ((name ≡ q) × (node ≡ found)) ⊎ (get m q ≡ Some found)
-  cases true e f = inl (sym (exact_bytes q name (Equal_from_is_eq _ e)), cc)
-  cases false e f = inr f
-
-insert_here : (m : ByName NodeParts) (name : FileName) (node : NodeParts) → get (insert m name node) name ≡ Some node
-insert_here m name node =
-    get-insert nat_list_cmp_total m name node name
-    ∙ ap (λ b. cond b (Some node) (get m name)) (ap is_eq (tied_itself nat_list_cmp_total name))
-
-insert_apart : (m : ByName NodeParts) (name : FileName) (node : NodeParts) (q : FileName) → name ≢ q → get (insert m name node) q ≡ get m q
-insert_apart m name node q apart = get-insert nat_list_cmp_total m name node q ∙ there (eq_by_cmp (slice_cmp nat_cmp) q name) refl where
-  there : (b : Bool) → eq_by_cmp (slice_cmp nat_cmp) q name ≡ b → cond b (Some node) (get m q) ≡ get m q
-  there true e = absurd (apart (sym (exact_bytes q name (Equal_from_is_eq _ e))))
-  there false e = refl
-
 found_node : (m : ByName NodeParts) (nodes : List NamedParts) (q : FileName) (found : NodeParts) → get (with_nodes m nodes) q ≡ Some found → Contains nodes (named q found) ⊎ (get m q ≡ Some found)
 found_node m [] q found is = inr is
 found_node m (first ∷ more) q found is =
     ⊎_elim
     (λ later. inl (Contains-more first more (named q found) later))
     (λ before. ⊎_elim
-    (λ here. inl (subst (Contains (first ∷ more)) (λ i. named (here.0 i) (here.1 i)) (Contains-first first more)))
-    (λ old. inr old)
-    (after_insert m first.name first.parts q found before))
+    (λ here. inl (subst (Contains (first ∷ more)) (sym (λ i. named (here.0 i) (here.1 i))) (Contains-first first more)))
+    (λ old. inr old.1)
+    (found_after_insert nat_list_cmp_total exact_bytes m first.name first.parts q found before))
     (found_node (insert m first.name first.parts) more q found is)
 
 kept_node : (m : ByName NodeParts) (nodes : List NamedParts) (q : FileName) → HasNoKey (λ (n : NamedParts). n.name) q nodes → get (with_nodes m nodes) q ≡ get m q
 kept_node m [] q none = refl
 kept_node m (first ∷ more) q none =
-    kept_node (insert m first.name first.parts) more q none.1 ∙ insert_apart m first.name first.parts q none.0
+    kept_node (insert m first.name first.parts) more q none.1 ∙ get-insert_apart nat_list_cmp_total exact_bytes m first.name first.parts q (λ same. none.0 (sym same))
 
 listed_node : (m : ByName NodeParts) (nodes : List NamedParts) (node : NamedParts) → KeysDiffer (λ (n : NamedParts). n.name) nodes → Contains nodes node → get (with_nodes m nodes) node.name ≡ Some node.parts
 listed_node m [] node differ h = absurd (not_in_none node h)
 listed_node m (first ∷ more) node differ h =
     ⊎_elim
     (λ same. subst (λ (n : NamedParts). get (with_nodes (insert m first.name first.parts) more) n.name ≡ Some n.parts) same
-    (kept_node (insert m first.name first.parts) more first.name differ.0 ∙ insert_here m first.name first.parts))
+    (kept_node (insert m first.name first.parts) more first.name differ.0 ∙ get-insert_here nat_list_cmp_total exact_bytes m first.name first.parts))
     (λ later. listed_node (insert m first.name first.parts) more node differ.1 later)
     (Contains-cons_cases first more node h)
-
-nothing_found : {A : Type 0} (q : FileName) (found : NodeParts) → get (empty {X = NodeParts} {R = slice_cmp nat_cmp}) q ≡ Some found → A
-nothing_found q found is = absurd (different (sym (get-empty (slice_cmp nat_cmp) q) ∙ is)) where
-  different : ◌≡◌ {A = Option NodeParts} None (Some found) → ⊥
-  different e = cc
 
 pub node_is_as_written : RecordsMakeAnIndex → NodeIsAsWritten
 node_is_as_written law parts folder share name node faultless h =
     let held = node_is_said (cut_written parts.folders) folder.folder name (share_written share) (cut_is_written law parts faultless) (share_there law parts folder share faultless h) in (
-      λ is. ⊎_elim (λ listed. listed) (λ none. nothing_found name node none) (found_node empty share.store name node (sym held ∙ is)),
+      λ is. ⊎_elim (λ listed. listed) (λ none. nothing_in_empty (slice_cmp nat_cmp) name node none) (found_node empty share.store name node (sym held ∙ is)),
       λ listed. held ∙ listed_node empty share.store (named name node) (faultless_share parts folder share faultless h).store_names listed,
     )

@@ -1,24 +1,22 @@
 -- The names that are known in a folder are those of its own records and stores.
-use Rattle.std.proofs.Common.{◌≡◌, ◌⊎◌, ◌↔◌, Bool, true, false, cond, List, [], ◌∷◌, ◌++◌, Some, IsSome, IsTrue, is_some, Contains, refl, sym, ap, subst, ◌∙◌, inl, inr, ⊎_elim}
-use Rattle.std.specs.Prelude.{map}
+use Rattle.std.proofs.Common.{◌≡◌, ◌⊎◌, ◌↔◌, Bool, true, false, cond, List, [], ◌∷◌, Some, IsSome, IsTrue, is_some, Contains, refl, sym, ap, subst, ◌∙◌, inl, inr, ⊎_elim}
 use Rattle.std.specs.Ordering.{nat_cmp, eq_by_cmp, is_eq}
 use Rattle.std.specs.Cmp.Lexicographic.{slice_cmp, nat_list_cmp_total}
-use Rattle.std.specs.FinMap.{get, contains_key, insert, empty, keys, get-empty, get-insert, contains_key-keys}
+use Rattle.std.specs.FinMap.{get, contains_key, insert, empty, keys, get-empty, get-insert}
 use Rattle.std.proofs.lemmas.Cmp.{tied_itself}
 use Rattle.std.proofs.lemmas.Map.Lookups.{exact_bytes}
-use Rattle.std.proofs.lemmas.List.Elements.{Contains-append_left, Contains-append_right}
+use Rattle.std.specs.Cmp.{Equal-is}
+use Rattle.bep_facts.specs.Maps as maps
+use Rattle.bep_facts.specs.Members.{not_in_none, Contains-first, Contains-more, Contains-cons_cases, Contains-image, Contains-flat_map}
 use Rattle.bep_map.specs.NameMap.{ByName}
 use Rattle.bep_model.specs.Tables.{Device, Folder, FileName}
 use Rattle.bep_model.specs.Foreign.{HasTrace}
-use Rattle.bep_model.proofs.Keys.{Equal_from_is_eq}
-use Rattle.bep_model.proofs.Members.{not_in_none, Contains-first, Contains-more, Contains-cons_cases}
 use Rattle.bep_cut.specs.declared.share.Share.{Share}
 use Rattle.bep_cut.specs.declared.share.SharedFolder.{SharedFolder}
 use Rattle.bep_cut.specs.declared.cut.CutParts.{CutParts}
 use Rattle.bep_cut.specs.Cut.{shares_of, tables_of}
 use Rattle.bep_cut.specs.Laws.{NamesAreKnown, CutIsFinite}
-use Rattle.bep_cut.specs.Names.{Names, with_names, with_shares, known_names}
-use Rattle.bep_cut.proofs.Found.{Contains-image, any_tied, one_tied}
+use Rattle.bep_cut.specs.Names.{Names, with_names, with_shares, known_names, names_of, all_names}
 use Rattle.bep_cut.proofs.Tables.{folder_is_found, share_has_folder, sharing_is_said, own_is_said, node_is_said, nothing_is_foreign}
 
 -- the name is in the set
@@ -34,7 +32,7 @@ inserted names new name =
     )
   where
     there : (b : Bool) → eq_by_cmp (slice_cmp nat_cmp) name new ≡ b → is_some (cond b (Some tt) (get names name)) ≡ true → Has names name ⊎ (new ≡ name)
-    there true same e = inr (sym (exact_bytes name new (Equal_from_is_eq _ same)))
+    there true same e = inr (sym (exact_bytes name new ((Equal-is _).0 same)))
     there false apart e = inl e
 
     here : (b : Bool) → eq_by_cmp (slice_cmp nat_cmp) name new ≡ b → Has names name ⊎ (new ≡ name) → is_some (cond b (Some tt) (get names name)) ≡ true
@@ -59,11 +57,8 @@ named names (new ∷ more) name =
     )
 
 -- a key of a map has a value
-pub key_has_value : {V : Type 0} (m : ByName V) (name : FileName) → Contains (keys m) name ↔ IsSome (get m name)
-key_has_value m name = (
-  λ h. contains_key-keys m name ∙ any_tied nat_list_cmp_total name (keys m) h,
-  λ h. one_tied exact_bytes name (keys m) (sym (contains_key-keys m name) ∙ h),
-)
+key_has_value : {V : Type 0} (m : ByName V) (name : FileName) → Contains (keys m) name ↔ IsSome (get m name)
+key_has_value = maps.key_has_value nat_list_cmp_total exact_bytes
 
 -- a device recorded or holds something at the name
 abbrev HasName : List Share → FileName → Type 0
@@ -135,26 +130,10 @@ names_are_known cut folder name is_cut = (
       ),
 )
 
--- the known names of a folder, and of all folders
-abbrev named_in : SharedFolder → List (Folder × FileName)
-named_in held = map (λ name. (held.folder, name)) (keys (known_names held.shares))
-
-abbrev all_names : List SharedFolder → List (Folder × FileName)
-all_names [] = []
-all_names (held ∷ more) = named_in held ++ all_names more
-
 among_all : (folders : List SharedFolder) (held : SharedFolder) (name : FileName) → Contains folders held → Has (known_names held.shares) name → Contains (all_names folders) (held.folder, name)
-among_all [] held name h has = absurd (not_in_none held h)
-among_all (first ∷ more) held name h has =
-    ⊎_elim
-    (λ same. subst (λ (one : SharedFolder). Contains {X = Folder × FileName} (all_names (first ∷ more)) (one.folder, name)) same (here (subst (λ (one : SharedFolder). Has (known_names one.shares) name) (sym same) has)))
-    (λ later. Contains-append_right (named_in first) (all_names more) (held.folder, name) (among_all more held name later has))
-    (Contains-cons_cases first more held h)
-  where
-    here : Has (known_names first.shares) name → Contains {X = Folder × FileName} (all_names (first ∷ more)) (first.folder, name)
-    here has =
-        Contains-append_left (named_in first) (all_names more) (first.folder, name)
-        (Contains-image (λ n. (first.folder, n)) (keys (known_names first.shares)) name ((key_has_value (known_names first.shares) name).1 has))
+among_all folders held name h has =
+    Contains-flat_map names_of folders held (held.folder, name) h
+    (Contains-image (λ n. (held.folder, n)) (keys (known_names held.shares)) name ((key_has_value (known_names held.shares) name).1 has))
 
 nothing_viewed : (cut : CutParts) (device other : Device) (folder : Folder) (name : FileName) → ¬ IsSome ((tables_of cut).viewed device other folder name)
 unfolding tables_of

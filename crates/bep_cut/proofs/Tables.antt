@@ -8,15 +8,16 @@ use Rattle.std.specs.FinMap.{get}
 use Rattle.std.proofs.lemmas.Map.Lookups.{exact_bytes}
 use Rattle.std.proofs.lemmas.Map.Keys.{sorted_from_strictly_increasing}
 use Rattle.std.proofs.lemmas.List.Elements.{All-contains}
-use Rattle.bep_model.proofs.Keys.{Equal_from_is_eq}
-use Rattle.bep_model.proofs.Members.{not_in_none}
+use Rattle.std.specs.Cmp.{Equal-is}
+use Rattle.std.proofs.lemmas.Option.{none-some}
+use Rattle.bep_facts.specs.Members.{not_in_none, Contains-image, Contains-from_image}
 use Rattle.bep_model.specs.Tables.{Folder}
 use Rattle.bep_cut.specs.declared.share.Share.{Share}
 use Rattle.bep_cut.specs.declared.share.SharedFolder.{SharedFolder}
 use Rattle.bep_cut.specs.declared.cut.CutParts.{CutParts}
 use Rattle.bep_cut.specs.Cut.{AreShares, IsCut, devices_of, is_folder, shares_of, share_of, tables_of}
 use Rattle.bep_cut.specs.Laws.{FolderIsFound, ShareHasFolder, SharingIsSaid, OwnIsSaid, NodeIsSaid, NothingIsForeign}
-use Rattle.bep_cut.proofs.Found.{found_itself, find_gives, Contains-image, Contains-from_image}
+use Rattle.bep_cut.proofs.Found.{found_itself, find_gives}
 
 pub folder_is_found : FolderIsFound
 folder_is_found cut held is_cut h =
@@ -29,7 +30,7 @@ share_has_folder cut folder share h = cases (find (is_folder folder) cut.folders
   cases None e there = absurd (not_in_none share there)
   cases (Some held) e there =
       let gives = find_gives (is_folder folder) cut.folders held e in
-      (held, gives.0, exact_bytes held.folder folder (Equal_from_is_eq _ gives.1))
+      (held, gives.0, exact_bytes held.folder folder ((Equal-is _).0 gives.1))
 
 -- the shares of a folder are those of a cut
 are_shares : (cut : CutParts) (folder : Folder) (share : Share) → IsCut cut → Contains (shares_of folder cut.folders) share → AreShares (shares_of folder cut.folders)
@@ -61,13 +62,10 @@ unfolding tables_of
 node_is_said cut folder name share is_cut h =
     ap (option_and_then (λ (one : Share). get one.store name)) (share_is_found cut folder share is_cut h)
 
-none_is_not_some : {A : Type 0} {a : A} → ◌≡◌ {A = Option A} None (Some a) → ⊥
-none_is_not_some e = cc
-
 pub nothing_is_foreign : NothingIsForeign
 unfolding tables_of
 nothing_is_foreign cut device folder name entry foreign =
     ⊎_elim
-    (λ viewed. none_is_not_some viewed.1)
-    (⊎_elim (λ flying. not_in_none flying.flight flying.sent) (λ target. none_is_not_some target))
+    (λ viewed. none-some _ viewed.1)
+    (⊎_elim (λ flying. not_in_none flying.flight flying.sent) (λ target. none-some _ target))
     foreign.known_by

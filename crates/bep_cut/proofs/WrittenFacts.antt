@@ -14,12 +14,12 @@ use Rattle.std.proofs.lemmas.List.Elements.{All-contains}
 use Rattle.std.proofs.lemmas.Map.Keys.{IsStrictlyIncreasing-from_sorted, sorted_from_strictly_increasing, IsDistinct-from_sorted}
 use Rattle.std.proofs.lemmas.Map.Lookups.{exact_bytes}
 use Rattle.std.proofs.lemmas.Map.Made.{length-le_from_is_member}
+use Rattle.bep_facts.specs.Members.{not_in_none, Contains-first, Contains-more, Contains-from_image, holds_of_member}
 use Rattle.bep_record.specs.declared.entry.Entry.{Entry}
 use Rattle.bep_index.specs.After.{IsAmong}
 use Rattle.bep_index.specs.Index.{IsIndex}
 use Rattle.bep_index.specs.Law.{HaveIndexNumbers, RecordsMakeAnIndex}
 use Rattle.bep_model.specs.Tables.{Device}
-use Rattle.bep_model.proofs.Members.{not_in_none, Contains-first, Contains-more}
 use Rattle.bep_document.specs.declared.parts.ShareParts.{ShareParts}
 use Rattle.bep_document.specs.declared.parts.FolderParts.{FolderParts}
 use Rattle.bep_document.specs.declared.parts.CheckParts.{CheckParts}
@@ -30,7 +30,7 @@ use Rattle.bep_cut.specs.declared.share.SharedFolder.{SharedFolder}
 use Rattle.bep_cut.specs.Cut.{AreShares, HasDevice, IsCut, devices_of, index_of}
 use Rattle.bep_cut.specs.Sorting.{in_order}
 use Rattle.bep_cut.specs.Written.{share_written, folder_written, cut_written}
-use Rattle.bep_cut.proofs.Found.{Contains-from_image, all_from_each, each_from_recursion, any_tied, one_tied}
+use Rattle.bep_cut.proofs.Found.{all_from_each, any_tied, one_tied}
 use Rattle.bep_cut.proofs.SortingFacts.{Contains-in_order, length-in_order, rises-in_order}
 
 -- ---- the records of a device
@@ -98,7 +98,7 @@ shares_in_order law parts faultless = record {
       (λ z h. in_nothing (λ k. k ≢ z.device) (λ (share : Share). share.device)));
   indexes = all_from_each (λ share. IsIndex (index_of share)) (folder_written parts).shares (λ share h.
       let part = from_part nat_cmp (λ (s : Share). s.device) share_written parts.devices share h in
-      subst (λ s. IsIndex (index_of s)) part.2 (index_written law part.0 (each_from_recursion IsFaultlessShare parts.devices part.0 faultless.shares part.1)));
+      subst (λ s. IsIndex (index_of s)) part.2 (index_written law part.0 (holds_of_member IsFaultlessShare parts.devices part.0 faultless.shares part.1)));
 }
 
 -- a number that is one of these
@@ -115,8 +115,8 @@ device_known folders devices device known has =
     let here : Contains (devices_of (folder_written folder.0).shares) device = subst (λ (held : SharedFolder). Contains (devices_of held.shares) device) (sym folder.2) has.2 in
     let share = Contains-from_image (λ (s : Share). s.device) (folder_written folder.0).shares device here in
     let part = from_part nat_cmp (λ (s : Share). s.device) share_written folder.0.devices share.0 share.1 in
-    let all = each_from_recursion (λ (f : FolderParts). AllByRecursion (λ (s : ShareParts). is_one_of devices s.device ≡ true) f.devices) folders folder.0 known folder.1 in
-    let one = each_from_recursion (λ (s : ShareParts). is_one_of devices s.device ≡ true) folder.0.devices part.0 all part.1 in
+    let all = holds_of_member (λ (f : FolderParts). AllByRecursion (λ (s : ShareParts). is_one_of devices s.device ≡ true) f.devices) folders folder.0 known folder.1 in
+    let one = holds_of_member (λ (s : ShareParts). is_one_of devices s.device ≡ true) folder.0.devices part.0 all part.1 in
     subst (Contains devices) (ap (λ (s : Share). s.device) part.2 ∙ share.2) (one_of devices part.0.device one)
 
 few : (folders : List FolderParts) (devices : List ℕ) → AreOf devices folders → (some : List Device) → IsStrictlyIncreasing some → All (HasDevice (cut_written folders).folders) some → length some ≤ length devices
@@ -133,7 +133,7 @@ cut_is_written law parts faultless = record {
       (λ z h. in_nothing (λ k. k ≢ z.folder) (λ (held : SharedFolder). held.folder));
   shares = all_from_each (λ (held : SharedFolder). AreShares held.shares) (cut_written parts.folders).folders (λ held h.
       let part = from_part (slice_cmp nat_cmp) (λ (one : SharedFolder). one.folder) folder_written parts.folders held h in
-      subst (λ (one : SharedFolder). AreShares one.shares) part.2 (shares_in_order law part.0 (each_from_recursion IsFaultlessFolder parts.folders part.0 faultless.each_folder part.1)));
+      subst (λ (one : SharedFolder). AreShares one.shares) part.2 (shares_in_order law part.0 (holds_of_member IsFaultlessFolder parts.folders part.0 faultless.each_folder part.1)));
   few_folders =
       let l = length-in_order (slice_cmp nat_cmp) (λ (held : SharedFolder). held.folder) [] (map folder_written parts.folders) in
       let m = length-map parts.folders folder_written in

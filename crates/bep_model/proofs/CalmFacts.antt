@@ -2,6 +2,10 @@
 use Rattle.std.proofs.Common.{◌≡◌, ◌⊎◌, true, false, List, [], ◌∷◌, Contains, Option, Some, None, refl, sym, ap, subst, ◌∙◌, inl, inr, ⊎_elim}
 use Rattle.std.proofs.lemmas.Bool.{cases_Bool, cond-true, cond-false}
 use Rattle.std.specs.Ordering.{is_eq}
+use Rattle.std.specs.Cmp.{Equal-is}
+use Rattle.bep_facts.specs.Members.{not_in_none, Contains-first, Contains-more, Contains-cons_cases}
+use Rattle.bep_facts.specs.Options.{none_from_not_some}
+use Rattle.bep_facts.specs.Orders.{texts_exact, Equal_from_same, texts_total}
 use Rattle.bep_record.specs.declared.entry.Entry.{Entry}
 use Rattle.bep_record.specs.declared.node.NodeParts.{NodeParts}
 use Rattle.bep_record.specs.Content.{Content, Deleted, content_of}
@@ -10,8 +14,6 @@ use Rattle.bep_model.specs.Tables.{Tables, Device, Folder, FileName, Shares}
 use Rattle.bep_model.specs.Foreign.{IsKnown}
 use Rattle.bep_model.specs.Settled.{IsSettled, HasRow, OwnAgrees, StoreAgrees, ForeignAgrees, key_of, key_cmp}
 use Rattle.bep_model.specs.Calm.{Contents, IsCalm, IsCalmAt, content_due, contents_of}
-use Rattle.bep_model.proofs.Members.{not_in_none, Contains-first, Contains-more, Contains-cons_cases, none_from_not_some}
-use Rattle.bep_model.proofs.Keys.{same_from_Equal, Equal_from_same, Equal_from_is_eq}
 
 -- a row of the name, and its content is the name's
 pub record HasContent (rows : List Row) (folder : Folder) (name : FileName) : Type 0 where
@@ -29,7 +31,7 @@ content_here : (row : Row) (more : List Row) (folder : Folder) (name : FileName)
 content_here row more folder name here = record {
   row = row;
   member = Contains-first row more;
-  key = same_from_Equal (key_of row) (folder, name) (Equal_from_is_eq _ here);
+  key = texts_exact (key_of row) (folder, name) ((Equal-is _).0 here);
   content = cond-true _ _ _ here;
 }
 
@@ -47,7 +49,7 @@ no_content row more folder name past none = record {
       ⊎_elim
       (λ same.
       let here : key_of row ≡ (folder, name) = ap key_of same ∙ has.2 in
-      let equal = ap is_eq (Equal_from_same (key_of row) (folder, name) here) in
+      let equal = ap is_eq (Equal_from_same texts_total (key_of row) (folder, name) here) in
       cc)
       (λ more_has. none.no_row (has.0, more_has, has.2))
       (Contains-cons_cases row more has.0 has.1);

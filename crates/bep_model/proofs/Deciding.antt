@@ -4,7 +4,7 @@ use Rattle.std.proofs.lemmas.Bool.{cases_eq}
 use Rattle.std.proofs.lemmas.List.Elements.{Contains-append_left, Contains-append_right, Contains-append_cases}
 use Rattle.std.specs.Coded.{Coded}
 use base.Stored.{Gv, gnil, gnum, gcons, num}
-use Rattle.bep_model.proofs.Members.{not_in_none, Contains-first, Contains-more, Contains-cons_cases}
+use Rattle.bep_facts.specs.Members.{not_in_none, Contains-first, Contains-more, Contains-one, Contains-cons_cases, each_or_one}
 
 -- the fact holds, or it doesn't
 abbrev pub OrNot : Type 0 → Type 0
@@ -57,19 +57,6 @@ false_or_not false = inl refl
 
 -- ---- lists
 
--- the fact holds of each member, or it fails at one
-pub each_or_one : {X : Type 0} (P : X → Type 0) → ((x : X) → OrNot (P x)) → (xs : List X) → ((x : X) → Contains xs x → P x) ⊎ ((x : X) × (Contains xs x × ¬ P x))
-each_or_one P decide [] = inl (λ x member. absurd (not_in_none x member))
-each_or_one P decide (x ∷ xs) =
-    ⊎_elim
-    (λ here.
-    ⊎_elim
-    (λ rest. inl (λ z member. ⊎_elim (λ same. subst P same here) (λ more. rest z more) (Contains-cons_cases x xs z member)))
-    (λ one. inr (one.0, (Contains-more x xs one.0 one.1.0, one.1.1)))
-    (each_or_one P decide xs))
-    (λ fails. inr (x, (Contains-first x xs, fails)))
-    (decide x)
-
 -- the members of a set are those of a list
 pub record Finite {X : Type 0} (P : X → Type 0) : Type 0 where
   pub members : List X
@@ -107,7 +94,7 @@ pub finite_one : {X : Type 0} (y : X) → Finite (λ x. y ≡ x)
 finite_one y = record {
   members = y ∷ [];
   there = λ x e. subst (λ z. Contains (y ∷ []) z) e (Contains-first y []);
-  only = λ x h. ⊎_elim (λ e. e) (λ none. absurd (not_in_none x none)) (Contains-cons_cases y [] x h);
+  only = Contains-one y;
 }
 
 pub finite_option : {X : Type 0} (o : Option X) → Finite (λ x. o ≡ Some x)

@@ -1,9 +1,9 @@
 -- A cut is settled exactly where no reason fails.
-use Rattle.std.proofs.Common.{◌≡◌, ◌≢◌, true, false, List, [], ◌∷◌, Contains, Option, Some, None, refl, sym, ap, subst, ◌∙◌, inl, inr, ⊎_elim}
+use Rattle.std.proofs.Common.{◌≡◌, false, List, [], ◌∷◌, Contains, Option, Some, None, refl, sym, ap, subst, ◌∙◌, inl, inr, ⊎_elim}
 use Rattle.std.proofs.lemmas.Bool.{cases_Bool, cond-true, cond-false}
 use Rattle.std.specs.Ordering.{is_lt}
-use Rattle.std.specs.declared.cmp.Ordering.{Ordering}
-use Rattle.std.specs.declared.cmp.Ordering.TheVariants.{Less, Equal, Greater}
+use Rattle.bep_facts.specs.Options.{none_from_no_value}
+use Rattle.bep_facts.specs.Orders.{Less_from_is_lt}
 use Rattle.bep_record.specs.declared.entry.Entry.{Entry}
 use Rattle.bep_record.specs.Content.{Content, Deleted, content_of}
 use Rattle.bep_model.specs.declared.row.Row.{Row}
@@ -17,17 +17,12 @@ use Rattle.bep_model.specs.Laws.{SettledIsFaultless}
 
 -- ---- the order of rows
 
-Less_from_is_lt : (o : Ordering) → is_lt o ≡ true → o ≡ Less
-Less_from_is_lt Less e = refl
-Less_from_is_lt Equal e = absurd (cc)
-Less_from_is_lt Greater e = absurd (cc)
-
-none_disordered : (rows : List Row) → Rise rows → first_disordered rows ≡ None
+pub none_disordered : (rows : List Row) → Rise rows → first_disordered rows ≡ None
 none_disordered [] rise = refl
 none_disordered (row ∷ []) rise = refl
 none_disordered (row ∷ next ∷ more) rise = cond-true _ _ _ (ap is_lt rise.0) ∙ none_disordered (next ∷ more) rise.1
 
-rise_from_none_disordered : (rows : List Row) → first_disordered rows ≡ None → Rise rows
+pub rise_from_none_disordered : (rows : List Row) → first_disordered rows ≡ None → Rise rows
 rise_from_none_disordered [] none = tt
 rise_from_none_disordered (row ∷ []) none = tt
 rise_from_none_disordered (row ∷ next ∷ more) none =
@@ -35,10 +30,6 @@ rise_from_none_disordered (row ∷ next ∷ more) none =
     (λ less. (Less_from_is_lt _ less, rise_from_none_disordered (next ∷ more) (sym (cond-true _ _ _ less) ∙ none)))
     (λ not_less. let e = sym (cond-false _ _ _ not_less) ∙ none in absurd (cc))
     (cases_Bool (is_lt (key_cmp (key_of row) (key_of next))))
-
-none_from_no_key : (o : Option (Folder × FileName)) → ((folder : Folder) (name : FileName) → o ≢ Some (folder, name)) → o ≡ None
-none_from_no_key None no_key = refl
-none_from_no_key (Some key) no_key = absurd (no_key key.0 key.1 refl)
 
 -- ---- what a settled cut gives
 
@@ -109,7 +100,7 @@ own_agrees (Some own) content missing differs valid = (valid own refl, differs o
 settled_from_faultless : (t : Tables) (rows : List Row) → Faultless t rows → IsSettled t rows
 settled_from_faultless t rows faultless = record {
   certificate = record {
-    rise = rise_from_none_disordered rows (none_from_no_key _ (λ folder name. asks_name t rows faultless CertificateOrder folder name));
+    rise = rise_from_none_disordered rows (none_from_no_value _ (λ key. asks_name t rows faultless CertificateOrder key.0 key.1));
     names = λ folder name. (asks_name t rows faultless NameMissing folder name, asks_name t rows faultless NameUnknown folder name);
     winners = λ row member. asks_name t rows faultless NotWinner row.folder row.entry.name row member refl;
   };

@@ -5,9 +5,9 @@ use Rattle.std.specs.declared.cmp.Ordering.TheVariants.{Less, Equal, Greater}
 use Rattle.std.specs.Ordering.{ordering_reverse}
 use Rattle.std.specs.Cmp.{IsTotalOrder}
 use Rattle.std.proofs.lemmas.Cmp.{alike_right}
-use Rattle.bep_model.proofs.Keys.{order_cases}
-use Rattle.bep_model.proofs.Members.{not_in_none, Contains-cons_cases}
-use Rattle.bep_model.proofs.Deciding.{OrNot, each_or_one}
+use Rattle.bep_facts.specs.Members.{not_in_none, Contains-cons_cases, each_or_one}
+use Rattle.bep_facts.specs.Orders.{order_cases, not_less_itself}
+use Rattle.bep_model.proofs.Deciding.{OrNot}
 
 module _ {X : Type 0} (R : X → X → Ordering) (total : IsTotalOrder R) (A : X → Type 0) (decide : (x : X) → OrNot (A x)) where
   -- it fails here, and at no earlier member of the list; and `from` isn't earlier
@@ -62,10 +62,7 @@ module _ {X : Type 0} (R : X → X → Ordering) (total : IsTotalOrder R) (A : X
   lowest_from : (xs : List X) (from : X) → ¬ A from → Lowest xs from
   unfolding Lowest
   lowest_from [] from fails =
-      (from, record { fails = fails; not_later = not_less; least = λ x member. absurd (not_in_none x member) })
-    where
-      not_less : ¬ (R from from ≡ Less)
-      not_less less = let back = total.antisymm from from in let e : Less ≡ Greater = sym less ∙ back ∙ ap ordering_reverse less in cc
+      (from, record { fails = fails; not_later = not_less_itself total from; least = λ x member. absurd (not_in_none x member) })
   lowest_from (x ∷ xs) from fails =
       ⊎_elim
       (λ holds. keeps x xs from (λ fails_here. absurd (fails_here holds)) (lowest_from xs from fails))

@@ -1,5 +1,3 @@
-pub mod Members
-pub mod Keys
 pub mod CalmFacts
 pub mod Faultless
 pub mod Verdicts

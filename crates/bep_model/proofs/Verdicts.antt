@@ -7,6 +7,7 @@ use Rattle.std.specs.Cmp.{IsTotalOrder}
 use Rattle.std.proofs.lemmas.Bool.{cases_order}
 use Rattle.std.proofs.lemmas.Cmp.{then_total, on_total, nat_cmp_total, nat_list_cmp_total}
 use Rattle.std.proofs.lemmas.Map.Lookups.{exact_bytes, exact_unsigned}
+use Rattle.bep_facts.specs.Orders.{order_cases, both_tied}
 use Rattle.bep_model.specs.declared.row.Row.{Row}
 use Rattle.bep_model.specs.declared.reason.Reason.{Reason}
 use Rattle.bep_model.specs.declared.reason.Reason.TheVariants.{CertificateOrder, NameMissing, NameUnknown, NotWinner, RecordMissing, RecordDiffers, LocalOnly, StoreDiffers, StoreUnclean, ViewAhead, FlightAhead, PullAhead}
@@ -14,8 +15,7 @@ use Rattle.bep_model.specs.Tables.{Tables, Device}
 use Rattle.bep_model.specs.Settled.{IsSettled}
 use Rattle.bep_model.specs.Reasons.{Place, place_cmp, device_rank}
 use Rattle.bep_model.specs.Verdict.{Settled, Not, number_of, IsFirstFault}
-use Rattle.bep_model.specs.Laws.{VerdictIsUnique}
-use Rattle.bep_model.proofs.Keys.{order_cases, both_tied}
+use Rattle.bep_model.specs.Laws.{NumbersAreWithin, NumbersDiffer, VerdictIsUnique}
 use Rattle.bep_model.proofs.Faultless.{settled_is_faultless_lem}
 
 -- ---- reasons
@@ -49,8 +49,22 @@ reason_at_number ViewAhead = refl
 reason_at_number FlightAhead = refl
 reason_at_number PullAhead = refl
 
-pub same_from_number : (one other : Reason) → number_of one ≡ number_of other → one ≡ other
+pub same_from_number : NumbersDiffer
 same_from_number one other e = sym (reason_at_number one) ∙ ap reason_at e ∙ reason_at_number other
+
+pub number_within : NumbersAreWithin
+number_within CertificateOrder = (omega arith, omega arith)
+number_within NameMissing = (omega arith, omega arith)
+number_within NameUnknown = (omega arith, omega arith)
+number_within NotWinner = (omega arith, omega arith)
+number_within RecordMissing = (omega arith, omega arith)
+number_within RecordDiffers = (omega arith, omega arith)
+number_within LocalOnly = (omega arith, omega arith)
+number_within StoreDiffers = (omega arith, omega arith)
+number_within StoreUnclean = (omega arith, omega arith)
+number_within ViewAhead = (omega arith, omega arith)
+number_within FlightAhead = (omega arith, omega arith)
+number_within PullAhead = (omega arith, omega arith)
 
 -- ---- places
 

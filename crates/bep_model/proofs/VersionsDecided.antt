@@ -1,8 +1,8 @@
 -- Versions can be compared: the ids of the one list decide.
 use Rattle.std.proofs.Common.{◌≡◌, ◌⊎◌, ◌≤◌, ℕ, List, [], ◌∷◌, Contains, refl, subst, inl, inr, ⊎_elim, arith}
 use Rattle.std.proofs.lemmas.Bool.{cases_eq, cases_lt, cond-false, ne_eqb}
+use Rattle.bep_facts.specs.Members.{Contains-first, Contains-more}
 use Rattle.bep_record.specs.Vector.{counter_of, IsAtMost, IsBelow}
-use Rattle.bep_model.proofs.Members.{Contains-first, Contains-more}
 use Rattle.bep_model.proofs.Deciding.{OrNot, both_or_not, not_or_not, or_not_as, finite_list, each_in}
 
 -- the list has a counter of the id, or its counter is 0

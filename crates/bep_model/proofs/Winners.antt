@@ -2,6 +2,9 @@
 use Rattle.std.proofs.Common.{◌≡◌, ◌⊎◌, ℕ, List, [], ◌∷◌, Contains, Option, Some, None, refl, sym, ap, subst, ◌∙◌, inl, inr, ⊎_elim}
 use Rattle.std.specs.declared.cmp.Ordering.TheVariants.{Less}
 use Rattle.std.proofs.lemmas.List.Elements.{Contains-append_cases}
+use Rattle.bep_facts.specs.Members.{not_in_none, Contains-first, Contains-more, Contains-one, Contains-cons_cases}
+use Rattle.bep_facts.specs.Orders.{texts_total, not_less_itself}
+use Rattle.bep_facts.specs.Rising.{below_later, sorted_from_steps}
 use Rattle.bep_record.specs.declared.entry.Entry.{Entry}
 use Rattle.bep_choice.specs.declared.folder_kind.FolderKind.{FolderKind}
 use Rattle.bep_choice.specs.Choice.{Candidate, IsChoice, HasOneEach}
@@ -9,9 +12,7 @@ use Rattle.bep_model.specs.declared.row.Row.{Row}
 use Rattle.bep_model.specs.Tables.{Tables, Device, Folder, FileName}
 use Rattle.bep_model.specs.Winner.{beside, owned, own_candidates, IsWinner}
 use Rattle.bep_model.specs.Settled.{HasRow, Rise, key_of, key_cmp, IsSettled}
-use Rattle.bep_model.specs.Laws.{ListOfWinnersIsUnique, CertificateIsUnique, WinnersAreSettledIfAny}
-use Rattle.bep_model.proofs.Members.{not_in_none, Contains-first, Contains-more, Contains-cons_cases}
-use Rattle.bep_model.proofs.Keys.{key_total, not_less_itself}
+use Rattle.bep_model.specs.Laws.{WinnerIsUnique, ListOfWinnersIsUnique, CertificateIsUnique, WinnersAreSettledIfAny}
 
 -- the law of bep_choice: where each device has one record at most, there is one choice at most
 abbrev pub OneChoice : Type 0
@@ -22,10 +23,8 @@ OneChoice = (chooser : ℕ) (candidates : List Candidate) (one other : Candidate
 beside_says : (device : Device) (own : Option Entry) (one : Candidate) → Contains (beside device own) one → (device ≡ one.0) × (own ≡ Some one.1)
 beside_says device None one h = absurd (not_in_none one h)
 beside_says device (Some entry) one h =
-    ⊎_elim
-    (λ same. (ap (λ (c : Candidate). c.0) same, ap (λ (c : Candidate). Some c.1) same))
-    (λ none. absurd (not_in_none one none))
-    (Contains-cons_cases (device, entry) [] one h)
+    let same = Contains-one (device, entry) one h in
+    (ap (λ (c : Candidate). c.0) same, ap (λ (c : Candidate). Some c.1) same)
 
 -- a candidate is its device's own record
 pub owned_says : (t : Tables) (folder : Folder) (name : FileName) (shares : List (Device × FolderKind)) (one : Candidate) → Contains (owned t folder name shares) one → t.own one.0 folder name ≡ Some one.1
@@ -49,7 +48,7 @@ one_each t folder name one other h k same =
         let e : one.1 ≡ other.1 = cc in
         λ i. (device i, e i)
 
-pub same_winner : OneChoice → (t : Tables) (folder : Folder) (name : FileName) (one other : Candidate) → IsWinner t folder name one → IsWinner t folder name other → one ≡ other
+pub same_winner : OneChoice → WinnerIsUnique
 same_winner unique t folder name one other = unique _ (own_candidates t folder name) one other (one_each t folder name)
 
 -- ---- one list
@@ -60,12 +59,8 @@ tail_rises row (next ∷ more) rise = rise.1
 
 -- each later row is above the first
 pub first_is_below : (row : Row) (more : List Row) → Rise (row ∷ more) → (later : Row) → Contains more later → key_cmp (key_of row) (key_of later) ≡ Less
-first_is_below row [] rise later h = absurd (not_in_none later h)
-first_is_below row (next ∷ more) rise later h =
-    ⊎_elim
-    (λ same. subst (λ (r : Row). key_cmp (key_of row) (key_of r) ≡ Less) same rise.0)
-    (λ more_h. key_total.trans (key_of row) (key_of next) (key_of later) rise.0 (first_is_below next more rise.1 later more_h))
-    (Contains-cons_cases next more later h)
+first_is_below row more rise =
+    below_later key_cmp key_of row more (sorted_from_steps key_cmp key_of texts_total Rise (λ one next rest step. step) (row ∷ more) rise)
 
 first_or_above : (row : Row) (more : List Row) → Rise (row ∷ more) → (folder : Folder) (name : FileName) → HasRow (row ∷ more) folder name → (key_of row ≡ (folder, name)) ⊎ (key_cmp (key_of row) (folder, name) ≡ Less)
 first_or_above row more rise folder name has =
@@ -89,7 +84,7 @@ same_first row other more others rise other_rise has back =
     (λ less.
     ⊎_elim
     (λ same. same)
-    (λ greater. absurd (not_less_itself (key_of row) (key_total.trans (key_of row) (key_of other) (key_of row) greater less)))
+    (λ greater. absurd (not_less_itself texts_total (key_of row) (texts_total.trans (key_of row) (key_of other) (key_of row) greater less)))
     (first_or_above row more rise other.folder other.entry.name (first_has other row others more back)))
     (first_or_above other others other_rise row.folder row.entry.name (first_has row other more others has))
 
@@ -102,7 +97,7 @@ same_rest row other more others rise same has folder name has_row =
     (λ here.
     let key : key_of row ≡ key_of has_row.0 = same ∙ ap key_of here ∙ found.2 ∙ sym has_row.2 in
     absurd
-    (not_less_itself (key_of has_row.0)
+    (not_less_itself texts_total (key_of has_row.0)
     (subst (λ (k : Folder × FileName). key_cmp k (key_of has_row.0) ≡ Less) key (first_is_below row more rise has_row.0 has_row.1))))
     (λ later. (found.0, later, found.2))
     (Contains-cons_cases other others found.0 found.1)

@@ -2,6 +2,8 @@
 use Rattle.std.proofs.Common.{◌≡◌, ◌⊎◌, List, [], ◌∷◌, Contains, refl, sym, ap, subst, ◌∙◌, inl, inr, ⊎_elim}
 use Rattle.std.specs.Ordering.{ordering_reverse}
 use Rattle.std.specs.declared.cmp.Ordering.TheVariants.{Less, Equal, Greater}
+use Rattle.bep_facts.specs.Members.{not_in_none, Contains-first, Contains-more, Contains-cons_cases}
+use Rattle.bep_facts.specs.Orders.{texts_total, texts_exact, order_cases}
 use Rattle.bep_model.specs.declared.row.Row.{Row}
 use Rattle.bep_model.specs.Tables.{Tables, Folder, FileName}
 use Rattle.bep_model.specs.Foreign.{IsKnown}
@@ -9,8 +11,6 @@ use Rattle.bep_model.specs.Winner.{IsWinner}
 use Rattle.bep_model.specs.Settled.{IsListOfWinners, HasRow, Rise, key_of, key_cmp}
 use Rattle.bep_model.specs.WithoutWinner.{HasWinner, IsFirstWithoutWinner, OwnRecordsAreNamed}
 use Rattle.bep_model.specs.Laws.{WinnersLeaveNoneOut, FirstWithoutIsUnique, WinnersOrFirstWithout}
-use Rattle.bep_model.proofs.Members.{not_in_none, Contains-first, Contains-more, Contains-cons_cases}
-use Rattle.bep_model.proofs.Keys.{key_total, same_from_Equal, order_cases}
 use Rattle.bep_model.proofs.Deciding.{OrNot, implies_or_not}
 use Rattle.bep_model.proofs.FirstFault.{holds_or_first}
 use Rattle.bep_model.proofs.Winners.{owned_says, first_is_below, tail_rises}
@@ -36,8 +36,8 @@ first_without_is_unique t one other first_one first_other =
     (λ less. absurd (not_before t one other first_one first_other less))
     (λ others.
     ⊎_elim
-    (λ tied. same_from_Equal one other tied)
-    (λ greater. absurd (not_before t other one first_other first_one (key_total.antisymm other one ∙ ap ordering_reverse greater)))
+    (λ tied. texts_exact one other tied)
+    (λ greater. absurd (not_before t other one first_other first_one (texts_total.antisymm other one ∙ ap ordering_reverse greater)))
     others)
     (order_cases (key_cmp one other))
 
@@ -65,7 +65,7 @@ put_first row first more rise less = record {
 put_nowhere : (row first : Row) (more : List Row) → Rise (first ∷ more) → key_cmp (key_of row) (key_of first) ≡ Equal → IsPut row (first ∷ more) (first ∷ more)
 put_nowhere row first more rise tied = record {
   rise = rise;
-  here = (first, Contains-first first more, sym (same_from_Equal (key_of row) (key_of first) tied));
+  here = (first, Contains-first first more, sym (texts_exact (key_of row) (key_of first) tied));
   kept = λ other member. member;
   only = λ other member. inr member;
 }
@@ -76,7 +76,7 @@ put_later row first more after rise greater put = record {
       rises_below first after put.rise
       (λ later member.
       ⊎_elim
-      (λ same. subst (λ (r : Row). key_cmp (key_of first) (key_of r) ≡ Less) same (key_total.antisymm (key_of first) (key_of row) ∙ ap ordering_reverse greater))
+      (λ same. subst (λ (r : Row). key_cmp (key_of first) (key_of r) ≡ Less) same (texts_total.antisymm (key_of first) (key_of row) ∙ ap ordering_reverse greater))
       (first_is_below first more rise later)
       (put.only later member));
   here = (put.here.0, Contains-more first after put.here.0 put.here.1, put.here.2);
@@ -196,7 +196,7 @@ winners_or_first_without_lem some_choice t finite named =
     let rows = won_rows t named known wins finite.names in
     inl (rows.0, list_of t named known wins finite.names rows.0 rows.1 finite.all_known))
     (λ found. inr (found.0, first_without found.0 found.1.0 found.1.1))
-    (holds_or_first key_cmp key_total IsWon-or_unknown decide finite.names covers)
+    (holds_or_first key_cmp texts_total IsWon-or_unknown decide finite.names covers)
   where
     IsWon-or_unknown : Folder × FileName → Type 0
     IsWon-or_unknown key = IsKnown t key.0 key.1 → HasWinner t key.0 key.1

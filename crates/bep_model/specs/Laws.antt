@@ -1,18 +1,36 @@
 -- What follows from the definitions alone; the functions of src/laws.rt have these as contracts.
-use Rattle.std.specs.Prelude.{◌≡◌, ◌⊎◌, ◌↔◌, List}
+use Rattle.std.specs.Prelude.{◌≡◌, ◌⊎◌, ◌↔◌, ◌≤◌, List, None}
+use Rattle.bep_choice.specs.Choice.{Candidate}
 use Rattle.bep_model.specs.declared.row.Row.{Row}
 use Rattle.bep_model.specs.declared.reason.Reason.{Reason}
 use Rattle.bep_model.specs.Tables.{Tables, Folder, FileName}
 use Rattle.bep_model.specs.Foreign.{IsFinite}
-use Rattle.bep_model.specs.Settled.{IsListOfWinners, IsSettled}
+use Rattle.bep_model.specs.Winner.{IsWinner}
+use Rattle.bep_model.specs.Settled.{Rise, IsListOfWinners, IsSettled}
 use Rattle.bep_model.specs.WithoutWinner.{IsWithoutWinner, IsFirstWithoutWinner, OwnRecordsAreNamed}
-use Rattle.bep_model.specs.Reasons.{Place, Asks}
-use Rattle.bep_model.specs.Verdict.{Verdict, IsVerdict}
+use Rattle.bep_model.specs.Reasons.{Place, Asks, first_disordered}
+use Rattle.bep_model.specs.Verdict.{Verdict, number_of, IsVerdict}
 use Rattle.bep_model.specs.Calm.{IsCalm, contents_of}
 
 -- settled is that no reason fails anywhere
 abbrev pub SettledIsFaultless : Type 0
 SettledIsFaultless = (t : Tables) (rows : List Row) → IsSettled t rows ↔ ((reason : Reason) (place : Place) → Asks t rows reason place)
+
+-- rows rise exactly where none is out of order
+abbrev pub RowsRiseInOrder : Type 0
+RowsRiseInOrder = (rows : List Row) → (first_disordered rows ≡ None) ↔ Rise rows
+
+-- the reasons have the numbers from 1 to 12, each its own
+abbrev pub NumbersAreWithin : Type 0
+NumbersAreWithin = (reason : Reason) → (1 ≤ number_of reason) × (number_of reason ≤ 12)
+
+abbrev pub NumbersDiffer : Type 0
+NumbersDiffer = (one other : Reason) → number_of one ≡ number_of other → one ≡ other
+
+-- a name has one winner at most
+abbrev pub WinnerIsUnique : Type 0
+WinnerIsUnique =
+    (t : Tables) (folder : Folder) (name : FileName) (one other : Candidate) → IsWinner t folder name one → IsWinner t folder name other → one ≡ other
 
 -- there is one verdict at most
 abbrev pub VerdictIsUnique : Type 0

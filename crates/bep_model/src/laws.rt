@@ -1,6 +1,24 @@
-ghost use Rattle.bep_model.specs.Laws.{SettledIsFaultless, VerdictIsUnique, VerdictExists, SettledIsListOfWinners, ListOfWinnersIsUnique, CertificateIsUnique, WinnersAreSettledIfAny, WinnersLeaveNoneOut, FirstWithoutIsUnique, WinnersOrFirstWithout, SettledIsCalm};
+ghost use Rattle.bep_model.specs.Laws.{RowsRiseInOrder, NumbersAreWithin, NumbersDiffer, WinnerIsUnique, SettledIsFaultless, VerdictIsUnique, VerdictExists, SettledIsListOfWinners, ListOfWinnersIsUnique, CertificateIsUnique, WinnersAreSettledIfAny, WinnersLeaveNoneOut, FirstWithoutIsUnique, WinnersOrFirstWithout, SettledIsCalm};
 
 use bep_choice::laws::{choice_exists, choice_is_unique};
+
+/// Rows rise exactly where none is out of order.
+pub fn rows_rise_in_order()
+    ensures { RowsRiseInOrder }
+{}
+
+/// The reasons have the numbers from 1 to 12, each its own.
+pub fn reasons_are_numbered()
+    ensures within { NumbersAreWithin }
+    ensures different { NumbersDiffer }
+{}
+
+/// A name has one winner at most.
+pub fn winner_is_unique()
+    ensures { WinnerIsUnique }
+{
+    choice_is_unique();
+}
 
 /// Settled holds exactly where no reason fails anywhere.
 pub fn settled_is_faultless()

@@ -1,7 +1,7 @@
 use Rattle.std.proofs.Common.{sym, subst, ap, ◌∙◌, List, Contains}
 use Rattle.std.specs.Option.{option_copied}
+use Rattle.bep_facts.specs.Members.{not_in_none}
 use Rattle.bep_choice.specs.Choice.{Candidate}
-use Rattle.bep_model.proofs.Members.{not_in_none}
 use Rattle.bep_audit.proofs.CandidateFacts.{owned_has}
 use Rattle.bep_audit.proofs.candidates.first_own.Goals as goal
 

@@ -1,10 +1,12 @@
 use Rattle.std.proofs.Common.{[], sym, subst, ◌∙◌}
 use Rattle.std.proofs.lemmas.List.{take_all}
+use Rattle.std.proofs.lemmas.Result.{IfErr-weaker}
 use Rattle.bep_cut.specs.Cut.{tables_of}
 use Rattle.bep_model.specs.Settled.{IsListOfWinners}
-use Rattle.bep_audit.specs.Certifier.{TellsOf, TellsOfFirst, FailsIn, Adds, all_names}
+use Rattle.bep_cut.specs.Names.{all_names}
+use Rattle.bep_audit.specs.Certifier.{TellsOf, TellsOfFirst, FailsIn, Adds}
 use Rattle.bep_audit.proofs.NamesFacts.{all_names_rise, known_from_stands, stands_from_known}
-use Rattle.bep_audit.proofs.AddedFacts.{adds_next_folder, fails_at_folder, if_err, if_err-map}
+use Rattle.bep_audit.proofs.AddedFacts.{adds_next_folder, fails_at_folder, if_err}
 use Rattle.bep_audit.proofs.CertifierFacts.{tells_first, list_of_winners, first_without, settled_if_any, tells_never_settled}
 use Rattle.bep_audit.proofs.certifier.certify.Goals as goal
 
@@ -49,7 +51,6 @@ returns-clause-settled_if_any c =
 
 pub returns-in_err-add_rows-clause-never_settled : goal.returns-in_err-add_rows-clause-never_settled
 returns-in_err-add_rows-clause-never_settled c =
-    if_err-map
+    IfErr-weaker c.from_residual.result _ _
     (tells_never_settled c.certificate_is_unique.ensures.winners c.winners_or_first_without.ensures.not_both (tables_of c.args.cut.now))
-    c.from_residual.result
     (returns-in_err-add_rows-clause-no_winner c)

@@ -8,15 +8,15 @@ use Rattle.bep_audit.proofs.ReasonWalk.{reason_at, reasons_start, reasons_go_on,
 use Rattle.bep_audit.proofs.checkers.check_plain.Goals as goal
 
 pub loop-reason-init : goal.loop-reason-init
-loop-reason-init c = reasons_start (tables_of c.args.cut.now) c.args.certificate.now
+loop-reason-init c = reasons_start (tables_of c.args.cut.now) c.args.certificate.now c.reasons_are_numbered.ensures.within
 
 pub first_fault-requires : goal.first_fault-requires
 first_fault-requires c = λ differs.
-    subst Rise (sym c.rows.ensures) (rows_rise (tables_of c.args.cut.now) c.args.certificate.now c.loop-reason.reason-index c.loop-reason-test.true c.loop-reason.invariant differs)
+    subst Rise (sym c.rows.ensures) (rows_rise (tables_of c.args.cut.now) c.args.certificate.now c.rows_rise_in_order.ensures c.reasons_are_numbered.ensures.different c.loop-reason.reason-index c.loop-reason-test.true c.loop-reason.invariant differs)
 
 pub loop-reason-preserved : goal.loop-reason-preserved
 loop-reason-preserved c =
-    reasons_go_on (tables_of c.args.cut.now) c.args.certificate.now c.loop-reason.reason-index c.loop-reason-test.true c.loop-reason.invariant
+    reasons_go_on (tables_of c.args.cut.now) c.args.certificate.now c.reasons_are_numbered.ensures.different c.loop-reason.reason-index c.loop-reason-test.true c.loop-reason.invariant
     (subst (λ (rows : List Row). FindsFault (tables_of c.args.cut.now) rows (reason_at c.loop-reason.reason-index) None) c.rows.ensures c.in_default.ensures)
 
 pub returns-in-Some-clause-verdict : goal.returns-in-Some-clause-verdict
@@ -42,14 +42,14 @@ returns-in-Some-clause-calm c =
     calm_of_none (tables_of c.args.cut.now) c.args.certificate.now c.at.result (reason_at c.loop-reason.reason-index) (place_shown c.in-Some.spot) c.at.ensures
 
 pub returns-clause-verdict : goal.returns-clause-verdict
-returns-clause-verdict c = settled_at_last (tables_of c.args.cut.now) c.args.certificate.now c.settled_is_faultless.ensures c.loop-reason.reason-index c.loop-reason-test.false c.loop-reason.invariant
+returns-clause-verdict c = settled_at_last (tables_of c.args.cut.now) c.args.certificate.now c.settled_is_faultless.ensures c.reasons_are_numbered.ensures.within c.loop-reason.reason-index c.loop-reason-test.false c.loop-reason.invariant
 
 pub returns-clause-settled : goal.returns-clause-settled
 returns-clause-settled c =
-    let settled = settled_at_last (tables_of c.args.cut.now) c.args.certificate.now c.settled_is_faultless.ensures c.loop-reason.reason-index c.loop-reason-test.false c.loop-reason.invariant in
+    let settled = settled_at_last (tables_of c.args.cut.now) c.args.certificate.now c.settled_is_faultless.ensures c.reasons_are_numbered.ensures.within c.loop-reason.reason-index c.loop-reason-test.false c.loop-reason.invariant in
     (λ _. settled, λ _. refl)
 
 pub returns-clause-calm : goal.returns-clause-calm
 returns-clause-calm c = λ _.
     c.settled_is_calm.ensures (tables_of c.args.cut.now) c.args.certificate.now
-    (settled_at_last (tables_of c.args.cut.now) c.args.certificate.now c.settled_is_faultless.ensures c.loop-reason.reason-index c.loop-reason-test.false c.loop-reason.invariant)
+    (settled_at_last (tables_of c.args.cut.now) c.args.certificate.now c.settled_is_faultless.ensures c.reasons_are_numbered.ensures.within c.loop-reason.reason-index c.loop-reason-test.false c.loop-reason.invariant)

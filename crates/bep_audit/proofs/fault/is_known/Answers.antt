@@ -1,6 +1,6 @@
 use Rattle.std.proofs.Common.{take, ◌∙◌, sym, refl, subst, true≢false}
 use Rattle.std.proofs.lemmas.List.{take_all}
-use Rattle.bep_audit.proofs.WalkFacts.{done_with}
+use Rattle.bep_facts.specs.Places.{done_with}
 use Rattle.bep_audit.proofs.CutFacts.{CutSays, NoneHasName, no_more_has_name, none_has_name, known_by, unknown}
 use Rattle.bep_audit.proofs.fault.is_known.Goals as goal
 

@@ -3,10 +3,10 @@ use Rattle.std.specs.Option.{option_copied}
 use Rattle.std.specs.Ordering.{nat_cmp}
 use Rattle.std.specs.Cmp.Lexicographic.{slice_cmp}
 use Rattle.std.proofs.lemmas.List.{take_all}
+use Rattle.bep_facts.specs.Places.{done_with}
 use Rattle.bep_audit.specs.Search.{FindsFirst}
 use Rattle.bep_audit.specs.Held.{HasRowIfHeld}
 use Rattle.bep_audit.proofs.MissingFacts.{none_of_none, more_shares}
-use Rattle.bep_audit.proofs.WalkFacts.{done_with}
 use Rattle.bep_audit.proofs.missing.least_without_row.Goals as goal
 
 pub loop-share-init : goal.loop-share-init

@@ -12,5 +12,5 @@ returns-in-None c =
 pub returns-in-Some : goal.returns-in-Some
 returns-in-Some c =
     let row = c.args.row.now in
-    let exactly = row_exactly c.choice_is_unique.ensures (tables_of c.args.cut.now) row c.entry.result.now (candidate_of c.in-Some.one) c.entry.ensures.value c.in-Some.ensures.wins in
+    let exactly = row_exactly c.winner_is_unique.ensures (tables_of c.args.cut.now) row c.entry.result.now (candidate_of c.in-Some.one) c.entry.ensures.value c.in-Some.ensures.wins in
     (λ same. exactly.0 (c.is_of_row.ensures.0 same), λ wins. c.is_of_row.ensures.1 (exactly.1 wins))

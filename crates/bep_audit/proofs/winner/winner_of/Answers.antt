@@ -1,9 +1,10 @@
 use Rattle.std.proofs.Common.{◌≤◌, ℕ, List, IfNone, IfSome, length, sym, subst}
+use Rattle.std.proofs.lemmas.Option.{IfSome_then}
 use Rattle.bep_choice.specs.Choice.{Candidate, candidate_of, IsChoice}
 use Rattle.bep_cut.specs.Cut.{AreShares}
 use Rattle.bep_cut.specs.declared.limits.TheConstants.{MAX_DEVICES}
 use Rattle.bep_cut.specs.declared.share.Share.{Share}
-use Rattle.bep_audit.proofs.WinnerSaid.{are_shares, few_shares, winner_said, winner_is_named, if_some-map}
+use Rattle.bep_audit.proofs.WinnerSaid.{are_shares, few_shares, winner_said, winner_is_named}
 use Rattle.bep_audit.proofs.winner.winner_of.Goals as goal
 
 pub winner_among-requires : goal.winner_among-requires
@@ -32,7 +33,5 @@ returns-clause-none c =
 pub returns-clause-named : goal.returns-clause-named
 returns-clause-named c =
     let laws = c.cut_says.ensures in
-    if_some-map
+    IfSome_then c.winner_among.result (returns-clause-wins c)
     (λ one wins. winner_is_named laws.found laws.has_folder laws.own c.args.cut.now c.args.folder.now c.args.name.now c.shares.ensures.a_cut (candidate_of one) wins)
-    c.winner_among.result
-    (returns-clause-wins c)

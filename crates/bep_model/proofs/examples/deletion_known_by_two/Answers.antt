@@ -1,6 +1,10 @@
 use Rattle.std.proofs.Common.{◌≡◌, ◌==◌, Bool, true, false, cond, [], ◌∷◌, Contains, Option, Some, None, IsSome, is_some, inl, inr, refl, sym, ap, subst, ◌∙◌, ⊎_elim, ◌<◌, arith}
 use Rattle.std.proofs.lemmas.Bool.{cases_Bool, cond-false}
 use Rattle.std.specs.Ordering.{is_eq}
+use Rattle.std.specs.declared.cmp.Ordering.TheVariants.{Less}
+use Rattle.std.specs.Cmp.{Equal-is}
+use Rattle.bep_facts.specs.Members.{not_in_none, Contains-first, Contains-one, Contains-pair_cases}
+use Rattle.bep_facts.specs.Orders.{texts_exact}
 use Rattle.bep_record.specs.declared.entry.Entry.{Entry}
 use Rattle.bep_record.specs.Content.{Deleted, content_of}
 use Rattle.bep_choice.specs.Choice.{Candidate, IsDominated, IsNotBehind}
@@ -15,9 +19,6 @@ use Rattle.bep_model.specs.Reasons.{AsksAt, place_cmp}
 use Rattle.bep_model.specs.Verdict.{number_of}
 use Rattle.bep_model.specs.declared.reason.Reason.{Reason}
 use Rattle.bep_model.specs.declared.reason.Reason.TheVariants.{CertificateOrder, NameMissing}
-use Rattle.std.specs.declared.cmp.Ordering.TheVariants.{Less}
-use Rattle.bep_model.proofs.Keys.{same_from_Equal, Equal_from_is_eq}
-use Rattle.bep_model.proofs.Members.{not_in_none, Contains-first, Contains-cons_cases, Contains-pair_cases}
 use Rattle.bep_model.proofs.examples.deletion_known_by_two.Goals as goal
 
 abbrev gone : Entry
@@ -27,8 +28,7 @@ abbrev row : Row
 row = row_of 1 gone
 
 is_the_row : (other : Row) → Contains (row ∷ []) other → row ≡ other
-is_the_row other member =
-    ⊎_elim (λ same. same) (λ none. absurd (not_in_none other none)) (Contains-cons_cases row [] other member)
+is_the_row = Contains-one row
 
 nothing_foreign : (device : Device) (folder : Folder) (name : FileName) (entry : Entry) → ¬ IsForeign shared_deletion device folder name entry
 nothing_foreign device folder name entry foreign =
@@ -45,7 +45,7 @@ nothing_foreign device folder name entry foreign =
 of_the_name : (device : Device) (folder : Folder) (name : FileName) → IsSome (shared_deletion.own device folder name) → ◌≡◌ {A = Folder × FileName} (folder, name) (folder_f, name_a)
 of_the_name device folder name some =
     ⊎_elim
-    (λ here. same_from_Equal (folder, name) (folder_f, name_a) (Equal_from_is_eq _ here))
+    (λ here. texts_exact (folder, name) (folder_f, name_a) ((Equal-is _).0 here))
     (λ past. let none = ap is_some (sym (cond-false _ _ _ past)) ∙ some in absurd (cc))
     (cases_Bool (is_eq (key_cmp (folder, name) (folder_f, name_a))))
 

@@ -1,5 +1,6 @@
-use Rattle.std.proofs.Common.{◌≡◌, false, List, [], ◌∷◌, Contains, Some, None, refl, sym, subst, inr, ⊎_elim, arith}
+use Rattle.std.proofs.Common.{◌≡◌, false, List, [], ◌∷◌, Contains, Some, None, refl, sym, subst, inr, arith}
 use Rattle.std.proofs.lemmas.Bool.Decides.{nat_tests}
+use Rattle.bep_facts.specs.Members.{Contains-first, Contains-more, Contains-one}
 use Rattle.bep_record.specs.declared.entry.Entry.{Entry}
 use Rattle.bep_record.specs.Content.{Deleted, content_of}
 use Rattle.bep_choice.specs.declared.folder_kind.FolderKind.{FolderKind}
@@ -9,7 +10,6 @@ use Rattle.bep_model.specs.Tables.{Tables, Device, Flight}
 use Rattle.bep_model.specs.Foreign.{IsFlying}
 use Rattle.bep_model.specs.Reasons.{AsksHarmless}
 use Rattle.bep_model.specs.Examples.{folder_f, name_a, by_one, twice_by_one, deletion, link, old_link_flies, row_of}
-use Rattle.bep_model.proofs.Members.{not_in_none, Contains-first, Contains-more, Contains-cons_cases}
 use Rattle.bep_model.proofs.examples.old_version_flies.Goals as goal
 
 abbrev both : List (Device × FolderKind)
@@ -21,9 +21,6 @@ row = row_of 1 (deletion twice_by_one)
 abbrev flight : Flight
 flight = record { folder = folder_f; full = false; records = link 1 98 by_one ∷ [] }
 
-only_one : {X : Type 0} (x y : X) → Contains (x ∷ []) y → x ≡ y
-only_one x y h = ⊎_elim (λ same. same) (λ none. absurd (not_in_none y none)) (Contains-cons_cases x [] y h)
-
 abbrev cut : Tables
 cut = old_link_flies (Some (deletion twice_by_one))
 
@@ -32,9 +29,9 @@ link_is_harmless valid = inr (λ id. grind (arith, nat_tests), λ all. let back 
 
 pub returns-clause-to_a_device_with_the_deletion : goal.returns-clause-to_a_device_with_the_deletion
 returns-clause-to_a_device_with_the_deletion c = λ other member key shares entry flying.
-    let carried = subst (λ (f : Flight). Contains f.records entry) (sym (only_one flight flying.flight flying.sent)) flying.carried in
-    let it_is : link 1 98 by_one ≡ entry = only_one (link 1 98 by_one) entry carried in
-    subst (λ (r : Row). AsksHarmless cut r 2 entry) (only_one row other member)
+    let carried = subst (λ (f : Flight). Contains f.records entry) (sym (Contains-one flight flying.flight flying.sent)) flying.carried in
+    let it_is : link 1 98 by_one ≡ entry = Contains-one (link 1 98 by_one) entry carried in
+    subst (λ (r : Row). AsksHarmless cut r 2 entry) (Contains-one row other member)
     (subst (λ (e : Entry). AsksHarmless cut row 2 e) it_is link_is_harmless)
 
 pub returns-clause-to_a_device_without_a_record : goal.returns-clause-to_a_device_without_a_record

@@ -1,7 +1,7 @@
 use Rattle.std.proofs.Common.{List, [], ◌∷◌, refl, sym, subst, ⊎_elim, arith}
+use Rattle.bep_facts.specs.Members.{Contains-first, Contains-more, Contains-pair_cases}
 use Rattle.bep_choice.specs.Choice.{Candidate, IsLeft, IsDominated, IsNotBehind}
 use Rattle.bep_model.specs.Examples.{link, by_one, by_two}
-use Rattle.bep_model.proofs.Members.{Contains-first, Contains-more, Contains-pair_cases}
 use Rattle.bep_model.proofs.examples.tie_goes_to_the_smaller_author.Goals as goal
 
 abbrev one : Candidate

@@ -1,0 +1,6 @@
+pub mod Options
+pub mod Members
+pub mod Places
+pub mod Orders
+pub mod Rising
+pub mod Maps

@@ -1,0 +1,2 @@
+//! Facts of lists, orders and maps on which the proofs of several crates rest. No code runs: they stand in `specs/`.
+#![tactic(auto)]
