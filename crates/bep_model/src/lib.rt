@@ -4,10 +4,12 @@
 #![tactic(auto)]
 
 pub mod examples;
+mod flight;
 mod laws;
 mod reason;
 mod row;
 
+pub use flight::Flight;
 pub use laws::{
     certificate_is_unique, settled_is_calm, settled_is_faultless, verdict_exists,
     verdict_is_unique, winners_or_first_without,
