@@ -9,7 +9,7 @@ use Rattle.std.proofs.lemmas.Map.Lookups.{exact_bytes}
 use Rattle.bep_map.specs.NameMap.{ByName}
 use Rattle.bep_record.specs.declared.entry.Entry.{Entry}
 use Rattle.bep_model.specs.declared.flight.Flight.{Flight}
-use Rattle.bep_model.specs.Tables.{Device, Folder, FileName}
+use Rattle.bep_model.specs.Tables.{Folder, FileName}
 use Rattle.bep_model.proofs.Keys.{Equal_from_is_eq}
 use Rattle.bep_model.proofs.Members.{not_in_none, Contains-first, Contains-more, Contains-cons_cases}
 use Rattle.bep_cut.specs.declared.share.Share.{Share}

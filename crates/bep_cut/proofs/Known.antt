@@ -1,21 +1,20 @@
 -- The names that are known in a folder are those of its devices and of the messages on their way to them.
-use Rattle.std.proofs.Common.{◌≡◌, ◌⊎◌, ◌↔◌, false, List, map, flat_map, Option, Some, None, IsSome, Contains, option_and_then, refl, sym, ap, subst, ◌∙◌, inl, inr, ⊎_elim}
-use Rattle.std.specs.FinMap.{get, keys, values}
+use Rattle.std.proofs.Common.{◌≡◌, ◌⊎◌, false, Option, Some, None, IsSome, Contains, refl, sym, subst, ◌∙◌, inl, inr, ⊎_elim}
+use Rattle.std.specs.FinMap.{get, values}
 use Rattle.std.proofs.lemmas.List.Elements.{All-contains}
 use Rattle.bep_record.specs.declared.entry.Entry.{Entry}
 use Rattle.bep_index.specs.Index.{IsIndex}
 use Rattle.bep_model.specs.declared.flight.Flight.{Flight}
 use Rattle.bep_model.specs.Tables.{Device, Folder, FileName, Shares}
-use Rattle.bep_model.specs.Foreign.{IsViewed, IsFlying, IsTarget, IsForeign, HasTrace, IsKnown}
+use Rattle.bep_model.specs.Foreign.{IsViewed, IsFlying, IsForeign, HasTrace, IsKnown}
 use Rattle.bep_cut.specs.declared.share.Share.{Share}
 use Rattle.bep_cut.specs.declared.share.PeerView.{PeerView}
 use Rattle.bep_cut.specs.declared.link.LinkState.{LinkState}
 use Rattle.bep_cut.specs.declared.cut.CutParts.{CutParts}
 use Rattle.bep_cut.specs.Cut.{IsCut, known_of, shares_of, tables_of}
 use Rattle.bep_cut.specs.Laws.{Carries, NamesAreKnown}
-use Rattle.bep_cut.specs.Names.{known_names}
 use Rattle.bep_cut.proofs.Values.{value_at_name, name_of_value}
-use Rattle.bep_cut.proofs.Added.{Has, HasValid, HasName, HasFlown, HasFlownOver, known}
+use Rattle.bep_cut.proofs.Added.{HasValid, HasName, HasFlown, HasFlownOver, known}
 use Rattle.bep_cut.proofs.Tables.{sharing_is_said, own_is_said, node_is_said, viewed_is_said, target_is_said, flying_is_said, receiver_shares, are_views, are_pulls}
 
 -- ---- a device of the folder
@@ -66,8 +65,7 @@ trace_of_share cut folder name share is_cut h (inr pull) = inr (inr (foreign_pul
 known_by_flight : (cut : CutParts) (folder : Folder) (name : FileName) (link : LinkState) (device : Device) (flight : Flight) → IsCut cut → Contains cut.links link → Carries link device flight → HasFlown folder flight name → IsKnown (tables_of cut) folder name
 known_by_flight cut folder name link device flight is_cut h carries flown =
     let has = flown.1 in
-    let flying = (flying_is_said cut device folder name has.0 is_cut).1 (link, flight, h, carries, (flown.0, has.1, has.2.1)) in
-    (
+    let flying = (flying_is_said cut device folder name has.0 is_cut).1 (link, flight, h, carries, (flown.0, has.1, has.2.1)) in (
       device,
       subst (Shares (tables_of cut) device) flown.0 (receiver_shares cut link device flight is_cut h carries),
       inr (inr (has.0, record { known_by = inr (inl flying); valid = has.2.0 })),
