@@ -1,11 +1,11 @@
 -- What a document without faults writes down is a cut.
-use Rattle.std.proofs.Common.{◌≡◌, ◌≢◌, ◌||◌, ℕ, ◌≤◌, true, false, Bool, List, [], ◌∷◌, map, length, All, Contains, refl, sym, ap, subst, ◌∙◌, ⊎_elim, arith}
+use Rattle.std.proofs.Common.{◌≡◌, ◌≢◌, ◌||◌, ℕ, ◌≤◌, true, false, Bool, List, [], ◌∷◌, map, length, Option, Some, None, All, Contains, refl, sym, ap, subst, ◌∙◌, ⊎_elim, arith}
 use Rattle.std.specs.declared.cmp.Ordering.{Ordering}
 use Rattle.std.specs.Ordering.{nat_cmp}
 use Rattle.std.specs.Prelude.{◌==◌}
 use Rattle.std.specs.Cmp.{nat_cmp_total, eq_by_cmp_equiv}
 use Rattle.std.specs.Cmp.Lexicographic.{slice_cmp, nat_list_cmp_total}
-use Rattle.std.specs.FinMap.{nat_cmp-IsAntisymmetric}
+use Rattle.std.specs.FinMap.{nat_cmp-IsAntisymmetric, empty, get-empty, len-empty}
 use Rattle.std.specs.List.{AllByRecursion}
 use Rattle.std.specs.List.Sorted.{IsStrictlyIncreasing, IsStrictlySortedBy}
 use Rattle.std.proofs.lemmas.Bool.{eqb-true}
@@ -14,7 +14,7 @@ use Rattle.std.proofs.lemmas.List.Elements.{All-contains}
 use Rattle.std.proofs.lemmas.Map.Keys.{IsStrictlyIncreasing-from_sorted, sorted_from_strictly_increasing, IsDistinct-from_sorted}
 use Rattle.std.proofs.lemmas.Map.Lookups.{exact_bytes}
 use Rattle.std.proofs.lemmas.Map.Made.{length-le_from_is_member}
-use Rattle.bep_facts.specs.Members.{not_in_none, Contains-first, Contains-more, Contains-from_image, holds_of_member}
+use Rattle.bep_facts.specs.Members.{Contains-first, Contains-from_image, Contains-more, holds_of_member, not_in_none}
 use Rattle.bep_record.specs.declared.entry.Entry.{Entry}
 use Rattle.bep_index.specs.After.{IsAmong}
 use Rattle.bep_index.specs.Index.{IsIndex}
@@ -26,8 +26,9 @@ use Rattle.bep_document.specs.declared.parts.CheckParts.{CheckParts}
 use Rattle.bep_document.specs.Devices.{is_one_of}
 use Rattle.bep_document.specs.Faultless.{HasNoKey, KeysDiffer, IsNumbered, IsFaultlessOwn, IsFaultlessShare, IsFaultlessFolder, IsFaultless, AreOf}
 use Rattle.bep_cut.specs.declared.share.Share.{Share}
+use Rattle.bep_cut.specs.declared.share.PeerView.{PeerView}
 use Rattle.bep_cut.specs.declared.share.SharedFolder.{SharedFolder}
-use Rattle.bep_cut.specs.Cut.{AreShares, HasDevice, IsCut, devices_of, index_of}
+use Rattle.bep_cut.specs.Cut.{AreShares, AreViews, ArePulls, HasDevice, IsLink, IsCut, devices_of, index_of, known_of, ends_of, ends_cmp}
 use Rattle.bep_cut.specs.Sorting.{in_order}
 use Rattle.bep_cut.specs.Written.{share_written, folder_written, cut_written}
 use Rattle.bep_cut.proofs.Found.{all_from_each, any_tied, one_tied}
@@ -89,6 +90,26 @@ pub from_part : {K A B : Type 0} (R : K → K → Ordering) (key : B → K) (wri
 from_part R key written parts z h =
     ⊎_elim (λ none. absurd (not_in_none z none)) (λ later. Contains-from_image written parts z later) (Contains-in_order R key [] (map written parts) z h)
 
+-- ---- no views, pulls or links are written
+all_of_none : {X : Type 0} (P : X → Type 0) → All P []
+all_of_none P = all_from_each P [] (λ x h. absurd (not_in_none x h))
+
+no_views : (devices : List Device) (device : Device) → AreViews devices device []
+no_views devices device = record {
+  rise = IsStrictlyIncreasing-from_sorted [] (sorted_none nat_cmp (λ (view : PeerView). view.of));
+  others = all_of_none (λ (view : PeerView). (view.of ≢ device) × Contains devices view.of);
+  indexes = all_of_none (λ (view : PeerView). IsIndex (known_of view));
+}
+
+no_pulls : ArePulls empty
+no_pulls = record {
+  few = omega (arith, len-empty (slice_cmp nat_cmp) Entry);
+  named = λ name entry found. absurd (different (sym (get-empty (slice_cmp nat_cmp) name) ∙ found));
+}
+  where
+    different : {entry : Entry} → ◌≡◌ {A = Option Entry} None (Some entry) → ⊥
+    different e = cc
+
 shares_in_order : RecordsMakeAnIndex → (parts : FolderParts) → IsFaultlessFolder parts → AreShares (folder_written parts).shares
 shares_in_order law parts faultless = record {
   rise = IsStrictlyIncreasing-from_sorted (devices_of (folder_written parts).shares)
@@ -99,6 +120,12 @@ shares_in_order law parts faultless = record {
   indexes = all_from_each (λ share. IsIndex (index_of share)) (folder_written parts).shares (λ share h.
       let part = from_part nat_cmp (λ (s : Share). s.device) share_written parts.devices share h in
       subst (λ s. IsIndex (index_of s)) part.2 (index_written law part.0 (holds_of_member IsFaultlessShare parts.devices part.0 faultless.shares part.1)));
+  views = all_from_each (λ share. AreViews (devices_of (folder_written parts).shares) share.device share.views) (folder_written parts).shares (λ share h.
+      let part = from_part nat_cmp (λ (s : Share). s.device) share_written parts.devices share h in
+      subst (λ (s : Share). AreViews (devices_of (folder_written parts).shares) s.device s.views) part.2 (no_views (devices_of (folder_written parts).shares) part.0.device));
+  pulls = all_from_each (λ share. ArePulls share.pulls) (folder_written parts).shares (λ share h.
+      let part = from_part nat_cmp (λ (s : Share). s.device) share_written parts.devices share h in
+      subst (λ (s : Share). ArePulls s.pulls) part.2 no_pulls);
 }
 
 -- a number that is one of these
@@ -143,4 +170,6 @@ cut_is_written law parts faultless = record {
       let most = few parts.folders faultless.few_devices.0 faultless.few_devices.2 some rise all in
       let within = faultless.few_devices.1 in
       omega arith;
+  links_rise = sorted_none ends_cmp ends_of;
+  links = all_of_none (IsLink (cut_written parts.folders).folders);
 }

@@ -31,6 +31,8 @@ share_written parts = record {
   max_sequence = parts.max;
   own = with_all empty parts.own;
   store = with_nodes empty parts.store;
+  views = [];
+  pulls = empty;
 }
 
 -- the folder, with what its devices have, in the order of the devices
@@ -42,7 +44,7 @@ folder_written parts = record {
 
 -- the cut, its folders in the order of their names
 abbrev pub cut_written : List FolderParts → CutParts
-cut_written folders = record { folders = in_order (slice_cmp nat_cmp) (λ held. held.folder) [] (map folder_written folders) }
+cut_written folders = record { folders = in_order (slice_cmp nat_cmp) (λ held. held.folder) [] (map folder_written folders); links = [] }
 
 -- a row of the certificate
 abbrev pub row_written : RowParts → Row

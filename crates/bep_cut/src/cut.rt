@@ -3,7 +3,7 @@ ghost use Rattle.std.specs.Option.{option_copied};
 ghost use Rattle.std.specs.List.{find};
 ghost use Rattle.bep_cut.specs.Cut.{IsCut, is_folder, shares_of};
 
-use crate::{Share, SharedFolder};
+use crate::{LinkState, Share, SharedFolder};
 use bep_record::{FolderName, Items};
 use std::marker::Model;
 
@@ -12,12 +12,15 @@ use std::marker::Model;
 pub struct CutParts {
     /// The folders, names rising.
     pub folders: Items<SharedFolder>,
+    /// The links, by their two devices, rising.
+    pub links: Items<LinkState>,
 }
 
-/// One moment of a cluster: which devices share which folder, in which kind, and for each its own records and what its
-/// store holds.
+/// One moment of a cluster: which devices share which folder, in which kind; for each its own records, what its store
+/// holds, what it knows of the others' indexes and what it pulls; and which records are on their way over which link.
 ///
-/// At most 16 folders and 16 devices; folders and devices rise; and each device's records are those of an index.
+/// At most 16 folders and 16 devices; folders, devices and links rise; each device's records, and each view's, are those
+/// of an index; views and messages are of devices that share the folder; nothing is on its way over a link that is down.
 #[derive(Drop)]
 pub struct Cut {
     parts: CutParts,
@@ -39,14 +42,12 @@ impl Model for Cut {
 }
 
 impl Cut {
-    // The cut of these folders.
-    pub(crate) fn of(folders: Items<SharedFolder>) -> Self
-        requires { IsCut (record { folders = folders }) }
-        ensures { result ≡ record { folders = folders } }
+    // The cut of these parts.
+    pub(crate) fn of(parts: CutParts) -> Self
+        requires { IsCut parts }
+        ensures { result ≡ parts }
     {
-        Cut {
-            parts: CutParts { folders },
-        }
+        Cut { parts }
     }
 
     /// The folders, names rising, each with the devices that share it.
@@ -55,6 +56,14 @@ impl Cut {
         ensures a_cut { IsCut self.now }
     {
         self.parts.folders.as_slice()
+    }
+
+    /// The links, by their two devices, rising.
+    pub fn links(&self) -> &[LinkState]
+        ensures value { result.now ≡ self.now.links }
+        ensures a_cut { IsCut self.now }
+    {
+        self.parts.links.as_slice()
     }
 
     /// What each device has that shares the folder, devices rising; nothing where there is no such folder.

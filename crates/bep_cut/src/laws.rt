@@ -1,4 +1,4 @@
-ghost use Rattle.bep_cut.specs.Laws.{FolderIsFound, ShareHasFolder, SharingIsSaid, OwnIsSaid, NodeIsSaid, NothingIsForeign, NamesAreKnown, CutIsFinite};
+ghost use Rattle.bep_cut.specs.Laws.{FolderIsFound, ShareHasFolder, SharingIsSaid, OwnIsSaid, NodeIsSaid, ViewedIsSaid, TargetIsSaid, FlyingIsSaid, ReceiverShares, NamesAreKnown, CutIsFinite};
 ghost use Rattle.bep_cut.specs.AsWritten.{SharingIsAsWritten, OwnIsAsWritten, NodeIsAsWritten};
 
 use bep_index::records_make_an_index;
@@ -10,10 +10,14 @@ pub fn cut_says()
     ensures sharing { SharingIsSaid }
     ensures own { OwnIsSaid }
     ensures node { NodeIsSaid }
-    ensures foreign { NothingIsForeign }
+    ensures viewed { ViewedIsSaid }
+    ensures target { TargetIsSaid }
+    ensures flying { FlyingIsSaid }
+    ensures receiver { ReceiverShares }
 {}
 
-/// The known names of a folder are those that its devices recorded or hold, so they are finitely many.
+/// The known names of a folder are those that its devices recorded, hold, know of others or pull, and those on their way
+/// to them, so they are finitely many.
 pub fn names_are_known()
     ensures known { NamesAreKnown }
     ensures finite { CutIsFinite }

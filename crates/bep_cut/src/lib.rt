@@ -1,9 +1,11 @@
-//! A cut of a cluster: what each device recorded and held in each folder at one moment, and what it says as tables.
+//! A cut of a cluster: what each device recorded, held, knew of others and pulled in each folder at one moment, what was
+//! on its way between them, and what all this says as tables.
 #![tactic(auto)]
 
 mod cut;
 mod laws;
 mod limits;
+mod link;
 mod names;
 mod order;
 mod read;
@@ -13,9 +15,10 @@ mod tests;
 mod written;
 
 pub use bep_document::{DocError, DocFault, Fault, MAX_BYTES};
-pub use bep_model::Row;
+pub use bep_model::{Flight, Row};
 pub use cut::{Cut, CutParts};
 pub use laws::{cut_is_as_written, cut_says, names_are_known};
-pub use limits::{MAX_DEVICES, MAX_FOLDERS};
+pub use limits::{MAX_DEVICES, MAX_FOLDERS, MAX_PULLS};
+pub use link::LinkState;
 pub use read::read_check;
-pub use share::{Share, SharedFolder};
+pub use share::{PeerView, Share, SharedFolder};

@@ -7,3 +7,8 @@ pub const MAX_FOLDERS: usize = 16;
 ///
 /// This project's profile.
 pub const MAX_DEVICES: usize = 16;
+
+/// The most pulls of a device in a folder.
+///
+/// This project's profile.
+pub const MAX_PULLS: usize = 64;

@@ -5,10 +5,11 @@ ghost use Rattle.bep_document.specs.Reading.{AnswersBy};
 ghost use Rattle.bep_cut.specs.Written.{cut_written, row_written, check_of};
 
 use crate::written::{folders_written, rows_written};
-use crate::{Cut, DocError};
+use crate::{Cut, CutParts, DocError};
 use bep_document::{CheckParts, read_parts, readings_are_faultless};
 use bep_index::records_make_an_index;
 use bep_model::Row;
+use bep_record::Items;
 use std::alloc::{AllocError, Global};
 
 /// The cut and the certificate's rows that the bytes of a check document say, or the one fault for which the document is
@@ -34,5 +35,6 @@ fn check_written(alloc: Global, parts: CheckParts) -> Result<(Cut, Vec<Row>), Al
     records_make_an_index();
     let folders = folders_written(alloc, parts.folders)?;
     let rows = rows_written(alloc, parts.certificate)?;
-    Ok((Cut::of(folders), rows))
+    let links = Items::new(Vec::new(alloc));
+    Ok((Cut::of(CutParts { folders, links }), rows))
 }

@@ -18,6 +18,23 @@ pub struct Share {
     pub own: NameMap<Record>,
     /// What its store holds, read out.
     pub store: NameMap<Node>,
+    /// What it knows of other devices' indexes, by rising device.
+    pub views: Items<PeerView>,
+    /// The records that it pulls, each under its name.
+    pub pulls: NameMap<Record>,
+}
+
+/// What a device knows of another device's index of a folder.
+#[derive(Drop)]
+pub struct PeerView {
+    /// The device whose index it is.
+    pub of: DeviceId,
+    /// The id of that index, 0 where none is known.
+    pub index_id: u64,
+    /// The greatest sequence number that is known of it.
+    pub max_sequence: u64,
+    /// The records that are known of it, each under its name.
+    pub records: NameMap<Record>,
 }
 
 /// A folder, and the devices that share it.

@@ -69,6 +69,8 @@ fn share_written(alloc: Global, parts: ShareParts) -> Result<Share, AllocError>
         max_sequence: parts.max,
         own: records_by_name(alloc, parts.own)?,
         store: nodes_by_name(alloc, parts.store)?,
+        views: Items::new(Vec::new(alloc)),
+        pulls: NameMap::new(alloc),
     })
 }
 

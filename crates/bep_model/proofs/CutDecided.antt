@@ -16,7 +16,8 @@ use Rattle.bep_choice.specs.Choice.{Candidate, IsValidAmong, IsChoice}
 use Rattle.bep_model.specs.declared.row.Row.{Row}
 use Rattle.bep_model.specs.declared.reason.Reason.{Reason}
 use Rattle.bep_model.specs.declared.reason.Reason.TheVariants.{CertificateOrder, NameMissing, NameUnknown, NotWinner, RecordMissing, RecordDiffers, LocalOnly, StoreDiffers, StoreUnclean, ViewAhead, FlightAhead, PullAhead}
-use Rattle.bep_model.specs.Tables.{Tables, Device, Folder, FileName, Flight, Shares}
+use Rattle.bep_model.specs.Tables.{Tables, Device, Folder, FileName, Shares}
+use Rattle.bep_model.specs.declared.flight.Flight.{Flight}
 use Rattle.bep_model.specs.Foreign.{IsViewed, IsFlying, IsTarget, IsForeign, IsHarmless, HasTrace, IsKnown, IsFinite}
 use Rattle.bep_model.specs.Winner.{IsWinner, own_candidates, smallest}
 use Rattle.bep_model.specs.WithoutWinner.{HasWinner}

@@ -3,7 +3,8 @@ use Rattle.std.specs.Prelude.{◌≡◌, ◌⊎◌, false, List, Option, Some, N
 use Rattle.bep_record.specs.declared.entry.Entry.{Entry}
 use Rattle.bep_record.specs.Content.{Content, content_of}
 use Rattle.bep_record.specs.Vector.{IsBelow}
-use Rattle.bep_model.specs.Tables.{Tables, Device, Folder, FileName, Flight, Shares}
+use Rattle.bep_model.specs.Tables.{Tables, Device, Folder, FileName, Shares}
+use Rattle.bep_model.specs.declared.flight.Flight.{Flight}
 
 -- some view of the device's has this record
 abbrev pub IsViewed : Tables → Device → Folder → FileName → Entry → Type 0

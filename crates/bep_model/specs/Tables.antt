@@ -1,9 +1,10 @@
 -- What a cut and a cluster say, as look-ups by device, folder and name. (Syncthing's terms; BEP v1, 'Index' and
 -- 'Index Update' for what flies.)
-use Rattle.std.specs.Prelude.{ℕ, Bool, List, Option, Contains}
+use Rattle.std.specs.Prelude.{ℕ, List, Option, Contains}
 use Rattle.bep_record.specs.declared.entry.Entry.{Entry}
 use Rattle.bep_record.specs.declared.node.NodeParts.{NodeParts}
 use Rattle.bep_choice.specs.declared.folder_kind.FolderKind.{FolderKind}
+use Rattle.bep_model.specs.declared.flight.Flight.{Flight}
 
 -- a device's short id
 abbrev pub Device : Type 0
@@ -15,12 +16,6 @@ Folder = List ℕ
 
 abbrev pub FileName : Type 0
 FileName = List ℕ
-
--- an Index (full) or an Index Update on its way: records of one folder
-pub record Flight : Type 0 where
-  pub folder : Folder
-  pub full : Bool
-  pub records : List Entry
 
 pub record Tables : Type 0 where
   -- the devices that share a folder, each with what it does there

@@ -4,10 +4,12 @@
 #![tactic(auto)]
 
 pub mod examples;
+mod flight;
 mod laws;
 mod reason;
 mod row;
 
+pub use flight::Flight;
 pub use laws::{
     certificate_is_unique, reasons_are_numbered, rows_rise_in_order, settled_is_calm,
     settled_is_faultless, verdict_exists, verdict_is_unique, winner_is_unique,

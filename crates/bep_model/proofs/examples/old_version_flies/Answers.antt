@@ -6,7 +6,8 @@ use Rattle.bep_record.specs.Content.{Deleted, content_of}
 use Rattle.bep_choice.specs.declared.folder_kind.FolderKind.{FolderKind}
 use Rattle.bep_choice.specs.declared.folder_kind.FolderKind.TheVariants.{SendReceive}
 use Rattle.bep_model.specs.declared.row.Row.{Row}
-use Rattle.bep_model.specs.Tables.{Tables, Device, Flight}
+use Rattle.bep_model.specs.Tables.{Tables, Device}
+use Rattle.bep_model.specs.declared.flight.Flight.{Flight}
 use Rattle.bep_model.specs.Foreign.{IsFlying}
 use Rattle.bep_model.specs.Reasons.{AsksHarmless}
 use Rattle.bep_model.specs.Examples.{folder_f, name_a, by_one, twice_by_one, deletion, link, old_link_flies, row_of}
