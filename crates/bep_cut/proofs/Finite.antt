@@ -26,7 +26,7 @@ known_is_listed cut folder name is_cut is_known =
     let here = subst (λ f. IsKnown (tables_of cut) f name) (sym held.2) is_known in
     let listed = (key_has_value (known_names cut held.0.folder) name).1 ((names_are_known cut held.0.folder name is_cut).1 here) in
     subst (λ f. Contains (all_names cut) (f, name)) held.2
-    (Contains-flat_map (names_of cut) cut.folders cut held.0 (held.0.folder, name) held.1 (Contains-image (λ n. (held.0.folder, n)) (keys (known_names cut held.0.folder)) name listed))
+    (Contains-flat_map (names_of cut) cut.folders held.0 (held.0.folder, name) held.1 (Contains-image (λ n. (held.0.folder, n)) (keys (known_names cut held.0.folder)) name listed))
 
 -- a device of a folder is one of the devices of all folders
 device_is_listed : (cut : CutParts) (folder : Folder) (share : Share) (device : Device) → IsCut cut → Contains (shares_of folder cut.folders) share → Contains (devices_of (shares_of folder cut.folders)) device → Contains (flat_map (λ held. devices_of held.shares) cut.folders) device
