@@ -1,13 +1,17 @@
 pub mod Fault
 pub mod Few
+pub mod Views
 pub mod Shares
 pub mod Folders
 pub mod Devices
+pub mod Links
 pub mod Checks
 pub mod Places
 pub mod Twice
+pub mod Unshared
 pub mod Records
 pub mod Told
 pub mod Sequences
+pub mod LinkFaults
 pub mod Reading
 pub mod Faultless

@@ -12,6 +12,8 @@ mod few;
 mod folders;
 mod judge;
 mod laws;
+mod limits;
+mod links;
 mod parts;
 #[cfg(test)]
 mod place_tests;
@@ -22,9 +24,11 @@ mod shares;
 #[cfg(test)]
 mod tests;
 mod twice;
+mod views;
 
 pub use error::DocError;
 pub use fault::{DocFault, Fault};
 pub use laws::{readings_are_faultless, tests_tell};
-pub use parts::{CheckParts, FolderParts, RowParts, ShareParts};
+pub use limits::{MAX_DEVICES, MAX_FOLDERS, MAX_PULLS};
+pub use parts::{CheckParts, FlightParts, FolderParts, LinkParts, RowParts, ShareParts, ViewParts};
 pub use read::{MAX_BYTES, read_parts};
