@@ -1,4 +1,3 @@
-pub mod FewFacts
 pub mod PlacesFacts
 pub mod SeenFacts
 pub mod RecordTests
