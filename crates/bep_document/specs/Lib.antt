@@ -7,6 +7,7 @@ pub mod Devices
 pub mod Links
 pub mod Checks
 pub mod Places
+pub mod Walks
 pub mod Twice
 pub mod Unshared
 pub mod Records

@@ -10,9 +10,11 @@ mod error;
 mod fault;
 mod few;
 mod folders;
+mod holder;
 mod judge;
 mod laws;
 mod limits;
+mod link_faults;
 mod links;
 mod parts;
 #[cfg(test)]
@@ -24,7 +26,9 @@ mod shares;
 #[cfg(test)]
 mod tests;
 mod twice;
+mod unshared;
 mod views;
+mod walks;
 
 pub use error::DocError;
 pub use fault::{DocFault, Fault};
