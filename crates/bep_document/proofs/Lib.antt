@@ -1,6 +1,7 @@
 pub mod PlacesFacts
 pub mod SeenFacts
 pub mod RecordTests
+pub mod LastFacts
 pub mod TreeFacts
 pub mod DevicesFacts
 pub mod NoFault

@@ -81,6 +81,7 @@ impl<'a> Judge<Entry> for Rising<'a> {
 }
 
 // The sequence of the last record, 0 where there is none.
+#[tactic(auto, using(crate::proofs::LastFacts::last_at_end))]
 fn last_sequence(entries: &[Entry]) -> u64
     ensures { result ≡ last_sequence 0 entries.now }
 {
