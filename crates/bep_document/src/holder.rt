@@ -2,7 +2,7 @@
 ghost use Rattle.std.specs.Prelude.{◌≡◌, IfOk, Some, None, if◌then◌else◌};
 ghost use Rattle.bep_document.specs.Fault.{at_device, at_name};
 
-use crate::{DocFault, Fault};
+use crate::{DocFault, Fault, FlightParts, FolderParts, ShareParts};
 use bep_record::{DeviceId, FolderName, Name};
 use std::alloc::{AllocError, Global};
 
@@ -16,6 +16,28 @@ pub(crate) struct Holder<'a> {
 }
 
 impl<'a> Holder<'a> {
+    // A device that shares a folder.
+    pub(crate) fn of_share(folder: &'a FolderParts, share: &ShareParts) -> Self
+        ensures folder { result.folder.now ≡ folder.now.folder }
+        ensures device { result.device ≡ share.now.device }
+    {
+        Holder {
+            folder: &folder.folder,
+            device: share.device,
+        }
+    }
+
+    // A device to which a message is on its way.
+    pub(crate) fn of_flight(flight: &'a FlightParts, receiver: DeviceId) -> Self
+        ensures folder { result.folder.now ≡ flight.now.folder }
+        ensures device { result.device ≡ receiver }
+    {
+        Holder {
+            folder: &flight.folder,
+            device: receiver,
+        }
+    }
+
     // A fault of the device.
     pub(crate) fn fault(&self, alloc: Global, fault: Fault) -> Result<DocFault, AllocError>
         ensures { IfOk result (λ found. found ≡ at_device fault self.now.folder.now self.now.device) }

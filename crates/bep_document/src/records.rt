@@ -98,10 +98,7 @@ impl JudgeShares for BadInDocument {
         _earlier: &[ShareParts],
         share: &ShareParts,
     ) -> Result<Option<DocFault>, AllocError> {
-        let at = &Holder {
-            folder: &folder.folder,
-            device: share.device,
-        };
+        let at = &Holder::of_share(folder, share);
         let judge = BadAtDevice { at };
         match first_fault(alloc, &judge, share.own.as_slice())? {
             Some(fault) => return Ok(Some(fault)),
@@ -129,10 +126,7 @@ impl JudgeFlights for BadInDocument {
         _earlier: &[FlightParts],
         flight: &FlightParts,
     ) -> Result<Option<DocFault>, AllocError> {
-        let at = &Holder {
-            folder: &flight.folder,
-            device: receiver,
-        };
+        let at = &Holder::of_flight(flight, receiver);
         first_fault(alloc, &BadAtDevice { at }, flight.records.as_slice())
     }
 }

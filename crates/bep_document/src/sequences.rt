@@ -106,10 +106,7 @@ impl JudgeShares for SequencesInCut {
         _earlier: &[ShareParts],
         share: &ShareParts,
     ) -> Result<Option<DocFault>, AllocError> {
-        let at = &Holder {
-            folder: &folder.folder,
-            device: share.device,
-        };
+        let at = &Holder::of_share(folder, share);
         match first_unnumbered(alloc, at, share.max, share.own.as_slice())? {
             Some(fault) => Ok(Some(fault)),
             None => first_fault(alloc, &SequencesAtViews { at }, share.views.as_slice()),
@@ -128,10 +125,7 @@ impl JudgeFlights for SequencesInCut {
         _earlier: &[FlightParts],
         flight: &FlightParts,
     ) -> Result<Option<DocFault>, AllocError> {
-        let at = &Holder {
-            folder: &flight.folder,
-            device: receiver,
-        };
+        let at = &Holder::of_flight(flight, receiver);
         first_fault(alloc, &Rising { at }, flight.records.as_slice())
     }
 }

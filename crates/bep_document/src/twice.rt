@@ -102,10 +102,7 @@ impl JudgeShares for TwiceInCut {
         earlier: &[ShareParts],
         share: &ShareParts,
     ) -> Result<Option<DocFault>, AllocError> {
-        let at = &Holder {
-            folder: &folder.folder,
-            device: share.device,
-        };
+        let at = &Holder::of_share(folder, share);
         if has_device(earlier, share.device) {
             let fault = at.fault(alloc, Fault::Twice)?;
             return Ok(Some(fault));
@@ -154,10 +151,7 @@ impl JudgeFlights for TwiceInCut {
         _earlier: &[FlightParts],
         flight: &FlightParts,
     ) -> Result<Option<DocFault>, AllocError> {
-        let at = &Holder {
-            folder: &flight.folder,
-            device: receiver,
-        };
+        let at = &Holder::of_flight(flight, receiver);
         first_again(alloc, at, flight.records.as_slice())
     }
 }

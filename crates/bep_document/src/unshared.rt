@@ -53,10 +53,7 @@ impl<'a> JudgeShares for UnsharedInCut<'a> {
         _earlier: &[ShareParts],
         share: &ShareParts,
     ) -> Result<Option<DocFault>, AllocError> {
-        let at = &Holder {
-            folder: &folder.folder,
-            device: share.device,
-        };
+        let at = &Holder::of_share(folder, share);
         let judge = UnsharedViews {
             at,
             devices: folder.devices.as_slice(),
