@@ -5,6 +5,8 @@
 #![tactic(auto)]
 
 mod check;
+#[cfg(test)]
+mod cut_tests;
 mod devices;
 mod error;
 mod fault;
