@@ -80,6 +80,10 @@ pub record IsFaultlessFlight (folders : List FolderParts) (link : LinkParts) (fl
   pub shared_by_a : shares folders flight.folder link.a ≡ true
   pub shared_by_b : shares folders flight.folder link.b ≡ true
 
+-- the ends of a link
+abbrev pub ends_of : LinkParts → ℕ × ℕ
+ends_of link = (link.a, link.b)
+
 -- a link
 pub record IsFaultlessLink (folders : List FolderParts) (link : LinkParts) : Type 0 where
   pub ends : link.a < link.b
@@ -101,7 +105,7 @@ pub record IsFaultless (parts : CheckParts) : Type 0 where
   pub few_devices : (devices : List ℕ) × (length devices ≤ MAX_DEVICES) × AreOf devices parts.folders
   pub different : KeysDiffer (λ folder. folder.folder) parts.folders
   pub each_folder : AllByRecursion IsFaultlessFolder parts.folders
-  pub different_links : KeysDiffer (λ link. (link.a, link.b)) parts.links
+  pub different_links : KeysDiffer ends_of parts.links
   pub each_link : AllByRecursion (IsFaultlessLink parts.folders) parts.links
   pub rows : AllByRecursion (λ row. IsWellFormed row.entry) parts.certificate
 
