@@ -1,4 +1,4 @@
--- What holds of parts in which no fault is found.
+-- What holds of parts in which no fault is found, by the five searches for one.
 use Rattle.std.proofs.Common.{◌≡◌, None}
 use Rattle.std.specs.List.{AllByRecursion}
 use Rattle.bep_document.specs.declared.parts.CheckParts.{CheckParts}

@@ -7,6 +7,7 @@ use Rattle.bep_document.specs.declared.parts.LinkParts.{LinkParts}
 use Rattle.bep_document.specs.Places.{◌else_at◌, first_in}
 use Rattle.bep_document.proofs.NoFault.{neither, all_where_none}
 
+-- each message on the link is such
 abbrev pub AllFlights : (FlightParts → Type 0) → LinkParts → Type 0
 AllFlights P link = AllByRecursion P link.to_a × AllByRecursion P link.to_b
 

@@ -42,6 +42,7 @@ good_node folder device earlier node none =
     (node_decides node.parts).0 (passes_where_none (is_node node.parts) (at_name RecordBad folder device node.name) none)
 
 -- ---- devices and folders
+-- what is good at a device
 pub record IsGoodAt (share : ShareParts) : Type 0 where
   pub own_records : AllByRecursion IsWellFormed share.own
   pub nodes : AllByRecursion (λ node. IsNode node.parts) share.store
@@ -76,6 +77,7 @@ unfolding bad_row
 good_row earlier row none = good_entry row.folder row.device [] row.entry none
 
 -- ---- the whole
+-- each record and node is good
 pub record HasAllGood (parts : CheckParts) : Type 0 where
   pub each_folder : AllByRecursion (λ folder. AllByRecursion IsGoodAt folder.devices) parts.folders
   pub each_link : AllByRecursion (AllFlights (λ flight. AllByRecursion IsWellFormed flight.records)) parts.links

@@ -8,15 +8,17 @@ use Rattle.bep_document.specs.declared.parts.CheckParts.{CheckParts}
 use Rattle.bep_document.specs.Fault.{at_link}
 use Rattle.bep_document.specs.Records.{is_empty}
 use Rattle.bep_document.specs.LinkFaults.{is_device, is_quiet, is_link_of, bad_link, first_bad_link}
+use Rattle.bep_document.specs.Faultless.{IsDeviceOf}
 use Rattle.bep_document.proofs.BoolFacts.{both_true}
 use Rattle.bep_document.proofs.NoFault.{passes_where_none, all_where_none}
 use Rattle.bep_document.proofs.RecordTests.{empty_decides}
+use Rattle.bep_document.proofs.SharedFacts.{has_some_device}
 
 -- a link that isn't bad
 pub record IsLinkOf (folders : List FolderParts) (link : LinkParts) : Type 0 where
   pub ends : link.a < link.b
-  pub a_device : is_device folders link.a ≡ true
-  pub b_device : is_device folders link.b ≡ true
+  pub a_device : IsDeviceOf folders link.a
+  pub b_device : IsDeviceOf folders link.b
   pub quiet : link.up ≡ false → (link.to_a ≡ []) × (link.to_b ≡ [])
 
 quiet_while_down : (up quiet : Bool) → (up || quiet) ≡ true → up ≡ false → quiet ≡ true
@@ -30,8 +32,8 @@ good_link folders earlier link none =
     let second = both_true (is_device folders link.b) (link.up || is_quiet link) first.1 in
     record {
       ends = ltb-true link.a link.b ends.0;
-      a_device = first.0;
-      b_device = second.0;
+      a_device = has_some_device folders link.a first.0;
+      b_device = has_some_device folders link.b second.0;
       quiet = λ down.
           let both = both_true (is_empty link.to_a) (is_empty link.to_b) (quiet_while_down link.up (is_quiet link) second.1 down) in
           ((empty_decides link.to_a).0 both.0, (empty_decides link.to_b).0 both.1);

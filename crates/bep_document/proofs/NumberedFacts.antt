@@ -30,6 +30,7 @@ good_sequence folder device greatest earlier entry none =
     let few = both_false (ltb greatest entry.sequence) _ some.1 in
     (numbered entry.sequence greatest some.0 few.0, few.1)
 
+-- the sequences of an index, as far as the greatest
 pub record AreNumbered (greatest : ℕ) (entries : List Entry) : Type 0 where
   pub within : AllByRecursion (IsNumbered greatest) entries
   pub different : KeysDiffer (λ entry. entry.sequence) entries
@@ -41,6 +42,7 @@ records_numbered folder device greatest entries none = record {
 }
 
 -- ---- devices and folders
+-- the sequences of a device's records, and of those in its views
 pub record IsNumberedAt (share : ShareParts) : Type 0 where
   pub own_records : AreNumbered share.max share.own
   pub view_records : AllByRecursion (λ view. AreNumbered view.max view.records) share.views
@@ -81,6 +83,7 @@ rising_on_link earlier link none =
     flights_where_none sequence_in_flight RisesInRange (λ device _ flight e. records_rise flight.folder device [] flight.records e) link none
 
 -- ---- the whole
+-- each index, view and message is numbered
 pub record HasAllNumbered (parts : CheckParts) : Type 0 where
   pub each_folder : AllByRecursion (λ folder. AllByRecursion IsNumberedAt folder.devices) parts.folders
   pub each_link : AllByRecursion (AllFlights RisesInRange) parts.links

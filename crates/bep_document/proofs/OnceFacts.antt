@@ -49,6 +49,7 @@ unfolding twice_at_view
 once_in_view folder device earlier view none = records_once folder device view.records (neither (view_again folder device earlier view) _ none).1
 
 -- ---- devices
+-- what doesn't stand twice at a device
 pub record IsOnceAt (share : ShareParts) : Type 0 where
   pub own_names : NamesDiffer share.own
   pub store_names : KeysDiffer (λ node. node.name) share.store
@@ -77,6 +78,7 @@ device_is_new folder earlier share none =
     fails_where_none (list_any (λ known. known.device == share.device) earlier) (at_device Twice folder share.device) (neither (device_again folder earlier share) _ none).0
 
 -- ---- folders
+-- what doesn't stand twice in a folder
 pub record IsOnceIn (folder : FolderParts) : Type 0 where
   pub different : KeysDiffer (λ share. share.device) folder.devices
   pub shares : AllByRecursion IsOnceAt folder.devices
@@ -107,6 +109,7 @@ link_is_new earlier link none =
     fails_where_none (list_any (λ known. (known.a == link.a) && (known.b == link.b)) earlier) (at_link Twice link.a) (neither (link_again earlier link) _ none).0
 
 -- ---- the whole
+-- nothing stands twice
 pub record HasNothingTwice (parts : CheckParts) : Type 0 where
   pub different_folders : KeysDiffer (λ folder. folder.folder) parts.folders
   pub each_folder : AllByRecursion IsOnceIn parts.folders

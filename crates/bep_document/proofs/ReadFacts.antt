@@ -1,5 +1,5 @@
 -- What is in range in each thing that is read.
-use Rattle.std.proofs.Common.{◌≡◌, ◌≤◌, true, false, List, [], length, codes, arith}
+use Rattle.std.proofs.Common.{◌≡◌, ◌≤◌, ℕ, true, false, List, [], length, codes, arith}
 use Rattle.std.specs.List.{AllByRecursion}
 use Rattle.bep_record.specs.declared.entry.Entry.{Entry}
 use Rattle.bep_json.specs.Reading.{read_member, read_member_or}
@@ -45,24 +45,27 @@ record_in_range d =
     skip (read_member_or (codes "blocks") (read_list read_hash) [] d) (λ hashes.
     skip (read_member_or (codes "target") read_target [] d) (λ target. made IsInRange _ within)))))))))))))
 
--- a view's greatest sequence, and how many records it has
-pub record IsViewInRange (view : ViewParts) : Type 0 where
-  pub greatest : view.max ≤ MAX_SEQUENCE
-  pub few : length view.records ≤ MAX_NAMES
+-- the greatest sequence of an index, and how many records it has
+pub record IsIndexInRange (greatest : ℕ) (entries : List Entry) : Type 0 where
+  pub within : greatest ≤ MAX_SEQUENCE
+  pub few : length entries ≤ MAX_NAMES
+
+-- what a view has
+abbrev pub IsViewInRange : ViewParts → Type 0
+IsViewInRange view = IsIndexInRange view.max view.records
 
 view_in_range : Reads IsViewInRange read_view
 unfolding read_view
 view_in_range d =
     skip (read_member (codes "of") (read_number 1 greatest_id) d) (λ of.
     skip (read_member (codes "index_id") (read_number 0 greatest_id) d) (λ index_id.
-    keep (member_read (number_read 0 MAX_SEQUENCE) (codes "max") d) (λ max greatest.
+    keep (member_read (number_read 0 MAX_SEQUENCE) (codes "max") d) (λ max within.
     keep (member_read (few_read MAX_NAMES record_in_range) (codes "records") d) (λ records few.
-    made IsViewInRange _ (record { greatest = greatest; few = few.0 })))))
+    made IsViewInRange _ (record { within = within; few = few.0 })))))
 
--- a device's greatest sequence, how many records it has and pulls, and its views
+-- what a device has and pulls
 pub record IsShareInRange (share : ShareParts) : Type 0 where
-  pub greatest : share.max ≤ MAX_SEQUENCE
-  pub few : length share.own ≤ MAX_NAMES
+  pub own : IsIndexInRange share.max share.own
   pub views : AllByRecursion IsViewInRange share.views
   pub few_pulls : length share.pulls ≤ MAX_PULLS
 
@@ -72,12 +75,12 @@ share_in_range d =
     skip (read_member (codes "device") (read_number 1 greatest_id) d) (λ device.
     skip (read_member (codes "kind") read_folder_kind d) (λ kind.
     skip (read_member (codes "index_id") (read_number 1 greatest_id) d) (λ index_id.
-    keep (member_read (number_read 0 MAX_SEQUENCE) (codes "max") d) (λ max greatest.
+    keep (member_read (number_read 0 MAX_SEQUENCE) (codes "max") d) (λ max within.
     keep (member_or_read (few_read MAX_NAMES record_in_range) (omega arith, tt) (codes "own") d) (λ own few.
     skip (read_member_or (codes "store") (read_list read_node) [] d) (λ store.
     keep (member_or_read (list_read view_in_range) tt (codes "views") d) (λ views in_range.
     keep (member_or_read (few_read MAX_PULLS record_in_range) (omega arith, tt) (codes "pulls") d) (λ pulls few_pulls.
-    made IsShareInRange _ (record { greatest = greatest; few = few.0; views = in_range; few_pulls = few_pulls.0 })))))))))
+    made IsShareInRange _ (record { own = record { within = within; few = few.0 }; views = in_range; few_pulls = few_pulls.0 })))))))))
 
 folder_in_range : Reads (λ folder. AllByRecursion IsShareInRange folder.devices) read_folder
 unfolding read_folder

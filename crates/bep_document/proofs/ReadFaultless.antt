@@ -4,10 +4,10 @@ use Rattle.std.specs.List.{AllByRecursion}
 use Rattle.serde_json.specs.Data.{Data}
 use Rattle.bep_index.specs.Batch.{NamesDiffer}
 use Rattle.bep_record.specs.Entry.{IsWellFormed}
+use Rattle.bep_record.specs.declared.entry.Entry.{Entry}
 use Rattle.bep_document.specs.declared.fault.Fault.TheVariants.{NotJson, VersionBad, Shape, Range}
 use Rattle.bep_document.specs.declared.limits.TheConstants.{MAX_DEVICES}
 use Rattle.bep_document.specs.declared.parts.ShareParts.{ShareParts}
-use Rattle.bep_document.specs.declared.parts.ViewParts.{ViewParts}
 use Rattle.bep_document.specs.declared.parts.FolderParts.{FolderParts}
 use Rattle.bep_document.specs.declared.parts.FlightParts.{FlightParts}
 use Rattle.bep_document.specs.declared.parts.LinkParts.{LinkParts}
@@ -15,8 +15,8 @@ use Rattle.bep_document.specs.declared.parts.CheckParts.{CheckParts}
 use Rattle.bep_document.specs.Checks.{has_version, is_check, read_check}
 use Rattle.bep_document.specs.Devices.{is_one_of, with_devices}
 use Rattle.bep_document.specs.Reading.{Read, is_short, tree_of, first_fault, reading_of_tree, reading_of}
-use Rattle.bep_document.specs.Faultless.{IsFaultlessView, IsFaultlessShare, IsFaultlessFolder, IsFaultlessFlight, IsFaultlessLink, IsFaultless}
-use Rattle.bep_document.proofs.DevicesKnown.{devices_known, no_more}
+use Rattle.bep_document.specs.Faultless.{IsFaultlessIndex, IsFaultlessShare, IsFaultlessFolder, IsFaultlessFlight, IsFaultlessLink, IsFaultless}
+use Rattle.bep_document.proofs.DevicesKnown.{devices_known, known_are_of, no_more}
 use Rattle.bep_document.proofs.FaultlessFacts.{HasNoFault, has_no_fault}
 use Rattle.bep_document.proofs.Flights.{AllFlights}
 use Rattle.bep_document.proofs.GoodFacts.{IsGoodAt}
@@ -24,31 +24,28 @@ use Rattle.bep_document.proofs.LinkFacts.{IsLinkOf}
 use Rattle.bep_document.proofs.NoFault.{all_map, all_both, all_four}
 use Rattle.bep_document.proofs.NumberedFacts.{AreNumbered, IsNumberedAt, RisesInRange}
 use Rattle.bep_document.proofs.OnceFacts.{IsOnceAt, IsOnceIn}
-use Rattle.bep_document.proofs.ReadFacts.{IsViewInRange, IsShareInRange, IsFlightInRange, IsLinkInRange, IsCutInRange, check_in_range}
+use Rattle.bep_document.proofs.ReadFacts.{IsIndexInRange, IsShareInRange, IsFlightInRange, IsLinkInRange, IsCutInRange, check_in_range}
 use Rattle.bep_document.proofs.SharedFacts.{AreOfOthers, IsOfBoth}
 use Rattle.bep_document.proofs.Steps.{passed_and, given_and, no_fault_and}
 
 -- ---- folders
-view_faultless : (view : ViewParts) → IsViewInRange view → NamesDiffer view.records → AllByRecursion IsWellFormed view.records → AreNumbered view.max view.records → IsFaultlessView view
-view_faultless view range names good numbered = record {
-  greatest = range.greatest;
-  records = record { few = range.few; names = names; well_formed = good; numbered = numbered.within; sequences = numbered.different };
+index_faultless : (greatest : ℕ) (entries : List Entry) → IsIndexInRange greatest entries → NamesDiffer entries → AllByRecursion IsWellFormed entries → AreNumbered greatest entries → IsFaultlessIndex greatest entries
+index_faultless greatest entries range names good numbered = record {
+  within = range.within;
+  few = range.few;
+  names = names;
+  well_formed = good;
+  numbered = numbered.within;
+  sequences = numbered.different;
 }
 
 share_faultless : (share : ShareParts) → IsShareInRange share → IsOnceAt share → IsGoodAt share → IsNumberedAt share → IsFaultlessShare share
 share_faultless share range once good numbered = record {
-  greatest = range.greatest;
-  own_records = record {
-    few = range.few;
-    names = once.own_names;
-    well_formed = good.own_records;
-    numbered = numbered.own_records.within;
-    sequences = numbered.own_records.different;
-  };
+  own_records = index_faultless share.max share.own range.own once.own_names good.own_records numbered.own_records;
   store_names = once.store_names;
   nodes = good.nodes;
   viewed = once.viewed;
-  views = all_four view_faultless share.views range.views once.view_names good.view_records numbered.view_records;
+  views = all_four (λ view. index_faultless view.max view.records) share.views range.views once.view_names good.view_records numbered.view_records;
   pulled = record {
     few = range.few_pulls;
     names = once.pull_names;
@@ -108,7 +105,7 @@ faultless parts range free =
     let flights = all_four (flights_of parts.folders) parts.links ranged free.shared.each_link free.good.each_link free.numbered.each_link in
     record {
       few_folders = range.few;
-      few_devices = (devices, few, known);
+      few_devices = (devices, few, known_are_of devices parts.folders known);
       different = free.once.different_folders;
       each_folder = all_four (folder_faultless devices few) parts.folders shares free.once.each_folder free.shared.each_folder known;
       different_links = free.once.different_links;
