@@ -4,9 +4,17 @@ pub mod RecordTests
 pub mod LastFacts
 pub mod TreeFacts
 pub mod DevicesFacts
+pub mod BoolFacts
 pub mod NoFault
+pub mod Flights
 pub mod Steps
+pub mod Readers
 pub mod ReadFacts
 pub mod DevicesKnown
+pub mod OnceFacts
+pub mod SharedFacts
+pub mod GoodFacts
+pub mod NumberedFacts
+pub mod LinkFacts
 pub mod FaultlessFacts
 pub mod ReadFaultless

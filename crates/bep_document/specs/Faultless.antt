@@ -1,14 +1,11 @@
 -- What holds of each document that is read: none of the faults is in it (this project's profile).
-use Rattle.std.specs.Prelude.{◌≡◌, ◌≢◌, ◌<◌, ◌≤◌, ℕ, true, false, ⊤, List, [], ◌∷◌, length}
+use Rattle.std.specs.Prelude.{◌≡◌, ◌≢◌, ◌<◌, ◌≤◌, ℕ, false, ⊤, List, [], ◌∷◌, length, Any, Contains}
 use Rattle.std.specs.List.{AllByRecursion}
 use Rattle.bep_record.specs.declared.entry.Entry.{Entry}
 use Rattle.bep_record.specs.Entry.{IsWellFormed}
 use Rattle.bep_record.specs.Node.{IsNode}
 use Rattle.bep_index.specs.Batch.{IsBatch, NamesDiffer}
 use Rattle.bep_index.specs.declared.limits.TheConstants.{MAX_NAMES, MAX_SEQUENCE}
-use Rattle.bep_document.specs.Devices.{is_one_of}
-use Rattle.bep_document.specs.Unshared.{has_device, shares}
-use Rattle.bep_document.specs.LinkFaults.{is_device}
 use Rattle.bep_document.specs.Reading.{Read, reading_of}
 use Rattle.bep_document.specs.declared.limits.TheConstants.{MAX_FOLDERS, MAX_DEVICES, MAX_PULLS}
 use Rattle.bep_document.specs.declared.parts.ShareParts.{ShareParts}
@@ -33,17 +30,13 @@ abbrev pub IsNumbered : ℕ → Entry → Type 0
 IsNumbered greatest entry = (1 ≤ entry.sequence) × (entry.sequence ≤ greatest)
 
 -- the records of an index, as far as this sequence
-pub record IsFaultlessIndex (greatest : ℕ) (own : List Entry) : Type 0 where
-  pub few : length own ≤ MAX_NAMES
-  pub names : NamesDiffer own
-  pub well_formed : AllByRecursion IsWellFormed own
-  pub numbered : AllByRecursion (IsNumbered greatest) own
-  pub sequences : KeysDiffer (λ entry. entry.sequence) own
-
--- a view
-pub record IsFaultlessView (view : ViewParts) : Type 0 where
-  pub greatest : view.max ≤ MAX_SEQUENCE
-  pub records : IsFaultlessIndex view.max view.records
+pub record IsFaultlessIndex (greatest : ℕ) (entries : List Entry) : Type 0 where
+  pub within : greatest ≤ MAX_SEQUENCE
+  pub few : length entries ≤ MAX_NAMES
+  pub names : NamesDiffer entries
+  pub well_formed : AllByRecursion IsWellFormed entries
+  pub numbered : AllByRecursion (IsNumbered greatest) entries
+  pub sequences : KeysDiffer (λ entry. entry.sequence) entries
 
 -- the records that a device pulls
 pub record ArePulls (pulls : List Entry) : Type 0 where
@@ -54,37 +47,52 @@ pub record ArePulls (pulls : List Entry) : Type 0 where
 
 -- a device that shares a folder
 pub record IsFaultlessShare (share : ShareParts) : Type 0 where
-  pub greatest : share.max ≤ MAX_SEQUENCE
   pub own_records : IsFaultlessIndex share.max share.own
   pub store_names : KeysDiffer (λ node. node.name) share.store
   pub nodes : AllByRecursion (λ node. IsNode node.parts) share.store
   pub viewed : KeysDiffer (λ view. view.of) share.views
-  pub views : AllByRecursion IsFaultlessView share.views
+  pub views : AllByRecursion (λ view. IsFaultlessIndex view.max view.records) share.views
   pub pulled : ArePulls share.pulls
 
+-- the device shares the folder
+abbrev pub IsSharedBy : ℕ → FolderParts → Type 0
+IsSharedBy device folder = Any (λ share. share.device ≡ device) folder.devices
+
 -- a view of another device that shares the folder
-abbrev pub IsOfAnother : List ShareParts → ShareParts → ViewParts → Type 0
-IsOfAnother devices share view = (view.of ≢ share.device) × (has_device view.of devices ≡ true)
+abbrev pub IsOfAnother : FolderParts → ShareParts → ViewParts → Type 0
+IsOfAnother folder share view = (view.of ≢ share.device) × IsSharedBy view.of folder
 
 -- a folder
 pub record IsFaultlessFolder (folder : FolderParts) : Type 0 where
   pub few : length folder.devices ≤ MAX_DEVICES
   pub different : KeysDiffer (λ share. share.device) folder.devices
   pub shares : AllByRecursion IsFaultlessShare folder.devices
-  pub views : AllByRecursion (λ share. AllByRecursion (IsOfAnother folder.devices share) share.views) folder.devices
+  pub views : AllByRecursion (λ share. AllByRecursion (IsOfAnother folder share) share.views) folder.devices
+
+-- the device shares one of the folders
+abbrev pub IsDeviceOf : List FolderParts → ℕ → Type 0
+IsDeviceOf folders device = Any (IsSharedBy device) folders
+
+-- the device shares the folder of this name
+abbrev pub SharesFolder : List FolderParts → List ℕ → ℕ → Type 0
+SharesFolder folders name device = Any (λ folder. (folder.folder ≡ name) × IsSharedBy device folder) folders
 
 -- a message on its way, of a folder that both ends of its link share
 pub record IsFaultlessFlight (folders : List FolderParts) (link : LinkParts) (flight : FlightParts) : Type 0 where
   pub batch : IsBatch flight.records
   pub well_formed : AllByRecursion IsWellFormed flight.records
-  pub shared_by_a : shares folders flight.folder link.a ≡ true
-  pub shared_by_b : shares folders flight.folder link.b ≡ true
+  pub shared_by_a : SharesFolder folders flight.folder link.a
+  pub shared_by_b : SharesFolder folders flight.folder link.b
+
+-- the ends of a link
+abbrev pub ends_of : LinkParts → ℕ × ℕ
+ends_of link = (link.a, link.b)
 
 -- a link
 pub record IsFaultlessLink (folders : List FolderParts) (link : LinkParts) : Type 0 where
   pub ends : link.a < link.b
-  pub a_device : is_device folders link.a ≡ true
-  pub b_device : is_device folders link.b ≡ true
+  pub a_device : IsDeviceOf folders link.a
+  pub b_device : IsDeviceOf folders link.b
   pub epoch : link.epoch ≤ MAX_SEQUENCE
   pub quiet : link.up ≡ false → (link.to_a ≡ []) × (link.to_b ≡ [])
   pub to_a : AllByRecursion (IsFaultlessFlight folders link) link.to_a
@@ -93,7 +101,7 @@ pub record IsFaultlessLink (folders : List FolderParts) (link : LinkParts) : Typ
 -- each device that shares a folder is one of these
 abbrev pub AreOf : List ℕ → List FolderParts → Type 0
 AreOf devices folders =
-    AllByRecursion (λ folder. AllByRecursion (λ share. is_one_of devices share.device ≡ true) folder.devices) folders
+    AllByRecursion (λ folder. AllByRecursion (λ share. Contains devices share.device) folder.devices) folders
 
 -- the cut and its certificate
 pub record IsFaultless (parts : CheckParts) : Type 0 where
@@ -101,7 +109,7 @@ pub record IsFaultless (parts : CheckParts) : Type 0 where
   pub few_devices : (devices : List ℕ) × (length devices ≤ MAX_DEVICES) × AreOf devices parts.folders
   pub different : KeysDiffer (λ folder. folder.folder) parts.folders
   pub each_folder : AllByRecursion IsFaultlessFolder parts.folders
-  pub different_links : KeysDiffer (λ link. (link.a, link.b)) parts.links
+  pub different_links : KeysDiffer ends_of parts.links
   pub each_link : AllByRecursion (IsFaultlessLink parts.folders) parts.links
   pub rows : AllByRecursion (λ row. IsWellFormed row.entry) parts.certificate
 
