@@ -1,6 +1,6 @@
 -- The reading of a check document: what its bytes say, or the one fault for which it is refused. The smallest number
 -- that applies is told, at its first place (this project's profile).
-use Rattle.std.specs.Prelude.{◌≡◌, ℕ, nat_le, Bool, ⊤, List, [], length, Option, Some, None, Result, Ok, Err, if◌then◌else◌}
+use Rattle.std.specs.Prelude.{◌≡◌, ℕ, nat_le, Bool, ⊤, List, length, Option, Some, None, Result, Ok, Err, if◌then◌else◌}
 use Rattle.std.specs.Str.{is_utf8}
 use Rattle.serde_json.specs.Data.{Data}
 use Rattle.serde_json.specs.Read as json
