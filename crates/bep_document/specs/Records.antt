@@ -19,6 +19,7 @@ use Rattle.bep_document.specs.declared.parts.RowParts.{RowParts}
 use Rattle.bep_document.specs.declared.parts.CheckParts.{CheckParts}
 use Rattle.bep_document.specs.Fault.{at_name}
 use Rattle.bep_document.specs.Places.{◌else_at◌, first_in}
+use Rattle.bep_document.specs.Walks.{at_shares, on_link}
 
 -- there is nothing in the list
 abbrev pub is_empty : {A : Type 0} → List A → Bool
@@ -92,7 +93,7 @@ bad_at_share folder earlier share =
 
 -- what is bad at the devices of a folder
 unfoldable pub bad_at_folder : List FolderParts → FolderParts → Option DocFault
-bad_at_folder earlier folder = first_in (bad_at_share folder.folder) [] folder.devices
+bad_at_folder = at_shares (λ folder. bad_at_share folder.folder)
 
 -- a record in what is on its way to the device isn't well formed
 abbrev pub bad_in_flight : ℕ → List FlightParts → FlightParts → Option DocFault
@@ -100,8 +101,7 @@ bad_in_flight device earlier flight = first_in (bad_entry flight.folder device) 
 
 -- what is bad on a link
 unfoldable pub bad_at_link : List LinkParts → LinkParts → Option DocFault
-bad_at_link earlier link =
-    first_in (bad_in_flight link.a) [] link.to_a else_at first_in (bad_in_flight link.b) [] link.to_b
+bad_at_link = on_link (λ _. bad_in_flight)
 
 -- the row's record isn't well formed
 unfoldable pub bad_row : List RowParts → RowParts → Option DocFault

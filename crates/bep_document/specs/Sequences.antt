@@ -13,6 +13,7 @@ use Rattle.bep_document.specs.declared.parts.LinkParts.{LinkParts}
 use Rattle.bep_document.specs.declared.parts.CheckParts.{CheckParts}
 use Rattle.bep_document.specs.Fault.{at_name}
 use Rattle.bep_document.specs.Places.{◌else_at◌, first_in}
+use Rattle.bep_document.specs.Walks.{at_shares, on_link}
 
 -- the sequence is 0, above the greatest, or that of an earlier record
 abbrev pub is_bad_sequence : ℕ → List Entry → Entry → Bool
@@ -41,7 +42,7 @@ sequence_at_share folder earlier share =
 
 -- such a record of a folder's devices
 unfoldable pub sequence_at_folder : List FolderParts → FolderParts → Option DocFault
-sequence_at_folder earlier folder = first_in (sequence_at_share folder.folder) [] folder.devices
+sequence_at_folder = at_shares (λ folder. sequence_at_share folder.folder)
 
 -- the record's sequence isn't above that of the record before it, or above 0 if it is the first
 abbrev pub bad_next : List ℕ → ℕ → List Entry → Entry → Option DocFault
@@ -54,8 +55,7 @@ sequence_in_flight device earlier flight = first_in (bad_next flight.folder devi
 
 -- such a record on a link
 unfoldable pub sequence_at_link : List LinkParts → LinkParts → Option DocFault
-sequence_at_link earlier link =
-    first_in (sequence_in_flight link.a) [] link.to_a else_at first_in (sequence_in_flight link.b) [] link.to_b
+sequence_at_link = on_link (λ _. sequence_in_flight)
 
 -- such a record in the folders, or else on the links
 unfoldable pub first_bad_sequence : CheckParts → Option DocFault

@@ -13,6 +13,7 @@ use Rattle.bep_document.specs.declared.parts.LinkParts.{LinkParts}
 use Rattle.bep_document.specs.declared.parts.CheckParts.{CheckParts}
 use Rattle.bep_document.specs.Fault.{at_folder, at_device, at_name, at_link}
 use Rattle.bep_document.specs.Places.{◌else_at◌, first_in}
+use Rattle.bep_document.specs.Walks.{at_shares, on_link}
 
 -- the item's name is that of an earlier one
 abbrev pub name_again : {A : Type 0} → (A → List ℕ) → List ℕ → ℕ → List A → A → Option DocFault
@@ -60,7 +61,7 @@ twice_at_share folder earlier share =
 -- what stands twice at a folder: the folder itself, or something at one of its devices
 unfoldable pub twice_at_folder : List FolderParts → FolderParts → Option DocFault
 twice_at_folder earlier folder =
-    folder_again earlier folder else_at first_in (twice_at_share folder.folder) [] folder.devices
+    folder_again earlier folder else_at at_shares (λ f. twice_at_share f.folder) earlier folder
 
 -- a name stands twice in what is on its way to the device
 abbrev pub twice_in_flight : ℕ → List FlightParts → FlightParts → Option DocFault
@@ -68,10 +69,7 @@ twice_in_flight device earlier flight = twice_in_records flight.folder device fl
 
 -- what stands twice at a link: the link itself, or a name in what is on its way
 unfoldable pub twice_at_link : List LinkParts → LinkParts → Option DocFault
-twice_at_link earlier link =
-    link_again earlier link
-    else_at (first_in (twice_in_flight link.a) [] link.to_a
-    else_at first_in (twice_in_flight link.b) [] link.to_b)
+twice_at_link earlier link = link_again earlier link else_at on_link (λ _. twice_in_flight) earlier link
 
 -- what stands twice in the folders, or else among the links
 unfoldable pub first_twice : CheckParts → Option DocFault

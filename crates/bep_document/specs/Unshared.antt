@@ -12,6 +12,7 @@ use Rattle.bep_document.specs.declared.parts.LinkParts.{LinkParts}
 use Rattle.bep_document.specs.declared.parts.CheckParts.{CheckParts}
 use Rattle.bep_document.specs.Fault.{at_device}
 use Rattle.bep_document.specs.Places.{◌else_at◌, first_in}
+use Rattle.bep_document.specs.Walks.{at_shares, on_link}
 
 -- one of these is the device
 abbrev pub has_device : ℕ → List ShareParts → Bool
@@ -32,7 +33,7 @@ unshared_at_share folder devices earlier share = first_in (bad_view folder devic
 
 -- such a view at a folder
 unfoldable pub unshared_at_folder : List FolderParts → FolderParts → Option DocFault
-unshared_at_folder earlier folder = first_in (unshared_at_share folder.folder folder.devices) [] folder.devices
+unshared_at_folder = at_shares (λ folder. unshared_at_share folder.folder folder.devices)
 
 -- what is on its way to the device is of a folder that the ends of the link don't both share
 abbrev pub bad_flight : List FolderParts → LinkParts → ℕ → List FlightParts → FlightParts → Option DocFault
@@ -41,8 +42,7 @@ bad_flight folders link device earlier flight =
 
 -- such a message on a link
 unfoldable pub unshared_at_link : List FolderParts → List LinkParts → LinkParts → Option DocFault
-unshared_at_link folders earlier link =
-    first_in (bad_flight folders link link.a) [] link.to_a else_at first_in (bad_flight folders link link.b) [] link.to_b
+unshared_at_link folders = on_link (bad_flight folders)
 
 -- such a view in the folders, or else such a message on the links
 unfoldable pub first_unshared : CheckParts → Option DocFault
