@@ -1,12 +1,14 @@
 -- The known devices have each device of each folder, so a folder has no more devices than are known.
-use Rattle.std.proofs.Common.{◌≡◌, ◌≢◌, ◌≤◌, ℕ, suc, ◌++◌, ◌==◌, ◌||◌, Bool, true, false, if◌then◌else◌, List, [], ◌∷◌, length, map, refl, ap, sym, ◌∙◌, arith}
+use Rattle.std.proofs.Common.{◌≡◌, ◌≢◌, ◌≤◌, ℕ, suc, ◌++◌, ◌==◌, ◌||◌, Bool, true, false, if◌then◌else◌, List, [], ◌∷◌, length, map, slice_index_or, Contains, refl, ap, sym, subst, ◌∙◌, arith}
 use Rattle.std.specs.List.{AllByRecursion}
+use Rattle.std.proofs.lemmas.Bool.{eqb-true}
 use Rattle.std.proofs.lemmas.Bool.Decides.{Decides-eqb}
 use Rattle.std.proofs.lemmas.List.Folds.{list_any-append}
 use Rattle.bep_document.specs.Devices.{is_one_of, with_others, with_devices}
 use Rattle.bep_document.specs.Faultless.{HasNoKey, KeysDiffer, AreOf}
 use Rattle.bep_document.specs.declared.parts.ShareParts.{ShareParts}
 use Rattle.bep_document.specs.declared.parts.FolderParts.{FolderParts}
+use Rattle.bep_document.proofs.BoolFacts.{some_passes}
 use Rattle.bep_document.proofs.NoFault.{all_map}
 
 or_left : (a b : Bool) → a ≡ true → (a || b) ≡ true
@@ -48,11 +50,25 @@ devices_kept known (folder ∷ more) q e =
     let numbers = map (λ (s : ShareParts). s.device) folder.devices in
     devices_kept (with_others known numbers) more q (others_kept known numbers q e)
 
-pub devices_known : (known : List ℕ) (folders : List FolderParts) → AreOf (with_devices known folders) folders
+-- each device that shares a folder is one of these, as a test
+abbrev pub AreKnown : List ℕ → List FolderParts → Type 0
+AreKnown known folders =
+    AllByRecursion (λ folder. AllByRecursion (λ share. is_one_of known share.device ≡ true) folder.devices) folders
+
+pub devices_known : (known : List ℕ) (folders : List FolderParts) → AreKnown (with_devices known folders) folders
 devices_known known [] = tt
 devices_known known (folder ∷ more) =
     let next = with_others known (map (λ (s : ShareParts). s.device) folder.devices) in
     (all_map (λ share e. devices_kept next more share.device e) folder.devices (others_known known folder.devices), devices_known next more)
+
+one_of : (numbers : List ℕ) (n : ℕ) → is_one_of numbers n ≡ true → Contains numbers n
+one_of numbers n e =
+    let found = some_passes (λ m. m == n) (λ m is. eqb-true m n is) numbers e in
+    (found.0, found.2, subst (λ m. slice_index_or numbers found.0 m ≡ m) found.4 found.3)
+
+pub known_are_of : (known : List ℕ) (folders : List FolderParts) → AreKnown known folders → AreOf known folders
+known_are_of known folders all =
+    all_map (λ folder each. all_map (λ share told. one_of known share.device told) folder.devices each) folders all
 
 -- the list without the first such number
 without : ℕ → List ℕ → List ℕ

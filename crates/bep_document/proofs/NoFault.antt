@@ -1,10 +1,11 @@
 -- What follows for a list in which there is no first fault.
-use Rattle.std.proofs.Common.{◌≡◌, ◌≢◌, ◌||◌, Bool, true, false, if◌then◌else◌, List, [], ◌∷◌, ◌++◌, Decides, Option, Some, None, refl, sym, ◌∙◌}
+use Rattle.std.proofs.Common.{◌≡◌, ◌≢◌, Bool, true, false, if◌then◌else◌, List, [], ◌∷◌, ◌++◌, Decides, Option, Some, None, refl, sym, ◌∙◌}
 use Rattle.std.specs.List.{list_any, AllByRecursion}
 use Rattle.std.proofs.lemmas.List.Folds.{list_any-append}
 use Rattle.bep_document.specs.declared.fault.DocFault.{DocFault}
 use Rattle.bep_document.specs.Places.{◌else_at◌, first_in}
 use Rattle.bep_document.specs.Faultless.{HasNoKey, KeysDiffer}
+use Rattle.bep_document.proofs.BoolFacts.{both_false}
 
 pub neither : (a b : Option DocFault) → (a else_at b) ≡ None → (a ≡ None) × (b ≡ None)
 neither None b e = (refl, e)
@@ -25,9 +26,14 @@ pub all_map : {A : Type 0} {P Q : A → Type 0} → ((x : A) → P x → Q x) �
 all_map each [] all = tt
 all_map each (x ∷ more) all = (each x all.0, all_map each more all.1)
 
+-- what each item is by two facts about it, and by four
 pub all_both : {A : Type 0} {P Q R : A → Type 0} → ((x : A) → P x → Q x → R x) → (xs : List A) → AllByRecursion P xs → AllByRecursion Q xs → AllByRecursion R xs
-all_both each [] all every = tt
-all_both each (x ∷ more) all every = (each x all.0 every.0, all_both each more all.1 every.1)
+all_both each [] p q = tt
+all_both each (x ∷ more) p q = (each x p.0 q.0, all_both each more p.1 q.1)
+
+pub all_four : {A : Type 0} {P Q R S T : A → Type 0} → ((x : A) → P x → Q x → R x → S x → T x) → (xs : List A) → AllByRecursion P xs → AllByRecursion Q xs → AllByRecursion R xs → AllByRecursion S xs → AllByRecursion T xs
+all_four each [] p q r s = tt
+all_four each (x ∷ more) p q r s = (each x p.0 q.0 r.0 s.0, all_four each more p.1 q.1 r.1 s.1)
 
 -- what each item without fault is
 pub all_where_none : {A : Type 0} (f : List A → A → Option DocFault) (P : A → Type 0) → ((earlier : List A) (x : A) → f earlier x ≡ None → P x) → (earlier xs : List A) → first_in f earlier xs ≡ None → AllByRecursion P xs
@@ -36,20 +42,14 @@ all_where_none f P each earlier (x ∷ more) none =
     let both = neither (f earlier x) (first_in f (earlier ++ x ∷ []) more) none in
     (each earlier x both.0, all_where_none f P each (earlier ++ x ∷ []) more both.1)
 
-neither_of : (a b : Bool) → (a || b) ≡ false → (a ≡ false) × (b ≡ false)
-neither_of true b e = (e, absurd (different e)) where
-  different : true ≡ false → ⊥
-  different d = cc
-neither_of false b e = (refl, e)
-
 -- the key of an item isn't that of an earlier one
 abbrev IsNew : {A K : Type 0} → (K → K → Bool) → (A → K) → List A → A → Type 0
 IsNew same key earlier x = list_any (λ known. same (key known) (key x)) earlier ≡ false
 
 apart : {A K : Type 0} (same : K → K → Bool) (key : A → K) (earlier : List A) (x y : A) → IsNew same key (earlier ++ x ∷ []) y → IsNew same key earlier y × (same (key x) (key y) ≡ false)
 apart same key earlier x y new =
-    let split = neither_of _ _ (sym (list_any-append (λ known. same (key known) (key y)) earlier (x ∷ [])) ∙ new) in
-    (split.0, (neither_of (same (key x) (key y)) false split.1).0)
+    let split = both_false _ _ (sym (list_any-append (λ known. same (key known) (key y)) earlier (x ∷ [])) ∙ new) in
+    (split.0, (both_false (same (key x) (key y)) false split.1).0)
 
 new_where_none : {A K : Type 0} (same : K → K → Bool) (key : A → K) (f : List A → A → Option DocFault) → ((earlier : List A) (x : A) → f earlier x ≡ None → IsNew same key earlier x) → (earlier xs : List A) → first_in f earlier xs ≡ None → AllByRecursion (IsNew same key earlier) xs
 new_where_none same key f each earlier [] none = tt

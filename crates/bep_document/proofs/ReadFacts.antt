@@ -1,125 +1,145 @@
 -- What is in range in each thing that is read.
-use Rattle.std.proofs.Common.{◌≡◌, ◌≤◌, ℕ, true, List, [], length, codes, Option, Some, None, ap, subst, arith}
+use Rattle.std.proofs.Common.{◌≡◌, ◌≤◌, ℕ, true, false, List, [], length, codes, arith}
 use Rattle.std.specs.List.{AllByRecursion}
-use Rattle.serde_json.specs.Data.{Data}
-use Rattle.serde_json.specs.Find.{get}
-use Rattle.bep_choice.specs.declared.folder_kind.FolderKind.{FolderKind}
 use Rattle.bep_record.specs.declared.entry.Entry.{Entry}
-use Rattle.bep_json.specs.declared.nodes.NamedParts.{NamedParts}
-use Rattle.bep_json.specs.Reading.{◌>>=◌, read_member, read_member_or}
-use Rattle.bep_json.specs.Lists.{read_list}
+use Rattle.bep_json.specs.Reading.{read_member, read_member_or}
+use Rattle.bep_json.specs.Lists.{read_version, read_list}
 use Rattle.bep_json.specs.Nodes.{read_node}
-use Rattle.bep_json.specs.Numbers.{read_number, greatest_id}
-use Rattle.bep_json.specs.Records.{read_record}
-use Rattle.bep_json.specs.Texts.{read_folder_name}
-use Rattle.bep_index.specs.declared.limits.TheConstants.{MAX_NAMES, MAX_SEQUENCE}
+use Rattle.bep_json.specs.Numbers.{read_number, read_signed, read_flag, read_kind, greatest_id}
+use Rattle.bep_json.specs.Records.{read_record, default_block_size}
+use Rattle.bep_json.specs.Texts.{read_name, read_target, read_hash, read_folder_name}
+use Rattle.bep_index.specs.declared.limits.TheConstants.{MAX_NAMES, MAX_RECORDS, MAX_SEQUENCE}
+use Rattle.bep_document.specs.declared.limits.TheConstants.{MAX_FOLDERS, MAX_PULLS}
 use Rattle.bep_document.specs.declared.parts.ShareParts.{ShareParts}
+use Rattle.bep_document.specs.declared.parts.ViewParts.{ViewParts}
 use Rattle.bep_document.specs.declared.parts.FolderParts.{FolderParts}
-use Rattle.bep_document.specs.declared.parts.RowParts.{RowParts}
-use Rattle.bep_document.specs.declared.parts.CheckParts.{CheckParts}
-use Rattle.bep_document.specs.Checks.{most_folders, read_cut, read_check, if_few_devices}
+use Rattle.bep_document.specs.declared.parts.FlightParts.{FlightParts}
+use Rattle.bep_document.specs.declared.parts.LinkParts.{LinkParts}
+use Rattle.bep_document.specs.Checks.{read_cut, read_check}
 use Rattle.bep_document.specs.Devices.{has_few_devices}
-use Rattle.bep_document.specs.Few.{read_few}
 use Rattle.bep_document.specs.Folders.{read_folder, read_row}
+use Rattle.bep_document.specs.Links.{read_flight, read_link}
 use Rattle.bep_document.specs.Shares.{read_share, read_folder_kind}
-use Rattle.bep_document.proofs.Steps.{both_gave, passes, all_read, few_read, read_or_default, number_read}
+use Rattle.bep_document.specs.Views.{read_view}
+use Rattle.bep_document.proofs.Steps.{made, keep, skip, tested}
+use Rattle.bep_document.proofs.Readers.{Reads, number_read, list_read, few_read, member_read, member_or_read}
 
--- a device's greatest sequence, and how many records it has
-pub record IsInRange (share : ShareParts) : Type 0 where
-  pub greatest : share.max ≤ MAX_SEQUENCE
-  pub few : length share.own ≤ MAX_NAMES
+-- a record's sequence
+abbrev pub IsInRange : Entry → Type 0
+IsInRange entry = entry.sequence ≤ MAX_SEQUENCE
 
-nothing : {T : Type 0} {P : Type 0} (x : T) → None ≡ Some x → P
-nothing x e = absurd (different e) where
-  different : None ≡ Some x → ⊥
-  different d = cc
+record_in_range : Reads IsInRange read_record
+unfolding read_record
+record_in_range d =
+    skip (read_member (codes "name") read_name d) (λ name.
+    skip (read_member (codes "type") read_kind d) (λ kind.
+    skip (read_member (codes "modified_s") read_signed d) (λ modified_s.
+    skip (read_member (codes "modified_by") (read_number 1 greatest_id) d) (λ modified_by.
+    skip (read_member (codes "version") read_version d) (λ version.
+    keep (member_read (number_read 0 MAX_SEQUENCE) (codes "sequence") d) (λ sequence within.
+    skip (read_member_or (codes "size") (read_number 0 16777216) 0 d) (λ size.
+    skip (read_member_or (codes "modified_ns") (read_number 0 999999999) 0 d) (λ modified_ns.
+    skip (read_member_or (codes "deleted") read_flag false d) (λ deleted.
+    skip (read_member_or (codes "invalid") read_flag false d) (λ invalid.
+    skip (read_member_or (codes "block_size") (read_number 0 4294967295) (default_block_size kind deleted) d) (λ block_size.
+    skip (read_member_or (codes "blocks") (read_list read_hash) [] d) (λ hashes.
+    skip (read_member_or (codes "target") read_target [] d) (λ target. made IsInRange _ within)))))))))))))
 
--- the parts of a device that matter here
-share_made : (a : Option ℕ) (b : Option FolderKind) (c : Option ℕ) (m : Option ℕ) (o : Option (List Entry)) (s : Option (List NamedParts)) (share : ShareParts) → (do
-  device ← a
-  kind ← b
-  index_id ← c
-  max ← m
-  own ← o
-  store ← s
-  Some (record { device = device; kind = kind; index_id = index_id; max = max; own = own; store = store })) ≡ Some share → (m ≡ Some share.max) × (o ≡ Some share.own)
-share_made None b c m o s share e = nothing share e
-share_made (Some device) None c m o s share e = nothing share e
-share_made (Some device) (Some kind) None m o s share e = nothing share e
-share_made (Some device) (Some kind) (Some index_id) None o s share e = nothing share e
-share_made (Some device) (Some kind) (Some index_id) (Some max) None s share e = nothing share e
-share_made (Some device) (Some kind) (Some index_id) (Some max) (Some own) None share e = nothing share e
-share_made (Some device) (Some kind) (Some index_id) (Some max) (Some own) (Some store) share e =
-    let made : ShareParts = record { device = device; kind = kind; index_id = index_id; max = max; own = own; store = store } in
-    let same : made ≡ share = cc in
-    (ap (λ (x : ShareParts). Some x.max) same, ap (λ (x : ShareParts). Some x.own) same)
+-- the greatest sequence of an index, and how many records it has
+pub record IsIndexInRange (greatest : ℕ) (entries : List Entry) : Type 0 where
+  pub within : greatest ≤ MAX_SEQUENCE
+  pub few : length entries ≤ MAX_NAMES
 
-member_number : (high : ℕ) (name : List ℕ) (d : Data) (n : ℕ) → read_member name (read_number 0 high) d ≡ Some n → n ≤ high
-member_number high name d n e =
-    let found = both_gave (get name d) (read_number 0 high) n e in
-    number_read 0 high found.0 n found.2
+-- what a view has
+abbrev pub IsViewInRange : ViewParts → Type 0
+IsViewInRange view = IsIndexInRange view.max view.records
 
-few_records : (d : Data) (own : List Entry) → read_member_or (codes "own") (read_few MAX_NAMES read_record) [] d ≡ Some own → length own ≤ MAX_NAMES
-few_records d own e =
-    read_or_default (read_few MAX_NAMES read_record) (λ records. length records ≤ MAX_NAMES) (λ value records is. (few_read MAX_NAMES read_record value records is).1) [] (omega arith) (get (codes "own") d) own e
+view_in_range : Reads IsViewInRange read_view
+unfolding read_view
+view_in_range d =
+    skip (read_member (codes "of") (read_number 1 greatest_id) d) (λ of.
+    skip (read_member (codes "index_id") (read_number 0 greatest_id) d) (λ index_id.
+    keep (member_read (number_read 0 MAX_SEQUENCE) (codes "max") d) (λ max within.
+    keep (member_read (few_read MAX_NAMES record_in_range) (codes "records") d) (λ records few.
+    made IsViewInRange _ (record { within = within; few = few.0 })))))
 
-pub share_in_range : (d : Data) (share : ShareParts) → read_share d ≡ Some share → IsInRange share
+-- what a device has and pulls
+pub record IsShareInRange (share : ShareParts) : Type 0 where
+  pub own : IsIndexInRange share.max share.own
+  pub views : AllByRecursion IsViewInRange share.views
+  pub few_pulls : length share.pulls ≤ MAX_PULLS
+
+share_in_range : Reads IsShareInRange read_share
 unfolding read_share
-share_in_range d share e =
-    let made = share_made (read_member (codes "device") (read_number 1 greatest_id) d) (read_member (codes "kind") read_folder_kind d) (read_member (codes "index_id") (read_number 1 greatest_id) d) (read_member (codes "max") (read_number 0 9223372036854775807) d) (read_member_or (codes "own") (read_few MAX_NAMES read_record) [] d) (read_member_or (codes "store") (read_list read_node) [] d) share e in
-    record { greatest = member_number 9223372036854775807 (codes "max") d share.max made.0; few = few_records d share.own made.1 }
+share_in_range d =
+    skip (read_member (codes "device") (read_number 1 greatest_id) d) (λ device.
+    skip (read_member (codes "kind") read_folder_kind d) (λ kind.
+    skip (read_member (codes "index_id") (read_number 1 greatest_id) d) (λ index_id.
+    keep (member_read (number_read 0 MAX_SEQUENCE) (codes "max") d) (λ max within.
+    keep (member_or_read (few_read MAX_NAMES record_in_range) (omega arith, tt) (codes "own") d) (λ own few.
+    skip (read_member_or (codes "store") (read_list read_node) [] d) (λ store.
+    keep (member_or_read (list_read view_in_range) tt (codes "views") d) (λ views in_range.
+    keep (member_or_read (few_read MAX_PULLS record_in_range) (omega arith, tt) (codes "pulls") d) (λ pulls few_pulls.
+    made IsShareInRange _ (record { own = record { within = within; few = few.0 }; views = in_range; few_pulls = few_pulls.0 })))))))))
 
-folder_made : (a : Option (List ℕ)) (b : Option (List ShareParts)) (folder : FolderParts) → (do
-  name ← a
-  devices ← b
-  Some (record { folder = name; devices = devices })) ≡ Some folder → b ≡ Some folder.devices
-folder_made None b folder e = nothing folder e
-folder_made (Some name) None folder e = nothing folder e
-folder_made (Some name) (Some devices) folder e =
-    let made : FolderParts = record { folder = name; devices = devices } in
-    let same : made ≡ folder = cc in
-    ap (λ (x : FolderParts). Some x.devices) same
-
-pub folder_in_range : (d : Data) (folder : FolderParts) → read_folder d ≡ Some folder → AllByRecursion IsInRange folder.devices
+folder_in_range : Reads (λ folder. AllByRecursion IsShareInRange folder.devices) read_folder
 unfolding read_folder
-folder_in_range d folder e =
-    let devices = folder_made (read_member (codes "folder") read_folder_name d) (read_member (codes "devices") (read_list read_share) d) folder e in
-    let found = both_gave (get (codes "devices") d) (read_list read_share) folder.devices devices in
-    all_read read_share IsInRange share_in_range found.0 folder.devices found.2
+folder_in_range d =
+    skip (read_member (codes "folder") read_folder_name d) (λ name.
+    keep (member_read (list_read share_in_range) (codes "devices") d) (λ devices in_range.
+    made (λ folder. AllByRecursion IsShareInRange folder.devices) _ in_range))
 
--- the folders of a cut
-pub record AreInRange (folders : List FolderParts) : Type 0 where
-  pub few : length folders ≤ most_folders
+-- how many records a message has, and their sequences
+pub record IsFlightInRange (flight : FlightParts) : Type 0 where
+  pub few : length flight.records ≤ MAX_RECORDS
+  pub sequences : AllByRecursion IsInRange flight.records
+
+flight_in_range : Reads IsFlightInRange read_flight
+unfolding read_flight
+flight_in_range d =
+    skip (read_member (codes "folder") read_folder_name d) (λ folder.
+    skip (read_member (codes "full") read_flag d) (λ full.
+    keep (member_read (few_read MAX_RECORDS record_in_range) (codes "records") d) (λ records in_range.
+    made IsFlightInRange _ (record { few = in_range.0; sequences = in_range.1 }))))
+
+-- a link's epoch, and what is on its way
+pub record IsLinkInRange (link : LinkParts) : Type 0 where
+  pub epoch : link.epoch ≤ MAX_SEQUENCE
+  pub to_a : AllByRecursion IsFlightInRange link.to_a
+  pub to_b : AllByRecursion IsFlightInRange link.to_b
+
+link_in_range : Reads IsLinkInRange read_link
+unfolding read_link
+link_in_range d =
+    skip (read_member (codes "a") (read_number 1 greatest_id) d) (λ a.
+    skip (read_member (codes "b") (read_number 1 greatest_id) d) (λ b.
+    skip (read_member (codes "up") read_flag d) (λ up.
+    keep (member_read (number_read 0 MAX_SEQUENCE) (codes "epoch") d) (λ epoch within.
+    keep (member_or_read (list_read flight_in_range) tt (codes "to_a") d) (λ to_a first.
+    keep (member_or_read (list_read flight_in_range) tt (codes "to_b") d) (λ to_b second.
+    made IsLinkInRange _ (record { epoch = within; to_a = first; to_b = second })))))))
+
+-- the folders and the links of a cut
+pub record IsCutInRange (folders : List FolderParts) (links : List LinkParts) : Type 0 where
+  pub few : length folders ≤ MAX_FOLDERS
   pub few_devices : has_few_devices folders ≡ true
-  pub shares : AllByRecursion (λ folder. AllByRecursion IsInRange folder.devices) folders
+  pub shares : AllByRecursion (λ folder. AllByRecursion IsShareInRange folder.devices) folders
+  pub links_in_range : AllByRecursion IsLinkInRange links
 
-pub cut_in_range : (d : Data) (folders : List FolderParts) → read_cut d ≡ Some folders → AreInRange folders
+cut_in_range : Reads (λ cut. IsCutInRange cut.0 cut.1) read_cut
 unfolding read_cut
-cut_in_range d folders e =
-    let read = both_gave (read_member (codes "folders") (read_few most_folders read_folder) d) if_few_devices folders e in
-    let few = passes (has_few_devices read.0) read.0 folders read.2 in
-    let found = both_gave (get (codes "folders") d) (read_few most_folders read_folder) read.0 read.1 in
-    let listed = few_read most_folders read_folder found.0 read.0 found.2 in
-    subst AreInRange few.1 (record {
-      few = listed.1;
-      few_devices = few.0;
-      shares = all_read read_folder (λ folder. AllByRecursion IsInRange folder.devices) folder_in_range found.0 read.0 listed.0;
-    })
+cut_in_range d =
+    keep (member_read (few_read MAX_FOLDERS folder_in_range) (codes "folders") d) (λ folders in_range.
+    keep (tested IsFewAndInRange (has_few_devices folders) folders (λ few. (few, in_range.0, in_range.1))) (λ few range.
+    keep (member_or_read (list_read link_in_range) tt (codes "links") d) (λ links within.
+    made (λ cut. IsCutInRange cut.0 cut.1) _ (record { few = range.1; few_devices = range.0; shares = range.2; links_in_range = within })))) where
+      IsFewAndInRange : List FolderParts → Type 0
+      IsFewAndInRange folders =
+          (has_few_devices folders ≡ true) × (length folders ≤ MAX_FOLDERS) × AllByRecursion (λ folder. AllByRecursion IsShareInRange folder.devices) folders
 
-check_made : (a : Option (List FolderParts)) (b : Option (List RowParts)) (parts : CheckParts) → (do
-  folders ← a
-  certificate ← b
-  Some (record { folders = folders; certificate = certificate })) ≡ Some parts → a ≡ Some parts.folders
-check_made None b parts e = nothing parts e
-check_made (Some folders) None parts e = nothing parts e
-check_made (Some folders) (Some certificate) parts e =
-    let made : CheckParts = record { folders = folders; certificate = certificate } in
-    let same : made ≡ parts = cc in
-    ap (λ (x : CheckParts). Some x.folders) same
-
-pub check_in_range : (d : Data) (parts : CheckParts) → read_check d ≡ Some parts → AreInRange parts.folders
+pub check_in_range : Reads (λ parts. IsCutInRange parts.folders parts.links) read_check
 unfolding read_check
-check_in_range d parts e =
-    let cut = check_made (read_member (codes "cut") read_cut d) (read_member (codes "certificate") (read_list read_row) d) parts e in
-    let found = both_gave (get (codes "cut") d) read_cut parts.folders cut in
-    cut_in_range found.0 parts.folders found.2
+check_in_range d =
+    keep (member_read cut_in_range (codes "cut") d) (λ cut in_range.
+    skip (read_member (codes "certificate") (read_list read_row) d) (λ certificate.
+    made (λ parts. IsCutInRange parts.folders parts.links) _ in_range))

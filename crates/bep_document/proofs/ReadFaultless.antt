@@ -1,73 +1,130 @@
 -- What is read has no fault.
-use Rattle.std.proofs.Common.{◌≡◌, ◌≤◌, ℕ, true, leb, List, [], length, subst, arith}
+use Rattle.std.proofs.Common.{◌≡◌, ◌≤◌, ℕ, true, List, [], length, subst, leb-true, arith}
 use Rattle.std.specs.List.{AllByRecursion}
-use Rattle.std.proofs.lemmas.Bool.Decides.{nat_tests}
 use Rattle.serde_json.specs.Data.{Data}
+use Rattle.bep_index.specs.Batch.{NamesDiffer}
+use Rattle.bep_record.specs.Entry.{IsWellFormed}
+use Rattle.bep_record.specs.declared.entry.Entry.{Entry}
 use Rattle.bep_document.specs.declared.fault.Fault.TheVariants.{NotJson, VersionBad, Shape, Range}
+use Rattle.bep_document.specs.declared.limits.TheConstants.{MAX_DEVICES}
 use Rattle.bep_document.specs.declared.parts.ShareParts.{ShareParts}
 use Rattle.bep_document.specs.declared.parts.FolderParts.{FolderParts}
+use Rattle.bep_document.specs.declared.parts.FlightParts.{FlightParts}
+use Rattle.bep_document.specs.declared.parts.LinkParts.{LinkParts}
 use Rattle.bep_document.specs.declared.parts.CheckParts.{CheckParts}
 use Rattle.bep_document.specs.Checks.{has_version, is_check, read_check}
-use Rattle.bep_document.specs.Devices.{is_one_of, most_devices, with_devices}
-use Rattle.bep_document.specs.Reading.{Read, ◌>>=◌, given, passed, unless, is_short, tree_of, first_fault, reading_of_tree, reading_of}
-use Rattle.bep_document.specs.Faultless.{IsFaultlessShare, IsFaultlessFolder, IsFaultless}
-use Rattle.bep_document.proofs.DevicesKnown.{devices_known, no_more}
-use Rattle.bep_document.proofs.FaultlessFacts.{IsOnceAt, IsOnceIn, IsGoodAt, IsNumberedAt, HasNoFault, has_no_fault}
-use Rattle.bep_document.proofs.NoFault.{all_both}
-use Rattle.bep_document.proofs.ReadFacts.{IsInRange, AreInRange, check_in_range}
+use Rattle.bep_document.specs.Devices.{is_one_of, with_devices}
+use Rattle.bep_document.specs.Reading.{Read, is_short, tree_of, first_fault, reading_of_tree, reading_of}
+use Rattle.bep_document.specs.Faultless.{IsFaultlessIndex, IsFaultlessShare, IsFaultlessFolder, IsFaultlessFlight, IsFaultlessLink, IsFaultless}
+use Rattle.bep_document.proofs.DevicesKnown.{devices_known, known_are_of, no_more}
+use Rattle.bep_document.proofs.FaultlessFacts.{HasNoFault, has_no_fault}
+use Rattle.bep_document.proofs.Flights.{AllFlights}
+use Rattle.bep_document.proofs.GoodFacts.{IsGoodAt}
+use Rattle.bep_document.proofs.LinkFacts.{IsLinkOf}
+use Rattle.bep_document.proofs.NoFault.{all_map, all_both, all_four}
+use Rattle.bep_document.proofs.NumberedFacts.{AreNumbered, IsNumberedAt, RisesInRange}
+use Rattle.bep_document.proofs.OnceFacts.{IsOnceAt, IsOnceIn}
+use Rattle.bep_document.proofs.ReadFacts.{IsIndexInRange, IsShareInRange, IsFlightInRange, IsLinkInRange, IsCutInRange, check_in_range}
+use Rattle.bep_document.proofs.SharedFacts.{AreOfOthers, IsOfBoth}
 use Rattle.bep_document.proofs.Steps.{passed_and, given_and, no_fault_and}
 
-at_most : (a b : ℕ) → leb a b ≡ true → a ≤ b
-at_most a b e = grind (arith, nat_tests)
+-- ---- folders
+index_faultless : (greatest : ℕ) (entries : List Entry) → IsIndexInRange greatest entries → NamesDiffer entries → AllByRecursion IsWellFormed entries → AreNumbered greatest entries → IsFaultlessIndex greatest entries
+index_faultless greatest entries range names good numbered = record {
+  within = range.within;
+  few = range.few;
+  names = names;
+  well_formed = good;
+  numbered = numbered.within;
+  sequences = numbered.different;
+}
 
-share_faultless : (share : ShareParts) → IsInRange share × IsOnceAt share → IsGoodAt share × IsNumberedAt share → IsFaultlessShare share
-share_faultless share first second = record {
-  greatest = first.0.greatest;
-  own_records = record {
-    few = first.0.few;
-    names = first.1.own_names;
-    well_formed = second.0.own_records;
-    numbered = second.1.numbers;
-    sequences = second.1.sequences;
+share_faultless : (share : ShareParts) → IsShareInRange share → IsOnceAt share → IsGoodAt share → IsNumberedAt share → IsFaultlessShare share
+share_faultless share range once good numbered = record {
+  own_records = index_faultless share.max share.own range.own once.own_names good.own_records numbered.own_records;
+  store_names = once.store_names;
+  nodes = good.nodes;
+  viewed = once.viewed;
+  views = all_four (λ view. index_faultless view.max view.records) share.views range.views once.view_names good.view_records numbered.view_records;
+  pulled = record {
+    few = range.few_pulls;
+    names = once.pull_names;
+    well_formed = all_map (λ _ pull. pull.0) share.pulls good.pulls;
+    valid = all_map (λ _ pull. pull.1) share.pulls good.pulls;
   };
-  store_names = first.1.store_names;
-  nodes = second.0.nodes;
 }
 
-folder_faultless : (devices : List ℕ) → length devices ≤ most_devices → (folder : FolderParts) → AllByRecursion IsInRange folder.devices × IsOnceIn folder → (AllByRecursion IsGoodAt folder.devices × AllByRecursion IsNumberedAt folder.devices) × AllByRecursion (λ share. is_one_of devices share.device ≡ true) folder.devices → IsFaultlessFolder folder
-folder_faultless devices few folder first second = record {
-  few = omega (arith, no_more devices folder.devices first.1.different second.1, few);
-  different = first.1.different;
-  shares = all_both share_faultless folder.devices (all_both (λ _ range once. (range, once)) folder.devices first.0 first.1.shares) (all_both (λ _ well numbers. (well, numbers)) folder.devices second.0.0 second.0.1);
+shares_faultless : (folder : FolderParts) → AllByRecursion IsShareInRange folder.devices → IsOnceIn folder → AllByRecursion IsGoodAt folder.devices → AllByRecursion IsNumberedAt folder.devices → AllByRecursion IsFaultlessShare folder.devices
+shares_faultless folder range once good numbered = all_four share_faultless folder.devices range once.shares good numbered
+
+folder_faultless : (devices : List ℕ) → length devices ≤ MAX_DEVICES → (folder : FolderParts) → AllByRecursion IsFaultlessShare folder.devices → IsOnceIn folder → AreOfOthers folder → AllByRecursion (λ share. is_one_of devices share.device ≡ true) folder.devices → IsFaultlessFolder folder
+folder_faultless devices few folder shares once others known = record {
+  few = omega (arith, no_more devices folder.devices once.different known, few);
+  different = once.different;
+  shares = shares;
+  views = others;
 }
 
-faultless : (parts : CheckParts) → AreInRange parts.folders → HasNoFault parts → IsFaultless parts
+-- ---- links
+flights_faultless : (folders : List FolderParts) (link : LinkParts) (flights : List FlightParts) → AllByRecursion IsFlightInRange flights → AllByRecursion (λ flight. NamesDiffer flight.records) flights → AllByRecursion (IsOfBoth folders link) flights → AllByRecursion (λ flight. AllByRecursion IsWellFormed flight.records) flights → AllByRecursion RisesInRange flights → AllByRecursion (IsFaultlessFlight folders link) flights
+flights_faultless folders link flights range names shared good rising =
+    all_four flight_faultless flights range names shared (all_both (λ _ good rising. (good, rising)) flights good rising) where
+      flight_faultless : (flight : FlightParts) → IsFlightInRange flight → NamesDiffer flight.records → IsOfBoth folders link flight → AllByRecursion IsWellFormed flight.records × RisesInRange flight → IsFaultlessFlight folders link flight
+      flight_faultless flight range names shared carried = record {
+        batch = record { few = range.few; rises = carried.1 range.sequences; names = names };
+        well_formed = carried.0;
+        shared_by_a = shared.0;
+        shared_by_b = shared.1;
+      }
+
+flights_of : (folders : List FolderParts) (link : LinkParts) → IsLinkInRange link × AllFlights (λ flight. NamesDiffer flight.records) link → AllFlights (IsOfBoth folders link) link → AllFlights (λ flight. AllByRecursion IsWellFormed flight.records) link → AllFlights RisesInRange link → AllFlights (IsFaultlessFlight folders link) link
+flights_of folders link ranged shared good rising = (
+  flights_faultless folders link link.to_a ranged.0.to_a ranged.1.0 shared.0 good.0 rising.0,
+  flights_faultless folders link link.to_b ranged.0.to_b ranged.1.1 shared.1 good.1 rising.1,
+)
+
+link_faultless : (folders : List FolderParts) (link : LinkParts) → IsLinkInRange link × IsLinkOf folders link → AllFlights (IsFaultlessFlight folders link) link → IsFaultlessLink folders link
+link_faultless folders link both flights = record {
+  ends = both.1.ends;
+  a_device = both.1.a_device;
+  b_device = both.1.b_device;
+  epoch = both.0.epoch;
+  quiet = both.1.quiet;
+  to_a = flights.0;
+  to_b = flights.1;
+}
+
+-- ---- the whole
+faultless : (parts : CheckParts) → IsCutInRange parts.folders parts.links → HasNoFault parts → IsFaultless parts
 faultless parts range free =
     let devices = with_devices [] parts.folders in
-    let few : length devices ≤ most_devices = at_most (length devices) most_devices range.few_devices in
+    let few : length devices ≤ MAX_DEVICES = leb-true (length devices) MAX_DEVICES range.few_devices in
     let known = devices_known [] parts.folders in
+    let shares = all_four shares_faultless parts.folders range.shares free.once.each_folder free.good.each_folder free.numbered.each_folder in
+    let ranged = all_both (λ _ range names. (range, names)) parts.links range.links_in_range free.once.each_link in
+    let flights = all_four (flights_of parts.folders) parts.links ranged free.shared.each_link free.good.each_link free.numbered.each_link in
     record {
       few_folders = range.few;
-      few_devices = (devices, few, known);
-      different = free.different;
-      each_folder = all_both (folder_faultless devices few) parts.folders
-          (all_both (λ _ range once. (range, once)) parts.folders range.shares free.once)
-          (all_both (λ _ both known. (both, known)) parts.folders (all_both (λ _ good numbers. (good, numbers)) parts.folders free.good free.numbers) known);
-      rows = free.rows;
+      few_devices = (devices, few, known_are_of devices parts.folders known);
+      different = free.once.different_folders;
+      each_folder = all_four (folder_faultless devices few) parts.folders shares free.once.each_folder free.shared.each_folder known;
+      different_links = free.once.different_links;
+      each_link = all_both (link_faultless parts.folders) parts.links (all_both (λ _ range link. (range, link)) parts.links range.links_in_range free.links) flights;
+      rows = free.good.rows;
     }
 
 tree_faultless : (tree : Data) (parts : CheckParts) → reading_of_tree tree ≡ Read parts → IsFaultless parts
 unfolding reading_of_tree
 tree_faultless tree parts e =
-    let unshaped = passed_and VersionBad has_version tree (λ known. passed Shape is_check known >>= (λ shaped. given Range (read_check shaped) >>= (λ read. unless (first_fault read) read))) parts e in
-    let shaped = passed_and Shape is_check tree (λ shaped. given Range (read_check shaped) >>= (λ read. unless (first_fault read) read)) parts unshaped in
-    let found = given_and Range (read_check tree) (λ read. unless (first_fault read) read) parts shaped in
-    let clean = no_fault_and (first_fault found.0) found.0 parts found.2 in
+    let unshaped = passed_and VersionBad has_version tree _ e in
+    let shaped = passed_and Shape is_check tree _ unshaped in
+    let found = given_and Range (read_check tree) _ shaped in
+    let clean = no_fault_and (first_fault found.0) found.2 in
     subst IsFaultless clean.1 (faultless found.0 (check_in_range tree found.0 found.1) (has_no_fault found.0 clean.0))
 
 pub reading_faultless : (bytes : List ℕ) (parts : CheckParts) → reading_of bytes ≡ Read parts → IsFaultless parts
 unfolding reading_of
 reading_faultless bytes parts e =
-    let short = passed_and Range is_short bytes (λ short. given NotJson (tree_of short) >>= reading_of_tree) parts e in
-    let tree = given_and NotJson (tree_of bytes) reading_of_tree parts short in
+    let short = passed_and Range is_short bytes _ e in
+    let tree = given_and NotJson (tree_of bytes) _ short in
     tree_faultless tree.0 parts tree.2

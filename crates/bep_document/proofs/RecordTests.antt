@@ -15,7 +15,7 @@ use Rattle.bep_document.specs.Records.{is_empty, pair_eq, has_no_blocks, has_blo
 leb_decides : (a b : ℕ) → Decides (leb a b) (a ≤ b)
 leb_decides a b = (λ e. grind (arith, nat_tests), λ h. grind (arith, nat_tests))
 
-empty_decides : {A : Type 0} (xs : List A) → Decides (is_empty xs) (xs ≡ [])
+pub empty_decides : {A : Type 0} (xs : List A) → Decides (is_empty xs) (xs ≡ [])
 empty_decides [] = (λ _. refl, λ _. refl)
 empty_decides (x ∷ xs) = (λ e. absurd (grind (arith, nat_tests)), λ h. cc)
 
@@ -25,7 +25,7 @@ implies_decides false c p q = (λ _ h. absurd (different (p.1 h)), λ _. refl) w
   different : false ≡ true → ⊥
   different e = cc
 
-pairs_decide : (p q : ℕ × ℕ) → Decides (pair_eq p q) (p ≡ q)
+pub pairs_decide : (p q : ℕ × ℕ) → Decides (pair_eq p q) (p ≡ q)
 pairs_decide p q =
     let parts = Decides-and _ _ (Decides-eqb p.0 q.0) (Decides-eqb p.1 q.1) in (
       λ e. let both = parts.0 e in ap (λ (a : ℕ). (a, p.1)) both.0 ∙ ap (λ (b : ℕ). (q.0, b)) both.1,

@@ -3,37 +3,40 @@ use Rattle.std.specs.Prelude.{ℕ, ◌==◌, ◌&&◌, option_map, option_and_th
 use Rattle.serde_json.specs.Data.{Data}
 use Rattle.serde_json.specs.Find.{as_number, as_u64}
 use Rattle.bep_json.specs.Tree.{has_only, has_member, may_have_member}
-use Rattle.bep_json.specs.Reading.{◌>>=◌, read_member}
+use Rattle.bep_json.specs.Reading.{◌>>=◌, read_member, read_member_or}
 use Rattle.bep_json.specs.Numbers.{is_whole}
 use Rattle.bep_json.specs.Lists.{is_list, read_list}
-use Rattle.bep_document.specs.Few.{read_few, is_empty_list}
+use Rattle.bep_document.specs.Few.{read_few}
 use Rattle.bep_document.specs.Devices.{has_few_devices}
 use Rattle.bep_document.specs.Folders.{is_folder, read_folder, is_row, read_row}
+use Rattle.bep_document.specs.Links.{is_link, read_link}
+use Rattle.bep_document.specs.declared.limits.TheConstants.{MAX_FOLDERS}
 use Rattle.bep_document.specs.declared.parts.FolderParts.{FolderParts}
+use Rattle.bep_document.specs.declared.parts.LinkParts.{LinkParts}
 use Rattle.bep_document.specs.declared.parts.CheckParts.{CheckParts}
 
 -- the members of a cut
 abbrev pub cut_members : List (List ℕ)
 cut_members = codes "folders" ∷ codes "links" ∷ []
 
--- a cut: each member of its kind, and no others; links aren't read yet, so none may stand there
+-- a cut: each member of its kind, and no others
 unfoldable pub is_cut : Data → Bool
 is_cut d =
     has_only cut_members d
     && (has_member (codes "folders") (is_list is_folder) d
-    && may_have_member (codes "links") is_empty_list d)
-
--- the most folders of a cut
-abbrev pub most_folders : ℕ
-most_folders = 16
+    && may_have_member (codes "links") (is_list is_link) d)
 
 -- the folders, if not too many different devices share them
 abbrev pub if_few_devices : List FolderParts → Option (List FolderParts)
 if_few_devices folders = if has_few_devices folders then Some folders else None
 
--- the folders of a cut
-unfoldable pub read_cut : Data → Option (List FolderParts)
-read_cut d = read_member (codes "folders") (read_few most_folders read_folder) d >>= if_few_devices
+-- the folders and the links of a cut
+unfoldable pub read_cut : Data → Option (List FolderParts × List LinkParts)
+read_cut d = do
+  folders ← read_member (codes "folders") (read_few MAX_FOLDERS read_folder) d
+  few ← if_few_devices folders
+  links ← read_member_or (codes "links") (read_list read_link) [] d
+  Some (few, links)
 
 -- the whole number 1
 abbrev pub is_one : Data → Bool
@@ -55,9 +58,9 @@ is_check d =
     && (has_member (codes "cut") is_cut d
     && has_member (codes "certificate") (is_list is_row) d))
 
--- the folders and the rows
+-- the folders, the links and the rows
 unfoldable pub read_check : Data → Option CheckParts
 read_check d = do
-  folders ← read_member (codes "cut") read_cut d
+  cut ← read_member (codes "cut") read_cut d
   certificate ← read_member (codes "certificate") (read_list read_row) d
-  Some (record { folders = folders; certificate = certificate })
+  Some (record { folders = cut.0; links = cut.1; certificate = certificate })

@@ -1,11 +1,8 @@
 -- How many different devices share the folders of a cut (this project's profile).
 use Rattle.std.specs.Prelude.{ℕ, ◌==◌, nat_le, Bool, List, [], ◌∷◌, ◌++◌, length, map, if◌then◌else◌}
 use Rattle.std.specs.List.{list_any}
+use Rattle.bep_document.specs.declared.limits.TheConstants.{MAX_DEVICES}
 use Rattle.bep_document.specs.declared.parts.FolderParts.{FolderParts}
-
--- the most devices that share the folders of a cut
-abbrev pub most_devices : ℕ
-most_devices = 16
 
 -- the number is one of these
 abbrev pub is_one_of : List ℕ → ℕ → Bool
@@ -23,4 +20,4 @@ with_devices known (folder ∷ more) = with_devices (with_others known (map (λ 
 
 -- not too many different devices share the folders
 abbrev pub has_few_devices : List FolderParts → Bool
-has_few_devices folders = nat_le (length (with_devices [] folders)) most_devices
+has_few_devices folders = nat_le (length (with_devices [] folders)) MAX_DEVICES

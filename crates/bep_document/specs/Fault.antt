@@ -40,6 +40,10 @@ at_folder fault folder = record { fault = fault; folder = Some folder; device = 
 abbrev pub at_device : Fault → List ℕ → ℕ → DocFault
 at_device fault folder device = record { fault = fault; folder = Some folder; device = Some device; name = None }
 
+-- a fault of a link, by its first device
+abbrev pub at_link : Fault → ℕ → DocFault
+at_link fault device = record { fault = fault; folder = None; device = Some device; name = None }
+
 -- a fault at a name that a device holds in a folder
 abbrev pub at_name : Fault → List ℕ → ℕ → List ℕ → DocFault
 at_name fault folder device name =

@@ -1,6 +1,6 @@
 -- The reading of a check document: what its bytes say, or the one fault for which it is refused. The smallest number
 -- that applies is told, at its first place (this project's profile).
-use Rattle.std.specs.Prelude.{◌≡◌, ℕ, nat_le, Bool, ⊤, List, [], length, Option, Some, None, Result, Ok, Err, if◌then◌else◌}
+use Rattle.std.specs.Prelude.{◌≡◌, ℕ, nat_le, Bool, ⊤, List, length, Option, Some, None, Result, Ok, Err, if◌then◌else◌}
 use Rattle.std.specs.Str.{is_utf8}
 use Rattle.serde_json.specs.Data.{Data}
 use Rattle.serde_json.specs.Read as json
@@ -11,10 +11,12 @@ use Rattle.bep_document.specs.declared.fault.Fault.{Fault}
 use Rattle.bep_document.specs.declared.fault.Fault.TheVariants.{NotJson, VersionBad, Shape, Range}
 use Rattle.bep_document.specs.declared.parts.CheckParts.{CheckParts}
 use Rattle.bep_document.specs.Fault.{nowhere}
-use Rattle.bep_document.specs.Places.{◌else_at◌, first_in}
-use Rattle.bep_document.specs.Twice.{twice_at_folder}
+use Rattle.bep_document.specs.Places.{◌else_at◌}
+use Rattle.bep_document.specs.Twice.{first_twice}
+use Rattle.bep_document.specs.Unshared.{first_unshared}
 use Rattle.bep_document.specs.Records.{first_bad}
-use Rattle.bep_document.specs.Sequences.{sequence_at_folder}
+use Rattle.bep_document.specs.Sequences.{first_bad_sequence}
+use Rattle.bep_document.specs.LinkFaults.{first_bad_link}
 use Rattle.bep_document.specs.Checks.{has_version, is_check, read_check}
 
 -- a thing, or the fault in place of it
@@ -69,12 +71,15 @@ is_short bytes = nat_le (length bytes) most_bytes
 abbrev pub tree_of : List ℕ → Option Data
 tree_of bytes = if is_utf8 bytes then json.read bytes else None
 
--- the first fault that has a place: what stands twice, then what isn't well formed, then a sequence
+-- the first fault that has a place: what stands twice, then what isn't shared, then what isn't well formed, then a
+-- sequence, then a link
 unfoldable pub first_fault : CheckParts → Option DocFault
 first_fault parts =
-    first_in twice_at_folder [] parts.folders
+    first_twice parts
+    else_at (first_unshared parts
     else_at (first_bad parts
-    else_at first_in sequence_at_folder [] parts.folders)
+    else_at (first_bad_sequence parts
+    else_at first_bad_link parts)))
 
 -- what the tree of a document says
 unfoldable pub reading_of_tree : Data → Reading CheckParts

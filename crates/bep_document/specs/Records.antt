@@ -11,11 +11,15 @@ use Rattle.bep_json.specs.declared.nodes.NamedParts.{NamedParts}
 use Rattle.bep_document.specs.declared.fault.DocFault.{DocFault}
 use Rattle.bep_document.specs.declared.fault.Fault.TheVariants.{RecordBad}
 use Rattle.bep_document.specs.declared.parts.ShareParts.{ShareParts}
+use Rattle.bep_document.specs.declared.parts.ViewParts.{ViewParts}
 use Rattle.bep_document.specs.declared.parts.FolderParts.{FolderParts}
+use Rattle.bep_document.specs.declared.parts.FlightParts.{FlightParts}
+use Rattle.bep_document.specs.declared.parts.LinkParts.{LinkParts}
 use Rattle.bep_document.specs.declared.parts.RowParts.{RowParts}
 use Rattle.bep_document.specs.declared.parts.CheckParts.{CheckParts}
 use Rattle.bep_document.specs.Fault.{at_name}
 use Rattle.bep_document.specs.Places.{◌else_at◌, first_in}
+use Rattle.bep_document.specs.Walks.{at_shares, on_link}
 
 -- there is nothing in the list
 abbrev pub is_empty : {A : Type 0} → List A → Bool
@@ -65,25 +69,47 @@ abbrev pub bad_entry : List ℕ → ℕ → List Entry → Entry → Option DocF
 bad_entry folder device earlier entry =
     if is_well_formed entry then None else Some (at_name RecordBad folder device entry.name)
 
+-- the record isn't well formed, or is invalid, so that nothing can pull it
+abbrev pub bad_pull : List ℕ → ℕ → List Entry → Entry → Option DocFault
+bad_pull folder device earlier entry =
+    if is_well_formed entry && not entry.invalid then None else Some (at_name RecordBad folder device entry.name)
+
 -- the node doesn't fit its kind
 abbrev pub bad_node : List ℕ → ℕ → List NamedParts → NamedParts → Option DocFault
 bad_node folder device earlier node =
     if is_node node.parts then None else Some (at_name RecordBad folder device node.name)
 
--- what is bad at a device: a record, or a node of its store
+-- a record in a view isn't well formed
+abbrev pub bad_in_view : List ℕ → ℕ → List ViewParts → ViewParts → Option DocFault
+bad_in_view folder device earlier view = first_in (bad_entry folder device) [] view.records
+
+-- what is bad at a device: a record, a node of its store, a record in a view, a pull
 unfoldable pub bad_at_share : List ℕ → List ShareParts → ShareParts → Option DocFault
 bad_at_share folder earlier share =
     first_in (bad_entry folder share.device) [] share.own
-    else_at first_in (bad_node folder share.device) [] share.store
+    else_at (first_in (bad_node folder share.device) [] share.store
+    else_at (first_in (bad_in_view folder share.device) [] share.views
+    else_at first_in (bad_pull folder share.device) [] share.pulls))
 
 -- what is bad at the devices of a folder
 unfoldable pub bad_at_folder : List FolderParts → FolderParts → Option DocFault
-bad_at_folder earlier folder = first_in (bad_at_share folder.folder) [] folder.devices
+bad_at_folder = at_shares (λ folder. bad_at_share folder.folder)
+
+-- a record in what is on its way to the device isn't well formed
+abbrev pub bad_in_flight : ℕ → List FlightParts → FlightParts → Option DocFault
+bad_in_flight device earlier flight = first_in (bad_entry flight.folder device) [] flight.records
+
+-- what is bad on a link
+unfoldable pub bad_at_link : List LinkParts → LinkParts → Option DocFault
+bad_at_link = on_link (λ _. bad_in_flight)
 
 -- the row's record isn't well formed
 unfoldable pub bad_row : List RowParts → RowParts → Option DocFault
 bad_row earlier row = bad_entry row.folder row.device [] row.entry
 
--- what is bad in the folders, or else in the certificate
+-- what is bad in the folders, or else on the links, or else in the certificate
 unfoldable pub first_bad : CheckParts → Option DocFault
-first_bad parts = first_in bad_at_folder [] parts.folders else_at first_in bad_row [] parts.certificate
+first_bad parts =
+    first_in bad_at_folder [] parts.folders
+    else_at (first_in bad_at_link [] parts.links
+    else_at first_in bad_row [] parts.certificate)

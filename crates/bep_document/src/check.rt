@@ -3,37 +3,41 @@ ghost use Rattle.serde_json.specs.View.{view};
 ghost use Rattle.bep_document.specs.Checks.{is_cut, read_cut, is_one, has_version, is_check, read_check};
 
 use crate::devices::has_few_devices;
-use crate::few::{Few, may_have_none};
-use crate::{CheckParts, FolderParts, RowParts};
-use bep_json::{ReadError, Readable, Whole, has, has_only, member};
+use crate::few::Few;
+use crate::{CheckParts, FolderParts, LinkParts, MAX_FOLDERS, RowParts};
+use bep_json::{ReadError, Readable, Whole, has, has_only, may_have, member, member_or};
 use bep_record::Items;
 use serde_json::Value;
 use std::alloc::Global;
 use std::marker::Model;
 
-// The most folders of a cut.
-const MOST_FOLDERS: usize = 16;
-
-// The folders of a cut.
+// The folders and the links of a cut.
 #[derive(Debug, Drop)]
 struct CutParts {
     folders: Items<FolderParts>,
+    links: Items<LinkParts>,
 }
 
 impl Model for CutParts {
     ghost use Rattle.std.specs.Prelude.{List};
     ghost use Rattle.bep_document.specs.declared.parts.FolderParts.{FolderParts};
+    ghost use Rattle.bep_document.specs.declared.parts.LinkParts.{LinkParts};
 
-    ghost Value = { List FolderParts };
+    ghost Value = { List FolderParts × List LinkParts };
 
-    ghost view = { λ cut. cut.folders };
+    ghost view = { λ cut. (cut.folders, cut.links) };
 }
 
 impl CutParts {
-    fn into_folders(self) -> Items<FolderParts>
-        ensures { result ≡ self }
+    // The cut and the rows together.
+    fn with_rows(self, certificate: Items<RowParts>) -> CheckParts
+        ensures { result ≡ record { folders = self.0; links = self.1; certificate = certificate } }
     {
-        self.folders
+        CheckParts {
+            folders: self.folders,
+            links: self.links,
+            certificate,
+        }
     }
 }
 
@@ -46,18 +50,20 @@ impl Readable for CutParts {
     fn has_shape(value: &Value) -> bool {
         has_only(value, &["folders", "links"])
             && has::<Items<FolderParts>>(value, "folders")
-            && may_have_none(value, "links")
+            && may_have::<Items<LinkParts>>(value, "links")
     }
 
     #[tactic(auto, unfolding(crate::specs::Checks::read_cut))]
     fn read(alloc: Global, value: &Value) -> Result<Self, ReadError> {
-        let folders = member::<Few<FolderParts, MOST_FOLDERS>>(
+        let folders = member::<Few<FolderParts, MAX_FOLDERS>>(
             alloc, value, "folders",
         )?.into_items();
         if !has_few_devices(alloc, folders.as_slice())? {
             return Err(ReadError::Range);
         }
-        Ok(CutParts { folders })
+        let none = Items::new(Vec::new(alloc));
+        let links = member_or::<Items<LinkParts>>(alloc, value, "links", none)?;
+        Ok(CutParts { folders, links })
     }
 }
 
@@ -98,9 +104,6 @@ impl Readable for CheckParts {
     fn read(alloc: Global, value: &Value) -> Result<Self, ReadError> {
         let cut = member::<CutParts>(alloc, value, "cut")?;
         let certificate = member::<Items<RowParts>>(alloc, value, "certificate")?;
-        Ok(CheckParts {
-            folders: cut.into_folders(),
-            certificate,
-        })
+        Ok(cut.with_rows(certificate))
     }
 }

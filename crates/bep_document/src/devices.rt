@@ -1,14 +1,12 @@
 //! How many different devices share the folders of a cut.
 ghost use Rattle.std.specs.Prelude.{◌≡◌, ◌==◌, ◌≤◌, nat_le, IfOk, length, map, []};
 ghost use Rattle.std.specs.Bool.{OnTrue};
-ghost use Rattle.bep_document.specs.Devices.{is_one_of, with_others, with_devices, has_few_devices, most_devices};
+ghost use Rattle.bep_document.specs.Devices.{is_one_of, with_others, with_devices, has_few_devices};
+ghost use Rattle.bep_document.specs.declared.limits.TheConstants.{MAX_DEVICES};
 
-use crate::{FolderParts, ShareParts};
+use crate::{FolderParts, MAX_DEVICES, ShareParts};
 use bep_record::DeviceId;
 use std::alloc::{AllocError, Global};
-
-// The most devices that share the folders of a cut.
-const MOST_DEVICES: usize = 16;
 
 // Whether at most 16 different devices share the folders, or want of memory.
 pub(crate) fn has_few_devices(alloc: Global, folders: &[FolderParts]) -> Result<bool, AllocError>
@@ -26,15 +24,15 @@ pub(crate) fn has_few_devices(alloc: Global, folders: &[FolderParts]) -> Result<
 
 // Puts the devices that aren't known yet behind the known ones, and tells whether at most 16 are known then.
 fn add_devices(known: &mut Vec<DeviceId>, shares: &[ShareParts]) -> Result<bool, AllocError>
-    requires { length known.old.items ≤ most_devices }
-    ensures few { IfOk result (λ few. few ≡ nat_le (length (with_others known.old.items (map (λ share. share.device) shares.now))) most_devices) }
+    requires { length known.old.items ≤ MAX_DEVICES }
+    ensures few { IfOk result (λ few. few ≡ nat_le (length (with_others known.old.items (map (λ share. share.device) shares.now))) MAX_DEVICES) }
     ensures known { IfOk result (λ few. OnTrue few (known.new.items ≡ with_others known.old.items (map (λ share. share.device) shares.now))) }
 {
     for share in shares {
         if is_one_of(known.as_slice(), share.device) {
             continue;
         }
-        if known.len() == MOST_DEVICES {
+        if known.len() == MAX_DEVICES {
             return Ok(false);
         }
         known.push(share.device)?;

@@ -1,5 +1,5 @@
 ghost use Rattle.std.specs.Prelude.{◌≡◌, IfOk};
-ghost use Rattle.bep_document.specs.Fault.{number_of, name_of, nowhere, at_folder, at_device, at_name};
+ghost use Rattle.bep_document.specs.Fault.{number_of, name_of, nowhere, at_folder, at_device, at_link, at_name};
 
 use bep_record::{DeviceId, FolderName, Name};
 use std::alloc::{AllocError, Global};
@@ -120,6 +120,18 @@ impl DocFault {
             device: Some(device),
             name: None,
         })
+    }
+
+    // A fault of a link, by its first device.
+    pub(crate) fn at_link(fault: Fault, device: DeviceId) -> Self
+        ensures { result ≡ at_link fault device }
+    {
+        DocFault {
+            fault,
+            folder: None,
+            device: Some(device),
+            name: None,
+        }
     }
 
     // A fault at a name that a device holds in a folder.

@@ -1,8 +1,6 @@
 ghost use Rattle.std.specs.Prelude.{◌≡◌, List, []};
-ghost use Rattle.serde_json.specs.View.{view};
 ghost use Rattle.bep_json.specs.Lists.{is_list};
-ghost use Rattle.bep_json.specs.Tree.{may_have_member};
-ghost use Rattle.bep_document.specs.Few.{read_few, is_empty_list};
+ghost use Rattle.bep_document.specs.Few.{read_few};
 
 use bep_json::{ReadError, Readable};
 use bep_record::Items;
@@ -57,25 +55,5 @@ impl<T: Readable, const MOST: usize> Readable for Few<T, MOST> {
             return Err(ReadError::Range);
         }
         Ok(Few { items })
-    }
-}
-
-// Whether a member of this name, if the value has one, is a list in which nothing stands.
-pub(crate) fn may_have_none(value: &Value, name: &str) -> bool
-    ensures { result ≡ may_have_member name.now is_empty_list (view value.now) }
-{
-    match value.get(name) {
-        Some(member) => is_empty_list(member),
-        None => true,
-    }
-}
-
-#[tactic(auto, using(crate::proofs::FewFacts::is_none_length))]
-fn is_empty_list(value: &Value) -> bool
-    ensures { result ≡ is_empty_list (view value.now) }
-{
-    match value.as_array() {
-        Some(items) => items.as_slice().is_empty(),
-        None => false,
     }
 }

@@ -5,13 +5,19 @@
 #![tactic(auto)]
 
 mod check;
+#[cfg(test)]
+mod cut_tests;
 mod devices;
 mod error;
 mod fault;
 mod few;
 mod folders;
+mod holder;
 mod judge;
 mod laws;
+mod limits;
+mod link_faults;
+mod links;
 mod parts;
 #[cfg(test)]
 mod place_tests;
@@ -22,9 +28,13 @@ mod shares;
 #[cfg(test)]
 mod tests;
 mod twice;
+mod unshared;
+mod views;
+mod walks;
 
 pub use error::DocError;
 pub use fault::{DocFault, Fault};
 pub use laws::{readings_are_faultless, tests_tell};
-pub use parts::{CheckParts, FolderParts, RowParts, ShareParts};
+pub use limits::{MAX_DEVICES, MAX_FOLDERS, MAX_PULLS};
+pub use parts::{CheckParts, FlightParts, FolderParts, LinkParts, RowParts, ShareParts, ViewParts};
 pub use read::{MAX_BYTES, read_parts};

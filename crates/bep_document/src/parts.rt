@@ -18,6 +18,23 @@ pub struct ShareParts {
     pub own: Items<Entry>,
     /// What its store holds.
     pub store: Items<NamedParts>,
+    /// What it knows of other devices' indexes.
+    pub views: Items<ViewParts>,
+    /// The records that it pulls.
+    pub pulls: Items<Entry>,
+}
+
+/// What a document says of a device's view of another device's index.
+#[derive(Debug, Drop)]
+pub struct ViewParts {
+    /// The device whose index it is.
+    pub of: DeviceId,
+    /// The id of that index, 0 where none is known.
+    pub index_id: u64,
+    /// The greatest sequence that is known of it.
+    pub max: u64,
+    /// The records that are known of it.
+    pub records: Items<Entry>,
 }
 
 /// What a document says of a folder.
@@ -27,6 +44,34 @@ pub struct FolderParts {
     pub folder: FolderName,
     /// The devices that share it.
     pub devices: Items<ShareParts>,
+}
+
+/// What a document says of an Index or an Index Update that is on its way.
+#[derive(Debug, Drop)]
+pub struct FlightParts {
+    /// The folder.
+    pub folder: FolderName,
+    /// Whether it is an Index, which replaces all that was known.
+    pub full: bool,
+    /// The records that it carries.
+    pub records: Items<Entry>,
+}
+
+/// What a document says of the link between two devices.
+#[derive(Debug, Drop)]
+pub struct LinkParts {
+    /// The smaller of the two devices.
+    pub a: DeviceId,
+    /// The greater one.
+    pub b: DeviceId,
+    /// Whether the link is up.
+    pub up: bool,
+    /// The number of its connection.
+    pub epoch: u64,
+    /// What is on its way to `a`, the first to arrive first.
+    pub to_a: Items<FlightParts>,
+    /// What is on its way to `b`, the first to arrive first.
+    pub to_b: Items<FlightParts>,
 }
 
 /// A row of a certificate: the winner of a name.
@@ -45,6 +90,8 @@ pub struct RowParts {
 pub struct CheckParts {
     /// The folders of the cut.
     pub folders: Items<FolderParts>,
+    /// The links between its devices.
+    pub links: Items<LinkParts>,
     /// The rows of the certificate.
     pub certificate: Items<RowParts>,
 }

@@ -5,6 +5,8 @@ use bep_choice::FolderKind;
 use std::alloc::{AllocError, Global};
 use std::test::Fail;
 
+const OWN: &str = ",\"own\":";
+
 #[test]
 fn folders_are_refused(rt: HostRuntime) -> Result<(), Fail> {
     let alloc = rt.alloc();
@@ -23,9 +25,12 @@ fn folders_are_refused(rt: HostRuntime) -> Result<(), Fail> {
     Ok(())
 }
 
-// A device with these records: what begins each, its name and its sequence.
-fn own_of(alloc: Global, records: &[(&str, &str, &str)]) -> Result<String, AllocError> {
-    let mut text = String::from_str(alloc, ",\"own\":[")?;
+// A list of these records: what begins each, its name and its sequence.
+pub(crate) fn records_of(
+    alloc: Global,
+    records: &[(&str, &str, &str)],
+) -> Result<String, AllocError> {
+    let mut text = String::from_str(alloc, "[")?;
     let mut comma = "";
     for (record, name, sequence) in records {
         for piece in [
@@ -64,8 +69,8 @@ fn records_are_refused(rt: HostRuntime) -> Result<(), Fail> {
         (a, b, (RECORD, "c/", "3"), "184"),
         (a, b, (RECORD, "c", "1.0"), "183"),
     ] {
-        let own = own_of(alloc, &[first, second, third])?;
-        let told = answer(alloc, &[DOCUMENT, FOLDER, DEVICE, own.as_str(), END])?;
+        let own = records_of(alloc, &[first, second, third])?;
+        let told = answer(alloc, &[DOCUMENT, FOLDER, DEVICE, OWN, own.as_str(), END])?;
         assert_eq!(rt; told.as_str(), want);
     }
     Ok(())
@@ -120,8 +125,8 @@ fn rows_are_refused(rt: HostRuntime) -> Result<(), Fail> {
 #[test]
 fn a_document_is_read(rt: HostRuntime) -> Result<(), Fail> {
     let alloc = rt.alloc();
-    let own = own_of(alloc, &[(RECORD, "a", "1")])?;
-    let text = text_of(alloc, &[DOCUMENT, FOLDER, DEVICE, own.as_str(), END])?;
+    let own = records_of(alloc, &[(RECORD, "a", "1")])?;
+    let text = text_of(alloc, &[DOCUMENT, FOLDER, DEVICE, OWN, own.as_str(), END])?;
     let parts = read_parts(alloc, text.as_bytes())?;
     assert!(rt; parts.certificate.as_slice().is_empty());
     for folder in parts.folders.as_slice() {

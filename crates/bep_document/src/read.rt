@@ -2,14 +2,14 @@ ghost use Rattle.std.specs.Prelude.{◌≡◌, IfOk};
 ghost use Rattle.serde_json.specs.View.{view};
 ghost use Rattle.bep_document.specs.Reading.{Answers, AnswersBy, given, tree_of, unless, first_fault, reading_of_tree, reading_of};
 ghost use Rattle.bep_document.specs.Fault.{nowhere};
-ghost use Rattle.bep_document.specs.Records.{first_bad};
 ghost use Rattle.bep_document.specs.declared.fault.Fault.TheVariants.{NotJson};
 
 use crate::check::has_version;
-use crate::judge::first_fault;
-use crate::records::{BadAtFolders, BadRows};
-use crate::sequences::SequencesAtFolders;
-use crate::twice::TwiceAtFolders;
+use crate::link_faults::first_bad_link;
+use crate::records::first_bad;
+use crate::sequences::first_bad_sequence;
+use crate::twice::first_twice;
+use crate::unshared::first_unshared;
 use crate::{CheckParts, DocError, DocFault, Fault};
 use bep_json::{ReadError, Readable};
 use serde_json::Value;
@@ -89,23 +89,20 @@ fn judged(alloc: Global, parts: CheckParts) -> Result<CheckParts, DocError>
 fn fault_of(alloc: Global, parts: &CheckParts) -> Result<Option<DocFault>, AllocError>
     ensures { IfOk result (λ found. found ≡ first_fault parts.now) }
 {
-    let folders = parts.folders.as_slice();
-    match first_fault(alloc, &TwiceAtFolders, folders)? {
-        Some(fault) => Ok(Some(fault)),
-        None => match bad_of(alloc, parts)? {
-            Some(fault) => Ok(Some(fault)),
-            None => first_fault(alloc, &SequencesAtFolders, folders),
-        },
+    match first_twice(alloc, parts)? {
+        Some(fault) => return Ok(Some(fault)),
+        None => {}
     }
-}
-
-// The first record that isn't well formed or node that doesn't fit its kind, or want of memory.
-#[tactic(auto, unfolding(crate::specs::Records::first_bad))]
-fn bad_of(alloc: Global, parts: &CheckParts) -> Result<Option<DocFault>, AllocError>
-    ensures { IfOk result (λ found. found ≡ first_bad parts.now) }
-{
-    match first_fault(alloc, &BadAtFolders, parts.folders.as_slice())? {
+    match first_unshared(alloc, parts)? {
+        Some(fault) => return Ok(Some(fault)),
+        None => {}
+    }
+    match first_bad(alloc, parts)? {
+        Some(fault) => return Ok(Some(fault)),
+        None => {}
+    }
+    match first_bad_sequence(alloc, parts)? {
         Some(fault) => Ok(Some(fault)),
-        None => first_fault(alloc, &BadRows, parts.certificate.as_slice()),
+        None => first_bad_link(alloc, parts),
     }
 }

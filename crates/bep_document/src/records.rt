@@ -1,22 +1,26 @@
 //! Records that aren't well formed, and nodes that don't fit their kind.
-ghost use Rattle.std.specs.Prelude.{◌≡◌};
-ghost use Rattle.bep_document.specs.Records.{is_well_formed, is_node, bad_entry, bad_node, bad_at_share, bad_at_folder, bad_row};
+ghost use Rattle.std.specs.Prelude.{◌≡◌, IfOk};
+ghost use Rattle.bep_document.specs.Records.{is_well_formed, is_node, bad_entry, bad_pull, bad_node, bad_in_view, bad_at_share, bad_in_flight, bad_row, first_bad};
 
+use crate::holder::Holder;
 use crate::judge::{Judge, first_fault};
-use crate::{DocFault, Fault, FolderParts, RowParts, ShareParts};
+use crate::walks::{JudgeFlights, JudgeShares, first_in_cut};
+use crate::{
+    CheckParts, DocFault, Fault, FlightParts, FolderParts, LinkParts, RowParts, ShareParts,
+    ViewParts,
+};
 use bep_json::NamedParts;
-use bep_record::{DeviceId, Entry, FolderName, NodeParts};
+use bep_record::{DeviceId, Entry, NodeParts};
 use std::alloc::{AllocError, Global};
 
-// What is bad at a device: a record, or a node.
+// What is bad at a device: a record, a node, or a record in a view.
 #[derive(Clone, Copy)]
 struct BadAtDevice<'a> {
-    folder: &'a FolderName,
-    device: DeviceId,
+    at: &'a Holder<'a>,
 }
 
 impl<'a> Judge<Entry> for BadAtDevice<'a> {
-    ghost fault_at = { λ judge. bad_entry judge.folder.now judge.device };
+    ghost fault_at = { λ judge. bad_entry judge.at.now.folder.now judge.at.now.device };
 
     fn fault_at(
         &self,
@@ -24,22 +28,14 @@ impl<'a> Judge<Entry> for BadAtDevice<'a> {
         _earlier: &[Entry],
         item: &Entry,
     ) -> Result<Option<DocFault>, AllocError> {
-        if is_well_formed(item) {
-            return Ok(None);
-        }
-        let fault = DocFault::at_name(
-            alloc,
-            Fault::RecordBad,
-            self.folder,
-            self.device,
-            &item.name,
-        )?;
-        Ok(Some(fault))
+        let is_well = is_well_formed(item);
+        self.at
+            .fault_unless(alloc, is_well, Fault::RecordBad, &item.name)
     }
 }
 
 impl<'a> Judge<NamedParts> for BadAtDevice<'a> {
-    ghost fault_at = { λ judge. bad_node judge.folder.now judge.device };
+    ghost fault_at = { λ judge. bad_node judge.at.now.folder.now judge.at.now.device };
 
     fn fault_at(
         &self,
@@ -47,71 +43,95 @@ impl<'a> Judge<NamedParts> for BadAtDevice<'a> {
         _earlier: &[NamedParts],
         item: &NamedParts,
     ) -> Result<Option<DocFault>, AllocError> {
-        if is_node(&item.parts) {
-            return Ok(None);
-        }
-        let fault = DocFault::at_name(
-            alloc,
-            Fault::RecordBad,
-            self.folder,
-            self.device,
-            &item.name,
-        )?;
-        Ok(Some(fault))
+        let is_well = is_node(&item.parts);
+        self.at
+            .fault_unless(alloc, is_well, Fault::RecordBad, &item.name)
     }
 }
 
-// What is bad at the devices of a folder.
-#[derive(Clone, Copy)]
-struct BadAtShares<'a> {
-    folder: &'a FolderName,
+impl<'a> Judge<ViewParts> for BadAtDevice<'a> {
+    ghost fault_at = { λ judge. bad_in_view judge.at.now.folder.now judge.at.now.device };
+
+    fn fault_at(
+        &self,
+        alloc: Global,
+        _earlier: &[ViewParts],
+        item: &ViewParts,
+    ) -> Result<Option<DocFault>, AllocError> {
+        first_fault(alloc, self, item.records.as_slice())
+    }
 }
 
-impl<'a> Judge<ShareParts> for BadAtShares<'a> {
-    ghost fault_at = { λ judge. bad_at_share judge.folder.now };
+// Records that a device can't pull.
+#[derive(Clone, Copy)]
+struct BadPulls<'a> {
+    at: &'a Holder<'a>,
+}
+
+impl<'a> Judge<Entry> for BadPulls<'a> {
+    ghost fault_at = { λ judge. bad_pull judge.at.now.folder.now judge.at.now.device };
+
+    fn fault_at(
+        &self,
+        alloc: Global,
+        _earlier: &[Entry],
+        item: &Entry,
+    ) -> Result<Option<DocFault>, AllocError> {
+        let is_well = is_well_formed(item) && !item.invalid;
+        self.at
+            .fault_unless(alloc, is_well, Fault::RecordBad, &item.name)
+    }
+}
+
+// What is bad in a document.
+#[derive(Clone, Copy)]
+struct BadInDocument;
+
+impl JudgeShares for BadInDocument {
+    ghost fault_at_share = { λ _ folder. bad_at_share folder.folder };
 
     #[tactic(auto, unfolding(crate::specs::Records::bad_at_share))]
-    fn fault_at(
+    fn fault_at_share(
         &self,
         alloc: Global,
+        folder: &FolderParts,
         _earlier: &[ShareParts],
-        item: &ShareParts,
+        share: &ShareParts,
     ) -> Result<Option<DocFault>, AllocError> {
-        let judge = BadAtDevice {
-            folder: self.folder,
-            device: item.device,
-        };
-        match first_fault(alloc, &judge, item.own.as_slice())? {
+        let at = &Holder::of_share(folder, share);
+        let judge = BadAtDevice { at };
+        match first_fault(alloc, &judge, share.own.as_slice())? {
+            Some(fault) => return Ok(Some(fault)),
+            None => {}
+        }
+        match first_fault(alloc, &judge, share.store.as_slice())? {
+            Some(fault) => return Ok(Some(fault)),
+            None => {}
+        }
+        match first_fault(alloc, &judge, share.views.as_slice())? {
             Some(fault) => Ok(Some(fault)),
-            None => first_fault(alloc, &judge, item.store.as_slice()),
+            None => first_fault(alloc, &BadPulls { at }, share.pulls.as_slice()),
         }
     }
 }
 
-// What is bad in the folders.
-#[derive(Clone, Copy)]
-pub(crate) struct BadAtFolders;
+impl JudgeFlights for BadInDocument {
+    ghost fault_in_flight = { λ _ _. bad_in_flight };
 
-impl Judge<FolderParts> for BadAtFolders {
-    ghost fault_at = { λ _. bad_at_folder };
-
-    #[tactic(auto, unfolding(crate::specs::Records::bad_at_folder))]
-    fn fault_at(
+    fn fault_in_flight(
         &self,
         alloc: Global,
-        _earlier: &[FolderParts],
-        item: &FolderParts,
+        _link: &LinkParts,
+        receiver: DeviceId,
+        _earlier: &[FlightParts],
+        flight: &FlightParts,
     ) -> Result<Option<DocFault>, AllocError> {
-        let folder = &item.folder;
-        first_fault(alloc, &BadAtShares { folder }, item.devices.as_slice())
+        let at = &Holder::of_flight(flight, receiver);
+        first_fault(alloc, &BadAtDevice { at }, flight.records.as_slice())
     }
 }
 
-// What is bad in a certificate.
-#[derive(Clone, Copy)]
-pub(crate) struct BadRows;
-
-impl Judge<RowParts> for BadRows {
+impl Judge<RowParts> for BadInDocument {
     ghost fault_at = { λ _. bad_row };
 
     #[tactic(auto, unfolding(crate::specs::Records::bad_row))]
@@ -121,11 +141,22 @@ impl Judge<RowParts> for BadRows {
         _earlier: &[RowParts],
         item: &RowParts,
     ) -> Result<Option<DocFault>, AllocError> {
-        let judge = BadAtDevice {
+        let at = &Holder {
             folder: &item.folder,
             device: item.device,
         };
-        judge.fault_at(alloc, &[], &item.entry)
+        BadAtDevice { at }.fault_at(alloc, &[], &item.entry)
+    }
+}
+
+// What is bad first, in the folders, or else on the links, or else in the certificate, or want of memory.
+#[tactic(auto, unfolding(crate::specs::Records::first_bad, crate::specs::Records::bad_at_folder, crate::specs::Records::bad_at_link))]
+pub(crate) fn first_bad(alloc: Global, parts: &CheckParts) -> Result<Option<DocFault>, AllocError>
+    ensures { IfOk result (λ found. found ≡ first_bad parts.now) }
+{
+    match first_in_cut(alloc, &BadInDocument, parts)? {
+        Some(fault) => Ok(Some(fault)),
+        None => first_fault(alloc, &BadInDocument, parts.certificate.as_slice()),
     }
 }
 

@@ -1,30 +1,32 @@
-//! Sequences that an index can't have.
-ghost use Rattle.std.specs.Prelude.{◌≡◌, ◌==◌, ◌||◌, nat_lt, not, [], IfOk};
-ghost use Rattle.bep_document.specs.Places.{first_in};
-ghost use Rattle.bep_document.specs.Sequences.{bad_sequence, sequence_at_share, sequence_at_folder};
+//! Sequences that an index, a view or a message can't have.
+ghost use Rattle.std.specs.Prelude.{◌≡◌, ◌==◌, ◌||◌, nat_lt, not, IfOk};
+ghost use Rattle.bep_index.specs.Batch.{last_sequence};
+ghost use Rattle.bep_document.specs.Sequences.{sequence_in, sequence_in_view, sequence_at_share, bad_next, sequence_in_flight, first_bad_sequence};
 
+use crate::holder::Holder;
 use crate::judge::{Judge, first_fault};
-use crate::{DocFault, Fault, FolderParts, ShareParts};
-use bep_record::{DeviceId, Entry, FolderName};
+use crate::walks::{JudgeFlights, JudgeShares, first_in_cut};
+use crate::{
+    CheckParts, DocFault, Fault, FlightParts, FolderParts, LinkParts, ShareParts, ViewParts,
+};
+use bep_record::{DeviceId, Entry};
 use std::alloc::{AllocError, Global};
 use std::collections::BTreeSet;
 
 // The first record whose sequence is 0, above the greatest or that of an earlier one, or want of memory.
-fn first_bad(
+fn first_unnumbered(
     alloc: Global,
-    folder: &FolderName,
-    device: DeviceId,
+    at: &Holder<'_>,
     max: u64,
-    own: &[Entry],
+    entries: &[Entry],
 ) -> Result<Option<DocFault>, AllocError>
-    ensures { IfOk result (λ found. found ≡ first_in (bad_sequence folder.now device max) [] own.now) }
+    ensures { IfOk result (λ found. found ≡ sequence_in at.now.folder.now at.now.device max entries.now) }
 {
     let mut seen = BTreeSet::new(alloc);
-    for entry in own {
+    for entry in entries {
         let is_new = seen.insert(entry.sequence)?;
         if is_bad(entry.sequence, max, is_new) {
-            let name = &entry.name;
-            let fault = DocFault::at_name(alloc, Fault::SequenceBad, folder, device, name)?;
+            let fault = at.fault_at(alloc, Fault::SequenceBad, &entry.name)?;
             return Ok(Some(fault));
         }
     }
@@ -38,51 +40,103 @@ fn is_bad(sequence: u64, max: u64, is_new: bool) -> bool
     sequence == 0 || sequence > max || !is_new
 }
 
-// Sequences that the devices of a folder can't have.
+// Sequences that a device's views can't have.
 #[derive(Clone, Copy)]
-struct SequencesAtShares<'a> {
-    folder: &'a FolderName,
+struct SequencesAtViews<'a> {
+    at: &'a Holder<'a>,
 }
 
-impl<'a> Judge<ShareParts> for SequencesAtShares<'a> {
-    ghost fault_at = { λ judge. sequence_at_share judge.folder.now };
+impl<'a> Judge<ViewParts> for SequencesAtViews<'a> {
+    ghost fault_at = { λ judge. sequence_in_view judge.at.now.folder.now judge.at.now.device };
+
+    fn fault_at(
+        &self,
+        alloc: Global,
+        _earlier: &[ViewParts],
+        item: &ViewParts,
+    ) -> Result<Option<DocFault>, AllocError> {
+        first_unnumbered(alloc, self.at, item.max, item.records.as_slice())
+    }
+}
+
+// Sequences that don't rise.
+#[derive(Clone, Copy)]
+struct Rising<'a> {
+    at: &'a Holder<'a>,
+}
+
+impl<'a> Judge<Entry> for Rising<'a> {
+    ghost fault_at = { λ judge. bad_next judge.at.now.folder.now judge.at.now.device };
+
+    fn fault_at(
+        &self,
+        alloc: Global,
+        earlier: &[Entry],
+        item: &Entry,
+    ) -> Result<Option<DocFault>, AllocError> {
+        let is_above = item.sequence > last_sequence(earlier);
+        self.at
+            .fault_unless(alloc, is_above, Fault::SequenceBad, &item.name)
+    }
+}
+
+// The sequence of the last record, 0 where there is none.
+#[tactic(auto, using(crate::proofs::LastFacts::last_at_end))]
+fn last_sequence(entries: &[Entry]) -> u64
+    ensures { result ≡ last_sequence 0 entries.now }
+{
+    match entries.last() {
+        Some(entry) => entry.sequence,
+        None => 0,
+    }
+}
+
+// Sequences that can't be in a cut.
+#[derive(Clone, Copy)]
+struct SequencesInCut;
+
+impl JudgeShares for SequencesInCut {
+    ghost fault_at_share = { λ _ folder. sequence_at_share folder.folder };
 
     #[tactic(auto, unfolding(crate::specs::Sequences::sequence_at_share))]
-    fn fault_at(
+    fn fault_at_share(
         &self,
         alloc: Global,
+        folder: &FolderParts,
         _earlier: &[ShareParts],
-        item: &ShareParts,
+        share: &ShareParts,
     ) -> Result<Option<DocFault>, AllocError> {
-        first_bad(
-            alloc,
-            self.folder,
-            item.device,
-            item.max,
-            item.own.as_slice(),
-        )
+        let at = &Holder::of_share(folder, share);
+        match first_unnumbered(alloc, at, share.max, share.own.as_slice())? {
+            Some(fault) => Ok(Some(fault)),
+            None => first_fault(alloc, &SequencesAtViews { at }, share.views.as_slice()),
+        }
     }
 }
 
-// Sequences that can't be, in all folders.
-#[derive(Clone, Copy)]
-pub(crate) struct SequencesAtFolders;
+impl JudgeFlights for SequencesInCut {
+    ghost fault_in_flight = { λ _ _. sequence_in_flight };
 
-impl Judge<FolderParts> for SequencesAtFolders {
-    ghost fault_at = { λ _. sequence_at_folder };
-
-    #[tactic(auto, unfolding(crate::specs::Sequences::sequence_at_folder))]
-    fn fault_at(
+    fn fault_in_flight(
         &self,
         alloc: Global,
-        _earlier: &[FolderParts],
-        item: &FolderParts,
+        _link: &LinkParts,
+        receiver: DeviceId,
+        _earlier: &[FlightParts],
+        flight: &FlightParts,
     ) -> Result<Option<DocFault>, AllocError> {
-        let folder = &item.folder;
-        first_fault(
-            alloc,
-            &SequencesAtShares { folder },
-            item.devices.as_slice(),
-        )
+        let at = &Holder::of_flight(flight, receiver);
+        first_fault(alloc, &Rising { at }, flight.records.as_slice())
     }
+}
+
+// The first sequence that can't be, in the folders or else on the links, or want of memory.
+#[tactic(auto, unfolding(crate::specs::Sequences::first_bad_sequence, crate::specs::Sequences::sequence_at_folder, crate::specs::Sequences::sequence_at_link))]
+pub(crate) fn first_bad_sequence(
+    alloc: Global,
+    parts: &CheckParts,
+) -> Result<Option<DocFault>, AllocError>
+    ensures { IfOk result (λ found. found ≡ first_bad_sequence parts.now) }
+{
+    first_in_cut(alloc, &SequencesInCut, parts)
 }

@@ -5,8 +5,8 @@ ghost use Rattle.bep_json.specs.Reading.{Gives};
 ghost use Rattle.bep_json.specs.Texts.{is_text};
 ghost use Rattle.bep_document.specs.Shares.{read_folder_kind, is_share, has_share_members, may_have_share_members, read_share};
 
-use crate::ShareParts;
-use crate::few::{Few, may_have_none};
+use crate::few::Few;
+use crate::{MAX_PULLS, ShareParts, ViewParts};
 use bep_choice::FolderKind;
 use bep_index::{IndexId, MAX_NAMES};
 use bep_json::{
@@ -123,6 +123,10 @@ impl Readable for ShareParts {
         let own = member_or::<Few<Entry, MAX_NAMES>>(alloc, value, "own", none)?;
         let empty = Items::new(Vec::new(alloc));
         let store = member_or::<Items<NamedParts>>(alloc, value, "store", empty)?;
+        let none = Items::new(Vec::new(alloc));
+        let views = member_or::<Items<ViewParts>>(alloc, value, "views", none)?;
+        let none = Few::none(alloc);
+        let pulls = member_or::<Few<Entry, MAX_PULLS>>(alloc, value, "pulls", none)?;
         Ok(ShareParts {
             device,
             kind: kind.kind(),
@@ -130,6 +134,8 @@ impl Readable for ShareParts {
             max: max.number(),
             own: own.into_items(),
             store,
+            views,
+            pulls: pulls.into_items(),
         })
     }
 }
@@ -150,6 +156,6 @@ fn may_have_share_members(value: &Value) -> bool
 {
     may_have::<Items<Entry>>(value, "own")
         && may_have::<Items<NamedParts>>(value, "store")
-        && may_have_none(value, "views")
-        && may_have_none(value, "pulls")
+        && may_have::<Items<ViewParts>>(value, "views")
+        && may_have::<Items<Entry>>(value, "pulls")
 }

@@ -19,9 +19,9 @@ returns-then-not-is_new g c =
     let key : c.in_ok-copy.field-0 ≡ name_in x = c.in_ok-copy.ensures ∙ c.name.ensures in
     let there = sym (not_added _ _ (c.in_ok-is_new.ensures.added ∙ ap (λ k. not (contains (slice_cmp nat_cmp) c.loop-item.seen k)) key)) ∙ ap not c.if-not-is_new.true in
     let again : list_any (λ known. pointwise nat_eq (name_in known) (name_in x)) (take i xs) ≡ true = sym (c.loop-item.invariant.seen (name_in x)) ∙ there in
-    let fault = at_name Twice c.args.folder.now c.args.device (name_in x) in
-    ap Some (c.in_ok-fault.ensures ∙ ap (λ n. at_name Twice c.args.folder.now c.args.device n) c.name-then-not-is_new.ensures)
-    ∙ first_is_here (name_again name_in c.args.folder.now c.args.device) xs i x fault c.loop-item-test.true c.item-item.is c.loop-item.invariant.first (ap (λ b. if b then Some fault else None) again)
+    let fault = at_name Twice c.args.at.now.folder.now c.args.at.now.device (name_in x) in
+    ap Some (c.in_ok-fault.ensures ∙ ap (λ n. at_name Twice c.args.at.now.folder.now c.args.at.now.device n) c.name-then-not-is_new.ensures)
+    ∙ first_is_here (name_again name_in c.args.at.now.folder.now c.args.at.now.device) xs i x fault c.loop-item-test.true c.item-item.is c.loop-item.invariant.first (ap (λ b. if b then Some fault else None) again)
 
 pub loop-item-preserved : goal.loop-item-preserved
 loop-item-preserved g c =
@@ -32,9 +32,9 @@ loop-item-preserved g c =
     let key : c.in_ok-copy.field-0 ≡ name_in x = c.in_ok-copy.ensures ∙ c.name.ensures in
     let absent = sym (not_added _ _ (c.in_ok-is_new.ensures.added ∙ ap (λ k. not (contains (slice_cmp nat_cmp) c.loop-item.seen k)) key)) ∙ ap not c.if-not-is_new.false in
     let new : list_any (λ known. pointwise nat_eq (name_in known) (name_in x)) (take i xs) ≡ false = sym (c.loop-item.invariant.seen (name_in x)) ∙ absent in
-    let fault = at_name Twice c.args.folder.now c.args.device (name_in x) in
+    let fault = at_name Twice c.args.at.now.folder.now c.args.at.now.device (name_in x) in
     record {
-      first = first_is_behind (name_again name_in c.args.folder.now c.args.device) xs i x c.loop-item-test.true c.item-item.is c.loop-item.invariant.first (ap (λ b. if b then Some fault else None) new);
+      first = first_is_behind (name_again name_in c.args.at.now.folder.now c.args.at.now.device) xs i x c.loop-item-test.true c.item-item.is c.loop-item.invariant.first (ap (λ b. if b then Some fault else None) new);
       seen = seen_next (pointwise nat_eq) name_in xs i x (contains (slice_cmp nat_cmp) c.loop-item.seen) (contains (slice_cmp nat_cmp) c.insert.new.self) c.loop-item-test.true c.item-item.is c.loop-item.invariant.seen (λ (q : List ℕ).
           c.in_ok-is_new.ensures.updates.0 q ∙ ap (λ b. cond b true (contains (slice_cmp nat_cmp) c.loop-item.seen q)) (ap (λ (k : List ℕ). eq_by_cmp (slice_cmp nat_cmp) k q) key ∙ sym (texts_ties (name_in x) q)));
     }

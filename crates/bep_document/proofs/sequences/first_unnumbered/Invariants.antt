@@ -4,11 +4,11 @@ use Rattle.std.specs.Ordering.{nat_cmp}
 use Rattle.std.specs.BTreeSet.{contains}
 use Rattle.bep_document.specs.Places.{first_in}
 use Rattle.bep_document.specs.Sequences.{bad_sequence}
-use Rattle.bep_document.proofs.sequences.first_bad.Given as goal
+use Rattle.bep_document.proofs.sequences.first_unnumbered.Given as goal
 
 -- what is first among all is first among the rest, and the sequences so far were seen
 abbrev pub invariant-loop-entry : goal.invariant-loop-entry
 invariant-loop-entry l = record {
-  first : first_in (bad_sequence l.folder l.device l.max) (take l.entry-index l.own) (drop l.entry-index l.own) ≡ first_in (bad_sequence l.folder l.device l.max) [] l.own;
-  seen : (q : ℕ) → contains nat_cmp l.seen q ≡ list_any (λ known. known.sequence == q) (take l.entry-index l.own);
+  first : first_in (bad_sequence l.at.folder.now l.at.device l.max) (take l.entry-index l.entries) (drop l.entry-index l.entries) ≡ first_in (bad_sequence l.at.folder.now l.at.device l.max) [] l.entries;
+  seen : (q : ℕ) → contains nat_cmp l.seen q ≡ list_any (λ known. known.sequence == q) (take l.entry-index l.entries);
 }
