@@ -220,56 +220,71 @@ fn long_lists_are_refused(rt: HostRuntime) -> Result<(), Fail> {
     Ok(())
 }
 
+const AGAIN: &str = r#",{"a":1,"b":2,"up":true,"epoch":1}"#;
+
+const OF_ITSELF: &str = r#","views":[{"of":1,"index_id":0,"max":0,"records":[]}]"#;
+
+// A link that is down with a message of falling sequences that begins so, and what follows it.
+fn down(alloc: Global, first: &str, more: &str) -> Result<String, AllocError> {
+    let list = records_of(alloc, &[(first, "a", "2"), (RECORD, "b", "1")])?;
+    let link = r#"{"a":1,"b":2,"up":false,"epoch":1,"to_a":["#;
+    text_of(alloc, &[link, MESSAGE, list.as_str(), "}]}", more])
+}
+
 #[test]
 fn smallest_number_is_told(rt: HostRuntime) -> Result<(), Fail> {
     let alloc = rt.alloc();
-    let down = r#"{"a":1,"b":2,"up":false,"epoch":1,"to_a":["#;
-    let again = r#",{"a":1,"b":2,"up":true,"epoch":1}"#;
-    let of_itself = r#","views":[{"of":1,"index_id":0,"max":0,"records":[]}]"#;
-    let bad = records_of(alloc, &[(BLOCKLESS, "a", "2"), (RECORD, "b", "1")])?;
-    let falling = records_of(alloc, &[(RECORD, "a", "2"), (RECORD, "b", "1")])?;
-    for (members, list, more, want) in [
-        (of_itself, bad.as_str(), again, "185 1"),
-        (of_itself, bad.as_str(), "", "186 docs 1"),
-        ("", bad.as_str(), "", "187 docs 1 a"),
-        ("", falling.as_str(), "", "188 docs 1 b"),
-        ("", "[]", "", "189 1"),
+    for (members, first, more, want) in [
+        (OF_ITSELF, BLOCKLESS, AGAIN, "185 1"),
+        (OF_ITSELF, BLOCKLESS, "", "186 docs 1"),
+        ("", BLOCKLESS, "", "187 docs 1 a"),
+        ("", RECORD, "", "188 docs 1 b"),
     ] {
-        let links = text_of(alloc, &[down, MESSAGE, list, "}]}", more])?;
+        let links = down(alloc, first, more)?;
         assert_eq!(rt; told(alloc, members, links.as_str())?.as_str(), want);
     }
     Ok(())
 }
 
+// The member of this name: a list of a record of the second name that lacks its block.
+fn bad_list(alloc: Global, member: &str, name: &str) -> Result<String, AllocError> {
+    let list = records_of(alloc, &[(BLOCKLESS, name, "1")])?;
+    text_of(alloc, &[member, list.as_str()])
+}
+
 #[test]
 fn first_place_is_told(rt: HostRuntime) -> Result<(), Fail> {
     let alloc = rt.alloc();
-    let own = records_of(alloc, &[(BLOCKLESS, "own", "1")])?;
-    let viewed = records_of(alloc, &[(BLOCKLESS, "viewed", "1")])?;
-    let pulled = records_of(alloc, &[(BLOCKLESS, "pulled", "1")])?;
-    let flying = records_of(alloc, &[(BLOCKLESS, "flying", "1")])?;
-    let own = text_of(alloc, &[r#","own":"#, own.as_str()])?;
-    let views = text_of(alloc, &[r#","views":["#, VIEW, viewed.as_str(), "}]"])?;
-    let pulls = text_of(alloc, &[r#","pulls":"#, pulled.as_str()])?;
-    let link = r#"{"a":1,"b":2,"up":true,"epoch":1,"to_b":["#;
-    let to_b = text_of(alloc, &[link, MESSAGE, flying.as_str(), "}],"])?;
-    let to_a = text_of(alloc, &[r#""to_a":["#, MESSAGE, flying.as_str(), "}]}"])?;
-    let links = text_of(alloc, &[to_b.as_str(), to_a.as_str()])?;
-    for (own, views, pulls, want) in [
-        (
-            own.as_str(),
-            views.as_str(),
-            pulls.as_str(),
-            "187 docs 1 own",
-        ),
-        ("", views.as_str(), pulls.as_str(), "187 docs 1 viewed"),
-        ("", "", pulls.as_str(), "187 docs 1 pulled"),
-        ("", "", "", "187 docs 1 flying"),
-    ] {
-        let members = text_of(alloc, &[pulls, views, own])?;
-        let told = told(alloc, members.as_str(), links.as_str())?;
-        assert_eq!(rt; told.as_str(), want);
-    }
+    let own = bad_list(alloc, r#","own":"#, "own")?;
+    let pulls = bad_list(alloc, r#","pulls":"#, "pulled")?;
+    let view = bad_list(
+        alloc,
+        r#","views":[{"of":2,"index_id":1,"max":9,"records":"#,
+        "viewed",
+    )?;
+    let views = text_of(alloc, &[view.as_str(), "}]"])?;
+    let pieces = [pulls.as_str(), views.as_str(), own.as_str()];
+    let members = text_of(alloc, &pieces)?;
+    assert_eq!(rt;
+        told(alloc, members.as_str(), "")?.as_str(),
+        "187 docs 1 own"
+    );
+    let members = text_of(alloc, &[pulls.as_str(), views.as_str()])?;
+    assert_eq!(rt;
+        told(alloc, members.as_str(), "")?.as_str(),
+        "187 docs 1 viewed"
+    );
+    let message = bad_list(alloc, MESSAGE, "flying")?;
+    let to_b = r#"{"a":1,"b":2,"up":true,"epoch":1,"to_b":["#;
+    let to_a = r#"}],"to_a":["#;
+    let pieces = [to_b, message.as_str(), to_a, message.as_str(), "}]}"];
+    let links = text_of(alloc, &pieces)?;
+    assert_eq!(rt;
+        told(alloc, "", links.as_str())?.as_str(),
+        "187 docs 1 flying"
+    );
+    let told = told(alloc, pulls.as_str(), links.as_str())?;
+    assert_eq!(rt; told.as_str(), "187 docs 1 pulled");
     Ok(())
 }
 
