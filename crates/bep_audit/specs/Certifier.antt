@@ -1,10 +1,7 @@
 -- How a certificate is made: a row for each known name, one after the other.
-use Rattle.std.specs.Prelude.{◌≡◌, ◌⊎◌, List, [], ◌∷◌, ◌++◌, ⊤, map}
-use Rattle.std.specs.List.{flat_map}
+use Rattle.std.specs.Prelude.{◌≡◌, ◌⊎◌, List, [], ◌∷◌, ◌++◌, ⊤}
 use Rattle.std.specs.FinMap.{keys}
 use Rattle.bep_choice.specs.Choice.{Candidate}
-use Rattle.bep_cut.specs.Names.{known_names}
-use Rattle.bep_cut.specs.declared.share.SharedFolder.{SharedFolder}
 use Rattle.bep_model.specs.declared.row.Row.{Row}
 use Rattle.bep_model.specs.Settled.{key_of, IsSettled}
 use Rattle.bep_model.specs.Tables.{Tables, Folder, FileName}

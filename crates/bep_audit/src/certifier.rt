@@ -8,8 +8,8 @@ ghost use Rattle.bep_audit.specs.Certifier.{TellsOf, TellsOfFirst, IsSettledIfAn
 use crate::{Certificate, CertifyError, winner_of};
 use bep_cut::{Cut, SharedFolder, cut_says, names_are_known};
 use bep_model::{Row, certificate_is_unique, winners_or_first_without};
-use bep_record::{DeviceId, FolderName, Name, Record};
-use std::alloc::{AllocError, Global};
+use bep_record::{FolderName, Name};
+use std::alloc::Global;
 
 /// The certificate of the cut: the winner of each known name, names rising. Where a known name has no winner there is
 /// none, and the error tells the first such name; or want of memory.
@@ -61,18 +61,7 @@ fn winning_row(
     ensures unwon { IfErr result (TellsOf (λ key. (key ≡ (folder.now, name.now)) × IsUnwon (tables_of cut.now) key)) }
 {
     match winner_of(cut, folder, name) {
-        Some(one) => Ok(row_of(alloc, folder, &one)?),
+        Some(one) => Ok(Row::of(alloc, folder, one.0, one.1)?),
         None => Err(CertifyError::NoWinner(folder.copy(alloc)?, name.copy(alloc)?)),
     }
-}
-
-// The row of this device and record, copied.
-fn row_of(alloc: Global, folder: &FolderName, one: &(DeviceId, &Record)) -> Result<Row, AllocError>
-    ensures { IfOk result (λ row. row ≡ (record { folder = folder.now; device = one.now.0; entry = one.now.1.now })) }
-{
-    Ok(Row {
-        folder: folder.copy(alloc)?,
-        device: one.0,
-        entry: one.1.copy(alloc)?,
-    })
 }

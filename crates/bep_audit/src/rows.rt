@@ -48,20 +48,10 @@ impl Certificate {
     {
         let mut rows = Vec::with_capacity(alloc, self.rows().len())?;
         for row in self.rows() {
-            rows.push(copy_row(alloc, row)?)?;
+            rows.push(row.copy(alloc)?)?;
         }
         Ok(Certificate::of(rows))
     }
-}
-
-fn copy_row(alloc: Global, row: &Row) -> Result<Row, AllocError>
-    ensures { IfOk result (λ made. made ≡ row.now) }
-{
-    Ok(Row {
-        folder: row.folder.copy(alloc)?,
-        device: row.device,
-        entry: row.entry.copy(alloc)?,
-    })
 }
 
 /// The first row that isn't above the row before it, by folder and then name; `None` where each is above.

@@ -3,6 +3,8 @@ use Rattle.std.proofs.Common.{◌≡◌, ℕ, suc, ◌+◌, ◌≤◌, Bool, tru
 use Rattle.std.specs.Ordering.{nat_cmp}
 use Rattle.std.specs.Cmp.Lexicographic.{slice_cmp, nat_list_cmp_total}
 use Rattle.std.specs.FinMap.{insert, empty, len, contains_key, len-empty, len-insert}
+use Rattle.std.proofs.lemmas.Map.Lookups.{exact_bytes}
+use Rattle.bep_facts.specs.Maps.{get-insert_apart, nothing_in_empty}
 use Rattle.bep_map.specs.NameMap.{ByName}
 use Rattle.bep_record.specs.declared.entry.Entry.{Entry}
 use Rattle.bep_index.specs.Listing.{Listing}
@@ -11,7 +13,7 @@ use Rattle.bep_index.specs.Batch.{Rises, HasNo, NamesDiffer, IsBatch, last_seque
 use Rattle.bep_index.specs.Count.{new_names}
 use Rattle.bep_index.specs.View.{IsView, IsOld, cleared, replaced, amended}
 use Rattle.bep_index.specs.declared.limits.TheConstants.{MAX_NAMES, MAX_SEQUENCE}
-use Rattle.bep_index.proofs.RecordsFacts.{AreNumbered-insert, get-insert_apart, nothing_in_empty}
+use Rattle.bep_index.proofs.RecordsFacts.{AreNumbered-insert}
 
 -- one more record
 pub with_all-push : (m : ByName Entry) (es : List Entry) (e : Entry) → with_all m (es ++ e ∷ []) ≡ insert (with_all m es) e.name e
@@ -21,7 +23,7 @@ with_all-push m (f ∷ es) e = with_all-push (insert m f.name f) es e
 new_names-insert : (m : ByName Entry) (n : List ℕ) (v : Entry) (es : List Entry) → HasNo n es → new_names (insert m n v) es ≡ new_names m es
 new_names-insert m n v [] h = refl
 new_names-insert m n v (e ∷ es) h =
-    let here = ap is_some (get-insert_apart m n v e.name h.0) in
+    let here = ap is_some (get-insert_apart nat_list_cmp_total exact_bytes m n v e.name h.0) in
     let rest = new_names-insert m n v es h.1 in
     ap (λ (b : Bool). cond b 0 1 + new_names (insert m n v) es) here ∙ ap (λ (k : ℕ). cond (contains_key m e.name) 0 1 + k) rest
 
@@ -57,7 +59,7 @@ last_sequence_le low [] h within = within
 last_sequence_le low (e ∷ es) h within = last_sequence_le e.sequence es h.2 h.1
 
 AreNumbered-empty : AreNumbered 0 empty
-AreNumbered-empty name entry found = nothing_in_empty name entry found
+AreNumbered-empty name entry found = nothing_in_empty (slice_cmp nat_cmp) name entry found
 
 pub IsView-cleared : (id : ℕ) → IsView (cleared id)
 IsView-cleared id = record {

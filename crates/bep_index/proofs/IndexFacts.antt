@@ -1,27 +1,29 @@
 -- An index stays an index when it is made, when a record is put, and when that is taken back.
 use Rattle.std.proofs.Common.{◌≡◌, ◌≢◌, ◌⊎◌, inl, inr, ℕ, ◌+◌, ◌-◌, ◌≤◌, List, false, Option, Some, None, is_some, refl, sym, ap, subst, ◌∙◌, arith}
 use Rattle.std.specs.Ordering.{nat_cmp}
-use Rattle.std.specs.Cmp.Lexicographic.{slice_cmp}
+use Rattle.std.specs.Cmp.Lexicographic.{slice_cmp, nat_list_cmp_total}
 use Rattle.std.specs.FinMap.{get, insert, empty, len, len-empty}
+use Rattle.std.proofs.lemmas.Map.Lookups.{exact_bytes}
+use Rattle.bep_facts.specs.Maps.{found_after_insert, get-insert_here, nothing_in_empty}
 use Rattle.bep_map.specs.NameMap.{ByName}
 use Rattle.bep_record.specs.declared.entry.Entry.{Entry}
 use Rattle.bep_index.specs.Listing.{Listing}
 use Rattle.bep_index.specs.Index.{AreNumbered, HaveOwnNumbers, IsIndex, numbered, after_put}
 use Rattle.bep_index.specs.Change.{given_back, taken_back, IsLastChange}
 use Rattle.bep_index.specs.declared.limits.TheConstants.{MAX_NAMES, MAX_SEQUENCE}
-use Rattle.bep_index.proofs.RecordsFacts.{AreNumbered-insert, same_name, found_after_insert, get-insert_here, nothing_in_empty, remove-insert, insert-insert, len-insert_le}
+use Rattle.bep_index.proofs.RecordsFacts.{AreNumbered-insert, same_name, remove-insert, insert-insert, len-insert_le}
 
 pub IsIndex-empty : (id : ℕ) → IsIndex (record { id = id; sequence = 0; records = empty })
 IsIndex-empty id = record {
   sequence = omega arith;
   few = let none = len-empty (slice_cmp nat_cmp) Entry in omega arith;
-  numbered = λ name entry found. nothing_in_empty name entry found;
-  distinct = λ name other entry more found. nothing_in_empty name entry found;
+  numbered = λ name entry found. nothing_in_empty (slice_cmp nat_cmp) name entry found;
+  distinct = λ name other entry more found. nothing_in_empty (slice_cmp nat_cmp) name entry found;
 }
 
 HaveOwnNumbers-put : (records : ByName Entry) (n : ℕ) (name : List ℕ) (entry : Entry) → AreNumbered n records → HaveOwnNumbers records → entry.sequence ≡ n + 1 → HaveOwnNumbers (insert records name entry)
 HaveOwnNumbers-put records n name entry old distinct number q p f g hf hg same =
-    cases (found_after_insert records name entry q f hf) (found_after_insert records name entry p g hg) where
+    cases (found_after_insert nat_list_cmp_total exact_bytes records name entry q f hf) (found_after_insert nat_list_cmp_total exact_bytes records name entry p g hg) where
       cases : ((q ≡ name) × (f ≡ entry)) ⊎ ((same_name q name ≡ false) × (get records q ≡ Some f)) → ((p ≡ name) × (g ≡ entry)) ⊎ ((same_name p name ≡ false) × (get records p ≡ Some g)) → q ≡ p
       cases (inl (a, b)) (inl (c, d)) = a ∙ sym c
       cases (inl (a, b)) (inr (c, d)) = let o = (old p g d).2 in let e = ap (λ (x : Entry). x.sequence) b in absurd (omega arith)
@@ -53,6 +55,6 @@ taken_back-after_put index entry = λ i. record {
 
 pub IsLastChange-after_put : (index : Listing) (entry : Entry) → IsIndex index → IsLastChange (record { name = entry.name; before = get index.records entry.name }) (after_put index entry)
 IsLastChange-after_put index entry is = record {
-  there = ap is_some (get-insert_here index.records entry.name (numbered entry (index.sequence + 1)));
+  there = ap is_some (get-insert_here nat_list_cmp_total exact_bytes index.records entry.name (numbered entry (index.sequence + 1)));
   before = subst IsIndex (sym (taken_back-after_put index entry)) is;
 }

@@ -2,12 +2,11 @@
 use Rattle.std.proofs.Common.{◌≡◌, ◌⊎◌, inl, inr, ℕ, ◌+◌, ◌≤◌, Bool, true, false, cond, List, Option, Some, None, is_some, refl, sym, ap, subst, ◌∙◌, arith}
 use Rattle.std.specs.Ordering.{nat_cmp, eq_by_cmp}
 use Rattle.std.specs.Cmp.Lexicographic.{slice_cmp, nat_list_cmp_total}
-use Rattle.std.specs.FinMap.{get, insert, remove, empty, len, get-empty, get-insert, get-remove, len-insert, same_map}
+use Rattle.std.specs.FinMap.{get, insert, remove, len, get-insert, get-remove, len-insert, same_map}
 use Rattle.std.proofs.lemmas.Map.Lookups.{exact_bytes}
 use Rattle.std.proofs.lemmas.Cmp.{tied_itself}
 use Rattle.std.specs.Ordering.{is_eq}
-use Rattle.std.proofs.Common.{Ordering}
-use Rattle.std.specs.declared.cmp.Ordering.TheVariants.{Less, Equal, Greater}
+use Rattle.bep_facts.specs.Maps.{same_key, found_after_insert}
 use Rattle.bep_map.specs.NameMap.{ByName}
 use Rattle.bep_record.specs.declared.entry.Entry.{Entry}
 use Rattle.bep_index.specs.Index.{AreNumbered}
@@ -21,28 +20,8 @@ same_name = eq_by_cmp (slice_cmp nat_cmp)
 pub same_name-itself : (n : List ℕ) → same_name n n ≡ true
 same_name-itself n = ap is_eq (tied_itself nat_list_cmp_total n)
 
-tied : (o : Ordering) → is_eq o ≡ true → o ≡ Equal
-tied Less e = cc
-tied Equal e = refl
-tied Greater e = cc
-
 pub equal_from_same_name : (n m : List ℕ) → same_name n m ≡ true → n ≡ m
-equal_from_same_name n m e = exact_bytes n m (tied _ e)
-
--- what is found after a name was given a value: that, or what was there before under another name
-pub found_after_insert : {V : Type 0} (m : ByName V) (n : List ℕ) (v : V) (q : List ℕ) (w : V) → get (insert m n v) q ≡ Some w → ((q ≡ n) × (w ≡ v)) ⊎ ((same_name q n ≡ false) × (get m q ≡ Some w))
-found_after_insert m n v q w found = cases (same_name q n) refl (sym (get-insert nat_list_cmp_total m n v q) ∙ found) where
-  cases : (b : Bool) → same_name q n ≡ b → cond b (Some v) (get m q) ≡ Some w → ((q ≡ n) × (w ≡ v)) ⊎ ((same_name q n ≡ false) × (get m q ≡ Some w))
-  cases true e f = inl (equal_from_same_name q n e, cc)
-  cases false e f = inr (e, f)
-
-pub get-insert_here : {V : Type 0} (m : ByName V) (n : List ℕ) (v : V) → get (insert m n v) n ≡ Some v
-get-insert_here m n v = get-insert nat_list_cmp_total m n v n ∙ ap (λ b. cond b (Some v) (get m n)) (same_name-itself n)
-
-pub nothing_in_empty : {V : Type 0} {A : Type 0} (q : List ℕ) (w : V) → get (empty {X = V} {R = slice_cmp nat_cmp}) q ≡ Some w → A
-nothing_in_empty q w found = absurd (different (sym (get-empty (slice_cmp nat_cmp) q) ∙ found)) where
-  different : None ≡ Some w → ⊥
-  different e = cc
+equal_from_same_name = same_key exact_bytes
 
 -- a name that loses its new value has again what it had
 pub remove-insert : {V : Type 0} (m : ByName V) (n : List ℕ) (v : V) → get m n ≡ None → remove (insert m n v) n ≡ m
@@ -71,13 +50,7 @@ len-insert_le m n v most few room = let h = len-insert nat_list_cmp_total m n v 
 
 -- an entry that is given its name, under a number up to a greatest that isn't below the old one
 pub AreNumbered-insert : (records : ByName Entry) (n top : ℕ) (entry : Entry) → AreNumbered n records → n ≤ top → 1 ≤ entry.sequence → entry.sequence ≤ top → AreNumbered top (insert records entry.name entry)
-AreNumbered-insert records n top entry old above positive within q found h = cases (found_after_insert records entry.name entry q found h) where
+AreNumbered-insert records n top entry old above positive within q found h = cases (found_after_insert nat_list_cmp_total exact_bytes records entry.name entry q found h) where
   cases : ((q ≡ entry.name) × (found ≡ entry)) ⊎ ((same_name q entry.name ≡ false) × (get records q ≡ Some found)) → (found.name ≡ q) × (1 ≤ found.sequence) × (found.sequence ≤ top)
   cases (inl (here, same)) = subst (λ (e : Entry). (e.name ≡ q) × (1 ≤ e.sequence) × (e.sequence ≤ top)) (sym same) (sym here, positive, within)
   cases (inr (apart, there)) = let o = old q found there in (o.0, o.1, omega arith)
-
-pub get-insert_apart : {V : Type 0} (m : ByName V) (n : List ℕ) (v : V) (q : List ℕ) → (q ≡ n → ⊥) → get (insert m n v) q ≡ get m q
-get-insert_apart m n v q apart = get-insert nat_list_cmp_total m n v q ∙ there (same_name q n) refl where
-  there : (b : Bool) → same_name q n ≡ b → cond b (Some v) (get m q) ≡ get m q
-  there true e = absurd (apart (equal_from_same_name q n e))
-  there false e = refl

@@ -1,10 +1,10 @@
 -- What a `BTreeMap` of names says of the finite map that its entries make.
 use Rattle.std.proofs.Common.{◌≡◌, ℕ, Bool, true, false, cond, ◌&&◌, List, [], ◌∷◌, length, Some, None, refl, sym, ap, subst, ◌∙◌}
 use Rattle.std.proofs.Common.{Ordering}
-use Rattle.std.specs.declared.cmp.Ordering.TheVariants.{Less, Equal, Greater}
+use Rattle.std.specs.declared.cmp.Ordering.TheVariants.{Less}
 use Rattle.std.proofs.Math.Dec.{T}
-use Rattle.std.specs.Ordering.{nat_cmp, eq_by_cmp, is_eq, is_lt}
-use Rattle.std.specs.Cmp.{eq_by_cmp_equiv}
+use Rattle.std.specs.Ordering.{nat_cmp, eq_by_cmp, is_lt}
+use Rattle.std.specs.Cmp.{Equal-is, eq_by_cmp_equiv}
 use Rattle.std.specs.Cmp.Lexicographic.{slice_cmp, nat_list_cmp_total}
 use Rattle.std.specs.List.{AllByRecursion}
 use Rattle.std.specs.List.Sorted.{IsStrictlySortedBy}
@@ -48,11 +48,6 @@ both : (a b : Bool) → T a → T b → T (a && b)
 both true b p q = q
 both false b p q = p
 
-tied : (o : Ordering) → is_eq o ≡ true → o ≡ Equal
-tied Less e = (cc)
-tied Equal e = refl
-tied Greater e = (cc)
-
 -- the keys rise, as `FinMap` tests it
 below : {V : Type 0} (n : Name) (es : List (Name × V)) → AllByRecursion (λ m. by_name n m ≡ Less) (keys_of es) → T (below_all by_name n es)
 below n [] h = tt
@@ -75,5 +70,5 @@ len-from_entries es h = len-entries _ ∙ ap length (entries-from_entries es h)
 pub insert-same : {V : Type 0} (m : FinMap (slice_cmp nat_cmp) V) (n : Name) (v : V) → get m n ≡ Some v → insert m n v ≡ m
 insert-same m n v has = same_map nat_list_cmp_total exact_bytes _ _ (λ q. get-insert nat_list_cmp_total m n v q ∙ there q (eq_by_cmp by_name q n) refl) where
   there : (q : Name) (b : Bool) → eq_by_cmp by_name q n ≡ b → cond b (Some v) (get m q) ≡ get m q
-  there q true e = sym has ∙ ap (get m) (sym (exact_bytes q n (tied _ e)))
+  there q true e = sym has ∙ ap (get m) (sym (exact_bytes q n ((Equal-is _).0 e)))
   there q false e = refl
