@@ -8,7 +8,7 @@ use bep_record::{Name, Node};
 use std::alloc::Global;
 use std::marker::Model;
 
-/// A store that fails one call, and does all others in the store inside.
+/// A store that fails one call, which doesn't reach the store inside, and passes every other call on to that store.
 #[derive(Drop)]
 pub struct FaultStore<S> {
     inner: S,
