@@ -43,6 +43,14 @@ find_gives test (y ∷ xs) x found = cases (test y) refl (find_gives test xs x) 
   cases true passes later e = let same : y ≡ x = cc in (subst (Contains (y ∷ xs)) same (Contains-first y xs), subst (λ z. test z ≡ true) same passes)
   cases false fails later e = let found = later e in (Contains-more y xs x found.0, found.1)
 
+-- where any element passes a test, some element does
+pub any_gives : {X : Type 0} (test : X → Bool) (xs : List X) → list_any test xs ≡ true → (x : X) × Contains xs x × (test x ≡ true)
+any_gives test [] h = absurd (cc)
+any_gives {X = X} test (x ∷ xs) h = cases (test x) refl (any_gives test xs) h where
+  cases : (b : Bool) → test x ≡ b → (list_any test xs ≡ true → (z : X) × Contains xs z × (test z ≡ true)) → (b || list_any test xs) ≡ true → (z : X) × Contains (x ∷ xs) z × (test z ≡ true)
+  cases true passes later h = (x, Contains-first x xs, passes)
+  cases false fails later h = let found = later h in (found.0, Contains-more x xs found.0 found.1, found.2)
+
 -- an element's image is in the images, and each of these is some element's
 pub Contains-image : {X Y : Type 0} (f : X → Y) (xs : List X) (x : X) → Contains xs x → Contains (map f xs) (f x)
 Contains-image f [] x h = absurd (not_in_none x h)

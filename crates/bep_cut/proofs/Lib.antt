@@ -3,4 +3,6 @@ mod Tables
 mod Known
 mod SortingFacts
 mod WrittenFacts
+mod LinkFacts
+mod CutWritten
 mod AsWrittenFacts

@@ -1,0 +1,109 @@
+-- What a document without faults writes down of its links.
+use Rattle.std.proofs.Common.{◌≡◌, ◌≢◌, Bool, true, false, ◌&&◌, List, [], ◌∷◌, map, length, unwrap_or, option_map, All, Contains, refl, sym, ap, subst, ◌∙◌}
+use Rattle.std.specs.declared.cmp.Ordering.{Ordering}
+use Rattle.std.specs.declared.cmp.Ordering.TheVariants.{Less, Equal, Greater}
+use Rattle.std.specs.Ordering.{nat_cmp, on, ordering_then}
+use Rattle.std.specs.Prelude.{nat_eq}
+use Rattle.std.specs.Cmp.{IsTotalOrder, nat_cmp_total, on_total, then_total}
+use Rattle.std.specs.Cmp.Lexicographic.{slice_cmp, pointwise, nat_list_cmp_total, same_text}
+use Rattle.std.specs.FinMap.{IsAntisymmetric, nat_cmp-IsAntisymmetric}
+use Rattle.std.specs.List.{AllByRecursion}
+use Rattle.std.specs.List.Sorted.{IsStrictlySortedBy}
+use Rattle.bep_model.specs.Tables.{Device, Folder}
+use Rattle.bep_model.specs.declared.flight.Flight.{Flight}
+use Rattle.bep_document.specs.declared.parts.FolderParts.{FolderParts}
+use Rattle.bep_document.specs.declared.parts.FlightParts.{FlightParts}
+use Rattle.bep_document.specs.declared.parts.LinkParts.{LinkParts}
+use Rattle.bep_document.specs.declared.parts.CheckParts.{CheckParts}
+use Rattle.bep_document.specs.Faultless.{IsFaultlessFlight, IsFaultlessLink, IsFaultless}
+use Rattle.bep_document.specs.LinkFaults.{is_device}
+use Rattle.bep_document.specs.Unshared.{has_device, shares}
+use Rattle.bep_cut.specs.declared.share.SharedFolder.{SharedFolder}
+use Rattle.bep_cut.specs.declared.link.LinkState.{LinkState}
+use Rattle.bep_cut.specs.Cut.{HasDevice, IsFlight, IsLink, devices_of, ends_of, ends_cmp, shares_of}
+use Rattle.bep_cut.specs.Sorting.{in_order}
+use Rattle.bep_cut.specs.Written.{by_folder, by_ends, folder_written, flight_written, link_written}
+use Rattle.bep_cut.proofs.Found.{Contains-from_image, all_from_each, any_gives, each_from_recursion, found_itself}
+use Rattle.bep_cut.proofs.WrittenFacts.{device_written, from_part, part_there, rise_written}
+
+-- ---- the order of links
+pub ends_total : IsTotalOrder ends_cmp
+ends_total = then_total (on_total (λ (ends : Device × Device). ends.0) nat_cmp_total) (on_total (λ (ends : Device × Device). ends.1) nat_cmp_total)
+
+both_equal : (one other : Ordering) → ordering_then one other ≡ Equal → (one ≡ Equal) × (other ≡ Equal)
+both_equal Less other e = absurd (cc)
+both_equal Equal other e = (refl, e)
+both_equal Greater other e = absurd (cc)
+
+pub ends_exact : IsAntisymmetric ends_cmp
+ends_exact one other tied =
+    let both = both_equal (nat_cmp one.0 other.0) (nat_cmp one.1 other.1) tied in
+    let smaller = nat_cmp-IsAntisymmetric one.0 other.0 both.0 in
+    let greater = nat_cmp-IsAntisymmetric one.1 other.1 both.1 in
+    λ i. (smaller i, greater i)
+
+-- ---- the folders that the ends of a link share
+abbrev folders_in_order : List FolderParts → List SharedFolder
+folders_in_order folders = in_order by_folder [] (map folder_written folders)
+
+-- a folder's shares are found by its name
+shares_found : (folders : List SharedFolder) (held : SharedFolder) → IsStrictlySortedBy (slice_cmp nat_cmp) (map (λ (one : SharedFolder). one.folder) folders) → Contains folders held → shares_of held.folder folders ≡ held.shares
+shares_found folders held rise h =
+    ap (λ found. unwrap_or (option_map (λ (one : SharedFolder). one.shares) found) [])
+    (found_itself nat_list_cmp_total (λ (one : SharedFolder). one.folder) folders held rise h)
+
+both_pass : (one other : Bool) → (one && other) ≡ true → (one ≡ true) × (other ≡ true)
+both_pass true other e = (refl, e)
+both_pass false other e = absurd (cc)
+
+-- a device that the document has in a folder of this name shares it
+folder_shared : (folders : List FolderParts) (name : Folder) (device : Device) → IsStrictlySortedBy (slice_cmp nat_cmp) (map (λ (one : SharedFolder). one.folder) (folders_in_order folders)) → shares folders name device ≡ true → Contains (devices_of (shares_of name (folders_in_order folders))) device
+folder_shared folders name device rise has =
+    let folder = any_gives (λ (f : FolderParts). pointwise nat_eq f.folder name && has_device device f.devices) folders has in
+    let both = both_pass (pointwise nat_eq folder.0.folder name) (has_device device folder.0.devices) folder.2 in
+    let called = same_text folder.0.folder name (sym both.0) in
+    let found = shares_found (folders_in_order folders) (folder_written folder.0) rise (part_there by_folder folder_written folders folder.0 folder.1) in
+    subst (λ held. Contains (devices_of held) device) (sym found ∙ ap (λ f. shares_of f (folders_in_order folders)) called)
+    (device_written folder.0 device both.1)
+
+-- so it is one of the cut's devices
+device_there : (folders : List FolderParts) (device : Device) → is_device folders device ≡ true → HasDevice (folders_in_order folders) device
+device_there folders device has =
+    let folder = any_gives (λ (f : FolderParts). has_device device f.devices) folders has in
+    (folder_written folder.0, part_there by_folder folder_written folders folder.0 folder.1, device_written folder.0 device folder.2)
+
+-- ---- links
+abbrev Rise : List FolderParts → Type 0
+Rise folders = IsStrictlySortedBy (slice_cmp nat_cmp) (map (λ (one : SharedFolder). one.folder) (folders_in_order folders))
+
+flights_of_link : (folders : List FolderParts) (link : LinkParts) (parts : List FlightParts) → Rise folders → AllByRecursion (IsFaultlessFlight folders link) parts → All (IsFlight (folders_in_order folders) link.a link.b) (map flight_written parts)
+flights_of_link folders link parts rise faultless =
+    all_from_each (IsFlight (folders_in_order folders) link.a link.b) (map flight_written parts) (λ flight h.
+    let part = Contains-from_image flight_written parts flight h in
+    let one = each_from_recursion (IsFaultlessFlight folders link) parts part.0 faultless part.1 in
+    subst (IsFlight (folders_in_order folders) link.a link.b) part.2 (record {
+      batch = one.batch;
+      shared_by_a = folder_shared folders part.0.folder link.a rise one.shared_by_a;
+      shared_by_b = folder_shared folders part.0.folder link.b rise one.shared_by_b;
+    }))
+
+nothing_written : (parts : List FlightParts) → parts ≡ [] → map flight_written parts ≡ []
+nothing_written parts none = ap (map flight_written) none
+
+link_in_order : (folders : List FolderParts) (link : LinkParts) → Rise folders → IsFaultlessLink folders link → IsLink (folders_in_order folders) (link_written link)
+link_in_order folders link rise faultless = record {
+  ends = faultless.ends;
+  a_device = device_there folders link.a faultless.a_device;
+  b_device = device_there folders link.b faultless.b_device;
+  epoch = faultless.epoch;
+  quiet = λ down. let none = faultless.quiet down in (nothing_written link.to_a none.0, nothing_written link.to_b none.1);
+  to_a = flights_of_link folders link link.to_a rise faultless.to_a;
+  to_b = flights_of_link folders link link.to_b rise faultless.to_b;
+}
+
+pub links_in_order : (folders : List FolderParts) (links : List LinkParts) → Rise folders → AllByRecursion (IsFaultlessLink folders) links → All (IsLink (folders_in_order folders)) (in_order by_ends [] (map link_written links))
+links_in_order folders links rise faultless =
+    all_from_each (IsLink (folders_in_order folders)) (in_order by_ends [] (map link_written links)) (λ link h.
+    let part = from_part by_ends link_written links link h in
+    subst (IsLink (folders_in_order folders)) part.2
+    (link_in_order folders part.0 rise (each_from_recursion (IsFaultlessLink folders) links part.0 faultless part.1)))
