@@ -1,175 +1,114 @@
--- The names that are known in a folder are those of its own records and stores.
-use Rattle.std.proofs.Common.{◌≡◌, ◌⊎◌, ◌↔◌, Bool, true, false, cond, List, [], ◌∷◌, ◌++◌, Some, IsSome, IsTrue, is_some, Contains, refl, sym, ap, subst, ◌∙◌, inl, inr, ⊎_elim}
-use Rattle.std.specs.Prelude.{map}
-use Rattle.std.specs.Ordering.{nat_cmp, eq_by_cmp, is_eq}
-use Rattle.std.specs.Cmp.Lexicographic.{slice_cmp, nat_list_cmp_total}
-use Rattle.std.specs.FinMap.{get, contains_key, insert, empty, keys, get-empty, get-insert, contains_key-keys}
-use Rattle.std.proofs.lemmas.Cmp.{tied_itself}
-use Rattle.std.proofs.lemmas.Map.Lookups.{exact_bytes}
-use Rattle.std.proofs.lemmas.List.Elements.{Contains-append_left, Contains-append_right}
-use Rattle.bep_map.specs.NameMap.{ByName}
-use Rattle.bep_model.specs.Tables.{Device, Folder, FileName}
-use Rattle.bep_model.specs.Foreign.{HasTrace}
-use Rattle.bep_model.proofs.Keys.{Equal_from_is_eq}
-use Rattle.bep_model.proofs.Members.{not_in_none, Contains-first, Contains-more, Contains-cons_cases}
+-- The names that are known in a folder are those of its devices and of the messages on their way to them.
+use Rattle.std.proofs.Common.{◌≡◌, ◌⊎◌, false, Option, Some, None, IsSome, Contains, refl, sym, subst, ◌∙◌, inl, inr, ⊎_elim}
+use Rattle.std.specs.FinMap.{get, values}
+use Rattle.std.proofs.lemmas.List.Elements.{All-contains}
+use Rattle.bep_record.specs.declared.entry.Entry.{Entry}
+use Rattle.bep_index.specs.Index.{IsIndex}
+use Rattle.bep_model.specs.declared.flight.Flight.{Flight}
+use Rattle.bep_model.specs.Tables.{Device, Folder, FileName, Shares}
+use Rattle.bep_model.specs.Foreign.{IsViewed, IsFlying, IsForeign, HasTrace, IsKnown}
 use Rattle.bep_cut.specs.declared.share.Share.{Share}
-use Rattle.bep_cut.specs.declared.share.SharedFolder.{SharedFolder}
+use Rattle.bep_cut.specs.declared.share.PeerView.{PeerView}
+use Rattle.bep_cut.specs.declared.link.LinkState.{LinkState}
 use Rattle.bep_cut.specs.declared.cut.CutParts.{CutParts}
-use Rattle.bep_cut.specs.Cut.{shares_of, tables_of}
-use Rattle.bep_cut.specs.Laws.{NamesAreKnown, CutIsFinite}
-use Rattle.bep_cut.specs.Names.{Names, with_names, with_shares, known_names}
-use Rattle.bep_cut.proofs.Found.{Contains-image, any_tied, one_tied}
-use Rattle.bep_cut.proofs.Tables.{folder_is_found, share_has_folder, sharing_is_said, own_is_said, node_is_said, nothing_is_foreign}
+use Rattle.bep_cut.specs.Cut.{IsCut, known_of, shares_of, tables_of}
+use Rattle.bep_cut.specs.Laws.{Carries, NamesAreKnown}
+use Rattle.bep_cut.proofs.Values.{value_at_name, name_of_value}
+use Rattle.bep_cut.proofs.Added.{HasValid, HasName, HasFlown, HasFlownOver, known}
+use Rattle.bep_cut.proofs.Tables.{sharing_is_said, own_is_said, node_is_said, viewed_is_said, target_is_said, flying_is_said, receiver_shares, are_views, are_pulls}
 
--- the name is in the set
-abbrev Has : Names → FileName → Type 0
-Has names name = IsTrue (contains_key names name)
+-- ---- a device of the folder
+-- the share's device shares the folder
+device_shares : (cut : CutParts) (folder : Folder) (share : Share) → Contains (shares_of folder cut.folders) share → Shares (tables_of cut) share.device folder
+device_shares cut folder share h = (share.kind, (sharing_is_said cut folder share.device share.kind).1 (share, h, refl, refl))
 
--- one name more
-inserted : (names : Names) (new name : FileName) → Has (insert names new tt) name ↔ (Has names name ⊎ (new ≡ name))
-inserted names new name =
-    let h = ap is_some (get-insert nat_list_cmp_total names new tt name) in (
-      λ has. there (eq_by_cmp (slice_cmp nat_cmp) name new) refl (sym h ∙ has),
-      λ either. h ∙ here (eq_by_cmp (slice_cmp nat_cmp) name new) refl either,
+-- a record that a view has stands at its own name
+named_in_view : (cut : CutParts) (folder : Folder) (share : Share) (view : PeerView) (name : FileName) (entry : Entry) → IsCut cut → Contains (shares_of folder cut.folders) share → Contains share.views view → get view.records name ≡ Some entry → entry.name ≡ name
+named_in_view cut folder share view name entry is_cut h there found =
+    let index = All-contains (λ (one : PeerView). IsIndex (known_of one)) share.views view (are_views cut folder share is_cut h).indexes there in
+    (index.numbered name entry found).0
+
+-- what a device knows of others at a name
+viewed_at : (cut : CutParts) (folder : Folder) (name : FileName) (share : Share) (entry : Entry) → IsCut cut → Contains (shares_of folder cut.folders) share → entry.invalid ≡ false → IsViewed (tables_of cut) share.device folder name entry → HasName share name
+viewed_at cut folder name share entry is_cut h valid viewed =
+    let held = (viewed_is_said cut folder name entry share is_cut h).0 viewed in
+    inl (inr (held.0, held.1, (entry, value_at_name held.0.records name entry held.2, (valid, named_in_view cut folder share held.0 name entry is_cut h held.1 held.2))))
+
+foreign_in_view : (cut : CutParts) (folder : Folder) (name : FileName) (share : Share) (view : PeerView) → IsCut cut → Contains (shares_of folder cut.folders) share → Contains share.views view → HasValid (values view.records) name → (entry : Entry) × IsForeign (tables_of cut) share.device folder name entry
+foreign_in_view cut folder name share view is_cut h there has =
+    let at = name_of_value view.records has.0 has.1 in
+    let same : at.0 ≡ name = sym (named_in_view cut folder share view at.0 has.0 is_cut h there at.1) ∙ has.2.1 in
+    let found : get view.records name ≡ Some has.0 = subst (λ n. get view.records n ≡ Some has.0) same at.1 in
+    (has.0, record { known_by = inl ((viewed_is_said cut folder name has.0 share is_cut h).1 (view, there, found)); valid = has.2.0 })
+
+foreign_pull : (cut : CutParts) (folder : Folder) (name : FileName) (share : Share) → IsCut cut → Contains (shares_of folder cut.folders) share → IsSome (get share.pulls name) → (entry : Entry) × IsForeign (tables_of cut) share.device folder name entry
+foreign_pull cut folder name share is_cut h some = cases (get share.pulls name) refl some where
+  cases : (pull : Option Entry) → get share.pulls name ≡ pull → IsSome pull → (entry : Entry) × IsForeign (tables_of cut) share.device folder name entry
+  cases None e none = absurd (cc)
+  cases (Some entry) e some = (
+    entry,
+    record {
+      known_by = inr (inr (target_is_said cut folder name share is_cut h ∙ e));
+      valid = ((are_pulls cut folder share is_cut h).named name entry e).1;
+    },
+  )
+
+-- a device that has the name has a trace of it
+trace_of_share : (cut : CutParts) (folder : Folder) (name : FileName) (share : Share) → IsCut cut → Contains (shares_of folder cut.folders) share → HasName share name → HasTrace (tables_of cut) share.device folder name
+trace_of_share cut folder name share is_cut h (inl (inl (inl own))) = inr (inl (subst IsSome (sym (own_is_said cut folder name share is_cut h)) own))
+trace_of_share cut folder name share is_cut h (inl (inl (inr store))) = inl (subst IsSome (sym (node_is_said cut folder name share is_cut h)) store)
+trace_of_share cut folder name share is_cut h (inl (inr view)) = inr (inr (foreign_in_view cut folder name share view.0 is_cut h view.1 view.2))
+trace_of_share cut folder name share is_cut h (inr pull) = inr (inr (foreign_pull cut folder name share is_cut h pull))
+
+-- ---- a message
+-- a valid record of the name that flies to a device
+known_by_flight : (cut : CutParts) (folder : Folder) (name : FileName) (link : LinkState) (device : Device) (flight : Flight) → IsCut cut → Contains cut.links link → Carries link device flight → HasFlown folder flight name → IsKnown (tables_of cut) folder name
+known_by_flight cut folder name link device flight is_cut h carries flown =
+    let has = flown.1 in
+    let flying = (flying_is_said cut device folder name has.0 is_cut).1 (link, flight, h, carries, (flown.0, has.1, has.2.1)) in (
+      device,
+      subst (Shares (tables_of cut) device) flown.0 (receiver_shares cut link device flight is_cut h carries),
+      inr (inr (has.0, record { known_by = inr (inl flying); valid = has.2.0 })),
     )
-  where
-    there : (b : Bool) → eq_by_cmp (slice_cmp nat_cmp) name new ≡ b → is_some (cond b (Some tt) (get names name)) ≡ true → Has names name ⊎ (new ≡ name)
-    there true same e = inr (sym (exact_bytes name new (Equal_from_is_eq _ same)))
-    there false apart e = inl e
 
-    here : (b : Bool) → eq_by_cmp (slice_cmp nat_cmp) name new ≡ b → Has names name ⊎ (new ≡ name) → is_some (cond b (Some tt) (get names name)) ≡ true
-    here true same either = refl
-    here false apart (inl has) = has
-    here false apart (inr same) = let tied = ap is_eq (tied_itself nat_list_cmp_total name) in let e = ap (λ other. eq_by_cmp (slice_cmp nat_cmp) name other) same in absurd (cc)
+known_over_link : (cut : CutParts) (folder : Folder) (name : FileName) (link : LinkState) → IsCut cut → Contains cut.links link → HasFlownOver folder link name → IsKnown (tables_of cut) folder name
+known_over_link cut folder name link is_cut h (inl to_a) = known_by_flight cut folder name link link.a to_a.0 is_cut h (inl (refl, to_a.1)) to_a.2
+known_over_link cut folder name link is_cut h (inr to_b) = known_by_flight cut folder name link link.b to_b.0 is_cut h (inr (refl, to_b.1)) to_b.2
 
--- more names
-pub named : (names : Names) (more : List FileName) (name : FileName) → Has (with_names names more) name ↔ (Has names name ⊎ Contains more name)
-named names [] name = (λ has. inl has, λ either. ⊎_elim (λ has. has) (λ none. absurd (not_in_none name none)) either)
-named names (new ∷ more) name =
-    let rest = named (insert names new tt) more name in
-    let one = inserted names new name in (
-      λ has. ⊎_elim
-          (λ before. ⊎_elim (λ old. inl old) (λ same. inr (subst (Contains (new ∷ more)) same (Contains-first new more))) (one.0 before))
-          (λ later. inr (Contains-more new more name later))
-          (rest.0 has),
-      λ either. ⊎_elim
-          (λ old. rest.1 (inl (one.1 (inl old))))
-          (λ there. ⊎_elim (λ same. rest.1 (inl (one.1 (inr same)))) (λ later. rest.1 (inr later)) (Contains-cons_cases new more name there))
-          either,
-    )
+flown_over : (cut : CutParts) (folder : Folder) (name : FileName) (device : Device) (entry : Entry) → IsCut cut → entry.invalid ≡ false → IsFlying (tables_of cut) device folder name entry → (link : LinkState) × Contains cut.links link × HasFlownOver folder link name
+flown_over cut folder name device entry is_cut valid flying =
+    let over = (flying_is_said cut device folder name entry is_cut).0 flying in
+    let flown : HasFlown folder over.1 name = (over.4.0, (entry, over.4.1, (valid, over.4.2))) in
+    (over.0, over.2, ⊎_elim (λ to_a. inl (over.1, to_a.1, flown)) (λ to_b. inr (over.1, to_b.1, flown)) over.3)
 
--- a key of a map has a value
-pub key_has_value : {V : Type 0} (m : ByName V) (name : FileName) → Contains (keys m) name ↔ IsSome (get m name)
-key_has_value m name = (
-  λ h. contains_key-keys m name ∙ any_tied nat_list_cmp_total name (keys m) h,
-  λ h. one_tied exact_bytes name (keys m) (sym (contains_key-keys m name) ∙ h),
-)
+-- ---- the law
+-- a device's trace of a name is one of its own, or a message's
+abbrev IsSource : CutParts → Folder → FileName → Type 0
+IsSource cut folder name =
+    ((share : Share) × Contains (shares_of folder cut.folders) share × HasName share name) ⊎ ((link : LinkState) × Contains cut.links link × HasFlownOver folder link name)
 
--- a device recorded or holds something at the name
-abbrev HasName : List Share → FileName → Type 0
-HasName shares name = (share : Share) × Contains shares share × (IsSome (get share.own name) ⊎ IsSome (get share.store name))
+source_of_foreign : (cut : CutParts) (folder : Folder) (name : FileName) (share : Share) (entry : Entry) → IsCut cut → Contains (shares_of folder cut.folders) share → IsForeign (tables_of cut) share.device folder name entry → IsSource cut folder name
+source_of_foreign cut folder name share entry is_cut h foreign =
+    ⊎_elim
+    (λ viewed. inl (share, h, viewed_at cut folder name share entry is_cut h foreign.valid viewed))
+    (⊎_elim
+    (λ flying. inr (flown_over cut folder name share.device entry is_cut foreign.valid flying))
+    (λ target. inl (share, h, inr (subst IsSome (sym target ∙ target_is_said cut folder name share is_cut h) refl))))
+    foreign.known_by
 
-shared : (names : Names) (shares : List Share) (name : FileName) → Has (with_shares names shares) name ↔ (Has names name ⊎ HasName shares name)
-shared names [] name = (λ has. inl has, λ either. ⊎_elim (λ has. has) (λ none. absurd (not_in_none none.0 none.1)) either)
-shared names (share ∷ more) name =
-    let rest = shared (with_names (with_names names (keys share.own)) (keys share.store)) more name in
-    let stored = named (with_names names (keys share.own)) (keys share.store) name in
-    let owned = named names (keys share.own) name in (
-      λ has. ⊎_elim
-          (λ before.
-          ⊎_elim
-          (λ before.
-          ⊎_elim
-          (λ old. inl old)
-          (λ own. inr (share, Contains-first share more, inl ((key_has_value share.own name).0 own)))
-          (owned.0 before))
-          (λ store. inr (share, Contains-first share more, inr ((key_has_value share.store name).0 store)))
-          (stored.0 before))
-          (λ later. inr (later.0, Contains-more share more later.0 later.1, later.2))
-          (rest.0 has),
-      λ either. ⊎_elim
-          (λ old. rest.1 (inl (stored.1 (inl (owned.1 (inl old))))))
-          (λ has. ⊎_elim
-          (λ same.
-          rest.1 (inl (here (subst (λ (one : Share). IsSome (get one.own name) ⊎ IsSome (get one.store name)) (sym same) has.2))))
-          (λ later. rest.1 (inr (has.0, later, has.2)))
-          (Contains-cons_cases share more has.0 has.1))
-          either,
-    )
-  where
-    here : IsSome (get share.own name) ⊎ IsSome (get share.store name) → Has (with_names (with_names names (keys share.own)) (keys share.store)) name
-    here (inl own) = (named (with_names names (keys share.own)) (keys share.store) name).1 (inl ((named names (keys share.own) name).1 (inr ((key_has_value share.own name).1 own))))
-    here (inr store) = (named (with_names names (keys share.own)) (keys share.store) name).1 (inr ((key_has_value share.store name).1 store))
-
-in_empty : (name : FileName) → ¬ Has empty name
-in_empty name h = let e = ap is_some (get-empty {X = Unit {0}} (slice_cmp nat_cmp) name) in absurd (cc)
-
-known : (shares : List Share) (name : FileName) → Has (known_names shares) name ↔ HasName shares name
-unfolding known_names
-known shares name =
-    let all = shared empty shares name in (
-      λ has. ⊎_elim (λ none. absurd (in_empty name none)) (λ held. held) (all.0 has),
-      λ held. all.1 (inr held),
-    )
+source_of_trace : (cut : CutParts) (folder : Folder) (name : FileName) (share : Share) → IsCut cut → Contains (shares_of folder cut.folders) share → HasTrace (tables_of cut) share.device folder name → IsSource cut folder name
+source_of_trace cut folder name share is_cut h (inl node) = inl (share, h, inl (inl (inr (subst IsSome (node_is_said cut folder name share is_cut h) node))))
+source_of_trace cut folder name share is_cut h (inr (inl own)) = inl (share, h, inl (inl (inl (subst IsSome (own_is_said cut folder name share is_cut h) own))))
+source_of_trace cut folder name share is_cut h (inr (inr foreign)) = source_of_foreign cut folder name share foreign.0 is_cut h foreign.1
 
 pub names_are_known : NamesAreKnown
 names_are_known cut folder name is_cut = (
-  λ has.
-      let held = (known (shares_of folder cut.folders) name).0 has in
-      let own = own_is_said cut folder name held.0 is_cut held.1 in
-      let node = node_is_said cut folder name held.0 is_cut held.1 in
-      let sharing = (sharing_is_said cut folder held.0.device held.0.kind).1 (held.0, held.1, refl, refl) in
-      (held.0.device, (held.0.kind, sharing), ⊎_elim (λ (h : IsSome (get held.0.own name)). inr (inl (subst IsSome (sym own) h))) (λ h. inl (subst IsSome (sym node) h)) held.2),
+  λ has. ⊎_elim
+      (λ held. (held.0.device, device_shares cut folder held.0 held.1, trace_of_share cut folder name held.0 is_cut held.1 held.2))
+      (λ over. known_over_link cut folder name over.0 is_cut over.1 over.2)
+      ((known cut folder name).0 has),
   λ is_known.
       let share = (sharing_is_said cut folder is_known.0 is_known.1.0).0 is_known.1.1 in
-      let own = own_is_said cut folder name share.0 is_cut share.1 in
-      let node = node_is_said cut folder name share.0 is_cut share.1 in
-      let trace : HasTrace (tables_of cut) share.0.device folder name = subst (λ device. HasTrace (tables_of cut) device folder name) (sym share.2) is_known.2 in
-      (known (shares_of folder cut.folders) name).1 (
-        share.0,
-        share.1,
-        ⊎_elim
-            (λ h. inr (subst IsSome node h))
-            (⊎_elim (λ h. inl (subst IsSome own h)) (λ foreign. absurd (nothing_is_foreign cut share.0.device folder name foreign.0 foreign.1)))
-            trace,
-      ),
+      let trace = subst (λ device. HasTrace (tables_of cut) device folder name) (sym share.2) is_known.2 in
+      (known cut folder name).1 (source_of_trace cut folder name share.0 is_cut share.1 trace),
 )
-
--- the known names of a folder, and of all folders
-abbrev named_in : SharedFolder → List (Folder × FileName)
-named_in held = map (λ name. (held.folder, name)) (keys (known_names held.shares))
-
-abbrev all_names : List SharedFolder → List (Folder × FileName)
-all_names [] = []
-all_names (held ∷ more) = named_in held ++ all_names more
-
-among_all : (folders : List SharedFolder) (held : SharedFolder) (name : FileName) → Contains folders held → Has (known_names held.shares) name → Contains (all_names folders) (held.folder, name)
-among_all [] held name h has = absurd (not_in_none held h)
-among_all (first ∷ more) held name h has =
-    ⊎_elim
-    (λ same. subst (λ (one : SharedFolder). Contains {X = Folder × FileName} (all_names (first ∷ more)) (one.folder, name)) same (here (subst (λ (one : SharedFolder). Has (known_names one.shares) name) (sym same) has)))
-    (λ later. Contains-append_right (named_in first) (all_names more) (held.folder, name) (among_all more held name later has))
-    (Contains-cons_cases first more held h)
-  where
-    here : Has (known_names first.shares) name → Contains {X = Folder × FileName} (all_names (first ∷ more)) (first.folder, name)
-    here has =
-        Contains-append_left (named_in first) (all_names more) (first.folder, name)
-        (Contains-image (λ n. (first.folder, n)) (keys (known_names first.shares)) name ((key_has_value (known_names first.shares) name).1 has))
-
-nothing_viewed : (cut : CutParts) (device other : Device) (folder : Folder) (name : FileName) → ¬ IsSome ((tables_of cut).viewed device other folder name)
-unfolding tables_of
-nothing_viewed cut device other folder name h = absurd (cc)
-
-pub cut_is_finite : CutIsFinite
-cut_is_finite cut is_cut = record {
-  viewed = [];
-  names = all_names cut.folders;
-  all_viewed = λ device other folder name h. absurd (nothing_viewed cut device other folder name h);
-  all_known = λ folder name is_known.
-      let share = (sharing_is_said cut folder is_known.0 is_known.1.0).0 is_known.1.1 in
-      let held = share_has_folder cut folder share.0 share.1 in
-      let has = (names_are_known cut folder name is_cut).1 is_known in
-      let same : shares_of folder cut.folders ≡ held.0.shares = ap (λ f. shares_of f cut.folders) (sym held.2) ∙ folder_is_found cut held.0 is_cut held.1 in
-      subst (λ f. Contains (all_names cut.folders) (f, name)) held.2
-      (among_all cut.folders held.0 name held.1 (subst (λ shares. Has (known_names shares) name) same has));
-}

@@ -1,6 +1,9 @@
 mod Found
 mod Tables
+mod Values
+mod Added
 mod Known
+mod Finite
 mod SortingFacts
 mod WrittenFacts
 mod LinkFacts

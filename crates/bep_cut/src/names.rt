@@ -1,16 +1,16 @@
 //! The names that are known in a folder.
-ghost use Rattle.std.specs.Prelude.{◌≡◌, ◌∷◌, [], IfOk, OnOk};
-ghost use Rattle.std.specs.FinMap.{keys, values};
-ghost use Rattle.bep_cut.specs.Names.{with_names, valid_names, with_views, with_share, with_flight, with_flights, known_names};
+ghost use Rattle.std.specs.Prelude.{◌≡◌, fold, IfOk, OnOk};
+ghost use Rattle.std.specs.FinMap.{keys};
+ghost use Rattle.bep_cut.specs.Names.{with_names, with_valid, with_view, with_share, with_flight, with_link, known_names};
 
-use crate::{Cut, Flight, PeerView, Share};
+use crate::{Cut, Flight, LinkState, PeerView, Share};
 use bep_map::NameMap;
 use bep_record::{FolderName, Record};
 use std::alloc::{AllocError, Global};
 
 impl Cut {
     /// The names that the folder's devices recorded, hold, know of others or pull, and those on their way to them; or
-    /// want of memory. Of others' records only those that aren't invalid count.
+    /// want of memory. A record that a device has from elsewhere counts unless it is invalid.
     #[tactic(auto, unfolding(crate::specs::Names::known_names))]
     pub fn known_names(&self, alloc: Global, folder: &FolderName) -> Result<NameMap<()>, AllocError>
         ensures { IfOk result (λ names. names ≡ known_names self.now folder.now) }
@@ -19,10 +19,7 @@ impl Cut {
         for share in self.shares(folder) {
             add_share(&mut names, alloc, share)?;
         }
-        for link in self.links() {
-            add_flights(&mut names, alloc, folder, link.to_a.as_slice())?;
-            add_flights(&mut names, alloc, folder, link.to_b.as_slice())?;
-        }
+        add_links(&mut names, alloc, folder, self.links())?;
         Ok(names)
     }
 }
@@ -33,7 +30,9 @@ fn add_share(names: &mut NameMap<()>, alloc: Global, share: &Share) -> Result<()
 {
     add_names(names, alloc, &share.own)?;
     add_names(names, alloc, &share.store)?;
-    add_views(names, alloc, share.views.as_slice())?;
+    for view in share.views.as_slice() {
+        add_view(names, alloc, view)?;
+    }
     add_names(names, alloc, &share.pulls)
 }
 
@@ -46,13 +45,27 @@ fn add_names<V>(names: &mut NameMap<()>, alloc: Global, held: &NameMap<V>) -> Re
     Ok(())
 }
 
-fn add_views(names: &mut NameMap<()>, alloc: Global, views: &[PeerView]) -> Result<(), AllocError>
-    ensures { OnOk result (names.new ≡ with_views names.old views.now) }
+fn add_view(names: &mut NameMap<()>, alloc: Global, view: &PeerView) -> Result<(), AllocError>
+    ensures { OnOk result (names.new ≡ with_view names.old view.now) }
 {
-    for view in views {
-        for entry in view.records.values() {
-            add_valid(names, alloc, entry)?;
-        }
+    for entry in view.records.values() {
+        add_valid(names, alloc, entry)?;
+    }
+    Ok(())
+}
+
+#[tactic(auto, unfolding(crate::specs::Names::with_link))]
+fn add_links(
+    names: &mut NameMap<()>,
+    alloc: Global,
+    folder: &FolderName,
+    links: &[LinkState],
+) -> Result<(), AllocError>
+    ensures { OnOk result (names.new ≡ fold (with_link folder.now) names.old links.now) }
+{
+    for link in links {
+        add_flights(names, alloc, folder, link.to_a.as_slice())?;
+        add_flights(names, alloc, folder, link.to_b.as_slice())?;
     }
     Ok(())
 }
@@ -63,20 +76,27 @@ fn add_flights(
     folder: &FolderName,
     flights: &[Flight],
 ) -> Result<(), AllocError>
-    ensures { OnOk result (names.new ≡ with_flights folder.now names.old flights.now) }
+    ensures { OnOk result (names.new ≡ fold (with_flight folder.now) names.old flights.now) }
 {
     for flight in flights {
-        if flight.folder == *folder {
-            add_records(names, alloc, flight.records.as_slice())?;
-        }
+        add_flight(names, alloc, folder, flight)?;
     }
     Ok(())
 }
 
-fn add_records(names: &mut NameMap<()>, alloc: Global, records: &[Record]) -> Result<(), AllocError>
-    ensures { OnOk result (names.new ≡ with_names names.old (valid_names records.now)) }
+#[tactic(auto, unfolding(crate::specs::Names::with_flight))]
+fn add_flight(
+    names: &mut NameMap<()>,
+    alloc: Global,
+    folder: &FolderName,
+    flight: &Flight,
+) -> Result<(), AllocError>
+    ensures { OnOk result (names.new ≡ with_flight folder.now names.old flight.now) }
 {
-    for entry in records {
+    if flight.folder != *folder {
+        return Ok(());
+    }
+    for entry in flight.records.as_slice() {
         add_valid(names, alloc, entry)?;
     }
     Ok(())
@@ -84,7 +104,7 @@ fn add_records(names: &mut NameMap<()>, alloc: Global, records: &[Record]) -> Re
 
 // Adds the record's name, unless the record is invalid.
 fn add_valid(names: &mut NameMap<()>, alloc: Global, entry: &Record) -> Result<(), AllocError>
-    ensures { OnOk result (names.new ≡ with_names names.old (valid_names (entry.now ∷ []))) }
+    ensures { OnOk result (names.new ≡ with_valid names.old entry.now) }
 {
     let entry = entry.entry();
     if !entry.invalid {

@@ -77,7 +77,7 @@ fn a_share_has_what_the_document_lists(rt: HostRuntime) -> Result<(), Fail> {
 fn known(alloc: Global, cut: &Cut, place: usize) -> Result<String, AllocError> {
     let mut text = String::new(alloc);
     if let Some(held) = cut.folders().get(place) {
-        for (name, _known) in held.known_names(alloc)?.iter() {
+        for (name, _known) in cut.known_names(alloc, &held.folder)?.iter() {
             text.push_str(name.as_str())?;
         }
     }

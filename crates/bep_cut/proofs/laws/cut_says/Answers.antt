@@ -1,4 +1,4 @@
-use Rattle.bep_cut.proofs.Tables.{folder_is_found, share_has_folder, sharing_is_said, own_is_said, node_is_said, nothing_is_foreign}
+use Rattle.bep_cut.proofs.Tables.{folder_is_found, share_has_folder, sharing_is_said, own_is_said, node_is_said, viewed_is_said, target_is_said, flying_is_said, receiver_shares}
 use Rattle.bep_cut.proofs.laws.cut_says.Goals as goal
 
 pub returns-clause-found : goal.returns-clause-found
@@ -16,5 +16,14 @@ returns-clause-own c = own_is_said
 pub returns-clause-node : goal.returns-clause-node
 returns-clause-node c = node_is_said
 
-pub returns-clause-foreign : goal.returns-clause-foreign
-returns-clause-foreign c = nothing_is_foreign
+pub returns-clause-viewed : goal.returns-clause-viewed
+returns-clause-viewed c = viewed_is_said
+
+pub returns-clause-target : goal.returns-clause-target
+returns-clause-target c = target_is_said
+
+pub returns-clause-flying : goal.returns-clause-flying
+returns-clause-flying c = flying_is_said
+
+pub returns-clause-receiver : goal.returns-clause-receiver
+returns-clause-receiver c = receiver_shares

@@ -1,4 +1,5 @@
-use Rattle.bep_cut.proofs.Known.{names_are_known, cut_is_finite}
+use Rattle.bep_cut.proofs.Known.{names_are_known}
+use Rattle.bep_cut.proofs.Finite.{cut_is_finite}
 use Rattle.bep_cut.proofs.laws.names_are_known.Goals as goal
 
 pub returns-clause-known : goal.returns-clause-known
