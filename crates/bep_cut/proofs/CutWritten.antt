@@ -30,7 +30,8 @@ use Rattle.bep_cut.specs.Written.{by_device, by_folder, share_written, folder_wr
 use Rattle.bep_cut.proofs.Found.{Contains-from_image, all_from_each, each_from_recursion, any_tied, one_tied}
 use Rattle.bep_cut.proofs.SortingFacts.{length-in_order}
 use Rattle.bep_cut.proofs.WrittenFacts.{from_part, rise_written, shares_in_order}
-use Rattle.bep_cut.proofs.LinkFacts.{ends_total, ends_exact, links_in_order}
+use Rattle.bep_cut.proofs.Tables.{ends_total, same_ends}
+use Rattle.bep_cut.proofs.LinkFacts.{links_in_order}
 
 -- a number that is one of these
 one_of : (numbers : List ℕ) (n : ℕ) → is_one_of numbers n ≡ true → Contains numbers n
@@ -59,7 +60,10 @@ few folders devices known some rise all =
     (IsDistinct-from_sorted nat_cmp some (sorted_from_strictly_increasing some rise))
     (λ q h. any_tied nat_cmp_total q devices (device_known folders devices q known (All-contains (HasDevice (folders_in_order folders)) some q all (one_tied nat_cmp-IsAntisymmetric q some h))))
 
-pub cut_is_written : RecordsMakeAnIndex → RecordsAreFound → (parts : CheckParts) → IsFaultless parts → IsCut (cut_written parts.folders parts.links)
+abbrev pub CutIsWritten : Type 0
+CutIsWritten = (parts : CheckParts) → IsFaultless parts → IsCut (cut_written parts.folders parts.links)
+
+pub cut_is_written : RecordsMakeAnIndex → RecordsAreFound → CutIsWritten
 cut_is_written law found parts faultless =
     let folders_rise = rise_written nat_list_cmp_total exact_bytes (λ (held : SharedFolder). held.folder) folder_written parts.folders faultless.different in record {
       rise = folders_rise;
@@ -75,6 +79,6 @@ cut_is_written law found parts faultless =
           let most = few parts.folders faultless.few_devices.0 faultless.few_devices.2 some rise all in
           let within = faultless.few_devices.1 in
           omega arith;
-      links_rise = rise_written ends_total ends_exact ends_of link_written parts.links faultless.different_links;
+      links_rise = rise_written ends_total same_ends ends_of link_written parts.links faultless.different_links;
       links = links_in_order parts.folders parts.links folders_rise faultless.each_link;
     }

@@ -9,3 +9,5 @@ mod WrittenFacts
 mod LinkFacts
 mod CutWritten
 mod AsWrittenFacts
+mod AsWrittenViews
+mod AsWrittenLinks

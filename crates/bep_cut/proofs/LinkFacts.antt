@@ -1,12 +1,8 @@
 -- What a document without faults writes down of its links.
 use Rattle.std.proofs.Common.{◌≡◌, ◌≢◌, Bool, true, false, ◌&&◌, List, [], ◌∷◌, map, length, unwrap_or, option_map, All, Contains, refl, sym, ap, subst, ◌∙◌}
-use Rattle.std.specs.declared.cmp.Ordering.{Ordering}
-use Rattle.std.specs.declared.cmp.Ordering.TheVariants.{Less, Equal, Greater}
-use Rattle.std.specs.Ordering.{nat_cmp, on, ordering_then}
+use Rattle.std.specs.Ordering.{nat_cmp}
 use Rattle.std.specs.Prelude.{nat_eq}
-use Rattle.std.specs.Cmp.{IsTotalOrder, nat_cmp_total, on_total, then_total}
 use Rattle.std.specs.Cmp.Lexicographic.{slice_cmp, pointwise, nat_list_cmp_total, same_text}
-use Rattle.std.specs.FinMap.{IsAntisymmetric, nat_cmp-IsAntisymmetric}
 use Rattle.std.specs.List.{AllByRecursion}
 use Rattle.std.specs.List.Sorted.{IsStrictlySortedBy}
 use Rattle.bep_model.specs.Tables.{Device, Folder}
@@ -25,22 +21,6 @@ use Rattle.bep_cut.specs.Sorting.{in_order}
 use Rattle.bep_cut.specs.Written.{by_folder, by_ends, folder_written, flight_written, link_written}
 use Rattle.bep_cut.proofs.Found.{Contains-from_image, all_from_each, any_gives, each_from_recursion, found_itself}
 use Rattle.bep_cut.proofs.WrittenFacts.{device_written, from_part, part_there, rise_written}
-
--- ---- the order of links
-pub ends_total : IsTotalOrder ends_cmp
-ends_total = then_total (on_total (λ (ends : Device × Device). ends.0) nat_cmp_total) (on_total (λ (ends : Device × Device). ends.1) nat_cmp_total)
-
-both_equal : (one other : Ordering) → ordering_then one other ≡ Equal → (one ≡ Equal) × (other ≡ Equal)
-both_equal Less other e = absurd (cc)
-both_equal Equal other e = (refl, e)
-both_equal Greater other e = absurd (cc)
-
-pub ends_exact : IsAntisymmetric ends_cmp
-ends_exact one other tied =
-    let both = both_equal (nat_cmp one.0 other.0) (nat_cmp one.1 other.1) tied in
-    let smaller = nat_cmp-IsAntisymmetric one.0 other.0 both.0 in
-    let greater = nat_cmp-IsAntisymmetric one.1 other.1 both.1 in
-    λ i. (smaller i, greater i)
 
 -- ---- the folders that the ends of a link share
 abbrev folders_in_order : List FolderParts → List SharedFolder
