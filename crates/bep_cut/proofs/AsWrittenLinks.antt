@@ -1,13 +1,12 @@
 -- What is on its way in the cut that a document writes down, from what the document lists.
-use Rattle.std.proofs.Common.{◌≡◌, List, [], map, Option, Some, None, Contains, option_map, unwrap_or, inl, inr, refl, sym, ap, ◌∙◌, ◌++◌, append-nil, arith}
+use Rattle.std.proofs.Common.{◌≡◌, List, [], map, Option, Some, None, Contains, option_map, unwrap_or, inl, inr, refl, ap, ◌∙◌, ◌++◌, append-nil, arith}
 use Rattle.bep_model.specs.Tables.{Device}
 use Rattle.bep_model.specs.declared.flight.Flight.{Flight}
 use Rattle.bep_document.specs.declared.parts.LinkParts.{LinkParts}
 use Rattle.bep_document.specs.declared.parts.CheckParts.{CheckParts}
-use Rattle.bep_document.specs.Faultless.{IsFaultless}
 use Rattle.bep_cut.specs.declared.link.LinkState.{LinkState}
 use Rattle.bep_cut.specs.declared.cut.CutParts.{CutParts}
-use Rattle.bep_cut.specs.AsWritten.{Joins, FlyingIsAsWritten, UnlinkedIsQuiet}
+use Rattle.bep_cut.specs.AsWritten.{FlyingIsAsWritten, UnlinkedIsQuiet}
 use Rattle.bep_cut.specs.Cut.{IsCut, link_of, tables_of}
 use Rattle.bep_cut.specs.Written.{by_ends, flight_written, link_written, cut_written}
 use Rattle.bep_cut.proofs.Tables.{is_link, link_has_ends, link_is_found}

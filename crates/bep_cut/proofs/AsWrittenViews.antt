@@ -1,5 +1,5 @@
 -- What a device knows of others and what it pulls, from what the document lists.
-use Rattle.std.proofs.Common.{◌≡◌, ◌↔◌, map, Option, Some, None, Contains, option_and_then, refl, sym, ap, subst, ◌∙◌}
+use Rattle.std.proofs.Common.{◌≡◌, ◌↔◌, map, Option, Some, None, Contains, option_and_then, refl, sym, ap, ◌∙◌}
 use Rattle.std.specs.Ordering.{nat_cmp, is_eq}
 use Rattle.std.specs.Cmp.{nat_cmp_total}
 use Rattle.std.specs.FinMap.{get, nat_cmp-IsAntisymmetric}
@@ -10,7 +10,7 @@ use Rattle.bep_model.specs.Tables.{Device, FileName}
 use Rattle.bep_model.proofs.Keys.{Equal_from_is_eq}
 use Rattle.bep_document.specs.declared.parts.ShareParts.{ShareParts}
 use Rattle.bep_document.specs.declared.parts.ViewParts.{ViewParts}
-use Rattle.bep_document.specs.Faultless.{IsFaultlessView, IsFaultlessShare}
+use Rattle.bep_document.specs.Faultless.{IsFaultlessIndex, IsFaultlessShare}
 use Rattle.bep_cut.specs.declared.share.PeerView.{PeerView}
 use Rattle.bep_cut.specs.AsWritten.{ViewedIsAsWritten, TargetIsAsWritten}
 use Rattle.bep_cut.specs.Cut.{view_of}
@@ -24,7 +24,7 @@ use Rattle.bep_cut.proofs.AsWrittenFacts.{among_is_contained, faultless_share, s
 -- the record that a listed view has of a name is the one that it lists
 view_lists : RecordsAreFound → (share : ShareParts) (view : ViewParts) (name : FileName) (entry : Entry) → IsFaultlessShare share → Contains share.views view → (get (view_written view).records name ≡ Some entry) ↔ (Contains view.records entry × (entry.name ≡ name))
 view_lists found share view name entry faultless h =
-    let lists = found view.records name entry (each_from_recursion IsFaultlessView share.views view faultless.views h).records.names in
+    let lists = found view.records name entry (each_from_recursion (λ (v : ViewParts). IsFaultlessIndex v.max v.records) share.views view faultless.views h).names in
     let among = among_is_contained view.records entry in (
       λ is. let l = lists.0 is in (among.0 l.0, l.1),
       λ is. lists.1 (among.1 is.0, is.1),

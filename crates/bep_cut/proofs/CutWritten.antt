@@ -1,13 +1,11 @@
 -- What a document without faults writes down is a cut.
-use Rattle.std.proofs.Common.{◌≡◌, ◌||◌, ℕ, ◌≤◌, true, false, Bool, List, [], ◌∷◌, map, length, All, Contains, refl, sym, ap, subst, ◌∙◌, arith}
+use Rattle.std.proofs.Common.{ℕ, ◌≤◌, List, [], map, length, All, Contains, sym, ap, subst, ◌∙◌, arith}
 use Rattle.std.specs.Ordering.{nat_cmp}
-use Rattle.std.specs.Prelude.{◌==◌}
 use Rattle.std.specs.Cmp.{nat_cmp_total, eq_by_cmp_equiv}
 use Rattle.std.specs.Cmp.Lexicographic.{nat_list_cmp_total}
 use Rattle.std.specs.FinMap.{nat_cmp-IsAntisymmetric}
 use Rattle.std.specs.List.{AllByRecursion}
 use Rattle.std.specs.List.Sorted.{IsStrictlyIncreasing}
-use Rattle.std.proofs.lemmas.Bool.{eqb-true}
 use Rattle.std.proofs.lemmas.List.{length-map}
 use Rattle.std.proofs.lemmas.List.Elements.{All-contains}
 use Rattle.std.proofs.lemmas.Map.Keys.{sorted_from_strictly_increasing, IsDistinct-from_sorted}
@@ -15,15 +13,12 @@ use Rattle.std.proofs.lemmas.Map.Lookups.{exact_bytes}
 use Rattle.std.proofs.lemmas.Map.Made.{length-le_from_is_member}
 use Rattle.bep_index.specs.Law.{RecordsMakeAnIndex, RecordsAreFound}
 use Rattle.bep_model.specs.Tables.{Device}
-use Rattle.bep_model.proofs.Members.{Contains-first, Contains-more}
 use Rattle.bep_document.specs.declared.parts.ShareParts.{ShareParts}
 use Rattle.bep_document.specs.declared.parts.FolderParts.{FolderParts}
 use Rattle.bep_document.specs.declared.parts.CheckParts.{CheckParts}
-use Rattle.bep_document.specs.Devices.{is_one_of}
 use Rattle.bep_document.specs.Faultless.{IsFaultlessFolder, IsFaultless, AreOf}
 use Rattle.bep_cut.specs.declared.share.Share.{Share}
 use Rattle.bep_cut.specs.declared.share.SharedFolder.{SharedFolder}
-use Rattle.bep_cut.specs.declared.link.LinkState.{LinkState}
 use Rattle.bep_cut.specs.Cut.{AreShares, HasDevice, IsCut, devices_of, ends_of}
 use Rattle.bep_cut.specs.Sorting.{in_order}
 use Rattle.bep_cut.specs.Written.{by_device, by_folder, share_written, folder_written, link_written, cut_written}
@@ -32,14 +27,6 @@ use Rattle.bep_cut.proofs.SortingFacts.{length-in_order}
 use Rattle.bep_cut.proofs.WrittenFacts.{from_part, rise_written, shares_in_order}
 use Rattle.bep_cut.proofs.Tables.{ends_total, same_ends}
 use Rattle.bep_cut.proofs.LinkFacts.{links_in_order}
-
--- a number that is one of these
-one_of : (numbers : List ℕ) (n : ℕ) → is_one_of numbers n ≡ true → Contains numbers n
-one_of [] n h = absurd (cc)
-one_of (m ∷ more) n h = cases (m == n) refl (one_of more n) h where
-  cases : (b : Bool) → (m == n) ≡ b → (is_one_of more n ≡ true → Contains more n) → (b || is_one_of more n) ≡ true → Contains (m ∷ more) n
-  cases true e later h = subst (Contains (m ∷ more)) (eqb-true m n e) (Contains-first m more)
-  cases false e later h = Contains-more m more n (later h)
 
 abbrev folders_in_order : List FolderParts → List SharedFolder
 folders_in_order folders = in_order by_folder [] (map folder_written folders)
@@ -50,9 +37,9 @@ device_known folders devices device known has =
     let here : Contains (devices_of (folder_written folder.0).shares) device = subst (λ (held : SharedFolder). Contains (devices_of held.shares) device) (sym folder.2) has.2 in
     let share = Contains-from_image (λ (s : Share). s.device) (folder_written folder.0).shares device here in
     let part = from_part by_device share_written folder.0.devices share.0 share.1 in
-    let all = each_from_recursion (λ (f : FolderParts). AllByRecursion (λ (s : ShareParts). is_one_of devices s.device ≡ true) f.devices) folders folder.0 known folder.1 in
-    let one = each_from_recursion (λ (s : ShareParts). is_one_of devices s.device ≡ true) folder.0.devices part.0 all part.1 in
-    subst (Contains devices) (ap (λ (s : Share). s.device) part.2 ∙ share.2) (one_of devices part.0.device one)
+    let all = each_from_recursion (λ (f : FolderParts). AllByRecursion (λ (s : ShareParts). Contains devices s.device) f.devices) folders folder.0 known folder.1 in
+    let one = each_from_recursion (λ (s : ShareParts). Contains devices s.device) folder.0.devices part.0 all part.1 in
+    subst (Contains devices) (ap (λ (s : Share). s.device) part.2 ∙ share.2) one
 
 few : (folders : List FolderParts) (devices : List ℕ) → AreOf devices folders → (some : List Device) → IsStrictlyIncreasing some → All (HasDevice (folders_in_order folders)) some → length some ≤ length devices
 few folders devices known some rise all =

@@ -1,5 +1,5 @@
 -- What a search by a key finds in a list whose keys rise.
-use Rattle.std.proofs.Common.{◌≡◌, Bool, true, false, cond, List, [], ◌∷◌, map, Option, Some, None, Contains, refl, sym, ap, subst, ◌∙◌, ⊎_elim, ◌⊎◌, ◌||◌, inl, inr, get_or, All}
+use Rattle.std.proofs.Common.{◌≡◌, Bool, true, false, cond, List, [], ◌∷◌, map, Option, Some, None, Contains, refl, sym, ap, subst, ◌∙◌, ⊎_elim, ◌⊎◌, ◌||◌, inl, inr, get_or, All, Any}
 use Rattle.std.specs.declared.cmp.Ordering.{Ordering}
 use Rattle.std.specs.declared.cmp.Ordering.TheVariants.{Less}
 use Rattle.std.specs.Ordering.{is_eq, eq_by_cmp}
@@ -43,13 +43,9 @@ find_gives test (y ∷ xs) x found = cases (test y) refl (find_gives test xs x) 
   cases true passes later e = let same : y ≡ x = cc in (subst (Contains (y ∷ xs)) same (Contains-first y xs), subst (λ z. test z ≡ true) same passes)
   cases false fails later e = let found = later e in (Contains-more y xs x found.0, found.1)
 
--- where any element passes a test, some element does
-pub any_gives : {X : Type 0} (test : X → Bool) (xs : List X) → list_any test xs ≡ true → (x : X) × Contains xs x × (test x ≡ true)
-any_gives test [] h = absurd (cc)
-any_gives {X = X} test (x ∷ xs) h = cases (test x) refl (any_gives test xs) h where
-  cases : (b : Bool) → test x ≡ b → (list_any test xs ≡ true → (z : X) × Contains xs z × (test z ≡ true)) → (b || list_any test xs) ≡ true → (z : X) × Contains (x ∷ xs) z × (test z ≡ true)
-  cases true passes later h = (x, Contains-first x xs, passes)
-  cases false fails later h = let found = later h in (found.0, Contains-more x xs found.0 found.1, found.2)
+-- where a fact holds of any element, it holds of some element
+pub any_gives : {X : Type 0} (P : X → Type 0) (xs : List X) → Any P xs → (x : X) × Contains xs x × P x
+any_gives P xs any = (any.1, (any.0, any.2, any.3), any.4)
 
 -- an element's image is in the images, and each of these is some element's
 pub Contains-image : {X Y : Type 0} (f : X → Y) (xs : List X) (x : X) → Contains xs x → Contains (map f xs) (f x)

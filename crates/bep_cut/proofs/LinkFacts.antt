@@ -1,26 +1,21 @@
 -- What a document without faults writes down of its links.
-use Rattle.std.proofs.Common.{◌≡◌, ◌≢◌, Bool, true, false, ◌&&◌, List, [], ◌∷◌, map, length, unwrap_or, option_map, All, Contains, refl, sym, ap, subst, ◌∙◌}
+use Rattle.std.proofs.Common.{◌≡◌, List, [], ◌∷◌, map, unwrap_or, option_map, All, Contains, sym, ap, subst, ◌∙◌}
 use Rattle.std.specs.Ordering.{nat_cmp}
-use Rattle.std.specs.Prelude.{nat_eq}
-use Rattle.std.specs.Cmp.Lexicographic.{slice_cmp, pointwise, nat_list_cmp_total, same_text}
+use Rattle.std.specs.Cmp.Lexicographic.{slice_cmp, nat_list_cmp_total}
 use Rattle.std.specs.List.{AllByRecursion}
 use Rattle.std.specs.List.Sorted.{IsStrictlySortedBy}
+use Rattle.bep_record.specs.Entry.{IsWellFormed}
 use Rattle.bep_model.specs.Tables.{Device, Folder}
-use Rattle.bep_model.specs.declared.flight.Flight.{Flight}
 use Rattle.bep_document.specs.declared.parts.FolderParts.{FolderParts}
 use Rattle.bep_document.specs.declared.parts.FlightParts.{FlightParts}
 use Rattle.bep_document.specs.declared.parts.LinkParts.{LinkParts}
-use Rattle.bep_document.specs.declared.parts.CheckParts.{CheckParts}
-use Rattle.bep_document.specs.Faultless.{IsFaultlessFlight, IsFaultlessLink, IsFaultless}
-use Rattle.bep_document.specs.LinkFaults.{is_device}
-use Rattle.bep_document.specs.Unshared.{has_device, shares}
+use Rattle.bep_document.specs.Faultless.{IsSharedBy, IsDeviceOf, SharesFolder, IsFaultlessFlight, IsFaultlessLink}
 use Rattle.bep_cut.specs.declared.share.SharedFolder.{SharedFolder}
-use Rattle.bep_cut.specs.declared.link.LinkState.{LinkState}
-use Rattle.bep_cut.specs.Cut.{HasDevice, IsFlight, IsLink, devices_of, ends_of, ends_cmp, shares_of}
+use Rattle.bep_cut.specs.Cut.{HasDevice, IsFlight, IsLink, devices_of, shares_of}
 use Rattle.bep_cut.specs.Sorting.{in_order}
-use Rattle.bep_cut.specs.Written.{by_folder, by_ends, folder_written, flight_written, link_written}
+use Rattle.bep_cut.specs.Written.{by_folder, by_ends, AreWellFormed, IsWellFormedLink, folder_written, flight_written, link_written}
 use Rattle.bep_cut.proofs.Found.{Contains-from_image, all_from_each, any_gives, each_from_recursion, found_itself}
-use Rattle.bep_cut.proofs.WrittenFacts.{device_written, from_part, part_there, rise_written}
+use Rattle.bep_cut.proofs.WrittenFacts.{device_written, from_part, part_there}
 
 -- ---- the folders that the ends of a link share
 abbrev folders_in_order : List FolderParts → List SharedFolder
@@ -32,30 +27,25 @@ shares_found folders held rise h =
     ap (λ found. unwrap_or (option_map (λ (one : SharedFolder). one.shares) found) [])
     (found_itself nat_list_cmp_total (λ (one : SharedFolder). one.folder) folders held rise h)
 
-both_pass : (one other : Bool) → (one && other) ≡ true → (one ≡ true) × (other ≡ true)
-both_pass true other e = (refl, e)
-both_pass false other e = absurd (cc)
-
--- a device that the document has in a folder of this name shares it
-folder_shared : (folders : List FolderParts) (name : Folder) (device : Device) → IsStrictlySortedBy (slice_cmp nat_cmp) (map (λ (one : SharedFolder). one.folder) (folders_in_order folders)) → shares folders name device ≡ true → Contains (devices_of (shares_of name (folders_in_order folders))) device
-folder_shared folders name device rise has =
-    let folder = any_gives (λ (f : FolderParts). pointwise nat_eq f.folder name && has_device device f.devices) folders has in
-    let both = both_pass (pointwise nat_eq folder.0.folder name) (has_device device folder.0.devices) folder.2 in
-    let called = same_text folder.0.folder name (sym both.0) in
-    let found = shares_found (folders_in_order folders) (folder_written folder.0) rise (part_there by_folder folder_written folders folder.0 folder.1) in
-    subst (λ held. Contains (devices_of held) device) (sym found ∙ ap (λ f. shares_of f (folders_in_order folders)) called)
-    (device_written folder.0 device both.1)
-
--- so it is one of the cut's devices
-device_there : (folders : List FolderParts) (device : Device) → is_device folders device ≡ true → HasDevice (folders_in_order folders) device
-device_there folders device has =
-    let folder = any_gives (λ (f : FolderParts). has_device device f.devices) folders has in
-    (folder_written folder.0, part_there by_folder folder_written folders folder.0 folder.1, device_written folder.0 device folder.2)
-
--- ---- links
+-- the folders, by rising names
 abbrev Rise : List FolderParts → Type 0
 Rise folders = IsStrictlySortedBy (slice_cmp nat_cmp) (map (λ (one : SharedFolder). one.folder) (folders_in_order folders))
 
+-- a device that the document has in a folder of this name shares it
+folder_shared : (folders : List FolderParts) (name : Folder) (device : Device) → Rise folders → SharesFolder folders name device → Contains (devices_of (shares_of name (folders_in_order folders))) device
+folder_shared folders name device rise has =
+    let folder = any_gives (λ (f : FolderParts). (f.folder ≡ name) × IsSharedBy device f) folders has in
+    let found = shares_found (folders_in_order folders) (folder_written folder.0) rise (part_there by_folder folder_written folders folder.0 folder.1) in
+    subst (λ held. Contains (devices_of held) device) (sym found ∙ ap (λ f. shares_of f (folders_in_order folders)) folder.2.0)
+    (device_written folder.0 device folder.2.1)
+
+-- a device that the document has in some folder is one of the cut's devices
+device_there : (folders : List FolderParts) (device : Device) → IsDeviceOf folders device → HasDevice (folders_in_order folders) device
+device_there folders device has =
+    let folder = any_gives (IsSharedBy device) folders has in
+    (folder_written folder.0, part_there by_folder folder_written folders folder.0 folder.1, device_written folder.0 device folder.2)
+
+-- ---- links
 flights_of_link : (folders : List FolderParts) (link : LinkParts) (parts : List FlightParts) → Rise folders → AllByRecursion (IsFaultlessFlight folders link) parts → All (IsFlight (folders_in_order folders) link.a link.b) (map flight_written parts)
 flights_of_link folders link parts rise faultless =
     all_from_each (IsFlight (folders_in_order folders) link.a link.b) (map flight_written parts) (λ flight h.
@@ -87,3 +77,13 @@ links_in_order folders links rise faultless =
     let part = from_part by_ends link_written links link h in
     subst (IsLink (folders_in_order folders)) part.2
     (link_in_order folders part.0 rise (each_from_recursion (IsFaultlessLink folders) links part.0 faultless part.1)))
+
+-- ---- what links carry is well formed
+weaker : {X : Type 0} (P Q : X → Type 0) → ((x : X) → P x → Q x) → (xs : List X) → AllByRecursion P xs → AllByRecursion Q xs
+weaker P Q so [] all = tt
+weaker P Q so (x ∷ more) all = (so x all.0, weaker P Q so more all.1)
+
+pub links_well_formed : (folders : List FolderParts) (links : List LinkParts) → AllByRecursion (IsFaultlessLink folders) links → AllByRecursion IsWellFormedLink links
+links_well_formed folders links faultless = weaker (IsFaultlessLink folders) IsWellFormedLink (λ link one. (flights link link.to_a one.to_a, flights link link.to_b one.to_b)) links faultless where
+  flights : (link : LinkParts) (parts : List FlightParts) → AllByRecursion (IsFaultlessFlight folders link) parts → AreWellFormed parts
+  flights link parts all = weaker (IsFaultlessFlight folders link) (λ (flight : FlightParts). AllByRecursion IsWellFormed flight.records) (λ flight one. one.well_formed) parts all

@@ -1,14 +1,12 @@
 -- What a document without faults writes down of its devices and folders.
-use Rattle.std.proofs.Common.{◌≡◌, ◌≢◌, inr, ℕ, ◌+◌, ◌≤◌, true, false, Bool, cond, List, [], ◌∷◌, Some, map, length, All, Contains, refl, sym, ap, subst, ◌∙◌, ⊎_elim, arith}
+use Rattle.std.proofs.Common.{◌≡◌, ◌≢◌, inr, ℕ, ◌+◌, ◌≤◌, true, false, Bool, cond, List, [], ◌∷◌, map, length, All, Contains, sym, ap, subst, ◌∙◌, ⊎_elim, arith}
 use Rattle.std.specs.declared.cmp.Ordering.{Ordering}
 use Rattle.std.specs.Ordering.{nat_cmp, on}
-use Rattle.std.specs.Prelude.{◌==◌}
 use Rattle.std.specs.Cmp.{IsTotalOrder, nat_cmp_total}
 use Rattle.std.specs.Cmp.Lexicographic.{slice_cmp, nat_list_cmp_total}
-use Rattle.std.specs.FinMap.{IsAntisymmetric, empty, insert, get, len, contains_key, len-insert, len-empty, nat_cmp-IsAntisymmetric}
+use Rattle.std.specs.FinMap.{IsAntisymmetric, empty, insert, len, contains_key, len-insert, len-empty, nat_cmp-IsAntisymmetric}
 use Rattle.std.specs.List.{AllByRecursion}
 use Rattle.std.specs.List.Sorted.{IsStrictlySortedBy}
-use Rattle.std.proofs.lemmas.Bool.{eqb-true}
 use Rattle.std.proofs.lemmas.Map.Keys.{IsStrictlyIncreasing-from_sorted}
 use Rattle.bep_map.specs.NameMap.{ByName}
 use Rattle.bep_record.specs.declared.entry.Entry.{Entry}
@@ -16,14 +14,12 @@ use Rattle.bep_index.specs.After.{IsAmong}
 use Rattle.bep_index.specs.Batch.{with_all}
 use Rattle.bep_index.specs.Index.{IsIndex}
 use Rattle.bep_index.specs.Law.{HaveIndexNumbers, RecordsMakeAnIndex, RecordsAreFound}
-use Rattle.bep_index.specs.declared.limits.TheConstants.{MAX_SEQUENCE}
 use Rattle.bep_model.specs.Tables.{Device}
 use Rattle.bep_model.proofs.Members.{not_in_none}
 use Rattle.bep_document.specs.declared.parts.ShareParts.{ShareParts}
 use Rattle.bep_document.specs.declared.parts.ViewParts.{ViewParts}
 use Rattle.bep_document.specs.declared.parts.FolderParts.{FolderParts}
-use Rattle.bep_document.specs.Faultless.{HasNoKey, KeysDiffer, IsNumbered, IsFaultlessIndex, IsFaultlessView, IsFaultlessShare, IsOfAnother, IsFaultlessFolder}
-use Rattle.bep_document.specs.Unshared.{has_device}
+use Rattle.bep_document.specs.Faultless.{HasNoKey, KeysDiffer, IsNumbered, IsFaultlessIndex, IsFaultlessShare, IsSharedBy, IsOfAnother, IsFaultlessFolder}
 use Rattle.bep_cut.specs.declared.share.Share.{Share}
 use Rattle.bep_cut.specs.declared.share.PeerView.{PeerView}
 use Rattle.bep_cut.specs.Cut.{AreViews, ArePulls, AreShares, devices_of, index_of, known_of}
@@ -63,9 +59,9 @@ numbers greatest entries faultless = record {
   different = λ one other h k same. one_of_sequence entries one other faultless.sequences h k same;
 }
 
-index_written : RecordsMakeAnIndex → (id greatest : ℕ) (entries : List Entry) → greatest ≤ MAX_SEQUENCE → IsFaultlessIndex greatest entries → IsIndex (record { id = id; sequence = greatest; records = with_all empty entries })
-index_written law id greatest entries within faultless =
-    law id greatest entries within faultless.few faultless.names (numbers greatest entries faultless)
+index_written : RecordsMakeAnIndex → (id greatest : ℕ) (entries : List Entry) → IsFaultlessIndex greatest entries → IsIndex (record { id = id; sequence = greatest; records = with_all empty entries })
+index_written law id greatest entries faultless =
+    law id greatest entries faultless.within faultless.few faultless.names (numbers greatest entries faultless)
 
 -- there are at most as many names as records
 len-insert_most : (m : ByName Entry) (name : List ℕ) (entry : Entry) → len (insert m name entry) ≤ len m + 1
@@ -125,35 +121,35 @@ part_there order written parts part h =
 
 -- ---- the devices of a folder
 -- a device that the document has in the folder shares it
-pub device_written : (parts : FolderParts) (device : Device) → has_device device parts.devices ≡ true → Contains (devices_of (folder_written parts).shares) device
+pub device_written : (parts : FolderParts) (device : Device) → IsSharedBy device parts → Contains (devices_of (folder_written parts).shares) device
 device_written parts device has =
-    let share = any_gives (λ (s : ShareParts). s.device == device) parts.devices has in
-    subst (Contains (devices_of (folder_written parts).shares)) (eqb-true share.0.device device share.2)
+    let share = any_gives (λ (s : ShareParts). s.device ≡ device) parts.devices has in
+    subst (Contains (devices_of (folder_written parts).shares)) share.2
     (Contains-image (λ (s : Share). s.device) (folder_written parts).shares (share_written share.0) (part_there by_device share_written parts.devices share.0 share.1))
 
-views_written : RecordsMakeAnIndex → (parts : FolderParts) (share : ShareParts) → IsFaultlessShare share → AllByRecursion (IsOfAnother parts.devices share) share.views → AreViews (devices_of (folder_written parts).shares) share.device (share_written share).views
+views_written : RecordsMakeAnIndex → (parts : FolderParts) (share : ShareParts) → IsFaultlessShare share → AllByRecursion (IsOfAnother parts share) share.views → AreViews (devices_of (folder_written parts).shares) share.device (share_written share).views
 views_written law parts share faultless others = record {
   rise = IsStrictlyIncreasing-from_sorted (map (λ (view : PeerView). view.of) (share_written share).views)
       (rise_written nat_cmp_total nat_cmp-IsAntisymmetric (λ (view : PeerView). view.of) view_written share.views faultless.viewed);
   others = all_from_each (λ (view : PeerView). (view.of ≢ share.device) × Contains (devices_of (folder_written parts).shares) view.of) (share_written share).views (λ view h.
       let part = from_part by_viewed view_written share.views view h in
-      let other = each_from_recursion (IsOfAnother parts.devices share) share.views part.0 others part.1 in
+      let other = each_from_recursion (IsOfAnother parts share) share.views part.0 others part.1 in
       subst (λ (v : PeerView). (v.of ≢ share.device) × Contains (devices_of (folder_written parts).shares) v.of) part.2 (other.0, device_written parts part.0.of other.1));
   indexes = all_from_each (λ view. IsIndex (known_of view)) (share_written share).views (λ view h.
       let part = from_part by_viewed view_written share.views view h in
-      let known = each_from_recursion IsFaultlessView share.views part.0 faultless.views part.1 in
-      subst (λ v. IsIndex (known_of v)) part.2 (index_written law part.0.index_id part.0.max part.0.records known.greatest known.records));
+      let known = each_from_recursion (λ (v : ViewParts). IsFaultlessIndex v.max v.records) share.views part.0 faultless.views part.1 in
+      subst (λ v. IsIndex (known_of v)) part.2 (index_written law part.0.index_id part.0.max part.0.records known));
 }
 
 pub shares_in_order : RecordsMakeAnIndex → RecordsAreFound → (parts : FolderParts) → IsFaultlessFolder parts → AreShares (folder_written parts).shares
 shares_in_order law found parts faultless = record {
   rise = IsStrictlyIncreasing-from_sorted (devices_of (folder_written parts).shares)
       (rise_written nat_cmp_total nat_cmp-IsAntisymmetric (λ (share : Share). share.device) share_written parts.devices faultless.different);
-  indexes = each (λ share. IsIndex (index_of share)) (λ part h. let one = at part h in
-      index_written law part.index_id part.max part.own one.greatest one.own_records);
+  indexes = each (λ share. IsIndex (index_of share)) (λ part h.
+      index_written law part.index_id part.max part.own (at part h).own_records);
   views = each (λ share. AreViews (devices_of (folder_written parts).shares) share.device share.views) (λ part h.
       views_written law parts part (at part h)
-      (each_from_recursion (λ (share : ShareParts). AllByRecursion (IsOfAnother parts.devices share) share.views) parts.devices part faultless.views h));
+      (each_from_recursion (λ (share : ShareParts). AllByRecursion (IsOfAnother parts share) share.views) parts.devices part faultless.views h));
   pulls = each (λ share. ArePulls share.pulls) (λ part h. pulls_written found part (at part h));
 }
   where

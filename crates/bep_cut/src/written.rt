@@ -2,7 +2,7 @@
 ghost use Rattle.std.specs.Prelude.{◌≡◌, IfOk, [], map};
 ghost use Rattle.std.specs.List.{AllByRecursion};
 ghost use Rattle.bep_record.specs.Entry.{IsWellFormed};
-ghost use Rattle.bep_document.specs.Faultless.{IsFaultlessView, IsFaultlessShare, IsFaultlessFolder};
+ghost use Rattle.bep_document.specs.Faultless.{IsFaultlessIndex, IsFaultlessShare, IsFaultlessFolder};
 ghost use Rattle.bep_cut.specs.Sorting.{in_order};
 ghost use Rattle.bep_cut.specs.Written.{AreWellFormed, IsWellFormedLink, view_written, share_written, folder_written, flight_written, link_written};
 
@@ -85,7 +85,7 @@ impl Written for Share {
 impl Written for PeerView {
     type Parts = ViewParts;
 
-    ghost is_writable = { IsFaultlessView };
+    ghost is_writable = { λ view. IsFaultlessIndex view.max view.records };
 
     ghost written = { view_written };
 
