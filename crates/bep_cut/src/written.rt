@@ -53,10 +53,10 @@ impl Written for SharedFolder {
 
     ghost written = { folder_written };
 
-    fn written(alloc: Global, parts: FolderParts) -> Result<Self, AllocError> {
+    fn written(alloc: Global, folder: FolderParts) -> Result<Self, AllocError> {
         Ok(SharedFolder {
-            folder: parts.folder,
-            shares: all_written(alloc, parts.devices)?,
+            folder: folder.folder,
+            shares: all_written(alloc, folder.devices)?,
         })
     }
 }
@@ -68,16 +68,16 @@ impl Written for Share {
 
     ghost written = { share_written };
 
-    fn written(alloc: Global, parts: ShareParts) -> Result<Self, AllocError> {
+    fn written(alloc: Global, share: ShareParts) -> Result<Self, AllocError> {
         Ok(Share {
-            device: parts.device,
-            kind: parts.kind,
-            index_id: parts.index_id,
-            max_sequence: parts.max,
-            own: records_by_name(alloc, parts.own)?,
-            store: nodes_by_name(alloc, parts.store)?,
-            views: all_written(alloc, parts.views)?,
-            pulls: records_by_name(alloc, parts.pulls)?,
+            device: share.device,
+            kind: share.kind,
+            index_id: share.index_id,
+            max_sequence: share.max,
+            own: records_by_name(alloc, share.own)?,
+            store: nodes_by_name(alloc, share.store)?,
+            views: all_written(alloc, share.views)?,
+            pulls: records_by_name(alloc, share.pulls)?,
         })
     }
 }
@@ -89,12 +89,12 @@ impl Written for PeerView {
 
     ghost written = { view_written };
 
-    fn written(alloc: Global, parts: ViewParts) -> Result<Self, AllocError> {
+    fn written(alloc: Global, view: ViewParts) -> Result<Self, AllocError> {
         Ok(PeerView {
-            of: parts.of,
-            index_id: parts.index_id,
-            max_sequence: parts.max,
-            records: records_by_name(alloc, parts.records)?,
+            of: view.of,
+            index_id: view.index_id,
+            max_sequence: view.max,
+            records: records_by_name(alloc, view.records)?,
         })
     }
 }
@@ -106,14 +106,14 @@ impl Written for LinkState {
 
     ghost written = { link_written };
 
-    fn written(alloc: Global, parts: LinkParts) -> Result<Self, AllocError> {
+    fn written(alloc: Global, link: LinkParts) -> Result<Self, AllocError> {
         Ok(LinkState {
-            a: parts.a,
-            b: parts.b,
-            up: parts.up,
-            epoch: parts.epoch,
-            to_a: flights_written(alloc, parts.to_a)?,
-            to_b: flights_written(alloc, parts.to_b)?,
+            a: link.a,
+            b: link.b,
+            up: link.up,
+            epoch: link.epoch,
+            to_a: flights_written(alloc, link.to_a)?,
+            to_b: flights_written(alloc, link.to_b)?,
         })
     }
 }
