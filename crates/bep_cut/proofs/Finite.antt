@@ -4,7 +4,7 @@ use Rattle.std.specs.Ordering.{nat_cmp, is_eq}
 use Rattle.std.specs.FinMap.{get, keys, nat_cmp-IsAntisymmetric}
 use Rattle.std.proofs.lemmas.List.Elements.{All-contains, Contains-append_left, Contains-append_right}
 use Rattle.std.specs.Cmp.{Equal-is}
-use Rattle.bep_facts.specs.Members.{Contains-flat_map, Contains-cons_cases, Contains-image, not_in_none}
+use Rattle.bep_facts.specs.Members.{Contains-cons_cases, Contains-flat_map, Contains-image, not_in_none}
 use Rattle.bep_model.specs.Tables.{Device, Folder, FileName}
 use Rattle.bep_model.specs.Foreign.{IsKnown}
 use Rattle.bep_cut.specs.declared.share.Share.{Share}

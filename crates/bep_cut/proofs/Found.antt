@@ -1,5 +1,5 @@
 -- What a search by a key finds in a list whose keys rise.
-use Rattle.std.proofs.Common.{◌≡◌, Bool, true, false, cond, List, [], ◌∷◌, map, Some, Contains, refl, ap, subst, ◌∙◌, ⊎_elim, get_or, All}
+use Rattle.std.proofs.Common.{◌≡◌, Bool, true, false, cond, List, [], ◌∷◌, map, Option, Some, None, Contains, refl, sym, ap, subst, ◌∙◌, ⊎_elim, ◌⊎◌, ◌||◌, inl, inr, get_or, All, Any}
 use Rattle.std.specs.declared.cmp.Ordering.{Ordering}
 use Rattle.std.specs.Ordering.{is_eq, eq_by_cmp}
 use Rattle.std.specs.FinMap.{IsAntisymmetric}
@@ -32,6 +32,10 @@ find_gives test (y ∷ xs) x found = cases (test y) refl (find_gives test xs x) 
   cases : (b : Bool) → test y ≡ b → (find test xs ≡ Some x → Contains xs x × (test x ≡ true)) → cond b (Some y) (find test xs) ≡ Some x → Contains (y ∷ xs) x × (test x ≡ true)
   cases true passes later e = let same : y ≡ x = cc in (subst (Contains (y ∷ xs)) same (Contains-first y xs), subst (λ z. test z ≡ true) same passes)
   cases false fails later e = let found = later e in (Contains-more y xs x found.0, found.1)
+
+-- where a fact holds of any element, it holds of some element
+pub any_gives : {X : Type 0} (P : X → Type 0) (xs : List X) → Any P xs → (x : X) × Contains xs x × P x
+any_gives P xs any = (any.1, (any.0, any.2, any.3), any.4)
 
 -- an element ties with some element
 pub any_tied : {K : Type 0} {R : K → K → Ordering} (o : IsTotalOrder R) (key : K) (keys : List K) → Contains keys key → list_any (eq_by_cmp R key) keys ≡ true

@@ -6,4 +6,8 @@ mod Known
 mod Finite
 mod SortingFacts
 mod WrittenFacts
+mod LinkFacts
+mod CutWritten
 mod AsWrittenFacts
+mod AsWrittenViews
+mod AsWrittenLinks

@@ -4,21 +4,20 @@
 
 mod cut;
 mod laws;
-mod limits;
 mod link;
 mod names;
 mod order;
 mod read;
+mod records;
 mod share;
 #[cfg(test)]
 mod tests;
 mod written;
 
-pub use bep_document::{DocError, DocFault, Fault, MAX_BYTES};
+pub use bep_document::{DocError, DocFault, Fault, MAX_BYTES, MAX_DEVICES, MAX_FOLDERS, MAX_PULLS};
 pub use bep_model::{Flight, Row};
 pub use cut::{Cut, CutParts};
 pub use laws::{cut_is_as_written, cut_says, names_are_known};
-pub use limits::{MAX_DEVICES, MAX_FOLDERS, MAX_PULLS};
 pub use link::LinkState;
 pub use read::read_check;
 pub use share::{PeerView, Share, SharedFolder};

@@ -4,12 +4,12 @@ ghost use Rattle.bep_document.specs.Faultless.{IsFaultless};
 ghost use Rattle.bep_document.specs.Reading.{AnswersBy};
 ghost use Rattle.bep_cut.specs.Written.{cut_written, row_written, check_of};
 
-use crate::written::{folders_written, rows_written};
+use crate::records::rows_written;
+use crate::written::all_written;
 use crate::{Cut, CutParts, DocError};
 use bep_document::{CheckParts, read_parts, readings_are_faultless};
 use bep_index::records_make_an_index;
 use bep_model::Row;
-use bep_record::Items;
 use std::alloc::{AllocError, Global};
 
 /// The cut and the certificate's rows that the bytes of a check document say, or the one fault for which the document is
@@ -30,11 +30,12 @@ pub fn read_check(alloc: Global, bytes: &[u8]) -> Result<(Cut, Vec<Row>), DocErr
 // The cut and the rows that parts without faults write down.
 fn check_written(alloc: Global, parts: CheckParts) -> Result<(Cut, Vec<Row>), AllocError>
     requires { IsFaultless parts }
-    ensures { IfOk result (λ read. (read.0 ≡ cut_written parts.folders) × (read.1.items ≡ map row_written parts.certificate)) }
+    ensures cut { IfOk result (λ read. read.0 ≡ cut_written parts.folders parts.links) }
+    ensures rows { IfOk result (λ read. read.1.items ≡ map row_written parts.certificate) }
 {
     records_make_an_index();
-    let folders = folders_written(alloc, parts.folders)?;
+    let folders = all_written(alloc, parts.folders)?;
+    let links = all_written(alloc, parts.links)?;
     let rows = rows_written(alloc, parts.certificate)?;
-    let links = Items::new(Vec::new(alloc));
     Ok((Cut::of(CutParts { folders, links }), rows))
 }

@@ -1,7 +1,8 @@
-// A document of two folders and devices out of order; what it says was read off by hand, by docs/DOCUMENTS.md.
+// Documents whose folders, devices, views and links are out of order; what they say was read off by hand, by
+// docs/DOCUMENTS.md.
 use crate::*;
 use bep_choice::FolderKind;
-use bep_record::{FolderName, Name, RecordError};
+use bep_record::{FolderName, Kind, Name, RecordError};
 use std::alloc::{AllocError, Global};
 use std::test::Fail;
 
@@ -21,6 +22,32 @@ const DOCUMENT: &str = "{\"version\":1,\"cut\":{\"folders\":[
 {\"name\":\"z\",\"type\":1,\"modified_s\":0,\"modified_by\":1,\"version\":[],\"sequence\":0}},
 {\"folder\":\"docs\",\"device\":7,\"record\":
 {\"name\":\"b\",\"type\":1,\"modified_s\":5,\"modified_by\":7,\"version\":[[7,1]],\"sequence\":9}}]}";
+
+const LINKED: &str = "{\"version\":1,\"cut\":{\"folders\":[
+{\"folder\":\"docs\",\"devices\":[
+{\"device\":2,\"kind\":\"send-receive\",\"index_id\":12,\"max\":0,\"own\":[],\"store\":[],
+\"views\":[
+{\"of\":7,\"index_id\":17,\"max\":9,\"records\":[
+{\"name\":\"a\",\"type\":0,\"modified_s\":-5,\"modified_by\":7,\"version\":[[7,2]],\"sequence\":9,
+\"size\":3,\"modified_ns\":8,\"deleted\":false,\"invalid\":false,\"block_size\":131072,
+\"blocks\":[\"ba7816bf8f01cfea414140de5dae2223b00361a396177a9cb410ff61f20015ad\"],\"target\":\"\"},
+{\"name\":\"b\",\"type\":4,\"modified_s\":5,\"modified_by\":7,\"version\":[[7,1]],\"sequence\":4,\"target\":\"a\"}]},
+{\"of\":5,\"index_id\":0,\"max\":0,\"records\":[]}],
+\"pulls\":[
+{\"name\":\"b\",\"type\":4,\"modified_s\":5,\"modified_by\":7,\"version\":[[7,1]],\"sequence\":4,\"target\":\"a\"}]},
+{\"device\":5,\"kind\":\"send-receive\",\"index_id\":15,\"max\":0},
+{\"device\":7,\"kind\":\"send-receive\",\"index_id\":17,\"max\":10}]}],
+\"links\":[
+{\"a\":2,\"b\":7,\"up\":true,\"epoch\":3,
+\"to_a\":[{\"folder\":\"docs\",\"full\":false,\"records\":[
+{\"name\":\"c\",\"type\":1,\"modified_s\":5,\"modified_by\":7,\"version\":[[7,3]],\"sequence\":10}]}],
+\"to_b\":[
+{\"folder\":\"docs\",\"full\":true,\"records\":[
+{\"name\":\"e\",\"type\":1,\"modified_s\":5,\"modified_by\":2,\"version\":[[2,1]],\"sequence\":1},
+{\"name\":\"d\",\"type\":1,\"modified_s\":5,\"modified_by\":2,\"version\":[[2,2]],\"sequence\":2}]},
+{\"folder\":\"docs\",\"full\":false,\"records\":[]}]},
+{\"a\":2,\"b\":5,\"up\":false,\"epoch\":0,\"to_a\":[],\"to_b\":[]}]},
+\"certificate\":[]}";
 
 fn folder(alloc: Global, name: &str) -> Result<FolderName, RecordError> {
     FolderName::read(alloc, name.as_bytes())
@@ -89,6 +116,106 @@ fn own_records_and_stores_know_names(rt: HostRuntime) -> Result<(), Fail> {
     let (cut, _rows) = read_check(rt.alloc(), DOCUMENT.as_bytes())?;
     assert_eq!(rt; known(rt.alloc(), &cut, 0)?.as_str(), "abcd");
     assert_eq!(rt; known(rt.alloc(), &cut, 1)?.as_str(), "");
+    Ok(())
+}
+
+#[test]
+fn views_are_put_in_order(rt: HostRuntime) -> Result<(), Fail> {
+    let alloc = rt.alloc();
+    let (cut, _rows) = read_check(alloc, LINKED.as_bytes())?;
+    let [two, _five, seven] = cut.shares(&folder(alloc, "docs")?) else {
+        assert!(rt; false, "three devices share the folder");
+        return Ok(());
+    };
+    assert!(rt; seven.views.as_slice().is_empty() && seven.pulls.len() == 0);
+    let [of_five, of_seven] = two.views.as_slice() else {
+        assert!(rt; false, "the smaller device has two views");
+        return Ok(());
+    };
+    assert_eq!(rt; of_five.of.number(), 5);
+    assert_eq!(rt; of_five.index_id, 0);
+    assert_eq!(rt; of_five.records.len(), 0);
+    assert_eq!(rt; of_seven.of.number(), 7);
+    assert_eq!(rt; of_seven.index_id, 17);
+    assert_eq!(rt; of_seven.max_sequence, 9);
+    assert_eq!(rt; of_seven.records.len(), 2);
+    Ok(())
+}
+
+#[test]
+fn records_of_views_and_pulls_are_whole(rt: HostRuntime) -> Result<(), Fail> {
+    let alloc = rt.alloc();
+    let (cut, _rows) = read_check(alloc, LINKED.as_bytes())?;
+    let [two, ..] = cut.shares(&folder(alloc, "docs")?) else {
+        assert!(rt; false, "devices share the folder");
+        return Ok(());
+    };
+    let [_of_five, of_seven] = two.views.as_slice() else {
+        assert!(rt; false, "the smaller device has two views");
+        return Ok(());
+    };
+    let Some(file) = of_seven.records.get(&name(alloc, "a")?) else {
+        assert!(rt; false, "the file is viewed");
+        return Ok(());
+    };
+    let file = file.entry();
+    assert!(rt; file.kind == Kind::File && file.size == 3 && !file.deleted && !file.invalid);
+    assert!(rt; file.modified_s == -5 && file.modified_ns == 8 && file.modified_by.number() == 7);
+    assert!(rt; file.version.counters() == [(7, 2)].as_slice() && file.sequence == 9);
+    let [block] = file.blocks.as_slice() else {
+        assert!(rt; false, "the file has one block");
+        return Ok(());
+    };
+    assert!(rt; file.block_size == 131072 && block.offset == 0 && block.size == 3);
+    let [first, second, ..] = block.hash;
+    assert!(rt; first == 0xba && second == 0x78);
+    assert_eq!(rt; two.pulls.len(), 1);
+    let pulled = two.pulls.get(&name(alloc, "b")?);
+    assert!(rt;
+        pulled.is_some_and(|link| link.entry().target.as_str() == "a" && link.entry().sequence == 4)
+    );
+    Ok(())
+}
+
+#[test]
+fn messages_stay_in_their_order(rt: HostRuntime) -> Result<(), Fail> {
+    let (cut, _rows) = read_check(rt.alloc(), LINKED.as_bytes())?;
+    let [down, up] = cut.links() else {
+        assert!(rt; false, "there are two links");
+        return Ok(());
+    };
+    assert!(rt; down.a.number() == 2 && down.b.number() == 5 && !down.up && down.epoch == 0);
+    assert!(rt; down.to_a.as_slice().is_empty() && down.to_b.as_slice().is_empty());
+    assert!(rt; up.a.number() == 2 && up.b.number() == 7 && up.up && up.epoch == 3);
+    let [update] = up.to_a.as_slice() else {
+        assert!(rt; false, "one message goes to the smaller device");
+        return Ok(());
+    };
+    assert!(rt; !update.full && update.folder.as_str() == "docs");
+    assert_eq!(rt; names_of(rt.alloc(), update)?.as_str(), "c");
+    let [index, empty] = up.to_b.as_slice() else {
+        assert!(rt; false, "two messages go to the greater device");
+        return Ok(());
+    };
+    assert!(rt; index.full && !empty.full);
+    assert_eq!(rt; names_of(rt.alloc(), index)?.as_str(), "ed");
+    assert_eq!(rt; names_of(rt.alloc(), empty)?.as_str(), "");
+    Ok(())
+}
+
+// The names of a message's records, one after the other.
+fn names_of(alloc: Global, flight: &Flight) -> Result<String, AllocError> {
+    let mut text = String::new(alloc);
+    for entry in flight.records.as_slice() {
+        text.push_str(entry.entry().name.as_str())?;
+    }
+    Ok(text)
+}
+
+#[test]
+fn views_pulls_and_messages_know_names(rt: HostRuntime) -> Result<(), Fail> {
+    let (cut, _rows) = read_check(rt.alloc(), LINKED.as_bytes())?;
+    assert_eq!(rt; known(rt.alloc(), &cut, 0)?.as_str(), "abcde");
     Ok(())
 }
 

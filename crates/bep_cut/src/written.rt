@@ -1,144 +1,143 @@
-//! The cut that a document writes down.
-ghost use Rattle.std.specs.Prelude.{◌≡◌, IfOk, OnOk, [], map};
+//! The folders and links that a document writes down.
+ghost use Rattle.std.specs.Prelude.{◌≡◌, IfOk, [], map};
 ghost use Rattle.std.specs.List.{AllByRecursion};
-ghost use Rattle.std.specs.Ordering.{nat_cmp};
-ghost use Rattle.std.specs.Cmp.Lexicographic.{slice_cmp};
-ghost use Rattle.std.specs.FinMap.{empty, insert};
 ghost use Rattle.bep_record.specs.Entry.{IsWellFormed};
-ghost use Rattle.bep_record.specs.Node.{IsNode};
-ghost use Rattle.bep_index.specs.Batch.{with_all};
-ghost use Rattle.bep_document.specs.Faultless.{IsFaultlessShare, IsFaultlessFolder};
+ghost use Rattle.bep_document.specs.Faultless.{IsFaultlessIndex, IsFaultlessShare, IsFaultlessFolder};
 ghost use Rattle.bep_cut.specs.Sorting.{in_order};
-ghost use Rattle.bep_cut.specs.Written.{with_nodes, share_written, folder_written, row_written};
+ghost use Rattle.bep_cut.specs.Written.{AreWellFormed, IsWellFormedLink, view_written, share_written, folder_written, flight_written, link_written};
 
-use crate::order::{place_folder, place_share};
-use crate::{Share, SharedFolder};
-use bep_document::{FolderParts, RowParts, ShareParts};
-use bep_json::NamedParts;
-use bep_map::NameMap;
-use bep_model::Row;
-use bep_record::{Entry, Items, Node, Record};
+use crate::order::{Ordered, place};
+use crate::records::{nodes_by_name, records_by_name, records_in_order};
+use crate::{Flight, LinkState, PeerView, Share, SharedFolder};
+use bep_document::{FlightParts, FolderParts, LinkParts, ShareParts, ViewParts};
+use bep_record::Items;
 use std::alloc::{AllocError, Global};
 
-// The folders, each with its shares in order, in the order of their names.
-pub(crate) fn folders_written(
+/// What a document writes down in lists that are put in order.
+pub(crate) trait Written: Ordered + Drop {
+    /// What the document says of it.
+    type Parts: Drop;
+
+    /// Which parts write something down.
+    ghost is_writable: { Self.Parts → Type 0 };
+
+    /// What the parts write down.
+    ghost written: { Self.Parts → Self };
+
+    /// What the parts write down, or want of memory.
+    fn written(alloc: Global, parts: Self::Parts) -> Result<Self, AllocError>
+        requires { is_writable parts }
+        ensures { IfOk result (λ made. made ≡ written parts) };
+}
+
+// What each of these parts writes down, in order.
+pub(crate) fn all_written<T: Written>(
     alloc: Global,
-    parts: Items<FolderParts>,
-) -> Result<Items<SharedFolder>, AllocError>
-    requires { AllByRecursion IsFaultlessFolder parts }
-    ensures { IfOk result (λ made. made ≡ in_order (slice_cmp nat_cmp) (λ held. held.folder) [] (map folder_written parts)) }
+    parts: Items<T::Parts>,
+) -> Result<Items<T>, AllocError>
+    requires { AllByRecursion T.is_writable parts }
+    ensures { IfOk result (λ made. made ≡ in_order T.order [] (map T.written parts)) }
 {
-    let mut folders = Vec::new(alloc);
+    let mut made = Vec::new(alloc);
     for part in parts.into_vec() {
-        let folder = folder_written(alloc, part)?;
-        place_folder(&mut folders, folder)?;
+        let one = T::written(alloc, part)?;
+        place(&mut made, one)?;
     }
-    Ok(Items::new(folders))
+    Ok(Items::new(made))
 }
 
-fn folder_written(alloc: Global, parts: FolderParts) -> Result<SharedFolder, AllocError>
-    requires { IsFaultlessFolder parts }
-    ensures { IfOk result (λ made. made ≡ folder_written parts) }
+impl Written for SharedFolder {
+    type Parts = FolderParts;
+
+    ghost is_writable = { IsFaultlessFolder };
+
+    ghost written = { folder_written };
+
+    fn written(alloc: Global, folder: FolderParts) -> Result<Self, AllocError> {
+        Ok(SharedFolder {
+            folder: folder.folder,
+            shares: all_written(alloc, folder.devices)?,
+        })
+    }
+}
+
+impl Written for Share {
+    type Parts = ShareParts;
+
+    ghost is_writable = { IsFaultlessShare };
+
+    ghost written = { share_written };
+
+    fn written(alloc: Global, share: ShareParts) -> Result<Self, AllocError> {
+        Ok(Share {
+            device: share.device,
+            kind: share.kind,
+            index_id: share.index_id,
+            max_sequence: share.max,
+            own: records_by_name(alloc, share.own)?,
+            store: nodes_by_name(alloc, share.store)?,
+            views: all_written(alloc, share.views)?,
+            pulls: records_by_name(alloc, share.pulls)?,
+        })
+    }
+}
+
+impl Written for PeerView {
+    type Parts = ViewParts;
+
+    ghost is_writable = { λ view. IsFaultlessIndex view.max view.records };
+
+    ghost written = { view_written };
+
+    fn written(alloc: Global, view: ViewParts) -> Result<Self, AllocError> {
+        Ok(PeerView {
+            of: view.of,
+            index_id: view.index_id,
+            max_sequence: view.max,
+            records: records_by_name(alloc, view.records)?,
+        })
+    }
+}
+
+impl Written for LinkState {
+    type Parts = LinkParts;
+
+    ghost is_writable = { IsWellFormedLink };
+
+    ghost written = { link_written };
+
+    fn written(alloc: Global, link: LinkParts) -> Result<Self, AllocError> {
+        Ok(LinkState {
+            a: link.a,
+            b: link.b,
+            up: link.up,
+            epoch: link.epoch,
+            to_a: flights_written(alloc, link.to_a)?,
+            to_b: flights_written(alloc, link.to_b)?,
+        })
+    }
+}
+
+// The messages, as they stand in the document.
+fn flights_written(alloc: Global, parts: Items<FlightParts>) -> Result<Items<Flight>, AllocError>
+    requires { AreWellFormed parts }
+    ensures { IfOk result (λ made. made ≡ map flight_written parts) }
 {
-    Ok(SharedFolder {
+    let mut flights = Vec::with_capacity(alloc, parts.as_slice().len())?;
+    for part in parts.into_vec() {
+        let flight = flight_written(alloc, part)?;
+        flights.push(flight)?;
+    }
+    Ok(Items::new(flights))
+}
+
+fn flight_written(alloc: Global, parts: FlightParts) -> Result<Flight, AllocError>
+    requires { AllByRecursion IsWellFormed parts.records }
+    ensures { IfOk result (λ made. made ≡ flight_written parts) }
+{
+    Ok(Flight {
         folder: parts.folder,
-        shares: shares_written(alloc, parts.devices)?,
+        full: parts.full,
+        records: records_in_order(alloc, parts.records)?,
     })
-}
-
-fn shares_written(alloc: Global, parts: Items<ShareParts>) -> Result<Items<Share>, AllocError>
-    requires { AllByRecursion IsFaultlessShare parts }
-    ensures { IfOk result (λ made. made ≡ in_order nat_cmp (λ share. share.device) [] (map share_written parts)) }
-{
-    let mut shares = Vec::new(alloc);
-    for part in parts.into_vec() {
-        let share = share_written(alloc, part)?;
-        place_share(&mut shares, share)?;
-    }
-    Ok(Items::new(shares))
-}
-
-fn share_written(alloc: Global, parts: ShareParts) -> Result<Share, AllocError>
-    requires { IsFaultlessShare parts }
-    ensures { IfOk result (λ made. made ≡ share_written parts) }
-{
-    Ok(Share {
-        device: parts.device,
-        kind: parts.kind,
-        index_id: parts.index_id,
-        max_sequence: parts.max,
-        own: records_by_name(alloc, parts.own)?,
-        store: nodes_by_name(alloc, parts.store)?,
-        views: Items::new(Vec::new(alloc)),
-        pulls: NameMap::new(alloc),
-    })
-}
-
-fn records_by_name(alloc: Global, entries: Items<Entry>) -> Result<NameMap<Record>, AllocError>
-    requires { AllByRecursion IsWellFormed entries }
-    ensures { IfOk result (λ made. made ≡ with_all empty entries) }
-{
-    let mut records = NameMap::new(alloc);
-    for entry in entries.into_vec() {
-        put_record(&mut records, alloc, entry)?;
-    }
-    Ok(records)
-}
-
-fn put_record(records: &mut NameMap<Record>, alloc: Global, entry: Entry) -> Result<(), AllocError>
-    requires { IsWellFormed entry }
-    ensures { OnOk result (records.new ≡ insert records.old entry.name entry) }
-{
-    let name = entry.name.copy(alloc)?;
-    records.insert(name, record_of(entry))?;
-    Ok(())
-}
-
-fn record_of(entry: Entry) -> Record
-    requires { IsWellFormed entry }
-    ensures { result ≡ entry }
-{
-    Record::read(entry).unwrap()
-}
-
-fn nodes_by_name(alloc: Global, nodes: Items<NamedParts>) -> Result<NameMap<Node>, AllocError>
-    requires { AllByRecursion (λ node. IsNode node.parts) nodes }
-    ensures { IfOk result (λ made. made ≡ with_nodes empty nodes) }
-{
-    let mut held = NameMap::new(alloc);
-    for node in nodes.into_vec() {
-        put_node(&mut held, node)?;
-    }
-    Ok(held)
-}
-
-fn put_node(held: &mut NameMap<Node>, node: NamedParts) -> Result<(), AllocError>
-    requires { IsNode node.parts }
-    ensures { OnOk result (held.new ≡ insert held.old node.name node.parts) }
-{
-    held.insert(node.name, Node::read(node.parts).unwrap())?;
-    Ok(())
-}
-
-// The rows, as they stand in the document.
-pub(crate) fn rows_written(alloc: Global, parts: Items<RowParts>) -> Result<Vec<Row>, AllocError>
-    requires { AllByRecursion (λ row. IsWellFormed row.entry) parts }
-    ensures { IfOk result (λ rows. rows.items ≡ map row_written parts) }
-{
-    let mut rows = Vec::with_capacity(alloc, parts.as_slice().len())?;
-    for part in parts.into_vec() {
-        rows.push(row_written(part))?;
-    }
-    Ok(rows)
-}
-
-fn row_written(parts: RowParts) -> Row
-    requires { IsWellFormed parts.entry }
-    ensures { result ≡ row_written parts }
-{
-    Row {
-        folder: parts.folder,
-        device: parts.device,
-        entry: record_of(parts.entry),
-    }
 }

@@ -1,11 +1,14 @@
-use Rattle.std.proofs.Common.{◌≡◌, [], sym, subst}
+use Rattle.std.proofs.Common.{sym, subst}
 use Rattle.bep_cut.specs.Cut.{IsCut}
-use Rattle.bep_cut.proofs.WrittenFacts.{cut_is_written}
+use Rattle.bep_cut.proofs.CutWritten.{cut_is_written}
+use Rattle.bep_cut.proofs.LinkFacts.{links_well_formed}
 use Rattle.bep_cut.proofs.read.check_written.Goals as goal
+
+pub all_written-requires-2 : goal.all_written-requires-2
+all_written-requires-2 c = links_well_formed c.args.parts.folders c.args.parts.links c.requires.each_link
 
 pub of-requires : goal.of-requires
 of-requires c =
-    let none : c.new-links.result ≡ [] = cc in
-    subst (λ links. IsCut (record { folders = c.in_ok-folders.folders; links = links })) (sym none)
-    (subst (λ folders. IsCut (record { folders = folders; links = [] })) (sym c.in_ok-folders.ensures)
-    (cut_is_written c.records_make_an_index.ensures.index c.args.parts c.requires))
+    let law = c.records_make_an_index.ensures in
+    subst IsCut (λ i. record { folders = sym c.in_ok-folders.ensures i; links = sym c.in_ok-links.ensures i })
+    (cut_is_written law.index law.found c.args.parts c.requires)

@@ -3,7 +3,7 @@ use Rattle.std.specs.List.{AllByRecursion}
 use Rattle.std.specs.FinMap.{empty}
 use Rattle.bep_record.specs.Node.{IsNode}
 use Rattle.bep_cut.specs.Written.{with_nodes}
-use Rattle.bep_cut.proofs.written.nodes_by_name.Given as goal
+use Rattle.bep_cut.proofs.records.nodes_by_name.Given as goal
 
 -- the nodes so far with those that are left are all of them
 abbrev pub invariant-loop-node : goal.invariant-loop-node
