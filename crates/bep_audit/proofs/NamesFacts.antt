@@ -1,17 +1,17 @@
 -- The names of a map rise; and the known names of a cut, folder by folder, rise and are all that are known.
-use Rattle.std.proofs.Common.{◌≡◌, List, [], ◌∷◌, ◌++◌, map, Contains, IsTrue, sym, ap, subst, ◌∙◌, ⊎_elim}
+use Rattle.std.proofs.Common.{◌≡◌, List, [], ◌∷◌, ◌++◌, map, Contains, sym, ap, subst, ◌∙◌, ⊎_elim}
 use Rattle.std.proofs.Math.Dec.{T}
 use Rattle.std.specs.declared.cmp.Ordering.TheVariants.{Less}
 use Rattle.std.specs.Ordering.{ordering_then}
 use Rattle.std.specs.Cmp.Lexicographic.{nat_list_cmp_total}
 use Rattle.std.specs.FinMap.Entries.{below_all}
-use Rattle.std.specs.FinMap.{is_sorted, contains_key, entries, entries_sorted, keys}
+use Rattle.std.specs.FinMap.{is_sorted, entries, entries_sorted, keys}
 use Rattle.std.specs.List.{AllByRecursion}
 use Rattle.std.specs.List.Sorted.{IsStrictlySortedBy}
 use Rattle.std.proofs.lemmas.Cmp.{tied_itself}
 use Rattle.std.proofs.lemmas.List.Elements.{Contains-append_left, Contains-append_right, Contains-append_cases}
-use Rattle.bep_cut.specs.Cut.{IsCut, shares_of, tables_of}
-use Rattle.bep_cut.specs.Laws.{FolderIsFound, ShareHasFolder, SharingIsSaid, NamesAreKnown}
+use Rattle.bep_cut.specs.Cut.{IsCut, tables_of}
+use Rattle.bep_cut.specs.Laws.{ShareHasFolder, SharingIsSaid, NamesAreKnown}
 use Rattle.bep_cut.specs.Names.{known_names}
 use Rattle.bep_cut.specs.declared.cut.CutParts.{CutParts}
 use Rattle.bep_cut.specs.declared.share.SharedFolder.{SharedFolder}
@@ -68,27 +68,28 @@ folder_above : (key : Key) (folder : Folder) (names : List FileName) → by_name
 folder_above key folder [] less = tt
 folder_above key folder (name ∷ names) less = (ap (λ o. ordering_then o (by_name key.1 name)) less, folder_above key folder names less)
 
-folders_above : (key : Key) (folders : List SharedFolder) → AllByRecursion (λ folder. by_name key.0 folder ≡ Less) (map (λ (held : SharedFolder). held.folder) folders) → AllByRecursion (λ other. key_cmp key other ≡ Less) (all_names folders)
-folders_above key [] above = tt
-folders_above key (held ∷ more) above =
-    all_both (λ other. key_cmp key other ≡ Less) (names_of held) (all_names more)
-    (folder_above key held.folder (keys (known_names held.shares)) above.0)
-    (folders_above key more above.1)
+module _ (cut : CutParts) where
+  folders_above : (key : Key) (folders : List SharedFolder) → AllByRecursion (λ folder. by_name key.0 folder ≡ Less) (map (λ (held : SharedFolder). held.folder) folders) → AllByRecursion (λ other. key_cmp key other ≡ Less) (all_names cut folders)
+  folders_above key [] above = tt
+  folders_above key (held ∷ more) above =
+      all_both (λ other. key_cmp key other ≡ Less) (names_of cut held) (all_names cut more)
+      (folder_above key held.folder (keys (known_names cut held.folder)) above.0)
+      (folders_above key more above.1)
 
-names_below : (folder : Folder) (names : List FileName) (folders : List SharedFolder) → AllByRecursion (λ other. by_name folder other ≡ Less) (map (λ (held : SharedFolder). held.folder) folders) → AllByRecursion (λ one. AllByRecursion (λ other. key_cmp one other ≡ Less) (all_names folders)) (map (λ n. (folder, n)) names)
-names_below folder [] folders above = tt
-names_below folder (name ∷ names) folders above = (folders_above (folder, name) folders above, names_below folder names folders above)
+  names_below : (folder : Folder) (names : List FileName) (folders : List SharedFolder) → AllByRecursion (λ other. by_name folder other ≡ Less) (map (λ (held : SharedFolder). held.folder) folders) → AllByRecursion (λ one. AllByRecursion (λ other. key_cmp one other ≡ Less) (all_names cut folders)) (map (λ n. (folder, n)) names)
+  names_below folder [] folders above = tt
+  names_below folder (name ∷ names) folders above = (folders_above (folder, name) folders above, names_below folder names folders above)
 
--- the known names of all folders rise
-pub all_names_rise : (folders : List SharedFolder) → IsStrictlySortedBy by_name (map (λ (held : SharedFolder). held.folder) folders) → IsStrictlySortedBy key_cmp (all_names folders)
-unfolding IsStrictlySortedBy
-all_names_rise [] rise = tt
-all_names_rise (held ∷ more) rise =
-    let names = known_names held.shares in
-    rise_together (names_of held) (all_names more)
-    (folder_rises held.folder (keys names) (names_rise (entries names) (entries_sorted names)))
-    (all_names_rise more rise.1)
-    (names_below held.folder (keys names) more rise.0)
+  -- the known names of all folders rise
+  pub all_names_rise : (folders : List SharedFolder) → IsStrictlySortedBy by_name (map (λ (held : SharedFolder). held.folder) folders) → IsStrictlySortedBy key_cmp (all_names cut folders)
+  unfolding IsStrictlySortedBy
+  all_names_rise [] rise = tt
+  all_names_rise (held ∷ more) rise =
+      let names = known_names cut held.folder in
+      rise_together (names_of cut held) (all_names cut more)
+      (folder_rises held.folder (keys names) (names_rise (entries names) (entries_sorted names)))
+      (all_names_rise more rise.1)
+      (names_below held.folder (keys names) more rise.0)
 
 -- ---- they are all that are known
 
@@ -108,35 +109,38 @@ name_in_folder folder (first ∷ more) key member =
     (λ later. let found = name_in_folder folder more key later in (found.0, Contains-more first more key.1 found.1))
     (Contains-cons_cases (folder, first) _ key member)
 
-stands_in_all : (folders : List SharedFolder) (held : SharedFolder) (key : Key) → Contains folders held → Contains (names_of held) key → Contains (all_names folders) key
-stands_in_all [] held key member stands = absurd (not_in_none held member)
-stands_in_all (first ∷ more) held key member stands =
-    ⊎_elim
-    (λ same. Contains-append_left (names_of first) (all_names more) key (subst (λ (h : SharedFolder). Contains (names_of h) key) (sym same) stands))
-    (λ later. Contains-append_right (names_of first) (all_names more) key (stands_in_all more held key later stands))
-    (Contains-cons_cases first more held member)
+module _ (cut : CutParts) where
+  stands_in_all : (folders : List SharedFolder) (held : SharedFolder) (key : Key) → Contains folders held → Contains (names_of cut held) key → Contains (all_names cut folders) key
+  stands_in_all [] held key member stands = absurd (not_in_none held member)
+  stands_in_all (first ∷ more) held key member stands =
+      ⊎_elim
+      (λ same. Contains-append_left (names_of cut first) (all_names cut more) key (subst (λ (h : SharedFolder). Contains (names_of cut h) key) (sym same) stands))
+      (λ later. Contains-append_right (names_of cut first) (all_names cut more) key (stands_in_all more held key later stands))
+      (Contains-cons_cases first more held member)
 
-some_folder_has : (folders : List SharedFolder) (key : Key) → Contains (all_names folders) key → (held : SharedFolder) × Contains folders held × Contains (names_of held) key
-some_folder_has [] key stands = absurd (not_in_none key stands)
-some_folder_has (first ∷ more) key stands =
-    ⊎_elim
-    (λ here. (first, Contains-first first more, here))
-    (λ later. let found = some_folder_has more key later in (found.0, Contains-more first more found.0 found.1, found.2))
-    (Contains-append_cases (names_of first) (all_names more) key stands)
+  some_folder_has : (folders : List SharedFolder) (key : Key) → Contains (all_names cut folders) key → (held : SharedFolder) × Contains folders held × Contains (names_of cut held) key
+  some_folder_has [] key stands = absurd (not_in_none key stands)
+  some_folder_has (first ∷ more) key stands =
+      ⊎_elim
+      (λ here. (first, Contains-first first more, here))
+      (λ later. let found = some_folder_has more key later in (found.0, Contains-more first more found.0 found.1, found.2))
+      (Contains-append_cases (names_of cut first) (all_names cut more) key stands)
 
-module _ (found : FolderIsFound) (has_folder : ShareHasFolder) (sharing : SharingIsSaid) (known : NamesAreKnown) (cut : CutParts) (is_cut : IsCut cut) where
-  pub known_from_stands : (key : Key) → Contains (all_names cut.folders) key → IsKnown (tables_of cut) key.0 key.1
+module _ (has_folder : ShareHasFolder) (sharing : SharingIsSaid) (known : NamesAreKnown) (cut : CutParts) (is_cut : IsCut cut) where
+  -- what stands among them is known
+  pub known_from_stands : (key : Key) → Contains (all_names cut cut.folders) key → IsKnown (tables_of cut) key.0 key.1
   known_from_stands key stands =
-      let held = some_folder_has cut.folders key stands in
-      let name = name_in_folder held.0.folder (keys (known_names held.0.shares)) key held.2 in
-      let same : held.0.shares ≡ shares_of key.0 cut.folders = sym (found cut held.0 is_cut held.1) ∙ ap (λ f. shares_of f cut.folders) name.0 in
-      (known cut key.0 key.1 is_cut).0 (subst (λ shares. IsTrue (contains_key (known_names shares) key.1)) same ((key_stands (known_names held.0.shares) key.1).1 name.1))
+      let held = some_folder_has cut cut.folders key stands in
+      let name = name_in_folder held.0.folder (keys (known_names cut held.0.folder)) key held.2 in
+      let is_known = (known cut held.0.folder key.1 is_cut).0 ((key_stands (known_names cut held.0.folder) key.1).1 name.1) in
+      subst (λ (folder : Folder). IsKnown (tables_of cut) folder key.1) name.0 is_known
 
-  pub stands_from_known : (key : Key) → IsKnown (tables_of cut) key.0 key.1 → Contains (all_names cut.folders) key
+  -- and all that is known does
+  pub stands_from_known : (key : Key) → IsKnown (tables_of cut) key.0 key.1 → Contains (all_names cut cut.folders) key
   stands_from_known key is_known =
       let share = (sharing cut key.0 is_known.0 is_known.1.0).0 is_known.1.1 in
       let held = has_folder cut key.0 share.0 share.1 in
-      let same : shares_of key.0 cut.folders ≡ held.0.shares = ap (λ f. shares_of f cut.folders) (sym held.2) ∙ found cut held.0 is_cut held.1 in
-      let has : IsTrue (contains_key (known_names held.0.shares) key.1) = subst (λ shares. IsTrue (contains_key (known_names shares) key.1)) same ((known cut key.0 key.1 is_cut).1 is_known) in
-      let stands = stands_in_folder held.0.folder (keys (known_names held.0.shares)) key.1 ((key_stands (known_names held.0.shares) key.1).0 has) in
-      stands_in_all cut.folders held.0 key held.1 (subst (λ (f : Folder). Contains (names_of held.0) (f, key.1)) held.2 stands)
+      let known_there = subst (λ (folder : Folder). IsKnown (tables_of cut) folder key.1) (sym held.2) is_known in
+      let has = (known cut held.0.folder key.1 is_cut).1 known_there in
+      let stands = stands_in_folder held.0.folder (keys (known_names cut held.0.folder)) key.1 ((key_stands (known_names cut held.0.folder) key.1).0 has) in
+      stands_in_all cut cut.folders held.0 key held.1 (subst (λ (folder : Folder). Contains (names_of cut held.0) (folder, key.1)) held.2 stands)

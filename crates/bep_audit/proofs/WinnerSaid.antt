@@ -34,7 +34,7 @@ share_with (share ∷ more) device member =
     (Contains-cons_cases share.device (devices_of more) device member)
 
 none_are_shares : AreShares []
-none_are_shares = record { rise = λ k within. absurd (omega arith); indexes = λ k default within. absurd (omega arith) }
+none_are_shares = record { rise = λ k within. absurd (omega arith); indexes = λ k default within. absurd (omega arith); views = λ k default within. absurd (omega arith); pulls = λ k default within. absurd (omega arith) }
 
 module _ (found : FolderIsFound) (has_folder : ShareHasFolder) (cut : CutParts) (is_cut : IsCut cut) where
   -- where some device shares a folder, the cut has the folder with these shares

@@ -4,6 +4,7 @@ use Rattle.std.specs.List.{flat_map}
 use Rattle.std.specs.FinMap.{keys}
 use Rattle.bep_choice.specs.Choice.{Candidate}
 use Rattle.bep_cut.specs.Names.{known_names}
+use Rattle.bep_cut.specs.declared.cut.CutParts.{CutParts}
 use Rattle.bep_cut.specs.declared.share.SharedFolder.{SharedFolder}
 use Rattle.bep_model.specs.declared.row.Row.{Row}
 use Rattle.bep_model.specs.Settled.{key_of, IsSettled}
@@ -30,12 +31,12 @@ IsSettledIfAny t rows = (others : List Row) → IsSettled t others → (others �
 abbrev pub IsNeverSettled : Tables → Type 0
 IsNeverSettled t = (rows : List Row) → ¬ IsSettled t rows
 
--- the known names of a folder, rising, and those of all folders
-abbrev pub names_of : SharedFolder → List (Folder × FileName)
-names_of held = map (λ name. (held.folder, name)) (keys (known_names held.shares))
+-- the known names of a folder of the cut, rising, and those of several of its folders
+abbrev pub names_of : CutParts → SharedFolder → List (Folder × FileName)
+names_of cut held = map (λ name. (held.folder, name)) (keys (known_names cut held.folder))
 
-abbrev pub all_names : List SharedFolder → List (Folder × FileName)
-all_names = flat_map names_of
+abbrev pub all_names : CutParts → List SharedFolder → List (Folder × FileName)
+all_names cut = flat_map (names_of cut)
 
 -- the row is about the name, and holds its winner
 abbrev pub IsWon : Tables → Folder × FileName → Row → Type 0
