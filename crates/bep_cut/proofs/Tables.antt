@@ -73,7 +73,7 @@ node_is_said cut folder name share is_cut h =
 
 -- ---- views and pulls
 -- what a device knows of another is what its view of it has
-viewed_by_share : (cut : CutParts) (folder : Folder) (name : FileName) (share : Share) (other : Device) → IsCut cut → Contains (shares_of folder cut.folders) share → (tables_of cut).viewed share.device other folder name ≡ option_and_then (λ (view : PeerView). get view.records name) (view_of other share.views)
+pub viewed_by_share : (cut : CutParts) (folder : Folder) (name : FileName) (share : Share) (other : Device) → IsCut cut → Contains (shares_of folder cut.folders) share → (tables_of cut).viewed share.device other folder name ≡ option_and_then (λ (view : PeerView). get view.records name) (view_of other share.views)
 unfolding tables_of
 viewed_by_share cut folder name share other is_cut h =
     ap (option_and_then (λ (one : Share). option_and_then (λ (view : PeerView). get view.records name) (view_of other one.views))) (share_is_found cut folder share is_cut h)
@@ -113,14 +113,14 @@ same_ends : (one other : Device × Device) → ends_cmp one other ≡ Equal → 
 same_ends = exact_pairs nat_cmp nat_cmp nat_cmp-IsAntisymmetric nat_cmp-IsAntisymmetric
 
 -- a link is found by its ends
-link_is_found : (cut : CutParts) (link : LinkState) → IsCut cut → Contains cut.links link → link_of link.a link.b cut.links ≡ Some link
+pub link_is_found : (cut : CutParts) (link : LinkState) → IsCut cut → Contains cut.links link → link_of link.a link.b cut.links ≡ Some link
 link_is_found cut link is_cut h = found_itself ends_total ends_of cut.links link is_cut.links_rise h
 
-is_link : (cut : CutParts) (link : LinkState) → IsCut cut → Contains cut.links link → IsLink cut.folders link
+pub is_link : (cut : CutParts) (link : LinkState) → IsCut cut → Contains cut.links link → IsLink cut.folders link
 is_link cut link is_cut h = All-contains (IsLink cut.folders) cut.links link is_cut.links h
 
 -- what is found for two ends has these
-link_has_ends : (a b : Device) (links : List LinkState) (link : LinkState) → link_of a b links ≡ Some link → Contains links link × (link.a ≡ a) × (link.b ≡ b)
+pub link_has_ends : (a b : Device) (links : List LinkState) (link : LinkState) → link_of a b links ≡ Some link → Contains links link × (link.a ≡ a) × (link.b ≡ b)
 link_has_ends a b links link found =
     let gives = find_gives (λ (one : LinkState). is_eq (ends_cmp (ends_of one) (a, b))) links link found in
     let same = same_ends (ends_of link) (a, b) (Equal_from_is_eq _ gives.1) in
