@@ -4,6 +4,7 @@ use Rattle.std.specs.Prelude.{Result, Ok, Err, IsErrAnd, IfErr}
 use Rattle.std.proofs.lemmas.List.{append-nil, take_more}
 use Rattle.std.proofs.lemmas.Grind.{flat_map-append}
 use Rattle.bep_facts.specs.Places.{split_at}
+use Rattle.bep_cut.specs.declared.cut.CutParts.{CutParts}
 use Rattle.bep_cut.specs.declared.share.SharedFolder.{SharedFolder}
 use Rattle.bep_model.specs.declared.row.Row.{Row}
 use Rattle.bep_model.specs.Tables.{Tables, Folder, FileName}
@@ -38,9 +39,9 @@ module _ (t : Tables) where
   }
 
   -- the rows of a folder's names are added but for those of these names
-  pub record IsAddedSoFar (held : SharedFolder) (left : List FileName) (old new : List Row) : Type 0 where
+  pub record IsAddedSoFar (cut : CutParts) (held : SharedFolder) (left : List FileName) (old new : List Row) : Type 0 where
     pub done : List Key
-    pub together : done ++ map (λ name. (held.folder, name)) left ≡ names_of held
+    pub together : done ++ map (λ name. (held.folder, name)) left ≡ names_of cut held
     pub adds : Adds t done old new
 
   -- ---- failing
@@ -60,15 +61,15 @@ module _ (t : Tables) where
 
 -- ---- in a folder
 
-module _ (t : Tables) (held : SharedFolder) (name : FileName) (left : List FileName) (old mid : List Row) (so_far : IsAddedSoFar t held (name ∷ left) old mid) where
-  pub added_one_more : (row : Row) → IsWon t (held.folder, name) row → IsAddedSoFar t held left old (mid ++ row ∷ [])
+module _ (t : Tables) (cut : CutParts) (held : SharedFolder) (name : FileName) (left : List FileName) (old mid : List Row) (so_far : IsAddedSoFar t cut held (name ∷ left) old mid) where
+  pub added_one_more : (row : Row) → IsWon t (held.folder, name) row → IsAddedSoFar t cut held left old (mid ++ row ∷ [])
   added_one_more row won = record {
     done = so_far.done ++ (held.folder, name) ∷ [];
     together = append_assoc so_far.done ((held.folder, name) ∷ []) (map (λ n. (held.folder, n)) left) ∙ so_far.together;
     adds = adds_more t so_far.done ((held.folder, name) ∷ []) old mid (mid ++ row ∷ []) so_far.adds (adds_one t (held.folder, name) row mid won);
   }
 
-  pub fails_at_name : (error : CertifyError) → TellsOf (λ key. (key ≡ (held.folder, name)) × IsUnwon t key) error → TellsOf (FailsIn t (names_of held)) error
+  pub fails_at_name : (error : CertifyError) → TellsOf (λ key. (key ≡ (held.folder, name)) × IsUnwon t key) error → TellsOf (FailsIn t (names_of cut held)) error
   fails_at_name (NoWinner folder other) tells =
       let failed : Key = (folder, other) in
       let here : FailsIn t ((held.folder, name) ∷ map (λ n. (held.folder, n)) left) failed = inl (sym tells.0, subst (IsUnwon t) tells.0 tells.1) in
@@ -78,34 +79,39 @@ module _ (t : Tables) (held : SharedFolder) (name : FileName) (left : List FileN
 
 -- ---- at the end of a folder
 
-module _ (t : Tables) (before : List SharedFolder) (held : SharedFolder) (old new : List Row) where
-  pub one_more_folder : Adds t (all_names before) [] old → Adds t (names_of held) old new → Adds t (all_names (before ++ held ∷ [])) [] new
+module _ (t : Tables) (cut : CutParts) (before : List SharedFolder) (held : SharedFolder) (old new : List Row) where
+  pub one_more_folder : Adds t (all_names cut before) [] old → Adds t (names_of cut held) old new → Adds t (all_names cut (before ++ held ∷ [])) [] new
   one_more_folder first later =
       subst (λ keys. Adds t keys [] new)
-      (ap (λ more. all_names before ++ more) (sym (append-nil (names_of held))) ∙ sym (flat_map-append names_of before (held ∷ [])))
-      (adds_more t (all_names before) (names_of held) [] old new first later)
+      (ap (λ more. all_names cut before ++ more) (sym (append-nil (names_of cut held))) ∙ sym (flat_map-append (names_of cut) before (held ∷ [])))
+      (adds_more t (all_names cut before) (names_of cut held) [] old new first later)
 
-  pub fails_in_folder : (after : List SharedFolder) (error : CertifyError) → Adds t (all_names before) [] old → TellsOf (FailsIn t (names_of held)) error → TellsOf (FailsIn t (all_names (before ++ held ∷ after))) error
+  pub fails_in_folder : (after : List SharedFolder) (error : CertifyError) → Adds t (all_names cut before) [] old → TellsOf (FailsIn t (names_of cut held)) error → TellsOf (FailsIn t (all_names cut (before ++ held ∷ after))) error
   fails_in_folder after (NoWinner folder name) first fails =
-      subst (λ keys. FailsIn t keys (folder, name)) (sym (flat_map-append names_of before (held ∷ after)))
-      (fails_after t (all_names before) (names_of held ++ all_names after) [] old (folder, name) first (fails_before t (names_of held) (all_names after) (folder, name) fails))
+      subst (λ keys. FailsIn t keys (folder, name)) (sym (flat_map-append (names_of cut) before (held ∷ after)))
+      (fails_after t (all_names cut before) (names_of cut held ++ all_names cut after) [] old (folder, name) first (fails_before t (names_of cut held) (all_names cut after) (folder, name) fails))
   fails_in_folder after Memory first fails = tt
 
 -- ---- in all folders
 
-module _ (t : Tables) (folders : List SharedFolder) (i : ℕ) (held : SharedFolder) (below : i < length folders) (is : held ≡ get_or folders i held) (old new : List Row) where
-  pub adds_next_folder : Adds t (all_names (take i folders)) [] old → Adds t (names_of held) old new → Adds t (all_names (take (i + 1) folders)) [] new
+module _ (t : Tables) (cut : CutParts) (folders : List SharedFolder) (i : ℕ) (held : SharedFolder) (below : i < length folders) (is : held ≡ get_or folders i held) (old new : List Row) where
+  pub adds_next_folder : Adds t (all_names cut (take i folders)) [] old → Adds t (names_of cut held) old new → Adds t (all_names cut (take (i + 1) folders)) [] new
   adds_next_folder first later =
-      subst (λ before. Adds t (all_names before) [] new)
+      subst (λ before. Adds t (all_names cut before) [] new)
       (ap (λ y. take i folders ++ y ∷ []) is ∙ sym (take_more folders i held below))
-      (one_more_folder t (take i folders) held old new first later)
+      (one_more_folder t cut (take i folders) held old new first later)
 
-  pub fails_at_folder : (error : CertifyError) → Adds t (all_names (take i folders)) [] old → TellsOf (FailsIn t (names_of held)) error → TellsOf (FailsIn t (all_names folders)) error
+  pub fails_at_folder : (error : CertifyError) → Adds t (all_names cut (take i folders)) [] old → TellsOf (FailsIn t (names_of cut held)) error → TellsOf (FailsIn t (all_names cut folders)) error
   fails_at_folder error first fails =
-      subst (λ all. TellsOf (FailsIn t (all_names all)) error) (split_at folders i held below is)
-      (fails_in_folder t (take i folders) held old new (drop (i + 1) folders) error first fails)
+      subst (λ all. TellsOf (FailsIn t (all_names cut all)) error) (split_at folders i held below is)
+      (fails_in_folder t cut (take i folders) held old new (drop (i + 1) folders) error first fails)
 
 -- what holds of an error holds of a result that has it
 pub if_err : {X E : Type 0} (P : E → Type 0) (result : Result X E) (error : E) → IsErrAnd result (λ other. other ≡ error) → P error → IfErr result P
 if_err P (Ok x) error is holds = absurd is
 if_err P (Err other) error is holds = subst P (sym is) holds
+
+-- what follows of each error follows of a result's
+pub if_err-map : {X E : Type 0} {P Q : E → Type 0} → ((error : E) → P error → Q error) → (result : Result X E) → IfErr result P → IfErr result Q
+if_err-map f (Ok x) h = h
+if_err-map f (Err error) h = f error h

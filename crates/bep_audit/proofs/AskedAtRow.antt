@@ -1,8 +1,8 @@
 -- From the third reason on each row is asked by itself, as if it stood alone.
 use Rattle.std.proofs.Common.{◌≡◌, ◌≢◌, ◌<◌, List, [], ◌∷◌, Contains, Option, Some, None, refl, sym, ap, subst, ◌∙◌, ⊎_elim, arith}
 use Rattle.std.specs.declared.cmp.Ordering.TheVariants.{Less, Equal, Greater}
+use Rattle.bep_facts.specs.Orders.{Equal_from_same, order_cases, texts_exact, texts_total}
 use Rattle.bep_facts.specs.Members.{Contains-first, Contains-one}
-use Rattle.bep_facts.specs.Orders.{texts_exact, Equal_from_same, texts_total, order_cases}
 use Rattle.bep_model.specs.declared.row.Row.{Row}
 use Rattle.bep_model.specs.declared.reason.Reason.{Reason}
 use Rattle.bep_model.specs.declared.reason.Reason.TheVariants.{CertificateOrder, NameMissing, NameUnknown, NotWinner, RecordMissing, RecordDiffers, LocalOnly, StoreDiffers, StoreUnclean, ViewAhead, FlightAhead, PullAhead}

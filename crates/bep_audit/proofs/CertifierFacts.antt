@@ -2,8 +2,8 @@
 use Rattle.std.proofs.Common.{◌≡◌, List, [], ◌∷◌, Contains, sym, ap, subst, ◌∙◌, ⊎_elim}
 use Rattle.std.specs.declared.cmp.Ordering.TheVariants.{Less}
 use Rattle.std.specs.List.Sorted.{IsStrictlySortedBy}
-use Rattle.bep_facts.specs.Members.{not_in_none, Contains-first, Contains-more, Contains-cons_cases, holds_of_member}
-use Rattle.bep_facts.specs.Orders.{texts_total, not_less_itself}
+use Rattle.bep_facts.specs.Orders.{not_less_itself, texts_total}
+use Rattle.bep_facts.specs.Members.{Contains-cons_cases, Contains-first, Contains-more, holds_of_member, not_in_none}
 use Rattle.bep_model.specs.declared.row.Row.{Row}
 use Rattle.bep_model.specs.Foreign.{IsKnown}
 use Rattle.bep_model.specs.Laws.{SettledIsListOfWinners, ListOfWinnersIsUnique, WinnersLeaveNoneOut}

@@ -1,17 +1,20 @@
 -- What the laws of cuts say of known names and of the devices that share a folder.
-use Rattle.std.proofs.Common.{◌≡◌, ◌↔◌, List, [], ◌∷◌, ◌++◌, Contains, Option, IsSome, refl, sym, subst, inl, inr, ⊎_elim}
+use Rattle.std.proofs.Common.{◌≡◌, ◌↔◌, false, List, Contains, Option, Some, IsSome, is_some, refl, sym, ap, subst, ◌∙◌, inl, inr, ⊎_elim}
+use Rattle.std.specs.FinMap.{get}
 use Rattle.std.specs.List.Sorted.{IsStrictlyIncreasing}
-use Rattle.std.proofs.lemmas.List.Elements.{Contains-push_cases}
-use Rattle.bep_facts.specs.Members.{not_in_none}
+use Rattle.std.proofs.lemmas.List.Elements.{All-contains}
 use Rattle.bep_record.specs.declared.node.NodeParts.{NodeParts}
 use Rattle.bep_record.specs.declared.entry.Entry.{Entry}
+use Rattle.bep_model.specs.declared.flight.Flight.{Flight}
 use Rattle.bep_model.specs.Tables.{Device, Folder, FileName, Shares}
-use Rattle.bep_model.specs.Foreign.{HasTrace, IsKnown}
+use Rattle.bep_model.specs.Foreign.{IsFlying, IsForeign, HasTrace, IsKnown}
 use Rattle.bep_cut.specs.declared.share.Share.{Share}
+use Rattle.bep_cut.specs.declared.link.LinkState.{LinkState}
 use Rattle.bep_cut.specs.declared.cut.CutParts.{CutParts}
-use Rattle.bep_cut.specs.Cut.{IsCut, devices_of, shares_of, tables_of}
-use Rattle.bep_cut.specs.Laws.{FolderIsFound, ShareHasFolder, SharingIsSaid, OwnIsSaid, NodeIsSaid, NothingIsForeign}
-use Rattle.bep_audit.specs.Held.{HasName}
+use Rattle.bep_cut.specs.Cut.{IsCut, ArePulls, devices_of, shares_of, tables_of}
+use Rattle.bep_cut.specs.Laws.{FolderIsFound, ShareHasFolder, SharingIsSaid, OwnIsSaid, NodeIsSaid, ViewedIsSaid, TargetIsSaid, FlyingIsSaid, ReceiverShares, Carries, HasRecord}
+use Rattle.bep_audit.specs.Known.{HasName, Brings, IsBroughtBy, IsOver, IsOnItsWay, IsKnownFrom}
+use Rattle.bep_audit.proofs.MapFacts.{there_is}
 use Rattle.bep_audit.proofs.WinnerSaid.{are_shares}
 
 -- the law of bep_cut
@@ -21,22 +24,10 @@ pub record CutSays : Type 0 where
   pub sharing : SharingIsSaid
   pub own : OwnIsSaid
   pub node : NodeIsSaid
-  pub foreign : NothingIsForeign
-
--- one of the devices that share the folder has the name
-abbrev pub SomeHasName : CutParts → Folder → FileName → Type 0
-SomeHasName cut folder name = (share : Share) × Contains (shares_of folder cut.folders) share × HasName share name
-
--- none of these devices has the name
-abbrev pub NoneHasName : List Share → FileName → Type 0
-NoneHasName shares name = (share : Share) → Contains shares share → ¬ HasName share name
-
-pub none_has_name : (name : FileName) → NoneHasName [] name
-none_has_name name share member = absurd (not_in_none share member)
-
-pub no_more_has_name : (done : List Share) (share : Share) (name : FileName) → NoneHasName done name → ¬ HasName share name → NoneHasName (done ++ share ∷ []) name
-no_more_has_name done share name none has_none other member has =
-    ⊎_elim (λ before. none other before has) (λ same. has_none (subst (λ s. HasName s name) (sym same) has)) (Contains-push_cases done share other member)
+  pub viewed : ViewedIsSaid
+  pub target : TargetIsSaid
+  pub flying : FlyingIsSaid
+  pub receiver : ReceiverShares
 
 module _ (said : CutSays) (cut : CutParts) (is_cut : IsCut cut) where
   -- a device that shares the folder has a share of it
@@ -51,35 +42,102 @@ module _ (said : CutSays) (cut : CutParts) (is_cut : IsCut cut) where
   devices_rise folder shares is =
       subst (λ all. IsStrictlyIncreasing (devices_of all)) (sym is) (are_shares said.found said.has_folder cut is_cut folder).rise
 
-  name_of_trace : (folder : Folder) (name : FileName) (share : Share) → Contains (shares_of folder cut.folders) share → HasTrace (tables_of cut) share.device folder name → HasName share name
-  name_of_trace folder name share member trace =
+  -- what a device pulls isn't invalid
+  pull_is_valid : (folder : Folder) (name : FileName) (entry : Entry) (share : Share) → Contains (shares_of folder cut.folders) share → get share.pulls name ≡ Some entry → entry.invalid ≡ false
+  pull_is_valid folder name entry share member is =
+      let pulls = All-contains (λ (one : Share). ArePulls one.pulls) (shares_of folder cut.folders) share (are_shares said.found said.has_folder cut is_cut folder).pulls member in
+      (pulls.named name entry is).1
+
+  -- what is on its way over a link is on its way to one of its ends, which shares the folder
+  foreign_over : (folder : Folder) (name : FileName) (link : LinkState) → Contains cut.links link → IsOver folder name link → IsKnown (tables_of cut) folder name
+  foreign_over folder name link member over =
       ⊎_elim
-      (λ node. inr (subst (λ (o : Option NodeParts). IsSome o) (said.node cut folder name share is_cut member) node))
-      (⊎_elim
-      (λ own. inl (subst (λ (o : Option Entry). IsSome o) (said.own cut folder name share is_cut member) own))
-      (λ foreign. absurd (said.foreign cut share.device folder name foreign.0 foreign.1)))
-      trace
+      (λ to_a. arrives link.a link.to_a (λ flight here. inl (refl, here)) to_a)
+      (λ to_b. arrives link.b link.to_b (λ flight here. inr (refl, here)) to_b)
+      over
+    where
+      arrives : (device : Device) (flights : List Flight) → ((flight : Flight) → Contains flights flight → Carries link device flight) → IsBroughtBy folder name flights → IsKnown (tables_of cut) folder name
+      arrives device flights carried brought =
+          let flight = brought.0 in
+          let carries = carried flight brought.1 in
+          let same = brought.2.0 in
+          let entry = brought.2.1.0 in
+          let flying = (said.flying cut device folder name entry is_cut).1 (link, flight, member, carries, (same, brought.2.1.1, brought.2.1.2.0)) in
+          let shares = subst (Shares (tables_of cut) device) same (said.receiver cut link device flight is_cut member carries) in
+          (device, shares, inr (inr (entry, record { known_by = inr (inl flying); valid = brought.2.1.2.1 })))
 
-  trace_of_name : (folder : Folder) (name : FileName) (share : Share) → Contains (shares_of folder cut.folders) share → HasName share name → HasTrace (tables_of cut) share.device folder name
-  trace_of_name folder name share member has =
-      ⊎_elim
-      (λ own. inr (inl (subst (λ (o : Option Entry). IsSome o) (sym (said.own cut folder name share is_cut member)) own)))
-      (λ node. inl (subst (λ (o : Option NodeParts). IsSome o) (sym (said.node cut folder name share is_cut member)) node))
-      has
+  module _ (folder : Folder) (name : FileName) where
+    -- what is on its way to a device is on its way
+    on_its_way : (device : Device) (entry : Entry) → IsFlying (tables_of cut) device folder name entry → entry.invalid ≡ false → IsOnItsWay folder cut.links name
+    on_its_way device entry flying valid =
+        let over = (said.flying cut device folder name entry is_cut).0 flying in
+        let brings : (flight : Flight) → HasRecord flight folder name entry → Brings folder name flight = λ flight has. (has.0, (entry, has.1, (has.2, valid))) in (
+          over.0,
+          over.2,
+          ⊎_elim
+              (λ to_a. inl (over.1, to_a.1, brings over.1 over.4))
+              (λ to_b. inr (over.1, to_b.1, brings over.1 over.4))
+              over.3,
+        )
 
-  -- a name is known exactly where one of the sharing devices has it
-  pub known_exactly : (folder : Folder) (name : FileName) → IsKnown (tables_of cut) folder name ↔ SomeHasName cut folder name
-  known_exactly folder name = (
-    λ known.
-        let share = share_of_device folder known.0 known.1 in
-        (share.0, share.1, name_of_trace folder name share.0 share.1 (subst (λ (device : Device). HasTrace (tables_of cut) device folder name) (sym share.2) known.2)),
-    λ some. (some.0.device, device_of_share folder some.0 some.1, trace_of_name folder name some.0 some.1 some.2),
-  )
+    module _ (share : Share) (member : Contains (shares_of folder cut.folders) share) where
+      known_from_foreign : (entry : Entry) → IsForeign (tables_of cut) share.device folder name entry → IsKnownFrom folder (shares_of folder cut.folders) cut.links name
+      known_from_foreign entry foreign =
+          ⊎_elim
+          (λ viewed.
+          let view = (said.viewed cut folder name entry share is_cut member).0 viewed in
+          inl (share, member, inr (inr (inr (view.0, view.1, (entry, view.2, foreign.valid))))))
+          (⊎_elim
+          (λ flying. inr (on_its_way share.device entry flying foreign.valid))
+          (λ target.
+          let pull = sym (said.target cut folder name share is_cut member) ∙ target in
+          inl (share, member, inr (inr (inl (ap is_some pull))))))
+          foreign.known_by
 
-  pub known_by : (folder : Folder) (name : FileName) (shares : List Share) → shares ≡ shares_of folder cut.folders → (share : Share) → Contains shares share → HasName share name → IsKnown (tables_of cut) folder name
-  known_by folder name shares is share member has = (known_exactly folder name).1 (share, subst (λ all. Contains all share) is member, has)
+      known_from_trace : HasTrace (tables_of cut) share.device folder name → IsKnownFrom folder (shares_of folder cut.folders) cut.links name
+      known_from_trace trace =
+          ⊎_elim
+          (λ node. inl (share, member, inr (inl (subst (λ (o : Option NodeParts). IsSome o) (said.node cut folder name share is_cut member) node))))
+          (⊎_elim
+          (λ own. inl (share, member, inl (subst (λ (o : Option Entry). IsSome o) (said.own cut folder name share is_cut member) own)))
+          (λ foreign. known_from_foreign foreign.0 foreign.1))
+          trace
 
-  pub unknown : (folder : Folder) (name : FileName) (shares : List Share) → shares ≡ shares_of folder cut.folders → NoneHasName shares name → ¬ IsKnown (tables_of cut) folder name
-  unknown folder name shares is none known =
-      let some = (known_exactly folder name).0 known in
-      none some.0 (subst (λ all. Contains all some.0) (sym is) some.1) some.2
+      trace_of_name : HasName share name → HasTrace (tables_of cut) share.device folder name
+      trace_of_name has =
+          ⊎_elim
+          (λ own. inr (inl (subst (λ (o : Option Entry). IsSome o) (sym (said.own cut folder name share is_cut member)) own)))
+          (⊎_elim
+          (λ node. inl (subst (λ (o : Option NodeParts). IsSome o) (sym (said.node cut folder name share is_cut member)) node))
+          (⊎_elim
+          (λ pulled.
+          let pull = there_is (get share.pulls name) pulled in
+          inr (inr (
+            pull.0,
+            record {
+              known_by = inr (inr (said.target cut folder name share is_cut member ∙ pull.1));
+              valid = pull_is_valid folder name pull.0 share member pull.1;
+            },
+          )))
+          (λ viewed.
+          let entry = viewed.2.0 in
+          inr (inr (
+            entry,
+            record {
+              known_by = inl ((said.viewed cut folder name entry share is_cut member).1 (viewed.0, viewed.1, viewed.2.1));
+              valid = viewed.2.2;
+            },
+          )))))
+          has
+
+    -- a name is known exactly where a sharing device has it or it is on its way
+    pub known_exactly : IsKnown (tables_of cut) folder name ↔ IsKnownFrom folder (shares_of folder cut.folders) cut.links name
+    known_exactly = (
+      λ known.
+          let share = share_of_device folder known.0 known.1 in
+          known_from_trace share.0 share.1 (subst (λ (device : Device). HasTrace (tables_of cut) device folder name) (sym share.2) known.2),
+      λ from. ⊎_elim
+          (λ held. (held.0.device, device_of_share folder held.0 held.1, trace_of_name held.0 held.1 held.2))
+          (λ way. foreign_over folder name way.0 way.1 way.2)
+          from,
+    )

@@ -1,5 +1,6 @@
 -- What is found of the devices that share a row's folder.
-use Rattle.std.proofs.Common.{◌≡◌, ◌↔◌, ◌<◌, List, [], ◌∷◌, Contains, Option, Some, None, option_map, refl, sym, subst, inl, inr, arith}
+use Rattle.std.proofs.Common.{◌≡◌, ◌↔◌, ◌<◌, List, [], ◌∷◌, Contains, Option, Some, None, option_map, refl, sym, subst, arith}
+use Rattle.std.specs.Prelude.{⊤}
 use Rattle.std.specs.Ordering.{nat_cmp}
 use Rattle.std.specs.FinMap.{get}
 use Rattle.bep_facts.specs.Members.{Contains-first, Contains-one}
@@ -12,6 +13,7 @@ use Rattle.bep_model.specs.Tables.{Tables, Device, Folder, FileName, Shares}
 use Rattle.bep_model.specs.Reasons.{device_rank, AsksAt, AsksName, AsksDevice, AsksShare}
 use Rattle.bep_model.specs.Verdict.{number_of}
 use Rattle.bep_cut.specs.declared.share.Share.{Share}
+use Rattle.bep_cut.specs.declared.link.LinkState.{LinkState}
 use Rattle.bep_cut.specs.declared.cut.CutParts.{CutParts}
 use Rattle.bep_cut.specs.Cut.{IsCut, shares_of, tables_of}
 use Rattle.bep_audit.specs.Share.{AsksHere, ShareIsAsked}
@@ -20,6 +22,7 @@ use Rattle.bep_audit.specs.Search.{FindsFirst, FindsFault}
 use Rattle.bep_audit.specs.Shown.{part_of}
 use Rattle.bep_audit.proofs.AskedAtRow.{IsOfDevices}
 use Rattle.bep_audit.proofs.CutFacts.{CutSays, share_of_device, device_of_share}
+use Rattle.bep_audit.proofs.ForeignFacts.{views_asked, flights_asked, pulls_asked}
 use Rattle.bep_audit.proofs.RowFault.{less_by_order, finds_none, finds_part}
 
 -- a reason that asks something of devices asks nothing of a name as a whole
@@ -38,34 +41,35 @@ module _ (said : CutSays) (asked_here : ShareIsAsked) (cut : CutParts) (is_cut :
   IsShare : Share → Type 0
   IsShare share = Contains (shares_of row.folder cut.folders) share
 
-  by_share : (reason : Reason) (share : Share) → IsShare share → number_of reason < number_of ViewAhead → AsksOf reason row share ↔ AsksTables reason share
+  by_share : (reason : Reason) (share : Share) → IsShare share → number_of reason < number_of ViewAhead → AsksHere reason (get share.own row.entry.name) (get share.store row.entry.name) row.entry ↔ AsksTables reason share
   unfolding AsksTables IsShare
   by_share reason share member less =
       subst (λ (own : Option Entry). AsksHere reason own (get share.store row.entry.name) row.entry ↔ AsksShare (tables_of cut) reason row share.device) (said.own cut row.folder row.entry.name share is_cut member)
       (subst (λ (node : Option NodeParts). AsksHere reason ((tables_of cut).own share.device row.folder row.entry.name) node row.entry ↔ AsksShare (tables_of cut) reason row share.device) (said.node cut row.folder row.entry.name share is_cut member)
       (asked_here (tables_of cut) reason row share.device less))
 
-  -- what is asked of the share is what is asked of the device; of foreign records nothing, since there are none
-  asked_exactly : (reason : Reason) (share : Share) → IsShare share → AsksOf reason row share ↔ AsksTables reason share
-  unfolding AsksTables
-  asked_exactly ViewAhead share member =
-      (λ _ entry viewed valid. absurd (said.foreign cut share.device row.folder row.entry.name entry (record { known_by = inl viewed; valid = valid })), λ _. tt)
-  asked_exactly FlightAhead share member =
-      (λ _ entry flying valid. absurd (said.foreign cut share.device row.folder row.entry.name entry (record { known_by = inr (inl flying); valid = valid })), λ _. tt)
-  asked_exactly PullAhead share member =
-      (λ _ entry target valid. absurd (said.foreign cut share.device row.folder row.entry.name entry (record { known_by = inr (inr target); valid = valid })), λ _. tt)
-  asked_exactly CertificateOrder share member = by_share CertificateOrder share member (omega arith)
-  asked_exactly NameMissing share member = by_share NameMissing share member (omega arith)
-  asked_exactly NameUnknown share member = by_share NameUnknown share member (omega arith)
-  asked_exactly NotWinner share member = by_share NotWinner share member (omega arith)
-  asked_exactly RecordMissing share member = by_share RecordMissing share member (omega arith)
-  asked_exactly RecordDiffers share member = by_share RecordDiffers share member (omega arith)
-  asked_exactly LocalOnly share member = by_share LocalOnly share member (omega arith)
-  asked_exactly StoreDiffers share member = by_share StoreDiffers share member (omega arith)
-  asked_exactly StoreUnclean share member = by_share StoreUnclean share member (omega arith)
+  -- beside no foreign record
+  alone : (reason : Reason) (share : Share) → IsShare share → number_of reason < number_of ViewAhead → (AsksHere reason (get share.own row.entry.name) (get share.store row.entry.name) row.entry × ⊤) ↔ AsksTables reason share
+  alone reason share member less = (λ both. (by_share reason share member less).0 both.0, λ asked. ((by_share reason share member less).1 asked, tt))
+
+  -- what is asked of the share is what is asked of the device
+  asked_exactly : (reason : Reason) (share : Share) → IsShare share → AsksOf reason row cut.links share ↔ AsksTables reason share
+  unfolding AsksTables IsShare
+  asked_exactly ViewAhead share member = (λ both. (views_asked said cut is_cut row share member).0 both.1, λ asked. (tt, (views_asked said cut is_cut row share member).1 asked))
+  asked_exactly FlightAhead share member = (λ both. (flights_asked said cut is_cut row share member).0 both.1, λ asked. (tt, (flights_asked said cut is_cut row share member).1 asked))
+  asked_exactly PullAhead share member = (λ both. (pulls_asked said cut is_cut row share member).0 both.1, λ asked. (tt, (pulls_asked said cut is_cut row share member).1 asked))
+  asked_exactly CertificateOrder share member = alone CertificateOrder share member (omega arith)
+  asked_exactly NameMissing share member = alone NameMissing share member (omega arith)
+  asked_exactly NameUnknown share member = alone NameUnknown share member (omega arith)
+  asked_exactly NotWinner share member = alone NotWinner share member (omega arith)
+  asked_exactly RecordMissing share member = alone RecordMissing share member (omega arith)
+  asked_exactly RecordDiffers share member = alone RecordDiffers share member (omega arith)
+  asked_exactly LocalOnly share member = alone LocalOnly share member (omega arith)
+  asked_exactly StoreDiffers share member = alone StoreDiffers share member (omega arith)
+  asked_exactly StoreUnclean share member = alone StoreUnclean share member (omega arith)
 
   -- a device is asked what its shares are
-  part_exactly : (reason : Reason) (device : Device) → AsksAmong reason row (shares_of row.folder cut.folders) device ↔ AsksDevice (tables_of cut) (row ∷ []) reason row.folder row.entry.name device
+  part_exactly : (reason : Reason) (device : Device) → AsksAmong reason row cut.links (shares_of row.folder cut.folders) device ↔ AsksDevice (tables_of cut) (row ∷ []) reason row.folder row.entry.name device
   unfolding AsksTables IsShare
   part_exactly reason device = (
     λ met one member key shares.
@@ -79,7 +83,7 @@ module _ (said : CutSays) (asked_here : ShareIsAsked) (cut : CutParts) (is_cut :
         (asked_exactly reason share member).1 (subst (λ (d : Device). AsksShare (tables_of cut) reason row d) (sym same) of_device),
   )
 
-  found_exactly : (reason : Reason) → IsOfDevices reason → (found : Option Device) → FindsFirst nat_cmp (AsksAmong reason row (shares_of row.folder cut.folders)) found → FindsFault (tables_of cut) (row ∷ []) reason (option_map (part_of row) found)
+  found_exactly : (reason : Reason) → IsOfDevices reason → (found : Option Device) → FindsFirst nat_cmp (AsksAmong reason row cut.links (shares_of row.folder cut.folders)) found → FindsFault (tables_of cut) (row ∷ []) reason (option_map (part_of row) found)
   found_exactly reason of_devices None none = finds_none (tables_of cut) reason row (omega (arith, of_devices)) each where
     each : (device : Option Device) → AsksAt (tables_of cut) (row ∷ []) reason row.folder row.entry.name device
     each None = no_name (tables_of cut) (row ∷ []) reason row.folder row.entry.name of_devices
@@ -92,6 +96,7 @@ module _ (said : CutSays) (asked_here : ShareIsAsked) (cut : CutParts) (is_cut :
       before (Some earlier) less = (part_exactly reason earlier).0 (first.before earlier (less_by_order earlier device (omega (arith, less))))
 
   -- what is found among the shares is what is found at the row
-  pub finds_device : (reason : Reason) → IsOfDevices reason → (shares : List Share) → shares ≡ shares_of row.folder cut.folders → (found : Option Device) → FindsFirst nat_cmp (AsksAmong reason row shares) found → FindsFault (tables_of cut) (row ∷ []) reason (option_map (part_of row) found)
-  finds_device reason of_devices shares is found finds =
-      found_exactly reason of_devices found (subst (λ (all : List Share). FindsFirst nat_cmp (AsksAmong reason row all) found) is finds)
+  pub finds_device : (reason : Reason) → IsOfDevices reason → (links : List LinkState) → links ≡ cut.links → (shares : List Share) → shares ≡ shares_of row.folder cut.folders → (found : Option Device) → FindsFirst nat_cmp (AsksAmong reason row links shares) found → FindsFault (tables_of cut) (row ∷ []) reason (option_map (part_of row) found)
+  finds_device reason of_devices links over shares is found finds =
+      let of_all = subst (λ (all : List LinkState). FindsFirst nat_cmp (AsksAmong reason row all shares) found) over finds in
+      found_exactly reason of_devices found (subst (λ (all : List Share). FindsFirst nat_cmp (AsksAmong reason row cut.links all) found) is of_all)

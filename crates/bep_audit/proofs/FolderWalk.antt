@@ -15,13 +15,15 @@ use Rattle.bep_model.specs.Settled.{HasRow}
 use Rattle.bep_model.specs.Reasons.{Place, place_cmp, Asks, AsksAt}
 use Rattle.bep_cut.specs.declared.share.Share.{Share}
 use Rattle.bep_cut.specs.declared.share.SharedFolder.{SharedFolder}
+use Rattle.bep_cut.specs.declared.link.LinkState.{LinkState}
 use Rattle.bep_cut.specs.declared.cut.CutParts.{CutParts}
 use Rattle.bep_cut.specs.Cut.{IsCut, tables_of}
-use Rattle.bep_audit.specs.Held.{HasName, HasRowIfHeld}
+use Rattle.bep_audit.specs.Known.{IsKnownFrom}
+use Rattle.bep_audit.specs.Missing.{FindsMissing}
 use Rattle.bep_audit.specs.Search.{FindsFirst, FindsFault}
 use Rattle.bep_audit.proofs.SearchFacts.{AllSay, finds_as}
 use Rattle.bep_audit.proofs.WalkFacts.{IsBefore, AreInOrder, in_order_by_key}
-use Rattle.bep_audit.proofs.CutFacts.{CutSays, known_exactly}
+use Rattle.bep_audit.proofs.CutFacts.{CutSays, share_of_device, known_exactly}
 
 -- the folder decides, and then the name
 not_greater : (by_folder rest : Ordering) → ordering_then by_folder rest ≡ Less → by_folder ≡ Greater → ⊥
@@ -69,10 +71,10 @@ module _ (said : CutSays) (cut : CutParts) (is_cut : IsCut cut) (rows : List Row
       subst (AreInOrder place_cmp (AsksFolder cut rows)) (sym is)
       (in_order_by_key place_cmp (AsksFolder cut rows) (slice_cmp nat_cmp) (λ (held : SharedFolder). held.folder) folder_is_before cut.folders is_cut.rise)
 
-  -- a name is known in one of the cut's folders where one of its devices has it
-  known_there : (held : SharedFolder) → Contains cut.folders held → (name : FileName) → IsKnown (tables_of cut) held.folder name ↔ ((share : Share) × Contains held.shares share × HasName share name)
+  -- a name is known in one of the cut's folders where its devices have it, or it is on its way
+  known_there : (held : SharedFolder) → Contains cut.folders held → (name : FileName) → IsKnown (tables_of cut) held.folder name ↔ IsKnownFrom held.folder held.shares cut.links name
   known_there held member name =
-      subst (λ (shares : List Share). IsKnown (tables_of cut) held.folder name ↔ ((share : Share) × Contains shares share × HasName share name))
+      subst (λ (shares : List Share). IsKnown (tables_of cut) held.folder name ↔ IsKnownFrom held.folder shares cut.links name)
       (said.found cut held is_cut member) (known_exactly said cut is_cut held.folder name)
 
   -- nothing is asked of a device
@@ -84,29 +86,34 @@ module _ (said : CutSays) (cut : CutParts) (is_cut : IsCut cut) (rows : List Row
   in_folder held place has same =
       subst (λ (folder : Folder). AsksAt (tables_of cut) rows NameMissing folder place.name place.device) same (at_name held.folder place.name place.device has)
 
-  -- each name of the folder has a row
-  pub folder_has_rows : (held : SharedFolder) → Contains cut.folders held → (shares : List Share) → shares ≡ held.shares → FindsFirst (slice_cmp nat_cmp) (HasRowIfHeld rows held.folder shares) None → (place : Place) → AsksFolder cut rows held place
-  folder_has_rows held member shares is each place =
-      in_folder held place (λ _ known.
-      let some = (known_there held member place.name).0 known in
-      each place.name some.0 (subst (λ (all : List Share). Contains all some.0) (sym is) some.1) some.2)
+  module _ (held : SharedFolder) (member : Contains cut.folders held) (links : List LinkState) (all : links ≡ cut.links) where
+    -- what is said of the names that are known there
+    of_known : (found : Option FileName) → FindsMissing rows held.folder (IsKnownFrom held.folder held.shares links) found → FindsMissing rows held.folder (IsKnown (tables_of cut) held.folder) found
+    of_known found finds =
+        finds_as (slice_cmp nat_cmp) (λ name. IsKnownFrom held.folder held.shares cut.links name → HasRow rows held.folder name) (λ name. IsKnown (tables_of cut) held.folder name → HasRow rows held.folder name)
+        (λ name has_row known. has_row ((known_there held member name).0 known))
+        (λ name has_row known. has_row ((known_there held member name).1 known))
+        found (subst (λ (over : List LinkState). FindsMissing rows held.folder (IsKnownFrom held.folder held.shares over) found) all finds)
 
-  -- this name is the first of the folder without a row
-  pub folder_lacks_row : (held : SharedFolder) → Contains cut.folders held → (shares : List Share) → shares ≡ held.shares → (name : FileName) → FindsFirst (slice_cmp nat_cmp) (HasRowIfHeld rows held.folder shares) (Some name) → FindsFirst place_cmp (AsksFolder cut rows held) (Some (record { folder = held.folder; name = name; device = None }))
-  folder_lacks_row held member shares is name first = record {
-    fails = λ asked. first.fails (λ share has_share has. asked refl ((known_there held member name).1 (share, subst (λ (all : List Share). Contains all share) is has_share, has)));
-    before = λ place less same.
-        in_folder held place (λ no_device known.
-        let some = (known_there held member place.name).0 known in
-        let less_name = name_before held.folder place.folder place.name name same (subst (λ (device : Option Device). place_cmp (record { folder = place.folder; name = place.name; device = device }) (record { folder = held.folder; name = name; device = None }) ≡ Less) no_device less) in
-        first.before place.name less_name some.0 (subst (λ (all : List Share). Contains all some.0) (sym is) some.1) some.2)
-        same;
-  }
+    -- each name of the folder has a row
+    pub folder_has_rows : FindsMissing rows held.folder (IsKnownFrom held.folder held.shares links) None → (place : Place) → AsksFolder cut rows held place
+    folder_has_rows each place = in_folder held place (λ _ known. of_known None each place.name known)
+
+    -- this name is the first of the folder without a row
+    pub folder_lacks_row : (name : FileName) → FindsMissing rows held.folder (IsKnownFrom held.folder held.shares links) (Some name) → FindsFirst place_cmp (AsksFolder cut rows held) (Some (record { folder = held.folder; name = name; device = None }))
+    folder_lacks_row name finds = let first = of_known (Some name) finds in record {
+      fails = λ asked. first.fails (λ known. asked refl known);
+      before = λ place less same.
+          in_folder held place (λ no_device known.
+          let less_name = name_before held.folder place.folder place.name name same (subst (λ (device : Option Device). place_cmp (record { folder = place.folder; name = place.name; device = device }) (record { folder = held.folder; name = name; device = None }) ≡ Less) no_device less) in
+          first.before place.name less_name known)
+          same;
+    }
 
   at_each : (folder : Folder) (name : FileName) (device : Option Device) → ((held : SharedFolder) → Contains cut.folders held → held.folder ≡ folder → AsksAt (tables_of cut) rows NameMissing folder name device) → AsksAt (tables_of cut) rows NameMissing folder name device
   at_each folder name None each = λ known.
-      let some = (known_exactly said cut is_cut folder name).0 known in
-      let held = said.has_folder cut folder some.0 some.1 in
+      let share = share_of_device said cut is_cut folder known.0 known.1 in
+      let held = said.has_folder cut folder share.0 share.1 in
       each held.0 held.1 held.2 known
   at_each folder name (Some device) each = λ row member key shares. tt
 

@@ -1,7 +1,9 @@
+pub mod ListFacts
 pub mod MapFacts
 pub mod SearchFacts
 pub mod WalkFacts
 pub mod CutFacts
+pub mod ForeignFacts
 pub mod UnmetFacts
 pub mod MissingFacts
 pub mod FolderWalk

@@ -1,28 +1,34 @@
 -- The names of a map rise; and the known names of a cut, folder by folder, rise and are all that are known.
-use Rattle.std.proofs.Common.{◌≡◌, List, [], ◌∷◌, ◌++◌, map, Contains, IsTrue, sym, ap, subst, ◌∙◌}
+use Rattle.std.proofs.Common.{◌≡◌, List, [], ◌∷◌, ◌++◌, map, Contains, sym, ap, subst, ◌∙◌, ⊎_elim}
 use Rattle.std.proofs.Math.Dec.{T}
 use Rattle.std.specs.declared.cmp.Ordering.TheVariants.{Less}
 use Rattle.std.specs.Ordering.{ordering_then}
 use Rattle.std.specs.Cmp.Lexicographic.{nat_list_cmp_total}
-use Rattle.std.specs.FinMap.{is_sorted, contains_key, entries, entries_sorted, keys}
+use Rattle.std.specs.FinMap.Entries.{below_all}
+use Rattle.std.specs.FinMap.{is_sorted, entries, entries_sorted, keys}
 use Rattle.std.specs.List.{AllByRecursion}
 use Rattle.std.specs.List.Sorted.{IsStrictlySortedBy}
 use Rattle.std.proofs.lemmas.Cmp.{tied_itself}
+use Rattle.std.proofs.lemmas.List.Elements.{Contains-append_left, Contains-append_right, Contains-append_cases}
 use Rattle.bep_facts.specs.Members.{Contains-image, Contains-from_image, Contains-flat_map, Contains-from_flat_map}
-use Rattle.bep_cut.specs.Cut.{IsCut, shares_of, tables_of}
-use Rattle.bep_cut.specs.Laws.{FolderIsFound, ShareHasFolder, SharingIsSaid, NamesAreKnown}
+use Rattle.bep_cut.specs.Cut.{IsCut, tables_of}
+use Rattle.bep_cut.specs.Laws.{ShareHasFolder, SharingIsSaid, NamesAreKnown}
 use Rattle.bep_cut.specs.Names.{known_names, names_of, all_names}
 use Rattle.bep_cut.specs.declared.cut.CutParts.{CutParts}
 use Rattle.bep_cut.specs.declared.share.SharedFolder.{SharedFolder}
 use Rattle.bep_model.specs.Foreign.{IsKnown}
 use Rattle.bep_model.specs.Settled.{key_cmp}
 use Rattle.bep_model.specs.Tables.{Folder, FileName}
-use Rattle.bep_audit.proofs.MapFacts.{by_name, key_stands, both_hold, names_above}
+use Rattle.bep_audit.proofs.MapFacts.{by_name, key_stands, both_hold, is_Less}
 
 abbrev Key : Type 0
 Key = Folder × FileName
 
 -- ---- the names of a map
+
+names_above : {V : Type 0} (name : FileName) (es : List (FileName × V)) → T (below_all by_name name es) → AllByRecursion (λ later. by_name name later ≡ Less) (map (λ e. e.0) es)
+names_above name [] below = tt
+names_above name (e ∷ es) below = let parts = both_hold _ _ below in (is_Less _ parts.0, names_above name es parts.1)
 
 names_rise : {V : Type 0} (es : List (FileName × V)) → T (is_sorted by_name es) → IsStrictlySortedBy by_name (map (λ e. e.0) es)
 unfolding IsStrictlySortedBy
@@ -61,27 +67,28 @@ folder_above : (key : Key) (folder : Folder) (names : List FileName) → by_name
 folder_above key folder [] less = tt
 folder_above key folder (name ∷ names) less = (ap (λ o. ordering_then o (by_name key.1 name)) less, folder_above key folder names less)
 
-folders_above : (key : Key) (folders : List SharedFolder) → AllByRecursion (λ folder. by_name key.0 folder ≡ Less) (map (λ (held : SharedFolder). held.folder) folders) → AllByRecursion (λ other. key_cmp key other ≡ Less) (all_names folders)
-folders_above key [] above = tt
-folders_above key (held ∷ more) above =
-    all_both (λ other. key_cmp key other ≡ Less) (names_of held) (all_names more)
-    (folder_above key held.folder (keys (known_names held.shares)) above.0)
-    (folders_above key more above.1)
+module _ (cut : CutParts) where
+  folders_above : (key : Key) (folders : List SharedFolder) → AllByRecursion (λ folder. by_name key.0 folder ≡ Less) (map (λ (held : SharedFolder). held.folder) folders) → AllByRecursion (λ other. key_cmp key other ≡ Less) (all_names cut folders)
+  folders_above key [] above = tt
+  folders_above key (held ∷ more) above =
+      all_both (λ other. key_cmp key other ≡ Less) (names_of cut held) (all_names cut more)
+      (folder_above key held.folder (keys (known_names cut held.folder)) above.0)
+      (folders_above key more above.1)
 
-names_below : (folder : Folder) (names : List FileName) (folders : List SharedFolder) → AllByRecursion (λ other. by_name folder other ≡ Less) (map (λ (held : SharedFolder). held.folder) folders) → AllByRecursion (λ one. AllByRecursion (λ other. key_cmp one other ≡ Less) (all_names folders)) (map (λ n. (folder, n)) names)
-names_below folder [] folders above = tt
-names_below folder (name ∷ names) folders above = (folders_above (folder, name) folders above, names_below folder names folders above)
+  names_below : (folder : Folder) (names : List FileName) (folders : List SharedFolder) → AllByRecursion (λ other. by_name folder other ≡ Less) (map (λ (held : SharedFolder). held.folder) folders) → AllByRecursion (λ one. AllByRecursion (λ other. key_cmp one other ≡ Less) (all_names cut folders)) (map (λ n. (folder, n)) names)
+  names_below folder [] folders above = tt
+  names_below folder (name ∷ names) folders above = (folders_above (folder, name) folders above, names_below folder names folders above)
 
--- the known names of all folders rise
-pub all_names_rise : (folders : List SharedFolder) → IsStrictlySortedBy by_name (map (λ (held : SharedFolder). held.folder) folders) → IsStrictlySortedBy key_cmp (all_names folders)
-unfolding IsStrictlySortedBy
-all_names_rise [] rise = tt
-all_names_rise (held ∷ more) rise =
-    let names = known_names held.shares in
-    rise_together (names_of held) (all_names more)
-    (folder_rises held.folder (keys names) (names_rise (entries names) (entries_sorted names)))
-    (all_names_rise more rise.1)
-    (names_below held.folder (keys names) more rise.0)
+  -- the known names of all folders rise
+  pub all_names_rise : (folders : List SharedFolder) → IsStrictlySortedBy by_name (map (λ (held : SharedFolder). held.folder) folders) → IsStrictlySortedBy key_cmp (all_names cut folders)
+  unfolding IsStrictlySortedBy
+  all_names_rise [] rise = tt
+  all_names_rise (held ∷ more) rise =
+      let names = known_names cut held.folder in
+      rise_together (names_of cut held) (all_names cut more)
+      (folder_rises held.folder (keys names) (names_rise (entries names) (entries_sorted names)))
+      (all_names_rise more rise.1)
+      (names_below held.folder (keys names) more rise.0)
 
 -- ---- they are all that are known
 
@@ -93,19 +100,21 @@ name_in_folder folder names key member =
     let found = Contains-from_image {Y = Key} (λ n. (folder, n)) names key member in
     (ap (λ (k : Key). k.0) found.2, subst (Contains names) (ap (λ (k : Key). k.1) found.2) found.1)
 
-module _ (found : FolderIsFound) (has_folder : ShareHasFolder) (sharing : SharingIsSaid) (known : NamesAreKnown) (cut : CutParts) (is_cut : IsCut cut) where
-  pub known_from_stands : (key : Key) → Contains (all_names cut.folders) key → IsKnown (tables_of cut) key.0 key.1
+module _ (has_folder : ShareHasFolder) (sharing : SharingIsSaid) (known : NamesAreKnown) (cut : CutParts) (is_cut : IsCut cut) where
+  -- what stands among them is known
+  pub known_from_stands : (key : Key) → Contains (all_names cut cut.folders) key → IsKnown (tables_of cut) key.0 key.1
   known_from_stands key stands =
-      let held = Contains-from_flat_map names_of cut.folders key stands in
-      let name = name_in_folder held.0.folder (keys (known_names held.0.shares)) key held.2 in
-      let same : held.0.shares ≡ shares_of key.0 cut.folders = sym (found cut held.0 is_cut held.1) ∙ ap (λ f. shares_of f cut.folders) name.0 in
-      (known cut key.0 key.1 is_cut).0 (subst (λ shares. IsTrue (contains_key (known_names shares) key.1)) same ((key_stands (known_names held.0.shares) key.1).0 name.1))
+      let held = Contains-from_flat_map (names_of cut) cut.folders key stands in
+      let name = name_in_folder held.0.folder (keys (known_names cut held.0.folder)) key held.2 in
+      let is_known = (known cut held.0.folder key.1 is_cut).0 ((key_stands (known_names cut held.0.folder) key.1).1 name.1) in
+      subst (λ (folder : Folder). IsKnown (tables_of cut) folder key.1) name.0 is_known
 
-  pub stands_from_known : (key : Key) → IsKnown (tables_of cut) key.0 key.1 → Contains (all_names cut.folders) key
+  -- and all that is known does
+  pub stands_from_known : (key : Key) → IsKnown (tables_of cut) key.0 key.1 → Contains (all_names cut cut.folders) key
   stands_from_known key is_known =
       let share = (sharing cut key.0 is_known.0 is_known.1.0).0 is_known.1.1 in
       let held = has_folder cut key.0 share.0 share.1 in
-      let same : shares_of key.0 cut.folders ≡ held.0.shares = ap (λ f. shares_of f cut.folders) (sym held.2) ∙ found cut held.0 is_cut held.1 in
-      let has : IsTrue (contains_key (known_names held.0.shares) key.1) = subst (λ shares. IsTrue (contains_key (known_names shares) key.1)) same ((known cut key.0 key.1 is_cut).1 is_known) in
-      let stands = stands_in_folder held.0.folder (keys (known_names held.0.shares)) key.1 ((key_stands (known_names held.0.shares) key.1).1 has) in
-      Contains-flat_map names_of cut.folders held.0 key held.1 (subst (λ (f : Folder). Contains (names_of held.0) (f, key.1)) held.2 stands)
+      let known_there = subst (λ (folder : Folder). IsKnown (tables_of cut) folder key.1) (sym held.2) is_known in
+      let has = (known cut held.0.folder key.1 is_cut).1 known_there in
+      let stands = stands_in_folder held.0.folder (keys (known_names cut held.0.folder)) key.1 ((key_stands (known_names cut held.0.folder) key.1).0 has) in
+      Contains-flat_map (names_of cut) cut.folders held.0 key held.1 (subst (λ (folder : Folder). Contains (names_of cut held.0) (folder, key.1)) held.2 stands)

@@ -6,8 +6,8 @@ use Rattle.std.proofs.lemmas.Cmp.{tied_itself}
 use Rattle.std.proofs.lemmas.List.{length-take, take_all}
 use Rattle.std.proofs.lemmas.List.Elements.{Contains-append_left, Contains-append_right, Contains-append_cases}
 use Rattle.std.proofs.lemmas.Map.Keys.{sorted_tail}
-use Rattle.bep_facts.specs.Members.{Contains-more, Contains-cons_cases}
-use Rattle.bep_facts.specs.Orders.{texts_total, not_less_itself, texts_exact}
+use Rattle.bep_facts.specs.Orders.{not_less_itself, texts_exact, texts_total}
+use Rattle.bep_facts.specs.Members.{Contains-cons_cases, Contains-more}
 use Rattle.bep_facts.specs.Places.{split_at}
 use Rattle.bep_facts.specs.Rising.{below_later, back_is_sorted, front_is_sorted, front_is_below}
 use Rattle.bep_audit.proofs.RowsFacts.{rows_sorted, rise_from_sorted}

@@ -4,14 +4,14 @@ use Rattle.std.specs.Prelude.{map}
 use Rattle.std.specs.FinMap.{get}
 use Rattle.std.proofs.lemmas.List.{length-map}
 use Rattle.std.proofs.lemmas.List.Elements.{All-contains, All-contains_itself}
-use Rattle.bep_facts.specs.Members.{Contains-first, Contains-more, Contains-from_image}
+use Rattle.bep_facts.specs.Members.{Contains-first, Contains-from_image, Contains-more}
 use Rattle.bep_choice.specs.Choice.{Candidate}
 use Rattle.bep_choice.specs.declared.folder_kind.FolderKind.{FolderKind}
 use Rattle.bep_index.specs.Index.{IsIndex}
 use Rattle.bep_cut.specs.Cut.{AreShares, IsCut, HasDevice, index_of, devices_of, shares_of, tables_of}
 use Rattle.bep_cut.specs.Laws.{FolderIsFound, ShareHasFolder, OwnIsSaid}
 use Rattle.bep_cut.specs.declared.cut.CutParts.{CutParts}
-use Rattle.bep_cut.specs.declared.limits.TheConstants.{MAX_DEVICES}
+use Rattle.bep_document.specs.declared.limits.TheConstants.{MAX_DEVICES}
 use Rattle.bep_cut.specs.declared.share.Share.{Share}
 use Rattle.bep_cut.specs.declared.share.SharedFolder.{SharedFolder}
 use Rattle.bep_model.specs.Tables.{Tables, Device, Folder, FileName}
@@ -29,7 +29,7 @@ share_with : (shares : List Share) (device : Device) → Contains (devices_of sh
 share_with shares device member = let found = Contains-from_image (λ (share : Share). share.device) shares device member in (found.0, found.1)
 
 none_are_shares : AreShares []
-none_are_shares = record { rise = λ k within. absurd (omega arith); indexes = λ k default within. absurd (omega arith) }
+none_are_shares = record { rise = λ k within. absurd (omega arith); indexes = λ k default within. absurd (omega arith); views = λ k default within. absurd (omega arith); pulls = λ k default within. absurd (omega arith) }
 
 module _ (found : FolderIsFound) (has_folder : ShareHasFolder) (cut : CutParts) (is_cut : IsCut cut) where
   -- where some device shares a folder, the cut has the folder with these shares

@@ -1,6 +1,9 @@
 pub mod Candidates
 pub mod Certifier
+pub mod Foreign
 pub mod Held
+pub mod Known
+pub mod Missing
 pub mod Search
 pub mod Share
 pub mod Shown

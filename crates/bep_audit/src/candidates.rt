@@ -4,7 +4,7 @@ ghost use Rattle.std.specs.List.Sorted.{IsStrictlyIncreasing};
 ghost use Rattle.std.specs.Option.{option_copied};
 ghost use Rattle.bep_choice.specs.Choice.{Candidate, candidate_of, candidates_of, IsChoice};
 ghost use Rattle.bep_cut.specs.Cut.{devices_of};
-ghost use Rattle.bep_cut.specs.declared.limits.TheConstants.{MAX_DEVICES};
+ghost use Rattle.bep_document.specs.declared.limits.TheConstants.{MAX_DEVICES};
 ghost use Rattle.bep_audit.specs.Candidates.{owned_in, chooser_of};
 
 use bep_choice::choose;

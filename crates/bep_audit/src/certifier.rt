@@ -40,10 +40,10 @@ fn add_rows(
     held: &SharedFolder,
     rows: &mut Vec<Row>,
 ) -> Result<(), CertifyError>
-    ensures ok { OnOk result (Adds (tables_of cut.now) (names_of held.now) rows.old.items rows.new.items) }
-    ensures no_winner { IfErr result (TellsOf (FailsIn (tables_of cut.now) (names_of held.now))) }
+    ensures ok { OnOk result (Adds (tables_of cut.now) (names_of cut.now held.now) rows.old.items rows.new.items) }
+    ensures no_winner { IfErr result (TellsOf (FailsIn (tables_of cut.now) (names_of cut.now held.now))) }
 {
-    let names = held.known_names(alloc)?;
+    let names = cut.known_names(alloc, &held.folder)?;
     for (name, _known) in names.iter() {
         rows.push(winning_row(alloc, cut, &held.folder, name)?)?;
     }

@@ -4,20 +4,21 @@ ghost use Rattle.std.specs.Ordering.{nat_cmp};
 ghost use Rattle.std.specs.List.Sorted.{IsStrictlyIncreasing};
 ghost use Rattle.bep_model.specs.declared.reason.Reason.TheVariants.{CertificateOrder, NameMissing, NotWinner};
 ghost use Rattle.bep_model.specs.Tables.{Tables};
-ghost use Rattle.bep_model.specs.Foreign.{IsKnown};
 ghost use Rattle.bep_model.specs.Settled.{Rise};
 ghost use Rattle.bep_model.specs.Verdict.{number_of};
 ghost use Rattle.bep_cut.specs.Cut.{tables_of, devices_of};
-ghost use Rattle.bep_audit.specs.Held.{HasName, AsksOf, AsksAmong};
+ghost use Rattle.bep_audit.specs.Held.{AsksOf, AsksAmong};
 ghost use Rattle.bep_audit.specs.Search.{FindsFirst, FindsFault};
 ghost use Rattle.bep_audit.specs.Shown.{place_shown, name_of};
 
+use crate::foreign::meets_foreign;
+use crate::known::is_known;
 use crate::missing::first_missing;
 use crate::spot::Spot;
 use crate::{first_disordered, is_winner, meets_share, share_is_asked};
-use bep_cut::{Cut, Share, cut_says};
+use bep_cut::{Cut, LinkState, Share, cut_says};
 use bep_model::{Reason, Row};
-use bep_record::{DeviceId, FolderName, Name};
+use bep_record::DeviceId;
 
 /// The first place at which the reason fails, by folder, name and device; `None` where it fails nowhere.
 pub fn first_fault<'a>(cut: &'a Cut, rows: &'a [Row], reason: Reason) -> Option<Spot<'a>>
@@ -74,26 +75,6 @@ fn unless<'a>(holds: bool, row: &'a Row) -> Option<Spot<'a>>
     if holds { None } else { Some(Spot::of_row(row)) }
 }
 
-// Whether one of the devices that share the folder recorded the name or holds it.
-fn is_known(cut: &Cut, folder: &FolderName, name: &Name) -> bool
-    ensures { IsTrue result ↔ IsKnown (tables_of cut.now) folder.now name.now }
-{
-    cut_says();
-    for share in cut.shares(folder) {
-        if has_name(share, name) {
-            return true;
-        }
-    }
-    false
-}
-
-// Whether the device recorded the name, or its store holds it.
-fn has_name(share: &Share, name: &Name) -> bool
-    ensures { IsTrue result ↔ HasName share.now name.now }
-{
-    share.own.contains(name) || share.store.contains(name)
-}
-
 // The first device, if any, of which a reason that asks something of devices fails at the row.
 fn fault_of_device<'a>(cut: &Cut, row: &'a Row, reason: Reason) -> Option<Spot<'a>>
     requires { number_of NotWinner < number_of reason }
@@ -101,31 +82,31 @@ fn fault_of_device<'a>(cut: &Cut, row: &'a Row, reason: Reason) -> Option<Spot<'
 {
     cut_says();
     share_is_asked();
-    match first_unmet(cut.shares(&row.folder), row, reason) {
+    match first_unmet(cut.shares(&row.folder), cut.links(), row, reason) {
         None => None,
         Some(device) => Some(Spot::of_device(row, device)),
     }
 }
 
 // The first of the devices, which rise, that doesn't meet what the reason asks of it beside the row.
-fn first_unmet(shares: &[Share], row: &Row, reason: Reason) -> Option<DeviceId>
+fn first_unmet(shares: &[Share], links: &[LinkState], row: &Row, reason: Reason) -> Option<DeviceId>
     requires { IsStrictlyIncreasing (devices_of shares.now) }
-    ensures { FindsFirst nat_cmp (AsksAmong reason row.now shares.now) result }
+    ensures { FindsFirst nat_cmp (AsksAmong reason row.now links.now shares.now) result }
 {
     for share in shares {
-        if !meets(share, row, reason) {
+        if !meets(reason, row, links, share) {
             return Some(share.device);
         }
     }
     None
 }
 
-// Whether the device meets what the reason asks of it beside the row. A cut has no foreign records yet, so the reasons
-// on them ask nothing; their own tests belong here.
-fn meets(share: &Share, row: &Row, reason: Reason) -> bool
-    ensures { IsTrue result ↔ AsksOf reason row.now share.now }
+// Whether the device meets what the reason asks of it beside the row.
+fn meets(reason: Reason, row: &Row, links: &[LinkState], share: &Share) -> bool
+    ensures { IsTrue result ↔ AsksOf reason row.now links.now share.now }
 {
     let winner = &row.entry;
     let name = &winner.entry().name;
     meets_share(reason, share.own.get(name), share.store.get(name), winner)
+        && meets_foreign(reason, row, links, share)
 }

@@ -10,7 +10,12 @@ mod checkers;
 mod device;
 mod error;
 mod fault;
+mod foreign;
+mod known;
+mod least;
 mod missing;
+mod missing_held;
+mod missing_on_its_way;
 mod rows;
 mod spot;
 #[cfg(test)]

@@ -1,22 +1,21 @@
 //! The least known name that has no row.
-ghost use Rattle.std.specs.Prelude.{◌≡◌, IsTrue, option_map};
+ghost use Rattle.std.specs.Prelude.{option_map};
 ghost use Rattle.std.specs.Option.{option_copied};
-ghost use Rattle.std.specs.Ordering.{nat_cmp};
-ghost use Rattle.std.specs.Cmp.Lexicographic.{slice_cmp};
-ghost use Rattle.std.specs.FinMap.{contains_key};
 ghost use Rattle.bep_model.specs.declared.reason.Reason.TheVariants.{NameMissing};
-ghost use Rattle.bep_model.specs.Settled.{Rise, HasRow};
+ghost use Rattle.bep_model.specs.Settled.{Rise};
 ghost use Rattle.bep_cut.specs.Cut.{tables_of};
-ghost use Rattle.bep_audit.specs.Held.{HasName, HasRowIfHeld};
-ghost use Rattle.bep_audit.specs.Search.{FindsFirst, FindsFault, lesser};
+ghost use Rattle.bep_audit.specs.Known.{IsKnownFrom};
+ghost use Rattle.bep_audit.specs.Missing.{FindsMissing};
+ghost use Rattle.bep_audit.specs.Search.{FindsFault};
 ghost use Rattle.bep_audit.specs.Shown.{place_shown};
 
-use crate::find_row;
+use crate::least::lesser;
+use crate::missing_held::least_of_devices;
+use crate::missing_on_its_way::least_on_its_way;
 use crate::spot::Spot;
-use bep_cut::{Cut, Share, cut_says};
-use bep_map::NameMap;
+use bep_cut::{Cut, LinkState, SharedFolder, cut_says};
 use bep_model::Row;
-use bep_record::{FolderName, Name};
+use bep_record::Name;
 
 /// The first place of a known name that has no row.
 pub fn first_missing<'a>(cut: &'a Cut, rows: &[Row]) -> Option<Spot<'a>>
@@ -25,65 +24,23 @@ pub fn first_missing<'a>(cut: &'a Cut, rows: &[Row]) -> Option<Spot<'a>>
 {
     cut_says();
     for held in cut.folders() {
-        if let Some(name) = least_without_row(rows, &held.folder, held.shares.as_slice()) {
+        if let Some(name) = least_of_folder(rows, held, cut.links()) {
             return Some(Spot::of_name(&held.folder, name));
         }
     }
     None
 }
 
-// The least name without a row, of those that the devices recorded or hold.
-fn least_without_row<'a>(rows: &[Row], folder: &FolderName, shares: &'a [Share]) -> Option<&'a Name>
-    requires { Rise rows.now }
-    ensures { FindsFirst (slice_cmp nat_cmp) (HasRowIfHeld rows.now folder.now shares.now) (option_copied result) }
-{
-    let mut least = None;
-    for share in shares {
-        least = lesser(least, least_of_device(rows, folder, share));
-    }
-    least
-}
-
-// The least name without a row, of those that the device recorded or holds.
-fn least_of_device<'a>(rows: &[Row], folder: &FolderName, share: &'a Share) -> Option<&'a Name>
-    requires { Rise rows.now }
-    ensures { FindsFirst
-        (slice_cmp nat_cmp)
-        (λ name. HasName share.now name → HasRow rows.now folder.now name)
-        (option_copied result) }
-{
-    let recorded = first_without_row(rows, folder, &share.own);
-    let stored = first_without_row(rows, folder, &share.store);
-    lesser(recorded, stored)
-}
-
-// The first name of the map that has no row.
-fn first_without_row<'a, V>(
+// The least name without a row, of those that are known in the folder.
+fn least_of_folder<'a>(
     rows: &[Row],
-    folder: &FolderName,
-    held: &'a NameMap<V>,
+    held: &'a SharedFolder,
+    links: &'a [LinkState],
 ) -> Option<&'a Name>
     requires { Rise rows.now }
-    ensures { FindsFirst
-        (slice_cmp nat_cmp)
-        (λ name. IsTrue (contains_key held.now name) → HasRow rows.now folder.now name)
-        (option_copied result) }
+    ensures { FindsMissing rows.now held.now.folder (IsKnownFrom held.now.folder held.now.shares links.now) (option_copied result) }
 {
-    for (name, _value) in held.iter() {
-        if find_row(rows, folder, name).is_none() {
-            return Some(name);
-        }
-    }
-    None
-}
-
-// The lesser of two names, of which each may be missing.
-fn lesser<'a>(one: Option<&'a Name>, other: Option<&'a Name>) -> Option<&'a Name>
-    ensures { option_copied result ≡ lesser (slice_cmp nat_cmp) (option_copied one.entry) (option_copied other.entry) }
-{
-    match (one, other) {
-        (Some(one), Some(other)) => if other < one { Some(other) } else { Some(one) },
-        (Some(one), None) => Some(one),
-        (None, other) => other,
-    }
+    let there = least_of_devices(rows, &held.folder, held.shares.as_slice());
+    let coming = least_on_its_way(rows, &held.folder, links);
+    lesser(there, coming)
 }

@@ -19,13 +19,13 @@ use Rattle.bep_cut.proofs.Values.{key_has_value}
 use Rattle.bep_cut.proofs.Tables.{folder_is_found, share_has_folder, sharing_is_said, are_views}
 use Rattle.bep_cut.proofs.Known.{names_are_known}
 
-known_is_listed : (cut : CutParts) (folder : Folder) (name : FileName) → IsCut cut → IsKnown (tables_of cut) folder name → Contains (all_names cut) (folder, name)
+known_is_listed : (cut : CutParts) (folder : Folder) (name : FileName) → IsCut cut → IsKnown (tables_of cut) folder name → Contains (all_names cut cut.folders) (folder, name)
 known_is_listed cut folder name is_cut is_known =
     let share = (sharing_is_said cut folder is_known.0 is_known.1.0).0 is_known.1.1 in
     let held = share_has_folder cut folder share.0 share.1 in
     let here = subst (λ f. IsKnown (tables_of cut) f name) (sym held.2) is_known in
     let listed = (key_has_value (known_names cut held.0.folder) name).1 ((names_are_known cut held.0.folder name is_cut).1 here) in
-    subst (λ f. Contains (all_names cut) (f, name)) held.2
+    subst (λ f. Contains (all_names cut cut.folders) (f, name)) held.2
     (Contains-flat_map (names_of cut) cut.folders held.0 (held.0.folder, name) held.1 (Contains-image (λ n. (held.0.folder, n)) (keys (known_names cut held.0.folder)) name listed))
 
 -- a device of a folder is one of the devices of all folders
@@ -54,7 +54,7 @@ viewed_is_listed cut device other folder name is_cut some = of_share (share_of d
 pub cut_is_finite : CutIsFinite
 cut_is_finite cut is_cut = record {
   viewed = flat_map (λ held. devices_of held.shares) cut.folders;
-  names = all_names cut;
+  names = all_names cut cut.folders;
   all_viewed = λ device other folder name some. viewed_is_listed cut device other folder name is_cut some;
   all_known = λ folder name is_known. known_is_listed cut folder name is_cut is_known;
 }

@@ -48,9 +48,9 @@ with_link folder names link = fold (with_flight folder) (fold (with_flight folde
 unfoldable pub known_names : CutParts → Folder → Names
 known_names cut folder = fold (with_link folder) (fold with_share empty (shares_of folder cut.folders)) cut.links
 
--- the known names of a folder, rising, and those of all folders
+-- the known names of a folder of the cut, rising, and those of several of its folders
 abbrev pub names_of : CutParts → SharedFolder → List (Folder × FileName)
 names_of cut held = map (λ name. (held.folder, name)) (keys (known_names cut held.folder))
 
-abbrev pub all_names : CutParts → List (Folder × FileName)
-all_names cut = flat_map (names_of cut) cut.folders
+abbrev pub all_names : CutParts → List SharedFolder → List (Folder × FileName)
+all_names cut = flat_map (names_of cut)

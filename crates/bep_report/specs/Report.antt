@@ -4,6 +4,7 @@ use Rattle.std.specs.List.{list_any}
 use Rattle.std.specs.FinMap.{contains_key, keys, len}
 use Rattle.bep_model.specs.Tables.{FileName}
 use Rattle.bep_model.specs.Verdict.{Verdict}
+use Rattle.bep_cut.specs.declared.cut.CutParts.{CutParts}
 use Rattle.bep_cut.specs.declared.share.Share.{Share}
 use Rattle.bep_cut.specs.declared.share.SharedFolder.{SharedFolder}
 use Rattle.bep_cut.specs.Names.{known_names}
@@ -18,16 +19,17 @@ abbrev pub count_deleted : List Share → List FileName → ℕ
 count_deleted shares [] = 0
 count_deleted shares (name ∷ more) = (if is_stored shares name then 0 else 1) + count_deleted shares more
 
--- the line of a folder
-unfoldable pub folder_text : SharedFolder → List ℕ
-folder_text held =
-    folder_line held.folder (len (known_names held.shares)) (count_deleted held.shares (keys (known_names held.shares))) (length held.shares)
+-- the line of a folder of the cut
+unfoldable pub folder_text : CutParts → SharedFolder → List ℕ
+folder_text cut held =
+    let names = known_names cut held.folder in
+    folder_line held.folder (len names) (count_deleted held.shares (keys names)) (length held.shares)
 
 -- the lines of these folders
-abbrev pub folders_text : List SharedFolder → List ℕ
-folders_text [] = []
-folders_text (held ∷ more) = folder_text held ++ folders_text more
+abbrev pub folders_text : CutParts → List SharedFolder → List ℕ
+folders_text cut [] = []
+folders_text cut (held ∷ more) = folder_text cut held ++ folders_text cut more
 
 -- the report: the verdict, then the folders
-abbrev pub report_text : List SharedFolder → Verdict → List ℕ
-report_text folders verdict = verdict_line verdict ++ folders_text folders
+abbrev pub report_text : CutParts → Verdict → List ℕ
+report_text cut verdict = verdict_line verdict ++ folders_text cut cut.folders

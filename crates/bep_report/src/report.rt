@@ -21,10 +21,10 @@ pub fn push_report(
     cut: &Cut,
     verdict: &Verdict<'_>,
 ) -> Result<(), AllocError>
-    ensures { OnOk result (text.new.items ≡ text.old.items ++ report_text cut.now.folders (verdict_shown verdict.now)) }
+    ensures { OnOk result (text.new.items ≡ text.old.items ++ report_text cut.now (verdict_shown verdict.now)) }
 {
     push_verdict(text, verdict)?;
-    push_folders(alloc, text, cut.folders())
+    push_folders(alloc, text, cut, cut.folders())
 }
 
 fn push_verdict(text: &mut Vec<u8>, verdict: &Verdict<'_>) -> Result<(), AllocError>
@@ -41,21 +41,27 @@ fn push_verdict(text: &mut Vec<u8>, verdict: &Verdict<'_>) -> Result<(), AllocEr
 fn push_folders(
     alloc: Global,
     text: &mut Vec<u8>,
+    cut: &Cut,
     folders: &[SharedFolder],
 ) -> Result<(), AllocError>
-    ensures { OnOk result (text.new.items ≡ text.old.items ++ folders_text folders.now) }
+    ensures { OnOk result (text.new.items ≡ text.old.items ++ folders_text cut.now folders.now) }
 {
     for held in folders {
-        push_held(alloc, text, held)?;
+        push_held(alloc, text, cut, held)?;
     }
     Ok(())
 }
 
 #[tactic(auto, unfolding(crate::specs::Report::folder_text))]
-fn push_held(alloc: Global, text: &mut Vec<u8>, held: &SharedFolder) -> Result<(), AllocError>
-    ensures { OnOk result (text.new.items ≡ text.old.items ++ folder_text held.now) }
+fn push_held(
+    alloc: Global,
+    text: &mut Vec<u8>,
+    cut: &Cut,
+    held: &SharedFolder,
+) -> Result<(), AllocError>
+    ensures { OnOk result (text.new.items ≡ text.old.items ++ folder_text cut.now held.now) }
 {
-    let names = held.known_names(alloc)?;
+    let names = cut.known_names(alloc, &held.folder)?;
     let shares = held.shares.as_slice();
     let deleted = count_deleted(shares, &names);
     push_folder(text, &held.folder, names.len(), deleted, shares.len())

@@ -31,7 +31,7 @@ pub record IsReport (cut : CutParts) (rows : List Row) (outcome : Outcome) (text
   pub verdict : verdicts.Verdict
   pub judged : verdicts.IsVerdict (tables_of cut) rows verdict
   pub told : outcome ≡ outcome_of verdict
-  pub reported : text ≡ report_text cut.folders verdict
+  pub reported : text ≡ report_text cut verdict
 
 -- the outcome and the text for what a document says: its report, or the fault for which it is refused
 abbrev pub IsAnswer : Reading (CutParts × List Row) → Outcome → List ℕ → Type 0

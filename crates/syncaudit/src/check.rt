@@ -67,7 +67,7 @@ fn report_of(
     verdict: &Verdict<'_>,
 ) -> Result<(Outcome, Vec<u8>), ReportError>
     ensures outcome { IfOk result (λ answer. answer.0 ≡ spec.outcome_of (verdict_shown verdict.now)) }
-    ensures text { IfOk result (λ answer. answer.1.items ≡ report_text cut.now.folders (verdict_shown verdict.now)) }
+    ensures text { IfOk result (λ answer. answer.1.items ≡ report_text cut.now (verdict_shown verdict.now)) }
 {
     let mut text = Vec::new(alloc);
     push_report(alloc, &mut text, cut, verdict)?;

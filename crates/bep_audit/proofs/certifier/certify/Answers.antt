@@ -19,16 +19,16 @@ returns-in_err-add_rows-clause-no_winner c =
     let is_cut = c.folders-held-items.ensures.a_cut in
     let folders = c.folders-held-items.result.now in
     let error = c.in_err-add_rows.field-0.0 in
-    let fails = fails_at_folder t folders c.loop-held.held-index c.held-item.result c.loop-held-test.true c.held-item.is c.loop-held.rows.items c.loop-held.rows.items error c.loop-held.invariant c.in_err-add_rows.ensures.no_winner in
-    let keys = all_names cut.folders in
+    let fails = fails_at_folder t cut folders c.loop-held.held-index c.held-item.result c.loop-held-test.true c.held-item.is c.loop-held.rows.items c.loop-held.rows.items error c.loop-held.invariant c.in_err-add_rows.ensures.no_winner in
+    let keys = all_names cut cut.folders in
     if_err (TellsOfFirst t) c.from_residual.result error c.from_residual.ensures.1
     (tells_first t keys error
-    (first_without t keys (all_names_rise cut.folders is_cut.rise) (known_from_stands laws.found laws.has_folder laws.sharing known cut is_cut) (stands_from_known laws.found laws.has_folder laws.sharing known cut is_cut))
-    (subst (λ all. TellsOf (FailsIn t (all_names all)) error) c.folders-held-items.ensures.value fails))
+    (first_without t keys (all_names_rise cut cut.folders is_cut.rise) (known_from_stands laws.has_folder laws.sharing known cut is_cut) (stands_from_known laws.has_folder laws.sharing known cut is_cut))
+    (subst (λ all. TellsOf (FailsIn t (all_names cut all)) error) c.folders-held-items.ensures.value fails))
 
 pub loop-held-preserved : goal.loop-held-preserved
 loop-held-preserved c =
-    adds_next_folder (tables_of c.args.cut.now) c.folders-held-items.result.now c.loop-held.held-index c.held-item.result c.loop-held-test.true c.held-item.is c.loop-held.rows.items c.add_rows.new.rows.items c.loop-held.invariant c.in_ok-add_rows.ensures.ok
+    adds_next_folder (tables_of c.args.cut.now) c.args.cut.now c.folders-held-items.result.now c.loop-held.held-index c.held-item.result c.loop-held-test.true c.held-item.is c.loop-held.rows.items c.add_rows.new.rows.items c.loop-held.invariant c.in_ok-add_rows.ensures.ok
 
 pub returns-clause-winners : goal.returns-clause-winners
 returns-clause-winners c =
@@ -37,11 +37,11 @@ returns-clause-winners c =
     let laws = c.cut_says.ensures in
     let known = c.names_are_known.ensures.known in
     let is_cut = c.folders-held-items.ensures.a_cut in
-    let keys = all_names cut.folders in
+    let keys = all_names cut cut.folders in
     subst (IsListOfWinners t) (sym c.of.ensures)
-    (list_of_winners t keys (all_names_rise cut.folders is_cut.rise) (known_from_stands laws.found laws.has_folder laws.sharing known cut is_cut) (stands_from_known laws.found laws.has_folder laws.sharing known cut is_cut)
+    (list_of_winners t keys (all_names_rise cut cut.folders is_cut.rise) (known_from_stands laws.has_folder laws.sharing known cut is_cut) (stands_from_known laws.has_folder laws.sharing known cut is_cut)
     c.loop-held.rows.items
-    (subst (λ all. Adds t (all_names all) [] c.loop-held.rows.items)
+    (subst (λ all. Adds t (all_names cut all) [] c.loop-held.rows.items)
     (take_all c.loop-held.held-index c.folders-held-items.result.now c.loop-held-test.false ∙ c.folders-held-items.ensures.value)
     c.loop-held.invariant))
 

@@ -4,4 +4,4 @@ use Rattle.bep_audit.proofs.WalkFacts.{IsLeftFrom}
 use Rattle.bep_audit.proofs.fault.first_unmet.Given as goal
 
 abbrev pub invariant-loop-share : goal.invariant-loop-share
-invariant-loop-share l = IsLeftFrom nat_cmp (MeetsAs l.reason l.row) l.shares l.share-index
+invariant-loop-share l = IsLeftFrom nat_cmp (MeetsAs l.reason l.row l.links) l.shares l.share-index

@@ -5,4 +5,4 @@ use Rattle.bep_report.proofs.report.push_folders.Given as goal
 -- the text so far with the lines of the folders that are left is the whole
 abbrev pub invariant-loop-held : goal.invariant-loop-held
 invariant-loop-held l =
-    l.text.items ++ folders_text (drop l.held-index l.folders) ≡ l.initial.text.items ++ folders_text l.folders
+    l.text.items ++ folders_text l.cut (drop l.held-index l.folders) ≡ l.initial.text.items ++ folders_text l.cut l.folders

@@ -1,0 +1,13 @@
+use Rattle.std.proofs.Common.{rules, tests}
+use Rattle.std.proofs.lemmas.Iterator.{YieldsList-from_slice, cases_from_all}
+use Rattle.std.specs.Option.{option_copied}
+use Rattle.bep_model.specs.declared.flight.Flight.{Flight}
+use Rattle.bep_audit.specs.Foreign.{FlightPasses}
+use Rattle.bep_audit.proofs.ListFacts.{each_exactly}
+use Rattle.bep_audit.proofs.foreign.flights_pass.Goals as goal
+
+pub returns : goal.returns
+returns c =
+    let P = λ (flight : Flight). FlightPasses c.args.row.now (option_copied c.args.own) flight in
+    each_exactly P c.all.result c.args.flights.now
+    (cases_from_all _ _ _ P (λ x. ¬ P x) c.all.ensures.ran (YieldsList-from_slice c.args.flights.now cc) (λ x q k. search (rules, tests)) (λ x q k. search (rules, tests)))

@@ -1,0 +1,13 @@
+use Rattle.std.proofs.Common.{rules, tests}
+use Rattle.std.proofs.lemmas.Iterator.{YieldsList-from_slice, cases_from_all}
+use Rattle.std.specs.Option.{option_copied}
+use Rattle.bep_cut.specs.declared.link.LinkState.{LinkState}
+use Rattle.bep_audit.specs.Foreign.{LinkPasses}
+use Rattle.bep_audit.proofs.ListFacts.{each_exactly}
+use Rattle.bep_audit.proofs.foreign.links_pass.Goals as goal
+
+pub returns : goal.returns
+returns c =
+    let P = λ (link : LinkState). LinkPasses c.args.row.now (option_copied c.args.own) c.args.device link in
+    each_exactly P c.all.result c.args.links.now
+    (cases_from_all _ _ _ P (λ x. ¬ P x) c.all.ensures.ran (YieldsList-from_slice c.args.links.now cc) (λ x q k. search (rules, tests)) (λ x q k. search (rules, tests)))
