@@ -36,10 +36,8 @@ fn least_of_device<'a>(rows: &[Row], folder: &FolderName, share: &'a Share) -> O
 {
     let recorded = first_without_row(rows, folder, &share.own);
     let stored = first_without_row(rows, folder, &share.store);
-    lesser(
-        recorded,
-        lesser(stored, least_of_foreign(rows, folder, share)),
-    )
+    let elsewhere = least_of_foreign(rows, folder, share);
+    lesser(recorded, lesser(stored, elsewhere))
 }
 
 // Of those that the device pulls or has in a view.

@@ -12,6 +12,6 @@ returns c =
     (option_copied c.first_without_row-recorded.result) (option_copied c.lesser.result) (option_copied c.lesser-2.result)
     c.first_without_row-recorded.ensures
     (least_of_two c.args.rows.now c.args.folder.now (λ name. IsTrue (contains_key share.store name)) (HasForeign share)
-    (option_copied c.first_without_row-stored.result) (option_copied c.least_of_foreign.result) (option_copied c.lesser.result)
-    c.first_without_row-stored.ensures c.least_of_foreign.ensures c.lesser.ensures)
+    (option_copied c.first_without_row-stored.result) (option_copied c.least_of_foreign-elsewhere.result) (option_copied c.lesser.result)
+    c.first_without_row-stored.ensures c.least_of_foreign-elsewhere.ensures c.lesser.ensures)
     c.lesser-2.ensures
