@@ -95,8 +95,8 @@ fn times_are_set(rt: HostRuntime) -> Result<(), Fail> {
     Ok(())
 }
 
-// One of five calls, of which none depends on another.
-fn make_call<S: Store>(alloc: Global, store: &mut S, call: u64) -> Result<Option<u32>, Fail> {
+// Makes one of five calls, of which none depends on another, and tells whether it succeeded or the store failed.
+fn make_call<S: Store>(alloc: Global, store: &mut S, call: u64) -> Result<bool, Fail> {
     let answer = match call {
         1 => store.names(alloc).map(|_| ()),
         2 => store.read(alloc, &name(alloc, "a")?).map(|_| ()),
@@ -107,15 +107,16 @@ fn make_call<S: Store>(alloc: Global, store: &mut S, call: u64) -> Result<Option
         _ => store.remove(&name(alloc, "r")?).map_err(StoreError::from),
     };
     match answer {
-        Ok(()) => Ok(None),
-        Err(error) => Ok(error.number()),
+        Ok(()) => Ok(true),
+        Err(StoreError::Fault) => Ok(false),
+        Err(StoreError::Memory) => Err(StoreError::Memory)?,
     }
 }
 
 // Whether the calls from one to before another succeed.
 fn all_succeed<S: Store>(alloc: Global, store: &mut S, from: u64, to: u64) -> Result<bool, Fail> {
     for call in from..to {
-        if make_call(alloc, store, call)?.is_some() {
+        if !make_call(alloc, store, call)? {
             return Ok(false);
         }
     }
@@ -125,7 +126,7 @@ fn all_succeed<S: Store>(alloc: Global, store: &mut S, from: u64, to: u64) -> Re
 // Whether of the calls up to this one it alone fails.
 fn fails_at<S: Store>(alloc: Global, store: &mut S, failing: u64) -> Result<bool, Fail> {
     let fine_before = all_succeed(alloc, store, 1, failing)?;
-    Ok(fine_before && make_call(alloc, store, failing)? == Some(131))
+    Ok(fine_before && !make_call(alloc, store, failing)?)
 }
 
 #[test]
@@ -152,8 +153,8 @@ fn faults_add_up(rt: HostRuntime) -> Result<(), Fail> {
     let alloc = rt.alloc();
     let inside = FaultStore::new(example(alloc)?, 1);
     let mut store = FaultStore::new(inside, 2);
-    for (answer, faults) in [(Some(131), 1), (Some(131), 2), (None, 2)] {
-        assert_eq!(rt; make_call(alloc, &mut store, 3)?, answer);
+    for (succeeds, faults) in [(false, 1), (false, 2), (true, 2)] {
+        assert_eq!(rt; make_call(alloc, &mut store, 3)?, succeeds);
         assert_eq!(rt; store.faults(), faults);
     }
     Ok(())
@@ -170,5 +171,6 @@ fn no_call_fails(rt: HostRuntime) -> Result<(), Fail> {
 #[test]
 fn errors_have_numbers(rt: HostRuntime) {
     assert_eq!(rt; StoreFault.number(), Some(131));
+    assert_eq!(rt; StoreError::Fault.number(), Some(131));
     assert_eq!(rt; StoreError::Memory.number(), None);
 }
