@@ -4,6 +4,7 @@
 //! told by a number, and a law says what follows from that.
 #![tactic(auto)]
 
+mod again;
 mod check;
 #[cfg(test)]
 mod cut_tests;

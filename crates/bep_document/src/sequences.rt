@@ -1,8 +1,11 @@
 //! Sequences that an index, a view or a message can't have.
-ghost use Rattle.std.specs.Prelude.{◌≡◌, ◌==◌, ◌||◌, nat_lt, not, IfOk};
+ghost use Rattle.std.specs.Prelude.{◌≡◌, ◌==◌, ◌||◌, nat_lt, IfOk, Some, None, if◌then◌else◌};
 ghost use Rattle.bep_index.specs.Batch.{last_sequence};
+ghost use Rattle.bep_document.specs.Fault.{at_name};
+ghost use Rattle.bep_document.specs.declared.fault.Fault.TheVariants.{SequenceBad};
 ghost use Rattle.bep_document.specs.Sequences.{sequence_in, sequence_in_view, sequence_at_share, bad_next, sequence_in_flight, first_bad_sequence};
 
+use crate::again::{JudgeKeyed, first_keyed};
 use crate::holder::Holder;
 use crate::judge::{Judge, first_fault};
 use crate::walks::{JudgeFlights, JudgeShares, first_in_cut};
@@ -11,7 +14,45 @@ use crate::{
 };
 use bep_record::{DeviceId, Entry};
 use std::alloc::{AllocError, Global};
-use std::collections::BTreeSet;
+
+// Sequences of an index, none of which may stand twice.
+#[derive(Clone, Copy)]
+struct Numbered<'a> {
+    at: &'a Holder<'a>,
+    max: u64,
+}
+
+impl<'a> JudgeKeyed<Entry> for Numbered<'a> {
+    type Key = u64;
+
+    ghost key_of = { λ entry. entry.sequence };
+
+    ghost fault_at = { λ judge is_again entry. if (entry.sequence == 0) || (nat_lt judge.max entry.sequence || is_again) then Some (at_name SequenceBad judge.at.now.folder.now judge.at.now.device entry.name) else None };
+
+    fn key_of(&self, _alloc: Global, item: &Entry) -> Result<u64, AllocError> {
+        Ok(item.sequence)
+    }
+
+    fn fault_at(
+        &self,
+        alloc: Global,
+        is_again: bool,
+        item: &Entry,
+    ) -> Result<Option<DocFault>, AllocError> {
+        if is_bad(item.sequence, self.max, is_again) {
+            let fault = self.at.fault_at(alloc, Fault::SequenceBad, &item.name)?;
+            return Ok(Some(fault));
+        }
+        Ok(None)
+    }
+}
+
+// Whether the sequence is 0, above the greatest, or there already.
+fn is_bad(sequence: u64, max: u64, is_again: bool) -> bool
+    ensures { result ≡ ((sequence == 0) || (nat_lt max sequence || is_again)) }
+{
+    sequence == 0 || sequence > max || is_again
+}
 
 // The first record whose sequence is 0, above the greatest or that of an earlier one, or want of memory.
 fn first_unnumbered(
@@ -22,22 +63,7 @@ fn first_unnumbered(
 ) -> Result<Option<DocFault>, AllocError>
     ensures { IfOk result (λ found. found ≡ sequence_in at.now.folder.now at.now.device max entries.now) }
 {
-    let mut seen = BTreeSet::new(alloc);
-    for entry in entries {
-        let is_new = seen.insert(entry.sequence)?;
-        if is_bad(entry.sequence, max, is_new) {
-            let fault = at.fault_at(alloc, Fault::SequenceBad, &entry.name)?;
-            return Ok(Some(fault));
-        }
-    }
-    Ok(None)
-}
-
-// Whether the sequence is 0, above the greatest, or was seen before.
-fn is_bad(sequence: u64, max: u64, is_new: bool) -> bool
-    ensures { result ≡ ((sequence == 0) || (nat_lt max sequence || not is_new)) }
-{
-    sequence == 0 || sequence > max || !is_new
+    first_keyed(alloc, &Numbered { at, max }, entries)
 }
 
 // Sequences that a device's views can't have.

@@ -1,10 +1,14 @@
 //! What stands twice in a document.
-ghost use Rattle.std.specs.Prelude.{◌≡◌, ◌==◌, ◌&&◌, nat_eq, IfOk, List, ℕ, []};
+ghost use Rattle.std.specs.Prelude.{◌≡◌, nat_eq, IfOk, List, ℕ, [], Some, None, if◌then◌else◌};
 ghost use Rattle.std.specs.Cmp.Lexicographic.{pointwise};
 ghost use Rattle.std.specs.List.{list_any};
-ghost use Rattle.bep_document.specs.Places.{first_in};
-ghost use Rattle.bep_document.specs.Twice.{name_again, twice_at_view, twice_at_share, twice_at_folder, twice_in_flight, twice_at_link, first_twice};
+ghost use Rattle.bep_document.specs.Fault.{at_device, at_link, at_name};
+ghost use Rattle.bep_document.specs.Places.{◌else_at◌, first_in};
+ghost use Rattle.bep_document.specs.Walks.{on_link};
+ghost use Rattle.bep_document.specs.declared.fault.Fault.TheVariants.{Twice};
+ghost use Rattle.bep_document.specs.Twice.{name_again, twice_in_records, twice_at_share, twice_at_folder, twice_in_flight, twice_at_link, first_twice};
 
+use crate::again::{JudgeKeyed, first_keyed};
 use crate::holder::Holder;
 use crate::judge::{Judge, first_fault};
 use crate::unshared::has_device;
@@ -15,7 +19,6 @@ use crate::{
 use bep_json::NamedParts;
 use bep_record::{DeviceId, Entry, FolderName, Name};
 use std::alloc::{AllocError, Global};
-use std::collections::BTreeSet;
 
 /// What is told apart by its name.
 pub(crate) trait Named {
@@ -43,8 +46,38 @@ impl Named for NamedParts {
     }
 }
 
+// Names that may stand once at a device.
+#[derive(Clone, Copy)]
+struct NamesOnce<'a> {
+    at: &'a Holder<'a>,
+}
+
+impl<'a, T: Named> JudgeKeyed<T> for NamesOnce<'a> {
+    type Key = Name;
+
+    ghost key_of = { T.name_in };
+
+    ghost fault_at = { λ judge is_again item. if is_again then Some (at_name Twice judge.at.now.folder.now judge.at.now.device (T.name_in item)) else None };
+
+    fn key_of(&self, alloc: Global, item: &T) -> Result<Name, AllocError> {
+        item.name().copy(alloc)
+    }
+
+    fn fault_at(
+        &self,
+        alloc: Global,
+        is_again: bool,
+        item: &T,
+    ) -> Result<Option<DocFault>, AllocError> {
+        if is_again {
+            let fault = self.at.fault_at(alloc, Fault::Twice, item.name())?;
+            return Ok(Some(fault));
+        }
+        Ok(None)
+    }
+}
+
 // The first item that has the name of an earlier one, or want of memory.
-#[tactic(auto, using(crate::proofs::SeenFacts::seen_next, crate::proofs::PlacesFacts::first_in_next))]
 fn first_again<T: Named>(
     alloc: Global,
     at: &Holder<'_>,
@@ -52,34 +85,33 @@ fn first_again<T: Named>(
 ) -> Result<Option<DocFault>, AllocError>
     ensures { IfOk result (λ found. found ≡ first_in (name_again T.name_in at.now.folder.now at.now.device) [] items.now) }
 {
-    let mut seen = BTreeSet::new(alloc);
-    for item in items {
-        let is_new = seen.insert(item.name().copy(alloc)?)?;
-        if !is_new {
-            let fault = at.fault_at(alloc, Fault::Twice, item.name())?;
-            return Ok(Some(fault));
-        }
-    }
-    Ok(None)
+    first_keyed(alloc, &NamesOnce { at }, items)
 }
 
-// What stands twice among the views of a device, and in them.
+// Views of a device, each of another one, in which a name may stand once.
 #[derive(Clone, Copy)]
-struct TwiceAtViews<'a> {
+struct ViewsOnce<'a> {
     at: &'a Holder<'a>,
 }
 
-impl<'a> Judge<ViewParts> for TwiceAtViews<'a> {
-    ghost fault_at = { λ judge. twice_at_view judge.at.now.folder.now judge.at.now.device };
+impl<'a> JudgeKeyed<ViewParts> for ViewsOnce<'a> {
+    type Key = DeviceId;
 
-    #[tactic(auto, unfolding(crate::specs::Twice::twice_at_view))]
+    ghost key_of = { λ view. view.of };
+
+    ghost fault_at = { λ judge is_again view. (if is_again then Some (at_device Twice judge.at.now.folder.now judge.at.now.device) else None) else_at twice_in_records judge.at.now.folder.now judge.at.now.device view.records };
+
+    fn key_of(&self, _alloc: Global, item: &ViewParts) -> Result<DeviceId, AllocError> {
+        Ok(item.of)
+    }
+
     fn fault_at(
         &self,
         alloc: Global,
-        earlier: &[ViewParts],
+        is_again: bool,
         item: &ViewParts,
     ) -> Result<Option<DocFault>, AllocError> {
-        if has_view(earlier, item.of) {
+        if is_again {
             let fault = self.at.fault(alloc, Fault::Twice)?;
             return Ok(Some(fault));
         }
@@ -94,7 +126,7 @@ struct TwiceInCut;
 impl JudgeShares for TwiceInCut {
     ghost fault_at_share = { λ _ folder. twice_at_share folder.folder };
 
-    #[tactic(auto, unfolding(crate::specs::Twice::twice_at_share))]
+    #[tactic(auto, unfolding(crate::specs::Twice::twice_at_share, crate::specs::Twice::twice_at_view))]
     fn fault_at_share(
         &self,
         alloc: Global,
@@ -115,7 +147,7 @@ impl JudgeShares for TwiceInCut {
             Some(fault) => return Ok(Some(fault)),
             None => {}
         }
-        match first_fault(alloc, &TwiceAtViews { at }, share.views.as_slice())? {
+        match first_keyed(alloc, &ViewsOnce { at }, share.views.as_slice())? {
             Some(fault) => Ok(Some(fault)),
             None => first_again(alloc, at, share.pulls.as_slice()),
         }
@@ -156,21 +188,36 @@ impl JudgeFlights for TwiceInCut {
     }
 }
 
-impl Judge<LinkParts> for TwiceInCut {
-    ghost fault_at = { λ _. twice_at_link };
+impl JudgeKeyed<LinkParts> for TwiceInCut {
+    type Key = (DeviceId, DeviceId);
 
-    #[tactic(auto, unfolding(crate::specs::Twice::twice_at_link))]
+    ghost key_of = { λ link. (link.a, link.b) };
+
+    ghost fault_at = { λ _ is_again link. (if is_again then Some (at_link Twice link.a) else None) else_at on_link (λ _. twice_in_flight) [] link };
+
+    fn key_of(&self, _alloc: Global, item: &LinkParts) -> Result<(DeviceId, DeviceId), AllocError> {
+        Ok((item.a, item.b))
+    }
+
     fn fault_at(
         &self,
         alloc: Global,
-        earlier: &[LinkParts],
+        is_again: bool,
         item: &LinkParts,
     ) -> Result<Option<DocFault>, AllocError> {
-        if has_link(earlier, item.a, item.b) {
+        if is_again {
             return Ok(Some(DocFault::at_link(Fault::Twice, item.a)));
         }
         first_on_link(alloc, self, item)
     }
+}
+
+// What stands twice first among the links, or want of memory.
+#[tactic(auto, unfolding(crate::specs::Twice::twice_at_link))]
+fn first_at_links(alloc: Global, links: &[LinkParts]) -> Result<Option<DocFault>, AllocError>
+    ensures { IfOk result (λ found. found ≡ first_in twice_at_link [] links.now) }
+{
+    first_keyed(alloc, &TwiceInCut, links)
 }
 
 // What stands twice first, in the folders or else among the links, or want of memory.
@@ -180,7 +227,7 @@ pub(crate) fn first_twice(alloc: Global, parts: &CheckParts) -> Result<Option<Do
 {
     match first_fault(alloc, &TwiceInCut, parts.folders.as_slice())? {
         Some(fault) => Ok(Some(fault)),
-        None => first_fault(alloc, &TwiceInCut, parts.links.as_slice()),
+        None => first_at_links(alloc, parts.links.as_slice()),
     }
 }
 
@@ -189,18 +236,4 @@ fn has_folder(folders: &[FolderParts], name: &FolderName) -> bool
     ensures { result ≡ list_any (λ folder. pointwise nat_eq folder.folder name.now) folders.now }
 {
     folders.iter().any(|folder| folder.folder == *name)
-}
-
-// Whether one of these is a view of the device.
-fn has_view(views: &[ViewParts], device: DeviceId) -> bool
-    ensures { result ≡ list_any (λ view. view.of == device) views.now }
-{
-    views.iter().any(|view| view.of == device)
-}
-
-// Whether one of these is the link from `a` to `b`.
-fn has_link(links: &[LinkParts], a: DeviceId, b: DeviceId) -> bool
-    ensures { result ≡ list_any (λ link. (link.a == a) && (link.b == b)) links.now }
-{
-    links.iter().any(|link| link.a == a && link.b == b)
 }
