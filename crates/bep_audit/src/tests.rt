@@ -6,6 +6,7 @@ mod certifier;
 mod checks;
 mod cuts;
 mod documents;
+mod foreign;
 
 use crate::*;
 use bep_model::{Reason, Row};

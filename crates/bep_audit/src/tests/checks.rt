@@ -1,7 +1,7 @@
 //! What the checkers tell of small documents; the wanted verdicts were worked out by hand.
 use super::documents::{
-    CHANGED_FILE, DIRECTORY, DIRECTORY_RECORD, FILE, FILE_RECORD, GONE_RECORD, LINK, LINK_RECORD,
-    LOCAL_RECORD, NEWER_RECORD, Side, TOUCHED_FILE, document,
+    CHANGED_FILE, DIRECTORY, DIRECTORY_RECORD, EMPTY, FILE, FILE_RECORD, GONE_RECORD, LINK,
+    LINK_RECORD, LOCAL_RECORD, NEWER_RECORD, Side, TOUCHED_FILE, document,
 };
 use crate::*;
 use bep_cut::{DocError, read_check};
@@ -10,7 +10,7 @@ use std::alloc::Global;
 use std::test::Fail;
 
 // A verdict: none where the cut is settled, else the reason, the name in the folder `docs`, and the device, 0 for none.
-type Wanted<'a> = Option<(Reason, &'a str, u64)>;
+pub type Wanted<'a> = Option<(Reason, &'a str, u64)>;
 
 fn is_as_wanted(verdict: &Verdict<'_>, wanted: &Wanted<'_>) -> bool {
     match (verdict, wanted) {
@@ -27,7 +27,7 @@ fn is_as_wanted(verdict: &Verdict<'_>, wanted: &Wanted<'_>) -> bool {
 }
 
 // Whether both checkers tell this.
-fn tells(
+pub fn tells(
     alloc: Global,
     sides: &[Side<'_>],
     rows: &[(&str, &str)],
@@ -51,6 +51,7 @@ fn rows_are_the_known_names_in_order(rt: HostRuntime) -> Result<(), Fail> {
     let held = Side {
         own: &[a, b],
         store: &[("b", DIRECTORY), ("a", DIRECTORY)],
+        ..EMPTY
     };
     let order = Reason::CertificateOrder;
     let cases = [
@@ -83,6 +84,7 @@ fn each_device_agrees_with_the_winner(rt: HostRuntime) -> Result<(), Fail> {
     let held = Side {
         own: &rows,
         store: &nodes,
+        ..EMPTY
     };
     assert!(rt; tells(alloc, &[held, held, held], &rows, &None)?);
     let cases = [
@@ -108,7 +110,11 @@ fn each_device_agrees_with_the_winner(rt: HostRuntime) -> Result<(), Fail> {
         ),
     ];
     for (own, store, reason, name) in cases {
-        let other = Side { own, store };
+        let other = Side {
+            own,
+            store,
+            ..EMPTY
+        };
         let wanted = Some((reason, name, 3));
         assert!(rt;
             tells(alloc, &[held, held, other], &rows, &wanted)?,
@@ -151,10 +157,15 @@ fn deletions_and_local_changes_count(rt: HostRuntime) -> Result<(), Fail> {
         ),
     ];
     for (own, store, other_own, other_store, wanted) in cases {
-        let one = Side { own, store };
+        let one = Side {
+            own,
+            store,
+            ..EMPTY
+        };
         let other = Side {
             own: other_own,
             store: other_store,
+            ..EMPTY
         };
         assert!(rt; tells(alloc, &[one, other], own, &wanted)?, "{wanted:?}");
     }
