@@ -1,5 +1,5 @@
-"""A second reading of check documents, and the report on each, written from docs/DOCUMENTS.md without a look at the
-program: for comparing the program's answers with."""
+"""A second reading of check documents, and the report on each: written apart from the program and from its definitions
+in specs/, for comparing the program's answers with."""
 
 import hashlib
 import json
