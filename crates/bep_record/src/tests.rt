@@ -131,13 +131,17 @@ fn what_is_no_file_has_no_blocks(rt: HostRuntime) -> Result<(), Fail> {
 }
 
 #[test]
-fn copies_are_the_same(rt: HostRuntime) -> Result<(), Fail> {
-    let alloc = rt.alloc();
-    let file = record(hello(alloc)?)?;
-    assert!(rt; matches!(file.content(), Content::File(_)));
-    assert!(rt; file.same_entry(&file.copy(alloc)?));
+fn a_copied_record_is_the_same(rt: HostRuntime) -> Result<(), Fail> {
+    let file = record(hello(rt.alloc())?)?;
+    assert!(rt; file.same_entry(&file.copy(rt.alloc())?));
+    Ok(())
+}
 
-    let gone = record(deletion(alloc)?)?;
+#[test]
+fn a_deletion_has_no_blocks(rt: HostRuntime) -> Result<(), Fail> {
+    let file = record(hello(rt.alloc())?)?;
+    let gone = record(deletion(rt.alloc())?)?;
+    assert!(rt; matches!(file.content(), Content::File(_)));
     assert!(rt; matches!(gone.content(), Content::Deleted));
     assert!(rt; !gone.same_content(&file));
     Ok(())
@@ -157,17 +161,27 @@ fn a_list_of_records_is_copied(rt: HostRuntime) -> Result<(), Fail> {
     Ok(())
 }
 
+// A file of the text `hallo`, at time 1000 and so many nanoseconds.
+fn hallo(alloc: Global, modified_ns: u32) -> Result<Node, RecordError> {
+    let mut parts = node(alloc, Kind::File, b"hallo", b"")?;
+    parts.modified_ns = modified_ns;
+    Node::read(parts)
+}
+
 #[test]
 fn a_change_of_equal_size_and_time_is_missed(rt: HostRuntime) -> Result<(), Fail> {
-    let alloc = rt.alloc();
-    let file = record(hello(alloc)?)?;
-    let hallo = Node::read(node(alloc, Kind::File, b"hallo", b"")?)?;
-    assert!(rt; file.clean(Some(&hallo)));
+    let file = record(hello(rt.alloc())?)?;
+    assert!(rt; file.clean(Some(&hallo(rt.alloc(), 500_000_000)?)));
+    assert!(rt; !file.clean(Some(&hallo(rt.alloc(), 500_000_001)?)));
     assert!(rt; !file.clean(None));
+    Ok(())
+}
 
-    let mut later = hallo.copy(alloc)?.into_parts();
-    later.modified_ns = 500_000_001;
-    assert!(rt; !file.clean(Some(&Node::read(later)?)));
+#[test]
+fn a_copied_node_has_the_same_parts(rt: HostRuntime) -> Result<(), Fail> {
+    let parts = hallo(rt.alloc(), 7)?.copy(rt.alloc())?.into_parts();
+    assert_eq!(rt; parts.bytes.as_slice(), b"hallo".as_slice());
+    assert_eq!(rt; parts.modified_ns, 7);
     Ok(())
 }
 
