@@ -19,7 +19,7 @@ use Rattle.bep_cut.proofs.Found.{all_from_each, any_gives, found_itself}
 use Rattle.bep_cut.proofs.WrittenFacts.{device_written, from_part, part_there}
 
 -- ---- the folders that the ends of a link share
-abbrev folders_in_order : List FolderParts → List SharedFolder
+abbrev pub folders_in_order : List FolderParts → List SharedFolder
 folders_in_order folders = in_order by_folder [] (map folder_written folders)
 
 -- a folder's shares are found by its name

@@ -74,11 +74,11 @@ share_written parts = record {
 abbrev pub folder_written : FolderParts → SharedFolder
 folder_written parts = record { folder = parts.folder; shares = in_order by_device [] (map share_written parts.devices) }
 
--- these messages carry nothing but records
+-- what these messages carry is well formed
 abbrev pub AreWellFormed : List FlightParts → Type 0
 AreWellFormed = AllByRecursion (λ flight. AllByRecursion IsWellFormed flight.records)
 
--- so do those of a link
+-- what a link carries is well formed
 abbrev pub IsWellFormedLink : LinkParts → Type 0
 IsWellFormedLink link = AreWellFormed link.to_a × AreWellFormed link.to_b
 

@@ -127,52 +127,75 @@ fn views_are_put_in_order(rt: HostRuntime) -> Result<(), Fail> {
         assert!(rt; false, "three devices share the folder");
         return Ok(());
     };
-    assert!(rt; seven.views.as_slice().is_empty() && seven.pulls.len() == 0);
+    assert_eq!(rt; (seven.views.as_slice().len(), seven.pulls.len()), (0, 0));
     let [of_five, of_seven] = two.views.as_slice() else {
-        assert!(rt; false, "the smaller device has two views");
+        assert!(rt; false, "the smallest device has two views");
         return Ok(());
     };
-    assert_eq!(rt; of_five.of.number(), 5);
-    assert_eq!(rt; of_five.index_id, 0);
-    assert_eq!(rt; of_five.records.len(), 0);
-    assert_eq!(rt; of_seven.of.number(), 7);
-    assert_eq!(rt; of_seven.index_id, 17);
-    assert_eq!(rt; of_seven.max_sequence, 9);
-    assert_eq!(rt; of_seven.records.len(), 2);
+    assert_eq!(rt; point_of(of_five), (5, 0, 0, 0));
+    assert_eq!(rt; point_of(of_seven), (7, 17, 9, 2));
     Ok(())
 }
 
+// Whose index a view is of, at which point, and how many names it has.
+fn point_of(view: &PeerView) -> (u64, u64, u64, usize) {
+    (
+        view.of.number(),
+        view.index_id,
+        view.max_sequence,
+        view.records.len(),
+    )
+}
+
 #[test]
-fn records_of_views_and_pulls_are_whole(rt: HostRuntime) -> Result<(), Fail> {
+fn records_of_views_are_whole(rt: HostRuntime) -> Result<(), Fail> {
     let alloc = rt.alloc();
     let (cut, _rows) = read_check(alloc, LINKED.as_bytes())?;
     let [two, ..] = cut.shares(&folder(alloc, "docs")?) else {
         assert!(rt; false, "devices share the folder");
         return Ok(());
     };
-    let [_of_five, of_seven] = two.views.as_slice() else {
-        assert!(rt; false, "the smaller device has two views");
-        return Ok(());
-    };
-    let Some(file) = of_seven.records.get(&name(alloc, "a")?) else {
+    let view = two.views.as_slice().last();
+    let name = name(alloc, "a")?;
+    let Some(file) = view.and_then(|view| view.records.get(&name)) else {
         assert!(rt; false, "the file is viewed");
         return Ok(());
     };
     let file = file.entry();
-    assert!(rt; file.kind == Kind::File && file.size == 3 && !file.deleted && !file.invalid);
-    assert!(rt; file.modified_s == -5 && file.modified_ns == 8 && file.modified_by.number() == 7);
-    assert!(rt; file.version.counters() == [(7, 2)].as_slice() && file.sequence == 9);
-    let [block] = file.blocks.as_slice() else {
-        assert!(rt; false, "the file has one block");
+    assert!(rt; file.kind == Kind::File);
+    assert_eq!(rt;
+        (file.size, file.block_size, file.deleted, file.invalid),
+        (3, 131072, false, false)
+    );
+    assert_eq!(rt;
+        (file.modified_s, file.modified_ns, file.modified_by.number()),
+        (-5, 8, 7)
+    );
+    assert_eq!(rt;
+        (file.version.counters(), file.sequence),
+        ([(7, 2)].as_slice(), 9)
+    );
+    let block = file.blocks.as_slice().first();
+    assert!(rt; block.is_some_and(|block| block.offset == 0 && block.size == 3));
+    Ok(())
+}
+
+#[test]
+fn pulls_stand_at_their_names(rt: HostRuntime) -> Result<(), Fail> {
+    let alloc = rt.alloc();
+    let (cut, _rows) = read_check(alloc, LINKED.as_bytes())?;
+    let [two, ..] = cut.shares(&folder(alloc, "docs")?) else {
+        assert!(rt; false, "devices share the folder");
         return Ok(());
     };
-    assert!(rt; file.block_size == 131072 && block.offset == 0 && block.size == 3);
-    let [first, second, ..] = block.hash;
-    assert!(rt; first == 0xba && second == 0x78);
     assert_eq!(rt; two.pulls.len(), 1);
-    let pulled = two.pulls.get(&name(alloc, "b")?);
-    assert!(rt;
-        pulled.is_some_and(|link| link.entry().target.as_str() == "a" && link.entry().sequence == 4)
+    let Some(link) = two.pulls.get(&name(alloc, "b")?) else {
+        assert!(rt; false, "the link is pulled");
+        return Ok(());
+    };
+    assert_eq!(rt;
+        (link.entry().target.as_str(), link.entry().sequence),
+        ("a", 4)
     );
     Ok(())
 }
@@ -184,30 +207,36 @@ fn messages_stay_in_their_order(rt: HostRuntime) -> Result<(), Fail> {
         assert!(rt; false, "there are two links");
         return Ok(());
     };
-    assert!(rt; down.a.number() == 2 && down.b.number() == 5 && !down.up && down.epoch == 0);
-    assert!(rt; down.to_a.as_slice().is_empty() && down.to_b.as_slice().is_empty());
-    assert!(rt; up.a.number() == 2 && up.b.number() == 7 && up.up && up.epoch == 3);
-    let [update] = up.to_a.as_slice() else {
-        assert!(rt; false, "one message goes to the smaller device");
-        return Ok(());
-    };
-    assert!(rt; !update.full && update.folder.as_str() == "docs");
-    assert_eq!(rt; names_of(rt.alloc(), update)?.as_str(), "c");
-    let [index, empty] = up.to_b.as_slice() else {
-        assert!(rt; false, "two messages go to the greater device");
-        return Ok(());
-    };
-    assert!(rt; index.full && !empty.full);
-    assert_eq!(rt; names_of(rt.alloc(), index)?.as_str(), "ed");
-    assert_eq!(rt; names_of(rt.alloc(), empty)?.as_str(), "");
+    assert_eq!(rt;
+        (down.a.number(), down.b.number(), down.up, down.epoch),
+        (2, 5, false, 0)
+    );
+    assert_eq!(rt;
+        (up.a.number(), up.b.number(), up.up, up.epoch),
+        (2, 7, true, 3)
+    );
+    assert_eq!(rt;
+        told(rt.alloc(), up.to_a.as_slice())?.as_str(),
+        "update docs c;"
+    );
+    assert_eq!(rt;
+        told(rt.alloc(), up.to_b.as_slice())?.as_str(),
+        "index docs e d;update docs;"
+    );
     Ok(())
 }
 
-// The names of a message's records, one after the other.
-fn names_of(alloc: Global, flight: &Flight) -> Result<String, AllocError> {
+// What each message is, its folder, and the names of its records.
+fn told(alloc: Global, flights: &[Flight]) -> Result<String, AllocError> {
     let mut text = String::new(alloc);
-    for entry in flight.records.as_slice() {
-        text.push_str(entry.entry().name.as_str())?;
+    for flight in flights {
+        text.push_str(if flight.full { "index " } else { "update " })?;
+        text.push_str(flight.folder.as_str())?;
+        for entry in flight.records.as_slice() {
+            text.push_str(" ")?;
+            text.push_str(entry.entry().name.as_str())?;
+        }
+        text.push_str(";")?;
     }
     Ok(text)
 }
