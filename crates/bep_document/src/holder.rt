@@ -65,7 +65,8 @@ impl<'a> Holder<'a> {
         fault: Fault,
         name: &Name,
     ) -> Result<Option<DocFault>, AllocError>
-        ensures { IfOk result (λ found. found ≡ (if is_well then None else Some (at_name fault self.now.folder.now self.now.device name.now))) }
+        ensures { IfOk result (λ found.
+            found ≡ (if is_well then None else Some (at_name fault self.now.folder.now self.now.device name.now))) }
     {
         if is_well {
             return Ok(None);

@@ -27,7 +27,9 @@ impl<'a> JudgeKeyed<Entry> for Numbered<'a> {
 
     ghost key_of = { λ entry. entry.sequence };
 
-    ghost fault_at = { λ judge is_again entry. if (entry.sequence == 0) || (nat_lt judge.max entry.sequence || is_again) then Some (at_name SequenceBad judge.at.now.folder.now judge.at.now.device entry.name) else None };
+    ghost fault_at = { λ judge is_again entry.
+        if (entry.sequence == 0) || (nat_lt judge.max entry.sequence || is_again)
+        then Some (at_name SequenceBad judge.at.now.folder.now judge.at.now.device entry.name) else None };
 
     fn key_of(&self, _alloc: Global, item: &Entry) -> Result<u64, AllocError> {
         Ok(item.sequence)

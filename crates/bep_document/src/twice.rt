@@ -57,7 +57,8 @@ impl<'a, T: Named> JudgeKeyed<T> for NamesOnce<'a> {
 
     ghost key_of = { T.name_in };
 
-    ghost fault_at = { λ judge is_again item. if is_again then Some (at_name Twice judge.at.now.folder.now judge.at.now.device (T.name_in item)) else None };
+    ghost fault_at = { λ judge is_again item.
+        if is_again then Some (at_name Twice judge.at.now.folder.now judge.at.now.device (T.name_in item)) else None };
 
     fn key_of(&self, alloc: Global, item: &T) -> Result<Name, AllocError> {
         item.name().copy(alloc)
@@ -83,7 +84,8 @@ fn first_again<T: Named>(
     at: &Holder<'_>,
     items: &[T],
 ) -> Result<Option<DocFault>, AllocError>
-    ensures { IfOk result (λ found. found ≡ first_in (name_again T.name_in at.now.folder.now at.now.device) [] items.now) }
+    ensures { IfOk result (λ found.
+        found ≡ first_in (name_again T.name_in at.now.folder.now at.now.device) [] items.now) }
 {
     first_keyed(alloc, &NamesOnce { at }, items)
 }
@@ -99,7 +101,9 @@ impl<'a> JudgeKeyed<ViewParts> for ViewsOnce<'a> {
 
     ghost key_of = { λ view. view.of };
 
-    ghost fault_at = { λ judge is_again view. (if is_again then Some (at_device Twice judge.at.now.folder.now judge.at.now.device) else None) else_at twice_in_records judge.at.now.folder.now judge.at.now.device view.records };
+    ghost fault_at = { λ judge is_again view.
+        (if is_again then Some (at_device Twice judge.at.now.folder.now judge.at.now.device) else None)
+        else_at twice_in_records judge.at.now.folder.now judge.at.now.device view.records };
 
     fn key_of(&self, _alloc: Global, item: &ViewParts) -> Result<DeviceId, AllocError> {
         Ok(item.of)
@@ -193,7 +197,8 @@ impl JudgeKeyed<LinkParts> for TwiceInCut {
 
     ghost key_of = { λ link. (link.a, link.b) };
 
-    ghost fault_at = { λ _ is_again link. (if is_again then Some (at_link Twice link.a) else None) else_at on_link (λ _. twice_in_flight) [] link };
+    ghost fault_at = { λ _ is_again link.
+        (if is_again then Some (at_link Twice link.a) else None) else_at on_link (λ _. twice_in_flight) [] link };
 
     fn key_of(&self, _alloc: Global, item: &LinkParts) -> Result<(DeviceId, DeviceId), AllocError> {
         Ok((item.a, item.b))
