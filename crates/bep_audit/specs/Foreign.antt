@@ -13,39 +13,43 @@ use Rattle.bep_cut.specs.declared.share.Share.{Share}
 use Rattle.bep_cut.specs.declared.share.PeerView.{PeerView}
 use Rattle.bep_cut.specs.declared.link.LinkState.{LinkState}
 
--- beside this own record, a record that isn't invalid can't change the row's content
+-- a record passes: it is invalid, or harmless to the row's content beside this own record
 abbrev pub Passes : Row → Option Entry → Entry → Type 0
 Passes row own entry = entry.invalid ≡ false → IsHarmless own (content_of row.entry) entry
 
--- nor can the one that is there, if one is
+-- what is found passes, if anything is
 abbrev pub PassesIfThere : Row → Option Entry → Option Entry → Type 0
 PassesIfThere row own found = (entry : Entry) → found ≡ Some entry → Passes row own entry
 
--- nor one that the views have of the row's name
+-- each record passes that the views have of the row's name
 abbrev pub ViewsPass : Row → Option Entry → List PeerView → Type 0
 ViewsPass row own views = (view : PeerView) → Contains views view → PassesIfThere row own (get view.records row.entry.name)
 
--- nor one that is of the row's name
+-- the record passes, if it has the row's name
 abbrev pub PassesIfNamed : Row → Option Entry → Entry → Type 0
 PassesIfNamed row own entry = entry.name ≡ row.entry.name → Passes row own entry
 
+-- each of the records passes that has the row's name
 abbrev pub RecordsPass : Row → Option Entry → List Entry → Type 0
 RecordsPass row own entries = (entry : Entry) → Contains entries entry → PassesIfNamed row own entry
 
--- nor one in a message of the row's folder
+-- the message's records of the row's name pass, if the message is of the row's folder
 abbrev pub FlightPasses : Row → Option Entry → Flight → Type 0
 FlightPasses row own flight = flight.folder ≡ row.folder → RecordsPass row own flight.records
 
+-- those of each message pass
 abbrev pub FlightsPass : Row → Option Entry → List Flight → Type 0
 FlightsPass row own flights = (flight : Flight) → Contains flights flight → FlightPasses row own flight
 
--- nor one on its way over the link to the device, which may be this end of it
+-- what is on its way to this end of a link passes, if the end is the device
 abbrev pub EndPasses : Row → Option Entry → Device → Device → List Flight → Type 0
 EndPasses row own device end flights = end ≡ device → FlightsPass row own flights
 
+-- what is on its way to the device over the link passes
 unfoldable pub LinkPasses : Row → Option Entry → Device → LinkState → Type 0
 LinkPasses row own device link = EndPasses row own device link.a link.to_a × EndPasses row own device link.b link.to_b
 
+-- what is on its way to the device over any of the links passes
 abbrev pub LinksPass : Row → Option Entry → Device → List LinkState → Type 0
 LinksPass row own device links = (link : LinkState) → Contains links link → LinkPasses row own device link
 

@@ -13,7 +13,7 @@ use bep_map::NameMap;
 use bep_model::Row;
 use bep_record::{FolderName, Name, Record};
 
-/// Of those that one of the devices has.
+/// The least name without a row, of those that one of the devices has.
 pub(crate) fn least_of_devices<'a>(
     rows: &[Row],
     folder: &FolderName,

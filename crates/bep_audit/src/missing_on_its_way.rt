@@ -9,7 +9,7 @@ use bep_cut::{Flight, LinkState};
 use bep_model::Row;
 use bep_record::{FolderName, Name, Record};
 
-/// Of those on their way over one of the links.
+/// The least name of the folder without a row, of those on their way over one of the links.
 pub(crate) fn least_on_its_way<'a>(
     rows: &[Row],
     folder: &FolderName,
@@ -25,7 +25,7 @@ pub(crate) fn least_on_its_way<'a>(
     least
 }
 
-// Over the link, one way or the other.
+// Of those on their way over the link, one way or the other.
 fn least_of_link<'a>(rows: &[Row], folder: &FolderName, link: &'a LinkState) -> Option<&'a Name>
     requires { Rise rows.now }
     ensures { FindsMissing rows.now folder.now (λ name. IsOver folder.now name link.now) (option_copied result) }
@@ -35,7 +35,7 @@ fn least_of_link<'a>(rows: &[Row], folder: &FolderName, link: &'a LinkState) -> 
     lesser(to_a, to_b)
 }
 
-// In the messages.
+// Of those that the messages bring.
 fn least_of_flights<'a>(
     rows: &[Row],
     folder: &FolderName,
@@ -51,7 +51,7 @@ fn least_of_flights<'a>(
     least
 }
 
-// In the message, if it is of the folder.
+// Of those that the message brings, if it is of the folder.
 fn least_of_flight<'a>(rows: &[Row], folder: &FolderName, flight: &'a Flight) -> Option<&'a Name>
     requires { Rise rows.now }
     ensures { FindsMissing rows.now folder.now (λ name. Brings folder.now name flight.now) (option_copied result) }
@@ -63,7 +63,7 @@ fn least_of_flight<'a>(rows: &[Row], folder: &FolderName, flight: &'a Flight) ->
     }
 }
 
-// Of those of which there is a valid record among these.
+// Of those of which a valid record is among these.
 fn least_of_records<'a>(
     rows: &[Row],
     folder: &FolderName,
