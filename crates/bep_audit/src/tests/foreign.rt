@@ -116,46 +116,59 @@ fn the_least_reason_is_told(rt: HostRuntime) -> Result<(), Fail> {
     Ok(())
 }
 
+const B: &[(&str, &str)] = &[("b", FILE_RECORD)];
+
+const INVALID_B: &[(&str, &str)] = &[("b", INVALID_FILE_RECORD)];
+
+const ROWS: &[(&str, &str)] = &[("a", DIRECTORY_RECORD), ("b", FILE_RECORD)];
+
+// Whether `b` is known where the second device is this one, which needs a row for it, though none can be right.
+fn makes_known(alloc: Global, other: Side<'_>) -> Result<bool, DocError> {
+    let sides = [HELD, other];
+    Ok(
+        tells(
+            alloc,
+            &sides,
+            HELD.own,
+            &Some((Reason::NameMissing, "b", 0)),
+        )? && tells(alloc, &sides, ROWS, &Some((Reason::NotWinner, "b", 0)))?
+            && is_without_winner(alloc, &sides)?,
+    )
+}
+
+// Whether it isn't known then.
+fn leaves_unknown(alloc: Global, other: Side<'_>) -> Result<bool, DocError> {
+    let sides = [HELD, other];
+    Ok(
+        tells(alloc, &sides, HELD.own, &None)?
+            && tells(alloc, &sides, ROWS, &Some((Reason::NameUnknown, "b", 0)))?,
+    )
+}
+
 #[test]
 fn a_name_is_known_by_what_comes(rt: HostRuntime) -> Result<(), Fail> {
     let alloc = rt.alloc();
-    let b = [("b", FILE_RECORD)];
-    let invalid = [("b", INVALID_FILE_RECORD)];
-    let rows = [("a", DIRECTORY_RECORD), ("b", FILE_RECORD)];
-    for other in [
-        Side { view: &b, ..HELD },
-        Side { pulls: &b, ..HELD },
-        Side { coming: &b, ..HELD },
-    ] {
-        let sides = [HELD, other];
-        assert!(rt;
-            tells(
-                alloc,
-                &sides,
-                HELD.own,
-                &Some((Reason::NameMissing, "b", 0))
-            )?
-        );
-        assert!(rt; tells(alloc, &sides, &rows, &Some((Reason::NotWinner, "b", 0)))?);
-        assert!(rt; is_without_winner(alloc, &sides)?);
-    }
-    for other in [
-        Side {
-            view: &invalid,
-            ..HELD
-        },
-        Side {
-            coming: &invalid,
-            ..HELD
-        },
-    ] {
-        let sides = [HELD, other];
-        assert!(rt;
-            tells(alloc, &sides, HELD.own, &None)?,
-            "an invalid record counts nowhere"
-        );
-        assert!(rt; tells(alloc, &sides, &rows, &Some((Reason::NameUnknown, "b", 0)))?);
-    }
+    assert!(rt; makes_known(alloc, Side { view: B, ..HELD })?);
+    assert!(rt; makes_known(alloc, Side { pulls: B, ..HELD })?);
+    assert!(rt; makes_known(alloc, Side { coming: B, ..HELD })?);
+    assert!(rt;
+        leaves_unknown(
+            alloc,
+            Side {
+                view: INVALID_B,
+                ..HELD
+            }
+        )?
+    );
+    assert!(rt;
+        leaves_unknown(
+            alloc,
+            Side {
+                coming: INVALID_B,
+                ..HELD
+            }
+        )?
+    );
     Ok(())
 }
 
