@@ -1,8 +1,9 @@
 ghost use Rattle.bep_document.specs.Faultless.{ReadingsAreFaultless};
 ghost use Rattle.bep_document.specs.Told.{RecordsAreTold, NodesAreTold};
 
-/// That what is read has no fault: folders, devices and names stand once, records and nodes are well formed, sequences
-/// are numbered, and all is within its limits. A law, which does nothing when it runs.
+/// That what is read has no fault: folders, devices, views, links and names stand once, views and messages are of what is
+/// shared, records and nodes are well formed, sequences are numbered, links join two devices and are empty while they are
+/// down, and all is within its limits. A law, which does nothing when it runs.
 pub fn readings_are_faultless()
     ensures { ReadingsAreFaultless }
 {}
