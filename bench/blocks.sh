@@ -6,20 +6,11 @@ mib=16
 top=$(cd "$(dirname "$0")/.." && pwd)
 work=$(mktemp -d)
 trap 'rm -rf "$work"' EXIT
+. "$top/bench/program.sh"
 
-mkdir "$work/crates"
-for name in bep_record bep_blocks; do
-  cp -r "$top/crates/$name" "$work/crates/$name"
-  grep "^$name:" "$top/crates.txt" >> "$work/crates.txt"
-done
 head -c $((mib * 1048576)) /dev/urandom > "$work/bytes"
 
-cd "$work"
-git init -q
-rt new crates/hash_speed start_io > "$work/log" 2>&1
-echo 'hash_speed: bep_record bep_blocks' >> crates.txt
-cd crates/hash_speed
-rm -rf BUILD.bazel ../../BUILD.bazel src/* specs proofs stdin stdout
+start_program hash_speed 'bep_record bep_blocks' bep_record bep_blocks
 cat > src/main.rt <<PROGRAM
 // Prints how many blocks a file has, and the microseconds of each run.
 #![tactic(auto)]

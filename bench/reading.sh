@@ -7,19 +7,10 @@ top=$(cd "$(dirname "$0")/.." && pwd)
 work=$(mktemp -d)
 trap 'rm -rf "$work"' EXIT
 . "$top/bench/measure.sh"
+. "$top/bench/program.sh"
 
-mkdir "$work/crates"
-for name in bep_record bep_blocks bep_choice bep_map bep_index bep_json bep_document bep_model bep_cut; do
-  cp -r "$top/crates/$name" "$work/crates/$name"
-  grep "^$name:" "$top/crates.txt" >> "$work/crates.txt"
-done
-
-cd "$work"
-git init -q
-rt new crates/read_speed start_io > "$work/log" 2>&1
-echo 'read_speed: bep_cut serde_json' >> crates.txt
-cd crates/read_speed
-rm -rf BUILD.bazel ../../BUILD.bazel src/* specs proofs stdin stdout
+start_program read_speed 'bep_cut serde_json' \
+  bep_facts bep_record bep_blocks bep_choice bep_map bep_index bep_json bep_document bep_model bep_cut
 cat > src/main.rt <<PROGRAM
 // Reads the document: the whole of it, if there is a word, else its JSON tree alone.
 #![tactic(auto)]
