@@ -1,5 +1,5 @@
 -- The names of a map rise; and the known names of a cut, folder by folder, rise and are all that are known.
-use Rattle.std.proofs.Common.{◌≡◌, List, [], ◌∷◌, ◌++◌, map, Contains, sym, ap, subst, ◌∙◌, ⊎_elim}
+use Rattle.std.proofs.Common.{◌≡◌, List, [], ◌∷◌, ◌++◌, map, Contains, sym, ap, subst, ◌∙◌}
 use Rattle.std.proofs.Math.Dec.{T}
 use Rattle.std.specs.declared.cmp.Ordering.TheVariants.{Less}
 use Rattle.std.specs.Ordering.{ordering_then}
@@ -9,7 +9,6 @@ use Rattle.std.specs.FinMap.{is_sorted, entries, entries_sorted, keys}
 use Rattle.std.specs.List.{AllByRecursion}
 use Rattle.std.specs.List.Sorted.{IsStrictlySortedBy}
 use Rattle.std.proofs.lemmas.Cmp.{tied_itself}
-use Rattle.std.proofs.lemmas.List.Elements.{Contains-append_left, Contains-append_right, Contains-append_cases}
 use Rattle.bep_facts.specs.Members.{Contains-image, Contains-from_image, Contains-flat_map, Contains-from_flat_map}
 use Rattle.bep_cut.specs.Cut.{IsCut, tables_of}
 use Rattle.bep_cut.specs.Laws.{ShareHasFolder, SharingIsSaid, NamesAreKnown}

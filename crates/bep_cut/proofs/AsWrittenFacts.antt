@@ -4,7 +4,7 @@ use Rattle.std.specs.Ordering.{nat_cmp}
 use Rattle.std.specs.Cmp.Lexicographic.{slice_cmp, nat_list_cmp_total}
 use Rattle.std.specs.FinMap.{get, insert, empty}
 use Rattle.std.proofs.lemmas.Map.Lookups.{exact_bytes}
-use Rattle.bep_facts.specs.Members.{Contains-cons_cases, Contains-first, Contains-image, Contains-more, holds_of_member, not_in_none}
+use Rattle.bep_facts.specs.Members.{Contains-cons_cases, Contains-first, Contains-more, holds_of_member, not_in_none}
 use Rattle.bep_facts.specs.Maps.{nothing_in_empty, get-insert_here, get-insert_apart, found_after_insert}
 use Rattle.bep_map.specs.NameMap.{ByName}
 use Rattle.bep_record.specs.declared.entry.Entry.{Entry}

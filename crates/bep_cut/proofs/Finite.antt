@@ -1,10 +1,10 @@
 -- Only finitely many names are known in a cut, and only finitely many devices viewed.
-use Rattle.std.proofs.Common.{◌≡◌, List, [], ◌∷◌, map, flat_map, Option, Some, None, IsSome, Contains, option_and_then, refl, sym, ap, subst, ◌∙◌, ⊎_elim}
+use Rattle.std.proofs.Common.{◌≡◌, flat_map, Option, Some, None, IsSome, Contains, option_and_then, refl, sym, ap, subst, ◌∙◌}
 use Rattle.std.specs.Ordering.{nat_cmp, is_eq}
 use Rattle.std.specs.FinMap.{get, keys, nat_cmp-IsAntisymmetric}
-use Rattle.std.proofs.lemmas.List.Elements.{All-contains, Contains-append_left, Contains-append_right}
+use Rattle.std.proofs.lemmas.List.Elements.{All-contains}
 use Rattle.std.specs.Cmp.{Equal-is}
-use Rattle.bep_facts.specs.Members.{Contains-cons_cases, Contains-flat_map, Contains-image, not_in_none}
+use Rattle.bep_facts.specs.Members.{Contains-flat_map, Contains-image}
 use Rattle.bep_model.specs.Tables.{Device, Folder, FileName}
 use Rattle.bep_model.specs.Foreign.{IsKnown}
 use Rattle.bep_cut.specs.declared.share.Share.{Share}

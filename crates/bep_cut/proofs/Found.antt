@@ -1,5 +1,5 @@
 -- What a search by a key finds in a list whose keys rise.
-use Rattle.std.proofs.Common.{◌≡◌, Bool, true, false, cond, List, [], ◌∷◌, map, Option, Some, None, Contains, refl, sym, ap, subst, ◌∙◌, ⊎_elim, ◌⊎◌, ◌||◌, inl, inr, get_or, All, Any}
+use Rattle.std.proofs.Common.{◌≡◌, Bool, true, false, cond, List, [], ◌∷◌, map, Some, Contains, refl, ap, subst, ◌∙◌, ⊎_elim, get_or, All, Any}
 use Rattle.std.specs.declared.cmp.Ordering.{Ordering}
 use Rattle.std.specs.Ordering.{is_eq, eq_by_cmp}
 use Rattle.std.specs.FinMap.{IsAntisymmetric}
