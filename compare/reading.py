@@ -238,45 +238,43 @@ def each_message(read):
                 yield one, receiver, item
 
 
-def find_twice(keys, place):
-    seen = set()
-    for key in keys:
-        if key in seen:
-            raise Fault(185, *place(key))
-        seen.add(key)
+class Once:
+    """Keys, each of which may come once."""
+
+    def __init__(self):
+        self.seen = set()
+
+    def add(self, key, *place):
+        if key in self.seen:
+            raise Fault(185, *place)
+        self.seen.add(key)
 
 
 def find_name_twice(items, folder, device):
-    find_twice([item["name"] for item in items], lambda name: (folder, device, name))
+    names = Once()
+    for item in items:
+        names.add(item["name"], folder, device, item["name"])
 
 
 def find_twice_in(read):
-    folders = set()
+    folders = Once()
     for folder in read["folders"]:
         here = folder["folder"]
-        if here in folders:
-            raise Fault(185, here, None, None)
-        folders.add(here)
-        devices = set()
+        folders.add(here, here, None, None)
+        devices = Once()
         for one in folder["shares"]:
             device = one["device"]
-            if device in devices:
-                raise Fault(185, here, device, None)
-            devices.add(device)
+            devices.add(device, here, device, None)
             find_name_twice(one["own"], here, device)
             find_name_twice(one["store"], here, device)
-            viewed = set()
+            viewed = Once()
             for item in one["views"]:
-                if item["of"] in viewed:
-                    raise Fault(185, here, device, None)
-                viewed.add(item["of"])
+                viewed.add(item["of"], here, device, None)
                 find_name_twice(item["records"], here, device)
             find_name_twice(one["pulls"], here, device)
-    links = set()
+    links = Once()
     for one in read["links"]:
-        if (one["a"], one["b"]) in links:
-            raise Fault(185, None, one["a"], None)
-        links.add((one["a"], one["b"]))
+        links.add((one["a"], one["b"]), None, one["a"], None)
         for _, receiver, item in each_message({"links": [one]}):
             find_name_twice(item["records"], item["folder"], receiver)
 
