@@ -16,11 +16,10 @@ pub(crate) fn meets_foreign(reason: Reason, row: &Row, links: &[LinkState], shar
     ensures { IsTrue result ↔ AsksForeign reason row.now links.now share.now }
 {
     let name = &row.entry.entry().name;
-    let own = share.own.get(name);
     match reason {
-        Reason::ViewAhead => views_pass(row, own, share.views.as_slice()),
-        Reason::FlightAhead => links_pass(row, own, share.device, links),
-        Reason::PullAhead => passes_if_there(row, own, share.pulls.get(name)),
+        Reason::ViewAhead => views_pass(row, share.own.get(name), share.views.as_slice()),
+        Reason::FlightAhead => links_pass(row, share.own.get(name), share.device, links),
+        Reason::PullAhead => passes_if_there(row, share.own.get(name), share.pulls.get(name)),
         _ => true,
     }
 }
