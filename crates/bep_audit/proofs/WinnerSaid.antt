@@ -6,12 +6,12 @@ use Rattle.std.proofs.lemmas.List.{length-map}
 use Rattle.std.proofs.lemmas.List.Elements.{All-contains, All-contains_itself}
 use Rattle.bep_facts.specs.Members.{Contains-first, Contains-from_image, Contains-more}
 use Rattle.bep_choice.specs.Choice.{Candidate}
-use Rattle.bep_choice.specs.declared.folder_kind.FolderKind.{FolderKind}
+use Rattle.bep_record.specs.declared.folder_kind.FolderKind.{FolderKind}
 use Rattle.bep_index.specs.Index.{IsIndex}
 use Rattle.bep_cut.specs.Cut.{AreShares, IsCut, HasDevice, index_of, devices_of, shares_of, tables_of}
 use Rattle.bep_cut.specs.Laws.{FolderIsFound, ShareHasFolder, OwnIsSaid}
 use Rattle.bep_cut.specs.declared.cut.CutParts.{CutParts}
-use Rattle.bep_document.specs.declared.limits.TheConstants.{MAX_DEVICES}
+use Rattle.bep_record.specs.declared.limits.TheConstants.{MAX_DEVICES}
 use Rattle.bep_cut.specs.declared.share.Share.{Share}
 use Rattle.bep_cut.specs.declared.share.SharedFolder.{SharedFolder}
 use Rattle.bep_model.specs.Tables.{Tables, Device, Folder, FileName}

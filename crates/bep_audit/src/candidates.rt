@@ -4,12 +4,12 @@ ghost use Rattle.std.specs.List.Sorted.{IsStrictlyIncreasing};
 ghost use Rattle.std.specs.Option.{option_copied};
 ghost use Rattle.bep_choice.specs.Choice.{Candidate, candidate_of, candidates_of, IsChoice};
 ghost use Rattle.bep_cut.specs.Cut.{devices_of};
-ghost use Rattle.bep_document.specs.declared.limits.TheConstants.{MAX_DEVICES};
+ghost use Rattle.bep_record.specs.declared.limits.TheConstants.{MAX_DEVICES};
 ghost use Rattle.bep_audit.specs.Candidates.{owned_in, chooser_of};
 
 use bep_choice::choose;
-use bep_cut::{MAX_DEVICES, Share};
-use bep_record::{DeviceId, Name, Record};
+use bep_cut::Share;
+use bep_record::{DeviceId, MAX_DEVICES, Name, Record};
 use std::array;
 
 // The device and the record that win the name among these shares.

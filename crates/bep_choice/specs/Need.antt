@@ -3,8 +3,8 @@ use Rattle.std.specs.Prelude.{◌≡◌, ◌≢◌, ℕ, Bool, true, false, Opti
 use Rattle.bep_record.specs.declared.entry.Entry.{Entry}
 use Rattle.bep_record.specs.Content.{content_of}
 use Rattle.bep_record.specs.Vector.{IsAtMost}
-use Rattle.bep_choice.specs.declared.folder_kind.FolderKind.{FolderKind}
-use Rattle.bep_choice.specs.declared.folder_kind.FolderKind.TheVariants.{SendOnly}
+use Rattle.bep_record.specs.declared.folder_kind.FolderKind.{FolderKind}
+use Rattle.bep_record.specs.declared.folder_kind.FolderKind.TheVariants.{SendOnly}
 use Rattle.bep_choice.specs.Choice.{Candidate, IsChoice}
 
 -- with an own record: by whether that is local-only (a local change of a receive-only folder, marked invalid)

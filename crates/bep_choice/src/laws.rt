@@ -2,7 +2,7 @@
 ghost use Rattle.std.specs.Prelude.{◌≡◌, ◌↔◌, ℕ, false, List, Some};
 ghost use Rattle.bep_record.specs.declared.entry.Entry.{Entry};
 ghost use Rattle.bep_record.specs.Vector.{IsAtMost, IsBelow};
-ghost use Rattle.bep_choice.specs.declared.folder_kind.FolderKind.{FolderKind};
+ghost use Rattle.bep_record.specs.declared.folder_kind.FolderKind.{FolderKind};
 ghost use Rattle.bep_choice.specs.Choice.{Candidate, IsValidAmong, IsChoice, HasOneEach, HasNoneLeft, SameSet};
 ghost use Rattle.bep_choice.specs.Need.{IsWanted};
 

@@ -5,12 +5,11 @@
 #![tactic(auto)]
 
 mod choice;
-mod folder_kind;
 pub mod laws;
 mod need;
 #[cfg(test)]
 mod tests;
 
+pub use bep_record::FolderKind;
 pub use choice::choose;
-pub use folder_kind::FolderKind;
 pub use need::needed;

@@ -19,7 +19,7 @@ use Rattle.bep_cut.specs.declared.share.PeerView.{PeerView}
 use Rattle.bep_cut.specs.declared.share.SharedFolder.{SharedFolder}
 use Rattle.bep_cut.specs.declared.link.LinkState.{LinkState}
 use Rattle.bep_cut.specs.declared.cut.CutParts.{CutParts}
-use Rattle.bep_document.specs.declared.limits.TheConstants.{MAX_FOLDERS, MAX_DEVICES, MAX_PULLS}
+use Rattle.bep_record.specs.declared.limits.TheConstants.{MAX_FOLDERS, MAX_DEVICES, MAX_PULLS}
 
 -- the index that a device has of a folder
 abbrev pub index_of : Share → Listing

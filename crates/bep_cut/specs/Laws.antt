@@ -2,7 +2,7 @@
 use Rattle.std.specs.Prelude.{◌≡◌, ◌⊎◌, ◌↔◌, IsTrue, Some, Contains}
 use Rattle.std.specs.FinMap.{get, contains_key}
 use Rattle.bep_record.specs.declared.entry.Entry.{Entry}
-use Rattle.bep_choice.specs.declared.folder_kind.FolderKind.{FolderKind}
+use Rattle.bep_record.specs.declared.folder_kind.FolderKind.{FolderKind}
 use Rattle.bep_model.specs.declared.flight.Flight.{Flight}
 use Rattle.bep_model.specs.Tables.{Device, Folder, FileName, Shares, SharesAs}
 use Rattle.bep_model.specs.Foreign.{IsViewed, IsFlying, IsKnown, IsFinite}

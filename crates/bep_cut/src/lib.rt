@@ -14,7 +14,7 @@ mod share;
 mod tests;
 mod written;
 
-pub use bep_document::{DocError, DocFault, Fault, MAX_BYTES, MAX_DEVICES, MAX_FOLDERS, MAX_PULLS};
+pub use bep_document::{DocError, DocFault, Fault, MAX_BYTES};
 pub use bep_model::{Flight, Row};
 pub use cut::{Cut, CutParts};
 pub use laws::{cut_is_as_written, cut_says, names_are_known};

@@ -1,7 +1,6 @@
-use bep_choice::FolderKind;
 use bep_index::IndexId;
 use bep_map::NameMap;
-use bep_record::{DeviceId, FolderName, Items, Node, Record};
+use bep_record::{DeviceId, FolderKind, FolderName, Items, Node, Record};
 
 /// What a device has of a folder that it shares.
 #[derive(Drop)]

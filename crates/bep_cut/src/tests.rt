@@ -1,8 +1,7 @@
 // Documents whose folders, devices, views and links are out of order; what they say was read off by hand, by
 // docs/DOCUMENTS.md.
 use crate::*;
-use bep_choice::FolderKind;
-use bep_record::{FolderName, Kind, Name, RecordError};
+use bep_record::{FolderKind, FolderName, Kind, Name, RecordError};
 use std::alloc::{AllocError, Global};
 use std::test::Fail;
 

@@ -9,7 +9,7 @@ use Rattle.bep_json.specs.Numbers.{read_number, read_signed, read_flag, read_kin
 use Rattle.bep_json.specs.Records.{read_record, default_block_size}
 use Rattle.bep_json.specs.Texts.{read_name, read_target, read_hash, read_folder_name}
 use Rattle.bep_index.specs.declared.limits.TheConstants.{MAX_NAMES, MAX_RECORDS, MAX_SEQUENCE}
-use Rattle.bep_document.specs.declared.limits.TheConstants.{MAX_FOLDERS, MAX_PULLS}
+use Rattle.bep_record.specs.declared.limits.TheConstants.{MAX_FOLDERS, MAX_PULLS}
 use Rattle.bep_document.specs.declared.parts.ShareParts.{ShareParts}
 use Rattle.bep_document.specs.declared.parts.ViewParts.{ViewParts}
 use Rattle.bep_document.specs.declared.parts.FolderParts.{FolderParts}

@@ -6,7 +6,7 @@ use Rattle.bep_index.specs.Batch.{NamesDiffer}
 use Rattle.bep_record.specs.Entry.{IsWellFormed}
 use Rattle.bep_record.specs.declared.entry.Entry.{Entry}
 use Rattle.bep_document.specs.declared.fault.Fault.TheVariants.{NotJson, VersionBad, Shape, Range}
-use Rattle.bep_document.specs.declared.limits.TheConstants.{MAX_DEVICES}
+use Rattle.bep_record.specs.declared.limits.TheConstants.{MAX_DEVICES}
 use Rattle.bep_document.specs.declared.parts.ShareParts.{ShareParts}
 use Rattle.bep_document.specs.declared.parts.FolderParts.{FolderParts}
 use Rattle.bep_document.specs.declared.parts.FlightParts.{FlightParts}

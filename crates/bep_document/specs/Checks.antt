@@ -10,7 +10,7 @@ use Rattle.bep_document.specs.Few.{read_few}
 use Rattle.bep_document.specs.Devices.{has_few_devices}
 use Rattle.bep_document.specs.Folders.{is_folder, read_folder, is_row, read_row}
 use Rattle.bep_document.specs.Links.{is_link, read_link}
-use Rattle.bep_document.specs.declared.limits.TheConstants.{MAX_FOLDERS}
+use Rattle.bep_record.specs.declared.limits.TheConstants.{MAX_FOLDERS}
 use Rattle.bep_document.specs.declared.parts.FolderParts.{FolderParts}
 use Rattle.bep_document.specs.declared.parts.LinkParts.{LinkParts}
 use Rattle.bep_document.specs.declared.parts.CheckParts.{CheckParts}

@@ -1,7 +1,7 @@
 -- How many different devices share the folders of a cut (this project's profile).
 use Rattle.std.specs.Prelude.{ℕ, ◌==◌, nat_le, Bool, List, [], ◌∷◌, ◌++◌, length, map, if◌then◌else◌}
 use Rattle.std.specs.List.{list_any}
-use Rattle.bep_document.specs.declared.limits.TheConstants.{MAX_DEVICES}
+use Rattle.bep_record.specs.declared.limits.TheConstants.{MAX_DEVICES}
 use Rattle.bep_document.specs.declared.parts.FolderParts.{FolderParts}
 
 -- the number is one of these

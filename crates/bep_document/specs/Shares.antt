@@ -3,8 +3,8 @@ use Rattle.std.specs.Prelude.{ℕ, nat_eq, ◌&&◌, Bool, List, [], ◌∷◌, 
 use Rattle.std.specs.Cmp.Lexicographic.{pointwise}
 use Rattle.serde_json.specs.Data.{Data}
 use Rattle.serde_json.specs.Find.{as_str}
-use Rattle.bep_choice.specs.declared.folder_kind.FolderKind.{FolderKind}
-use Rattle.bep_choice.specs.declared.folder_kind.FolderKind.TheVariants.{SendReceive, SendOnly, ReceiveOnly}
+use Rattle.bep_record.specs.declared.folder_kind.FolderKind.{FolderKind}
+use Rattle.bep_record.specs.declared.folder_kind.FolderKind.TheVariants.{SendReceive, SendOnly, ReceiveOnly}
 use Rattle.bep_index.specs.declared.limits.TheConstants.{MAX_NAMES, MAX_SEQUENCE}
 use Rattle.bep_json.specs.Tree.{has_only, has_member, may_have_member}
 use Rattle.bep_json.specs.Reading.{◌>>=◌, read_member, read_member_or}
@@ -15,7 +15,7 @@ use Rattle.bep_json.specs.Records.{is_record, read_record}
 use Rattle.bep_json.specs.Nodes.{is_node, read_node}
 use Rattle.bep_document.specs.Few.{read_few}
 use Rattle.bep_document.specs.Views.{is_view, read_view}
-use Rattle.bep_document.specs.declared.limits.TheConstants.{MAX_PULLS}
+use Rattle.bep_record.specs.declared.limits.TheConstants.{MAX_PULLS}
 use Rattle.bep_document.specs.declared.parts.ShareParts.{ShareParts}
 
 -- the kind with this name (Syncthing, 'Folder Types')

@@ -4,9 +4,9 @@ ghost use Rattle.bep_document.specs.Checks.{is_cut, read_cut, is_one, has_versio
 
 use crate::devices::has_few_devices;
 use crate::few::Few;
-use crate::{CheckParts, FolderParts, LinkParts, MAX_FOLDERS, RowParts};
+use crate::{CheckParts, FolderParts, LinkParts, RowParts};
 use bep_json::{ReadError, Readable, Whole, has, has_only, may_have, member, member_or};
-use bep_record::Items;
+use bep_record::{Items, MAX_FOLDERS};
 use serde_json::Value;
 use std::alloc::Global;
 use std::marker::Model;

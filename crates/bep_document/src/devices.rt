@@ -2,10 +2,10 @@
 ghost use Rattle.std.specs.Prelude.{◌≡◌, ◌==◌, ◌≤◌, nat_le, IfOk, length, map, []};
 ghost use Rattle.std.specs.Bool.{OnTrue};
 ghost use Rattle.bep_document.specs.Devices.{is_one_of, with_others, with_devices, has_few_devices};
-ghost use Rattle.bep_document.specs.declared.limits.TheConstants.{MAX_DEVICES};
+ghost use Rattle.bep_record.specs.declared.limits.TheConstants.{MAX_DEVICES};
 
-use crate::{FolderParts, MAX_DEVICES, ShareParts};
-use bep_record::DeviceId;
+use crate::{FolderParts, ShareParts};
+use bep_record::{DeviceId, MAX_DEVICES};
 use std::alloc::{AllocError, Global};
 
 // Whether at most 16 different devices share the folders, or want of memory.

@@ -1,7 +1,6 @@
-use bep_choice::FolderKind;
 use bep_index::IndexId;
 use bep_json::NamedParts;
-use bep_record::{DeviceId, Entry, FolderName, Items};
+use bep_record::{DeviceId, Entry, FolderKind, FolderName, Items};
 
 /// What a document says of a device that shares a folder.
 #[derive(Debug, Drop)]

@@ -1,7 +1,7 @@
 // Faults that have a place, by docs/DOCUMENTS.md.
 use crate::tests::{BLOCKLESS, DEVICE, DOCUMENT, END, FOLDER, RECORD, STORE, answer, text_of};
 use crate::*;
-use bep_choice::FolderKind;
+use bep_record::FolderKind;
 use std::alloc::{AllocError, Global};
 use std::test::Fail;
 

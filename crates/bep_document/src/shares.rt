@@ -6,13 +6,12 @@ ghost use Rattle.bep_json.specs.Texts.{is_text};
 ghost use Rattle.bep_document.specs.Shares.{read_folder_kind, is_share, has_share_members, may_have_share_members, read_share};
 
 use crate::few::Few;
-use crate::{MAX_PULLS, ShareParts, ViewParts};
-use bep_choice::FolderKind;
+use crate::{ShareParts, ViewParts};
 use bep_index::{IndexId, MAX_NAMES};
 use bep_json::{
     NamedParts, ReadError, Readable, Sequence, has, has_only, may_have, member, member_or,
 };
-use bep_record::{DeviceId, Entry, Items};
+use bep_record::{DeviceId, Entry, FolderKind, Items, MAX_PULLS};
 use serde_json::Value;
 use std::alloc::Global;
 use std::marker::Model;
@@ -24,7 +23,7 @@ struct NamedKind {
 }
 
 impl Model for NamedKind {
-    ghost use Rattle.bep_choice.specs.declared.folder_kind.FolderKind.{FolderKind};
+    ghost use Rattle.bep_record.specs.declared.folder_kind.FolderKind.{FolderKind};
 
     ghost Value = { FolderKind };
 

@@ -11,7 +11,7 @@ use Rattle.bep_record.specs.declared.entry.Entry.{Entry}
 use Rattle.bep_record.specs.declared.node.NodeParts.{NodeParts}
 use Rattle.bep_record.specs.Content.{Content, Deleted, File, Directory, Symlink, content_of}
 use Rattle.bep_record.specs.Node.{IsClean, LooksSame}
-use Rattle.bep_choice.specs.declared.folder_kind.FolderKind.{FolderKind}
+use Rattle.bep_record.specs.declared.folder_kind.FolderKind.{FolderKind}
 use Rattle.bep_choice.specs.Choice.{Candidate, IsValidAmong, IsChoice}
 use Rattle.bep_model.specs.declared.row.Row.{Row}
 use Rattle.bep_model.specs.declared.reason.Reason.{Reason}

@@ -6,7 +6,7 @@ use Rattle.bep_facts.specs.Members.{not_in_none, Contains-first, Contains-more, 
 use Rattle.bep_facts.specs.Orders.{texts_total, not_less_itself}
 use Rattle.bep_facts.specs.Rising.{below_later, sorted_from_steps}
 use Rattle.bep_record.specs.declared.entry.Entry.{Entry}
-use Rattle.bep_choice.specs.declared.folder_kind.FolderKind.{FolderKind}
+use Rattle.bep_record.specs.declared.folder_kind.FolderKind.{FolderKind}
 use Rattle.bep_choice.specs.Choice.{Candidate, IsChoice, HasOneEach}
 use Rattle.bep_model.specs.declared.row.Row.{Row}
 use Rattle.bep_model.specs.Tables.{Tables, Device, Folder, FileName}

@@ -6,8 +6,8 @@ use Rattle.bep_record.specs.declared.entry.Entry.{Entry}
 use Rattle.bep_record.specs.declared.limits.TheConstants.{HASH_OF_NOTHING}
 use Rattle.bep_record.specs.declared.kind.Kind.TheVariants.{File, Symlink}
 use Rattle.bep_record.specs.declared.node.NodeParts.{NodeParts}
-use Rattle.bep_choice.specs.declared.folder_kind.FolderKind.{FolderKind}
-use Rattle.bep_choice.specs.declared.folder_kind.FolderKind.TheVariants.{SendReceive, SendOnly}
+use Rattle.bep_record.specs.declared.folder_kind.FolderKind.{FolderKind}
+use Rattle.bep_record.specs.declared.folder_kind.FolderKind.TheVariants.{SendReceive, SendOnly}
 use Rattle.bep_model.specs.declared.row.Row.{Row}
 use Rattle.bep_model.specs.Tables.{Tables, Device, Folder, FileName}
 use Rattle.bep_model.specs.Settled.{key_cmp}

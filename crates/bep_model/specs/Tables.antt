@@ -3,7 +3,7 @@
 use Rattle.std.specs.Prelude.{ℕ, List, Option, Contains}
 use Rattle.bep_record.specs.declared.entry.Entry.{Entry}
 use Rattle.bep_record.specs.declared.node.NodeParts.{NodeParts}
-use Rattle.bep_choice.specs.declared.folder_kind.FolderKind.{FolderKind}
+use Rattle.bep_record.specs.declared.folder_kind.FolderKind.{FolderKind}
 use Rattle.bep_model.specs.declared.flight.Flight.{Flight}
 
 -- a device's short id

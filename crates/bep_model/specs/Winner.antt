@@ -1,7 +1,7 @@
 -- The record that each name's sharing devices would choose, were all their own records known (this project's profile).
 use Rattle.std.specs.Prelude.{min, List, [], ◌∷◌, ◌++◌, Option, Some, None}
 use Rattle.bep_record.specs.declared.entry.Entry.{Entry}
-use Rattle.bep_choice.specs.declared.folder_kind.FolderKind.{FolderKind}
+use Rattle.bep_record.specs.declared.folder_kind.FolderKind.{FolderKind}
 use Rattle.bep_choice.specs.Choice.{Candidate, IsChoice}
 use Rattle.bep_model.specs.Tables.{Tables, Device, Folder, FileName}
 

@@ -1,6 +1,6 @@
 //! Small cuts on which the definitions are tried out: each call says what holds of one, and what doesn't.
 ghost use Rattle.std.specs.Prelude.{◌≡◌, ◌∷◌, [], List, true, Some, None};
-ghost use Rattle.bep_choice.specs.declared.folder_kind.FolderKind.TheVariants.{SendReceive};
+ghost use Rattle.bep_record.specs.declared.folder_kind.FolderKind.TheVariants.{SendReceive};
 ghost use Rattle.bep_choice.specs.Choice.{Candidate};
 ghost use Rattle.bep_record.specs.Content.{Deleted};
 ghost use Rattle.bep_record.specs.Node.{IsClean};

@@ -11,6 +11,7 @@ mod duplicate;
 mod entry;
 mod error;
 mod folder;
+mod folder_kind;
 mod items;
 mod kind;
 mod limits;
@@ -31,9 +32,12 @@ pub use duplicate::Duplicate;
 pub use entry::Entry;
 pub use error::RecordError;
 pub use folder::FolderName;
+pub use folder_kind::FolderKind;
 pub use items::Items;
 pub use kind::Kind;
-pub use limits::{HASH_OF_NOTHING, MAX_FILE_SIZE, MAX_NANOSECONDS};
+pub use limits::{
+    HASH_OF_NOTHING, MAX_DEVICES, MAX_FILE_SIZE, MAX_FOLDERS, MAX_MESSAGES, MAX_NANOSECONDS, MAX_PULLS,
+};
 pub use name::Name;
 pub use node::{Node, NodeParts};
 pub use record::Record;

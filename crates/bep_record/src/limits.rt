@@ -9,3 +9,23 @@ pub const HASH_OF_NOTHING: [u8; 32] = [
     0xe3, 0xb0, 0xc4, 0x42, 0x98, 0xfc, 0x1c, 0x14, 0x9a, 0xfb, 0xf4, 0xc8, 0x99, 0x6f, 0xb9, 0x24,
     0x27, 0xae, 0x41, 0xe4, 0x64, 0x9b, 0x93, 0x4c, 0xa4, 0x95, 0x99, 0x1b, 0x78, 0x52, 0xb8, 0x55,
 ];
+
+/// The most folders of a cluster.
+///
+/// This project's profile.
+pub const MAX_FOLDERS: usize = 16;
+
+/// The most devices of a cluster.
+///
+/// This project's profile.
+pub const MAX_DEVICES: usize = 16;
+
+/// The most pulls of a device in a folder.
+///
+/// This project's profile.
+pub const MAX_PULLS: usize = 64;
+
+/// The most messages that are on their way to one end of a link.
+///
+/// This project's profile.
+pub const MAX_MESSAGES: usize = 1024;

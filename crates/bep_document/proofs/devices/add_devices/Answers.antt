@@ -1,6 +1,6 @@
 use Rattle.std.proofs.Common.{◌≡◌, ◌<◌, ◌+◌, false, ◌∷◌, length, map, drop, ap, sym, ◌∙◌, arith}
 use Rattle.bep_document.specs.Devices.{is_one_of, with_others}
-use Rattle.bep_document.specs.declared.limits.TheConstants.{MAX_DEVICES}
+use Rattle.bep_record.specs.declared.limits.TheConstants.{MAX_DEVICES}
 use Rattle.bep_document.specs.declared.parts.ShareParts.{ShareParts}
 use Rattle.bep_document.proofs.DevicesFacts.{others_more, not_few}
 use Rattle.bep_document.proofs.PlacesFacts.{drop_here}

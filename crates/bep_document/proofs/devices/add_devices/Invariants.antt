@@ -1,6 +1,6 @@
 use Rattle.std.proofs.Common.{◌≡◌, ◌≤◌, length, map, drop}
 use Rattle.bep_document.specs.Devices.{with_others}
-use Rattle.bep_document.specs.declared.limits.TheConstants.{MAX_DEVICES}
+use Rattle.bep_record.specs.declared.limits.TheConstants.{MAX_DEVICES}
 use Rattle.bep_document.proofs.devices.add_devices.Given as goal
 
 -- the known ones with the rest of these are those at first with all of these

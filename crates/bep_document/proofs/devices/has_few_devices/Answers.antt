@@ -1,6 +1,6 @@
 use Rattle.std.proofs.Common.{◌≡◌, ◌+◌, false, leb, List, [], ◌∷◌, length, map, drop, ap, sym, ◌∙◌, arith}
 use Rattle.bep_document.specs.Devices.{with_others, with_devices}
-use Rattle.bep_document.specs.declared.limits.TheConstants.{MAX_DEVICES}
+use Rattle.bep_record.specs.declared.limits.TheConstants.{MAX_DEVICES}
 use Rattle.bep_document.specs.declared.parts.ShareParts.{ShareParts}
 use Rattle.bep_document.proofs.DevicesFacts.{devices_grow, not_few, many}
 use Rattle.bep_document.proofs.PlacesFacts.{drop_here}

@@ -1,6 +1,6 @@
 use Rattle.std.proofs.Common.{◌≡◌, ◌≤◌, [], length, drop}
 use Rattle.bep_document.specs.Devices.{with_devices}
-use Rattle.bep_document.specs.declared.limits.TheConstants.{MAX_DEVICES}
+use Rattle.bep_record.specs.declared.limits.TheConstants.{MAX_DEVICES}
 use Rattle.bep_document.proofs.devices.has_few_devices.Given as goal
 
 -- the known ones with the rest of the folders are those of all folders

@@ -8,7 +8,7 @@ use Rattle.bep_facts.specs.Orders.{texts_exact}
 use Rattle.bep_record.specs.declared.entry.Entry.{Entry}
 use Rattle.bep_record.specs.Content.{Deleted, content_of}
 use Rattle.bep_choice.specs.Choice.{Candidate, IsDominated, IsNotBehind}
-use Rattle.bep_choice.specs.declared.folder_kind.FolderKind.TheVariants.{SendReceive}
+use Rattle.bep_record.specs.declared.folder_kind.FolderKind.TheVariants.{SendReceive}
 use Rattle.bep_model.specs.declared.row.Row.{Row}
 use Rattle.bep_model.specs.Tables.{Device, Folder, FileName}
 use Rattle.bep_model.specs.Foreign.{IsKnown, IsForeign}

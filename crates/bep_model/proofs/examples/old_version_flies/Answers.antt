@@ -3,8 +3,8 @@ use Rattle.std.proofs.lemmas.Bool.Decides.{nat_tests}
 use Rattle.bep_facts.specs.Members.{Contains-first, Contains-more, Contains-one}
 use Rattle.bep_record.specs.declared.entry.Entry.{Entry}
 use Rattle.bep_record.specs.Content.{Deleted, content_of}
-use Rattle.bep_choice.specs.declared.folder_kind.FolderKind.{FolderKind}
-use Rattle.bep_choice.specs.declared.folder_kind.FolderKind.TheVariants.{SendReceive}
+use Rattle.bep_record.specs.declared.folder_kind.FolderKind.{FolderKind}
+use Rattle.bep_record.specs.declared.folder_kind.FolderKind.TheVariants.{SendReceive}
 use Rattle.bep_model.specs.declared.row.Row.{Row}
 use Rattle.bep_model.specs.Tables.{Tables, Device}
 use Rattle.bep_model.specs.declared.flight.Flight.{Flight}

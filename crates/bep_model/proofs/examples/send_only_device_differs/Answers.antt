@@ -1,6 +1,6 @@
 use Rattle.std.proofs.Common.{◌≡◌, ℕ, [], ◌∷◌, refl, arith}
 use Rattle.bep_facts.specs.Members.{Contains-first, Contains-more}
-use Rattle.bep_choice.specs.declared.folder_kind.FolderKind.TheVariants.{SendReceive, SendOnly}
+use Rattle.bep_record.specs.declared.folder_kind.FolderKind.TheVariants.{SendReceive, SendOnly}
 use Rattle.bep_record.specs.Content.{Symlink}
 use Rattle.bep_model.specs.Examples.{link, row_of, by_one, twice_by_one}
 use Rattle.bep_model.proofs.examples.send_only_device_differs.Goals as goal
