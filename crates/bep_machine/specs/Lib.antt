@@ -8,3 +8,5 @@ pub mod Exchange
 pub mod Cluster
 pub mod Steps
 pub mod Said
+pub mod Sound
+pub mod Gapless
