@@ -10,7 +10,7 @@ use Rattle.bep_map.specs.NameMap.{ByName}
 use Rattle.bep_record.specs.declared.entry.Entry.{Entry}
 use Rattle.bep_record.specs.declared.node.NodeParts.{NodeParts}
 use Rattle.bep_index.specs.After.{IsAmong}
-use Rattle.bep_index.specs.Law.{RecordsAreFound}
+use Rattle.bep_index.specs.Laws.{RecordsAreFound}
 use Rattle.bep_json.specs.declared.nodes.NamedParts.{NamedParts}
 use Rattle.bep_model.specs.Tables.{FileName}
 use Rattle.bep_document.specs.declared.parts.ShareParts.{ShareParts}

@@ -6,7 +6,7 @@ use Rattle.std.specs.FinMap.{get, nat_cmp-IsAntisymmetric}
 use Rattle.std.proofs.lemmas.Map.Keys.{sorted_from_strictly_increasing}
 use Rattle.bep_facts.specs.Members.{holds_of_member}
 use Rattle.bep_record.specs.declared.entry.Entry.{Entry}
-use Rattle.bep_index.specs.Law.{RecordsAreFound}
+use Rattle.bep_index.specs.Laws.{RecordsAreFound}
 use Rattle.bep_model.specs.Tables.{Device, FileName}
 use Rattle.bep_document.specs.declared.parts.ShareParts.{ShareParts}
 use Rattle.bep_document.specs.declared.parts.ViewParts.{ViewParts}

@@ -12,7 +12,7 @@ use Rattle.std.proofs.lemmas.Map.Keys.{sorted_from_strictly_increasing, IsDistin
 use Rattle.std.proofs.lemmas.Map.Lookups.{exact_bytes}
 use Rattle.std.proofs.lemmas.Map.Made.{length-le_from_is_member}
 use Rattle.bep_facts.specs.Members.{Contains-from_image, holds_of_member}
-use Rattle.bep_index.specs.Law.{RecordsMakeAnIndex, RecordsAreFound}
+use Rattle.bep_index.specs.Laws.{RecordsMakeAnIndex, RecordsAreFound}
 use Rattle.bep_model.specs.Tables.{Device}
 use Rattle.bep_document.specs.declared.parts.ShareParts.{ShareParts}
 use Rattle.bep_document.specs.declared.parts.FolderParts.{FolderParts}

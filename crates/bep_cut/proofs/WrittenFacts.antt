@@ -14,7 +14,7 @@ use Rattle.bep_record.specs.declared.entry.Entry.{Entry}
 use Rattle.bep_index.specs.After.{IsAmong}
 use Rattle.bep_index.specs.Batch.{with_all}
 use Rattle.bep_index.specs.Index.{IsIndex}
-use Rattle.bep_index.specs.Law.{HaveIndexNumbers, RecordsMakeAnIndex, RecordsAreFound}
+use Rattle.bep_index.specs.Laws.{HaveIndexNumbers, RecordsMakeAnIndex, RecordsAreFound}
 use Rattle.bep_model.specs.Tables.{Device}
 use Rattle.bep_document.specs.declared.parts.ShareParts.{ShareParts}
 use Rattle.bep_document.specs.declared.parts.ViewParts.{ViewParts}

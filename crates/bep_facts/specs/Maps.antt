@@ -1,9 +1,9 @@
 -- What a finite map holds, where its order ties only equal keys.
-use Rattle.std.proofs.Common.{◌≡◌, ◌≢◌, ◌⊎◌, ◌↔◌, Bool, true, false, cond, Some, Contains, IsSome, inl, inr, refl, sym, ap, ◌∙◌}
+use Rattle.std.proofs.Common.{◌≡◌, ◌≢◌, ◌⊎◌, ◌↔◌, Bool, true, false, cond, Some, None, Contains, IsSome, inl, inr, refl, sym, ap, ◌∙◌}
 use Rattle.std.specs.declared.cmp.Ordering.{Ordering}
 use Rattle.std.specs.Ordering.{is_eq, eq_by_cmp}
 use Rattle.std.specs.Cmp.{IsTotalOrder, Equal-is, eq_by_cmp_equiv}
-use Rattle.std.specs.FinMap.{FinMap, IsAntisymmetric, empty, get, insert, keys, contains_key-keys, get-empty, get-insert}
+use Rattle.std.specs.FinMap.{FinMap, IsAntisymmetric, empty, get, insert, remove, keys, contains_key-keys, get-empty, get-insert, get-remove}
 use Rattle.std.proofs.lemmas.Cmp.{tied_itself}
 use Rattle.std.proofs.lemmas.Map.Views.{list_any-from_Contains, Contains-from_any}
 use Rattle.std.proofs.lemmas.Option.{none-some}
@@ -42,3 +42,15 @@ module _ {K V : Type 0} {R : K → K → Ordering} (total : IsTotalOrder R) (exa
       cases : (b : Bool) → eq_by_cmp R other key ≡ b → cond b (Some value) (get m other) ≡ Some found → ((other ≡ key) × (found ≡ value)) ⊎ ((eq_by_cmp R other key ≡ false) × (get m other ≡ Some found))
       cases true tied e = inl (same_key exact other key tied, cc)
       cases false apart e = inr (apart, e)
+
+  -- ---- after a key lost its value
+
+  pub get-remove_here : (m : FinMap R V) (key : K) → get (remove m key) key ≡ None
+  get-remove_here m key = get-remove total m key key ∙ ap (λ b. cond b None (get m key)) (ap is_eq (tied_itself total key))
+
+  pub get-remove_apart : (m : FinMap R V) (key other : K) → other ≢ key → get (remove m key) other ≡ get m other
+  get-remove_apart m key other apart = get-remove total m key other ∙ there (eq_by_cmp R other key) refl
+    where
+      there : (b : Bool) → eq_by_cmp R other key ≡ b → cond b None (get m other) ≡ get m other
+      there true tied = absurd (apart (same_key exact other key tied))
+      there false tied = refl

@@ -1,5 +1,5 @@
 -- Finite maps from names to entries, after a name was given an entry or lost it.
-use Rattle.std.proofs.Common.{◌≡◌, ◌⊎◌, inl, inr, ℕ, ◌+◌, ◌≤◌, Bool, true, false, cond, List, Option, Some, None, is_some, refl, sym, ap, subst, ◌∙◌, arith}
+use Rattle.std.proofs.Common.{◌≡◌, ◌⊎◌, inl, inr, ℕ, ◌+◌, ◌<◌, ◌≤◌, Bool, true, false, cond, List, Option, Some, None, is_some, refl, sym, ap, subst, ◌∙◌, arith}
 use Rattle.std.specs.Ordering.{nat_cmp, eq_by_cmp}
 use Rattle.std.specs.Cmp.Lexicographic.{slice_cmp, nat_list_cmp_total}
 use Rattle.std.specs.FinMap.{get, insert, remove, len, get-insert, get-remove, len-insert, same_map}
@@ -9,7 +9,7 @@ use Rattle.std.specs.Ordering.{is_eq}
 use Rattle.bep_facts.specs.Maps.{same_key, found_after_insert}
 use Rattle.bep_map.specs.NameMap.{ByName}
 use Rattle.bep_record.specs.declared.entry.Entry.{Entry}
-use Rattle.bep_index.specs.Index.{AreNumbered}
+use Rattle.bep_index.specs.Index.{AreNumbered, HaveOwnNumbers}
 
 abbrev Name : Type 0
 Name = List ℕ
@@ -22,6 +22,11 @@ same_name-itself n = ap is_eq (tied_itself nat_list_cmp_total n)
 
 pub equal_from_same_name : (n m : List ℕ) → same_name n m ≡ true → n ≡ m
 equal_from_same_name = same_key exact_bytes
+
+pub clash : (n m : List ℕ) → n ≡ m → same_name n m ≡ false → ⊥
+clash n m q apart = different (sym apart ∙ ap (λ k. same_name k m) q ∙ same_name-itself m) where
+  different : false ≡ true → ⊥
+  different e = cc
 
 -- a name that loses its new value has again what it had
 pub remove-insert : {V : Type 0} (m : ByName V) (n : List ℕ) (v : V) → get m n ≡ None → remove (insert m n v) n ≡ m
@@ -54,3 +59,13 @@ AreNumbered-insert records n top entry old above positive within q found h = cas
   cases : ((q ≡ entry.name) × (found ≡ entry)) ⊎ ((same_name q entry.name ≡ false) × (get records q ≡ Some found)) → (found.name ≡ q) × (1 ≤ found.sequence) × (found.sequence ≤ top)
   cases (inl (here, same)) = subst (λ (e : Entry). (e.name ≡ q) × (1 ≤ e.sequence) × (e.sequence ≤ top)) (sym same) (sym here, positive, within)
   cases (inr (apart, there)) = let o = old q found there in (o.0, o.1, omega arith)
+
+-- an entry that is given its name, under a number above all others
+pub HaveOwnNumbers-insert : (records : ByName Entry) (n : ℕ) (entry : Entry) → AreNumbered n records → HaveOwnNumbers records → n < entry.sequence → HaveOwnNumbers (insert records entry.name entry)
+HaveOwnNumbers-insert records n entry old distinct above q p f g hf hg same =
+    cases (found_after_insert nat_list_cmp_total exact_bytes records entry.name entry q f hf) (found_after_insert nat_list_cmp_total exact_bytes records entry.name entry p g hg) where
+      cases : ((q ≡ entry.name) × (f ≡ entry)) ⊎ ((same_name q entry.name ≡ false) × (get records q ≡ Some f)) → ((p ≡ entry.name) × (g ≡ entry)) ⊎ ((same_name p entry.name ≡ false) × (get records p ≡ Some g)) → q ≡ p
+      cases (inl (a, b)) (inl (c, d)) = a ∙ sym c
+      cases (inl (a, b)) (inr (c, d)) = let o = (old p g d).2 in let e = ap (λ (x : Entry). x.sequence) b in absurd (omega arith)
+      cases (inr (a, b)) (inl (c, d)) = let o = (old q f b).2 in let e = ap (λ (x : Entry). x.sequence) d in absurd (omega arith)
+      cases (inr (a, b)) (inr (c, d)) = distinct q p f g b d same

@@ -7,7 +7,7 @@ mod batch;
 mod error;
 mod id;
 mod index;
-mod law;
+mod laws;
 mod limits;
 mod next;
 mod number;
@@ -22,7 +22,10 @@ pub use batch::Batch;
 pub use error::IndexError;
 pub use id::IndexId;
 pub use index::Index;
-pub use law::{batches_bring_the_index, records_make_an_index};
+pub use laws::{
+    batch_records_are_found, batches_bring_the_index, records_make_an_index,
+    undo_fits_the_last_change,
+};
 pub use limits::{MAX_NAMES, MAX_RECORDS, MAX_SEQUENCE};
 pub use receiver::plan;
 pub use send::Plan;

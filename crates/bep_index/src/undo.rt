@@ -1,9 +1,13 @@
+use crate::IndexId;
 use bep_record::{Name, Record};
 use std::marker::Model;
 
-/// How the last change of an index is taken back.
+/// How the last change of an index is taken back. It fits only the index that was changed, and only until that index
+/// gives another number.
 #[derive(Debug, Drop)]
 pub struct Undo {
+    pub(crate) id: IndexId,
+    pub(crate) sequence: u64,
     pub(crate) name: Name,
     pub(crate) old: Option<Record>,
 }
@@ -13,5 +17,5 @@ impl Model for Undo {
 
     ghost Value = { Change };
 
-    ghost view = { λ undo. record { name = undo.name; before = undo.old } };
+    ghost view = { λ undo. record { id = undo.id; sequence = undo.sequence; name = undo.name; before = undo.old } };
 }

@@ -14,6 +14,7 @@ mod folder;
 mod folder_kind;
 mod items;
 mod kind;
+mod laws;
 mod limits;
 mod name;
 mod node;
@@ -35,8 +36,10 @@ pub use folder::FolderName;
 pub use folder_kind::FolderKind;
 pub use items::Items;
 pub use kind::Kind;
+pub use laws::{bump_exists, cut_is_of_one_length, merge_exists};
 pub use limits::{
-    HASH_OF_NOTHING, MAX_DEVICES, MAX_FILE_SIZE, MAX_FOLDERS, MAX_MESSAGES, MAX_NANOSECONDS, MAX_PULLS,
+    HASH_OF_NOTHING, MAX_DEVICES, MAX_FILE_SIZE, MAX_FOLDERS, MAX_MESSAGES, MAX_NANOSECONDS,
+    MAX_PULLS,
 };
 pub use name::Name;
 pub use node::{Node, NodeParts};

@@ -197,9 +197,10 @@ impl Vector {
         ensures least { (u v w x : List (ℕ × ℕ)) → IsMerge u v w → IsAtMost u x → IsAtMost v x → IsAtMost w x }
     {}
 
-    /// What is strictly below a vector is strictly below each merge of it.
+    /// What is strictly below one of two vectors is strictly below each merge of them.
     pub fn merge_keeps_above()
-        ensures { (u v x w : List (ℕ × ℕ)) → IsBelow u v → IsMerge v x w → IsBelow u w }
+        ensures first { (u v x w : List (ℕ × ℕ)) → IsBelow u v → IsMerge v x w → IsBelow u w }
+        ensures second { (u v x w : List (ℕ × ℕ)) → IsBelow u x → IsMerge v x w → IsBelow u w }
     {}
 
     /// A bump leads strictly above.

@@ -1,10 +1,13 @@
--- What a receiver has that takes a sender's batches in order and without a gap (BEP v1, 'Index' and 'Index Update').
-use Rattle.std.specs.Prelude.{◌≡◌, ◌↔◌, ℕ, ◌≤◌, nat_le, List, [], ◌∷◌, length, Option, Some, None, if◌then◌else◌}
+-- What follows from the definitions alone; the functions of src/laws.rt have these as contracts. Most of it is what a
+-- receiver has that takes a sender's batches in order and without a gap (BEP v1, 'Index' and 'Index Update').
+use Rattle.std.specs.Prelude.{◌≡◌, ◌↔◌, ◌⊎◌, Contains, ℕ, ◌≤◌, nat_le, List, [], ◌∷◌, length, Option, Some, None, if◌then◌else◌}
 use Rattle.std.specs.FinMap.{empty, get}
 use Rattle.bep_record.specs.declared.entry.Entry.{Entry}
 use Rattle.bep_index.specs.Listing.{Listing}
-use Rattle.bep_index.specs.Index.{IsIndex}
-use Rattle.bep_index.specs.Batch.{NamesDiffer, last_sequence, with_all}
+use Rattle.bep_index.specs.Index.{IsIndex, after_put}
+use Rattle.bep_map.specs.NameMap.{ByName}
+use Rattle.bep_index.specs.Batch.{HasNo, NamesDiffer, last_sequence, with_all}
+use Rattle.bep_index.specs.Change.{Change, IsLastChange}
 use Rattle.bep_index.specs.After.{IsAmong, IsRun}
 use Rattle.bep_index.specs.View.{replaced, amended}
 use Rattle.bep_index.specs.declared.limits.TheConstants.{MAX_NAMES, MAX_SEQUENCE}
@@ -58,3 +61,37 @@ abbrev pub RecordsAreFound : Type 0
 RecordsAreFound =
     (entries : List Entry) (name : List ℕ) (entry : Entry) → NamesDiffer entries →
     (get (with_all empty entries) name ≡ Some entry) ↔ (IsAmong entry entries × (entry.name ≡ name))
+
+-- what stands at a name after all records of a batch were put there is the batch's, or was there before and none of the
+-- batch has the name
+abbrev pub FoundIsOfBatchOrBefore : Type 0
+FoundIsOfBatchOrBefore =
+    (records : ByName Entry) (batch : List Entry) (name : List ℕ) (entry : Entry) → get (with_all records batch) name ≡ Some entry →
+    (IsAmong entry batch × (entry.name ≡ name)) ⊎ (HasNo name batch × (get records name ≡ Some entry))
+
+-- each record of a batch stands at its name then
+abbrev pub BatchIsFound : Type 0
+BatchIsFound =
+    (records : ByName Entry) (batch : List Entry) (entry : Entry) → NamesDiffer batch → IsAmong entry batch →
+    get (with_all records batch) entry.name ≡ Some entry
+
+-- and each other name has what it had
+abbrev pub OthersAreKept : Type 0
+OthersAreKept =
+    (records : ByName Entry) (batch : List Entry) (name : List ℕ) → HasNo name batch →
+    get (with_all records batch) name ≡ get records name
+
+-- to be among records is to be an element of their list
+abbrev pub AmongIsContained : Type 0
+AmongIsContained = (entry : Entry) (entries : List Entry) → IsAmong entry entries ↔ Contains entries entry
+
+-- no change of an index is its last one any more after another record was put
+abbrev pub EarlierChangesDontFit : Type 0
+EarlierChangesDontFit =
+    (change : Change) (index : Listing) (entry : Entry) → IsLastChange change index → ¬ IsLastChange change (after_put index entry)
+
+-- changes that are an index's last one are of one name, and gave one number
+abbrev pub LastChangesAgree : Type 0
+LastChangesAgree =
+    (one other : Change) (index : Listing) → IsIndex index → IsLastChange one index → IsLastChange other index →
+    (one.name ≡ other.name) × (one.sequence ≡ other.sequence)
