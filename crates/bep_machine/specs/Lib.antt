@@ -10,3 +10,4 @@ pub mod Steps
 pub mod Said
 pub mod Sound
 pub mod Gapless
+pub mod Laws

@@ -53,8 +53,8 @@ on_its_way cluster sender receiver =
     else []
 
 -- the cluster's tables
-abbrev pub tables_of : Cluster → Tables
-tables_of cluster = record {
+abbrev pub tables_of_cluster : Cluster → Tables
+tables_of_cluster cluster = record {
   sharing = cluster.config.sharing;
   own = at_device own_at cluster;
   node = at_device node_at cluster;
