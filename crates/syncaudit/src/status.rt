@@ -1,19 +1,12 @@
-//! What the program answers, and with which exit status.
+//! The exit statuses.
 ghost use Rattle.std.specs.Prelude.{◌≡◌};
-ghost use Rattle.syncaudit.specs.Outcome as spec;
+ghost use Rattle.syncaudit.specs.Status as spec;
 
+use bep_answer::Outcome;
 use bep_report::ReportError;
 
-/// What the program answers of a document.
-#[derive(Clone, Copy, Debug, PartialEq, Eq)]
-pub enum Outcome {
-    /// The document's cut and certificate are settled.
-    Settled,
-    /// They aren't.
-    NotSettled,
-    /// The document couldn't be read as a cut and a certificate.
-    Refused,
-}
+/// The exit status for words that aren't understood, and for help.
+pub const USAGE: u8 = 3;
 
 /// The exit status: 0 settled, 1 not settled, 2 refused, 4 memory, 5 a read or write fault.
 pub fn status_of(answer: Result<Outcome, ReportError>) -> u8

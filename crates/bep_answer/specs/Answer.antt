@@ -1,5 +1,5 @@
 -- What the program answers to the bytes of a document, and what it has written after it.
-use Rattle.std.specs.Prelude.{◌≡◌, ◌⊎◌, ℕ, List, Option}
+use Rattle.std.specs.Prelude.{◌≡◌, ℕ, List, Option}
 use Rattle.std.specs.Io.KnownBytes.{Appends, Keeps}
 use Rattle.bep_document.specs.declared.fault.DocFault.{DocFault}
 use Rattle.bep_document.specs.Fault.{number_of, name_of}
@@ -10,12 +10,15 @@ use Rattle.bep_model.specs.Verdict as verdicts
 use Rattle.bep_cut.specs.declared.cut.CutParts.{CutParts}
 use Rattle.bep_cut.specs.Cut.{tables_of}
 use Rattle.bep_cut.specs.Written.{check_of}
+use Rattle.bep_report.specs.declared.error.ReportError.{ReportError}
+use Rattle.bep_report.specs.declared.error.ReportError.TheVariants.{Memory}
+use Rattle.bep_report.specs.declared.error.ReportError.TheVariants as faults
 use Rattle.bep_report.specs.Input.{IsRead}
 use Rattle.bep_report.specs.Lines.{refused_line}
 use Rattle.bep_report.specs.Output.{AppendsBeginning}
 use Rattle.bep_report.specs.Report.{report_text}
-use Rattle.syncaudit.specs.declared.outcome.Outcome.{Outcome}
-use Rattle.syncaudit.specs.declared.outcome.Outcome.TheVariants as outcomes
+use Rattle.bep_answer.specs.declared.outcome.Outcome.{Outcome}
+use Rattle.bep_answer.specs.declared.outcome.Outcome.TheVariants as outcomes
 
 -- the outcome of a verdict
 abbrev pub outcome_of : verdicts.Verdict → Outcome
@@ -55,9 +58,12 @@ pub record IsBegun (unread left held now : Option (List ℕ)) : Type 0 where
   pub answer : IsAnswer (check_of bytes) outcome text
   pub written : AppendsBeginning held now text
 
--- what may be written where there is no answer: nothing, or a beginning of the text
-abbrev pub IsCutShort : Option (List ℕ) → Option (List ℕ) → Option (List ℕ) → Option (List ℕ) → Type 0
-IsCutShort unread left held now = Keeps held now ⊎ IsBegun unread left held now
+-- what is written where there is no answer: nothing after a read fault or want of memory, a beginning of the text after
+-- a write fault
+abbrev pub IsCutShort : Option (List ℕ) → Option (List ℕ) → Option (List ℕ) → Option (List ℕ) → ReportError → Type 0
+IsCutShort unread left held now Memory = Keeps held now
+IsCutShort unread left held now faults.Read = Keeps held now
+IsCutShort unread left held now faults.Write = IsBegun unread left held now
 
 -- the bytes that were read say a cut and a certificate, and these are settled
 pub record SaysSettled (unread left : Option (List ℕ)) : Type 0 where
