@@ -158,6 +158,17 @@ class Links(StepTest):
                      Announce(1, 2, DOCS), Deliver(2, 1), Deliver(2, 1), Deliver(2, 1))
         self.assertEqual(docs(cluster, 2).views[1].point, (11, 1))
 
+    def test_a_full_index_replaces_all_that_was_known(self):
+        cluster = one_file_on_both()
+        self.meet(cluster, 1, 2)
+        docs(cluster, 2).views[1].records["old"] = entry("old", text("old"), 1, ((1, 1),), sequence=1)
+        cluster.links[1, 2].to_b.append(Index(DOCS, (docs(cluster, 1).own("hello"),)))
+        self.answers(cluster, Deliver(2, 1))
+        self.assertEqual(docs(cluster, 2).views[1], View(11, 1, docs(cluster, 1).index.records))
+        cluster.links[1, 2].to_b.append(Index(DOCS, ()))
+        self.answers(cluster, Deliver(2, 1))
+        self.assertEqual(docs(cluster, 2).views[1], View(11, 0, {}))
+
     def test_an_index_of_another_id_is_forgotten(self):
         cluster = one_file_on_both()
         see(cluster, 2, 1)

@@ -86,6 +86,13 @@ def first_fault(cluster: Cluster):
         return "NotWinner", none.folder, none.name, None
 
 
+def settled_contents(cluster: Cluster):
+    """The content that each known name is settled at; None where the cut isn't settled for its own winners."""
+    if first_fault(cluster) is not None:
+        return None
+    return {(row["folder"], row["record"]["name"]): reading.content(row["record"]) for row in certify(cut_of(cluster))}
+
+
 def stores_of(cluster: Cluster) -> dict:
     """Kind, bytes and target of each node in each store: what is kept, whatever the times are."""
     return {(peer.number, folder): {name: (node.kind, node.data, node.target)
