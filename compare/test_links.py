@@ -294,6 +294,19 @@ class Links(StepTest):
         self.answers(cluster, Deliver(2, 1))
         self.assertEqual(docs(cluster, 2).pulls["n"].received, {})
 
+    def test_an_answer_must_have_the_bytes_that_were_asked_for(self):
+        cluster = empty_cluster(BOTH, BOTH)
+        self.answers(cluster, Edit(1, DOCS, "n", text("one")), Scan(1, DOCS, "n"))
+        self.meet(cluster, 1, 2)
+        self.answers(cluster, StartPull(2, DOCS, "n"))
+        session, pull = cluster.peers[2].sessions[1], docs(cluster, 2).pulls["n"]
+        for number, wrong in enumerate(((0, b"two"), (0, b"ones"), (0, b""), (1, b"one"), (3, b"one")), start=1):
+            self.answers(cluster, Ask(2, 1, DOCS, "n"))
+            cluster.links[1, 2].to_a.clear()
+            cluster.links[1, 2].to_b.append(Response(number, *wrong))
+            self.answers(cluster, Deliver(2, 1))
+            self.assertEqual((session.outstanding, pull.received), ([], {}))
+
     def test_a_restart_takes_sessions_pulls_and_connections(self):
         cluster = empty_cluster(BOTH, BOTH, BOTH)
         self.answers(cluster, Edit(1, DOCS, "n", text("one")), Scan(1, DOCS, "n"))
