@@ -1,8 +1,9 @@
 -- What follows from the definitions, for every cluster and every list of steps; the functions of src/ have these as
 -- contracts.
-use Rattle.std.specs.Prelude.{ℕ, ⊤, List, [], ◌∷◌, Option}
+use Rattle.std.specs.Prelude.{◌≡◌, ℕ, ⊤, List, [], ◌∷◌, Option}
 use Rattle.bep_record.specs.Node.{IsNode}
-use Rattle.bep_model.specs.declared.row.Row as rows
+use Rattle.bep_model.specs.declared.row.Row.{Row}
+use Rattle.bep_model.specs.Tables.{Tables}
 use Rattle.bep_model.specs.Settled.{IsSettled}
 use Rattle.bep_model.specs.Calm.{Contents, IsCalm, Kept}
 use Rattle.bep_model.specs.Stays.{Stays, KeepsRecords, SameContents}
@@ -50,14 +51,21 @@ StepsKeepGapless = (step : Step) (failed : Option ℕ) (old new : Cluster) (answ
 
 -- ---- the headline
 
--- after every list of quiet steps from a settled cluster
-abbrev pub SettledStaysPut : Type 0
-SettledStaysPut = (certified : List rows.Row) (cluster later : Cluster) (events : List Event) →
-    IsSound cluster → IsSettled (tables_of_cluster cluster) certified → IsRun cluster events later → AreQuiet events →
-    Stays (tables_of_cluster cluster) certified (tables_of_cluster later)
+-- After every quiet run from a cluster with these tables, in any interleaving and with any failing calls of the stores:
+-- each store holds byte for byte what it held, and each row's name has its certified content.
+abbrev pub StaysPut : Tables → List Row → Type 0
+StaysPut tables rows = (cluster later : Cluster) (events : List Event) →
+    IsSound cluster → tables_of_cluster cluster ≡ tables → IsRun cluster events later → AreQuiet events →
+    Stays tables rows (tables_of_cluster later)
 
--- and the later cluster is settled, for the winners that it has then
+-- And the later cluster is settled for its own winners, whose names and contents are those of the rows.
+abbrev pub StaysSettled : Tables → List Row → Type 0
+StaysSettled tables rows = (cluster later : Cluster) (events : List Event) →
+    IsSound cluster → tables_of_cluster cluster ≡ tables → IsRun cluster events later → AreQuiet events →
+    (others : List Row) × IsSettled (tables_of_cluster later) others × SameContents rows others
+
+abbrev pub SettledStaysPut : Type 0
+SettledStaysPut = (tables : Tables) (rows : List Row) → IsSettled tables rows → StaysPut tables rows
+
 abbrev pub SettledStaysSettled : Type 0
-SettledStaysSettled = (certified : List rows.Row) (cluster later : Cluster) (events : List Event) →
-    IsSound cluster → IsSettled (tables_of_cluster cluster) certified → IsRun cluster events later → AreQuiet events →
-    (others : List rows.Row) × IsSettled (tables_of_cluster later) others × SameContents certified others
+SettledStaysSettled = (tables : Tables) (rows : List Row) → IsSettled tables rows → StaysSettled tables rows
