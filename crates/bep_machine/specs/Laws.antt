@@ -2,6 +2,9 @@
 -- contracts.
 use Rattle.std.specs.Prelude.{◌≡◌, ℕ, ⊤, List, [], ◌∷◌, Option}
 use Rattle.bep_record.specs.Node.{IsNode}
+use Rattle.bep_index.specs.Listing.{Listing}
+use Rattle.bep_index.specs.Index.{IsIndex}
+use Rattle.bep_index.specs.View.{IsView}
 use Rattle.bep_model.specs.declared.row.Row.{Row}
 use Rattle.bep_model.specs.Tables.{Tables}
 use Rattle.bep_model.specs.Settled.{IsSettled}
@@ -14,7 +17,7 @@ use Rattle.bep_machine.specs.Cluster.{Cluster}
 use Rattle.bep_machine.specs.Steps.{IsStep, Event, IsRun, IsQuiet, AreQuiet}
 use Rattle.bep_machine.specs.Said.{tables_of_cluster}
 use Rattle.bep_machine.specs.Sound.{IsSound}
-use Rattle.bep_machine.specs.Gapless.{IsGapless}
+use Rattle.bep_machine.specs.Gapless.{HasNoGap, IsGapless, IsFresh}
 
 -- what a user puts into a folder is a node
 abbrev pub IsSoundStep : Step → Type 0
@@ -44,10 +47,15 @@ QuietStepsKeepRecords = (step : Step) (failed : Option ℕ) (old new : Cluster) 
     IsQuiet step → IsSound old → IsStep step failed old new answer →
     KeepsRecords (tables_of_cluster old) (tables_of_cluster new)
 
--- no step opens a gap in a view
-abbrev pub StepsKeepGapless : Type 0
-StepsKeepGapless = (step : Step) (failed : Option ℕ) (old new : Cluster) (answer : Answer) →
-    IsSoundStep step → IsSound old → IsGapless old → IsStep step failed old new answer → IsGapless new
+-- no view has a gap, in every cluster that a run reaches from one in which nothing was exchanged yet
+abbrev pub RunsAreGapless : Type 0
+RunsAreGapless = (cluster later : Cluster) (events : List Event) →
+    IsSound cluster → IsFresh cluster → AreSound events → IsRun cluster events later → IsGapless later
+
+-- a view without a gap, at the point of the index, is the index
+abbrev pub SamePointSameIndex : Type 0
+SamePointSameIndex = (index view : Listing) →
+    IsIndex index → IsView view → HasNoGap index view → view.id ≡ index.id → view.sequence ≡ index.sequence → view ≡ index
 
 -- ---- the headline
 
