@@ -3,11 +3,10 @@ use Rattle.std.proofs.Common.{◌≡◌, ◌⊎◌, ℕ, List, [], ◌∷◌, Co
 use Rattle.std.specs.FinMap.{get}
 use Rattle.bep_record.specs.declared.entry.Entry.{Entry}
 use Rattle.bep_record.specs.declared.node.NodeParts.{NodeParts}
-use Rattle.bep_model.specs.declared.row.Row as rows
 use Rattle.bep_model.specs.Tables.{Tables, Device, Folder, FileName}
 use Rattle.bep_model.specs.Settled.{IsSettled}
 use Rattle.bep_model.specs.Calm.{Contents, SameFile, IsCalm, Kept, contents_of}
-use Rattle.bep_model.specs.Stays.{KeepsRecords, SameShares, RecordsAreNamed}
+use Rattle.bep_model.specs.Stays.{Stays, KeepsRecords, SameShares, RecordsAreNamed}
 use Rattle.bep_model.specs.Laws.{SettledIsCalm, CalmStays, CalmIsSettledAgain}
 use Rattle.bep_machine.specs.declared.step.Step.{Step}
 use Rattle.bep_machine.specs.declared.step.Step.TheVariants.{Edit, Remove, Scan, Override, Revert, Connect, Lose, Begin, Deliver, Announce, StartPull, Ask, Finish, Restart}
@@ -131,9 +130,11 @@ module _ (sound : StepsKeepSound) (calm : QuietStepsKeepCalm) where
   same_shares old new same folder = ap (λ (c : Config). c.sharing folder) (sym same)
 
   pub settled_stays_put_lem : SettledIsCalm → CalmStays → SettledStaysPut
-  settled_stays_put_lem settled_calm stays certified cluster later events is_sound settled run quiet =
-      let end = run_stays_calm (contents_of certified) cluster events later quiet is_sound (settled_calm (tables_of_cluster cluster) certified settled) run in
-      stays (tables_of_cluster cluster) (tables_of_cluster later) certified settled (same_shares cluster later end.config) end.calm_later end.kept
+  settled_stays_put_lem settled_calm stays tables rows settled cluster later events is_sound has run quiet =
+      let here = subst (λ (t : Tables). IsSettled t rows) (sym has) settled in
+      let end = run_stays_calm (contents_of rows) cluster events later quiet is_sound (settled_calm (tables_of_cluster cluster) rows here) run in
+      subst (λ (t : Tables). Stays t rows (tables_of_cluster later)) has
+      (stays (tables_of_cluster cluster) (tables_of_cluster later) rows here (same_shares cluster later end.config) end.calm_later end.kept)
 
   -- ---- settled again
 
@@ -157,9 +158,10 @@ module _ (sound : StepsKeepSound) (calm : QuietStepsKeepCalm) where
         own
 
     pub settled_stays_settled_lem : SettledIsCalm → CalmIsSettledAgain → SettledStaysSettled
-    settled_stays_settled_lem settled_calm again certified cluster later events is_sound settled run quiet =
-        let end = run_stays_calm (contents_of certified) cluster events later quiet is_sound (settled_calm (tables_of_cluster cluster) certified settled) run in
-        again (tables_of_cluster cluster) (tables_of_cluster later) certified settled (same_shares cluster later end.config)
+    settled_stays_settled_lem settled_calm again tables rows settled cluster later events is_sound has run quiet =
+        let here = subst (λ (t : Tables). IsSettled t rows) (sym has) settled in
+        let end = run_stays_calm (contents_of rows) cluster events later quiet is_sound (settled_calm (tables_of_cluster cluster) rows here) run in
+        again (tables_of_cluster cluster) (tables_of_cluster later) rows here (same_shares cluster later end.config)
         (run_keeps_records cluster events later quiet is_sound run)
         (records_are_named later end.sound_later)
         end.calm_later
