@@ -1,1 +1,9 @@
 mod CalmParts
+mod CalmRows
+mod ReplicaFacts
+mod ChoiceFacts
+mod CalmScan
+mod CalmPull
+mod ContentFacts
+mod CalmFinish
+mod KeepsOwn
