@@ -1,2 +1,10 @@
 mod CalmParts
 mod RunFacts
+mod CalmRows
+mod ReplicaFacts
+mod ChoiceFacts
+mod CalmScan
+mod CalmPull
+mod ContentFacts
+mod CalmFinish
+mod KeepsOwn
