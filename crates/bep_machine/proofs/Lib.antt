@@ -1,1 +1,2 @@
 mod CalmParts
+mod SoundParts
