@@ -1,2 +1,3 @@
 mod CalmParts
 mod SoundParts
+mod GoodRecords
