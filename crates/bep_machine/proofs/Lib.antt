@@ -1,3 +1,11 @@
 mod CalmParts
 mod SoundParts
+mod LowerLaws
 mod GoodRecords
+mod GoodVersions
+mod SoundMaps
+mod SoundChanges
+mod GoodChoice
+mod WrittenNode
+mod SoundLocal
+mod SoundPull
