@@ -1,5 +1,5 @@
 -- Editing, removing, scanning, override and revert keep a replica sound.
-use Rattle.std.proofs.Common.{◌≡◌, ◌≤◌, ◌∙◌, ℕ, List, [], length, Option, Some, None, refl, sym, subst, arith}
+use Rattle.std.proofs.Common.{◌≡◌, ◌≤◌, ◌∙◌, ℕ, true, List, [], length, Option, Some, None, refl, sym, subst, arith}
 use Rattle.std.proofs.lemmas.Option.{none-some}
 use Rattle.bep_record.specs.declared.entry.Entry.{Entry}
 use Rattle.bep_record.specs.declared.node.NodeParts.{NodeParts}
@@ -60,6 +60,10 @@ found_is_good laws device name (Some node) own version entry node_is own_is is f
     subst (IsGoodAt name) (sym finds)
     (record { good = good_found laws.nothing_is_one_block laws.nothing_has_its_hash laws.plain_is_cut_whole device name node version node_is is few; named = refl })
 
+-- the same, marked as local-only
+local_is_good : (name : FileName) (found entry : Entry) → IsGoodAt name found → entry ≡ record found { invalid = true } → IsGoodAt name entry
+local_is_good name found entry is marked = subst (IsGoodAt name) (sym marked) (record { good = good_local found is.good; named = is.named })
+
 raised_row_is_sound : LowerLaws → {device : Device} {old new : Replica} {answer : Answer} (name : FileName) → IsSoundReplica device old →
     ¬ IsCrowded device (version_of (own_at old name)) →
     PutRow name (λ entry. (version : List (ℕ × ℕ)) × IsRaised device (version_of (own_at old name)) version × Finds device name (node_at old name) (own_at old name) version entry) old new answer →
@@ -81,7 +85,7 @@ found_row_is_sound laws {device} {old} answer ReceiveOnly name sound row =
     let found =
     found_is_good laws device name (node_at old name) (own_at old name) (version_of (own_at old name)) new.0 (node_is_node device old name sound) own_is
     (version_is name (own_at old name) own_is) (version_is_few name (own_at old name) own_is) new.1 in
-    subst (IsGoodAt name) (sym new.2) (record { good = good_local new.0 found.good; named = found.named }))
+    local_is_good name new.0 entry found new.2)
     row
 found_row_is_sound laws answer SendReceive name sound row =
     or_rest sound (λ below. or_rest sound (λ roomy. raised_row_is_sound laws name sound roomy.0 roomy.1) below.1) row

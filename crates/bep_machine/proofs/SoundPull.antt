@@ -50,7 +50,7 @@ adopted_is_good laws name own target entry own_is target_is roomy adopted =
       named = target_is.named;
     })
 
--- what a pull needs at its end, of which nothing changes on the way: a good own record, a node, and room for the new record
+-- what is known when a pull ends: it is sound, and so are the own record and the node that stood at the name before
 record CanEnd (name : FileName) (pull : Pull) (own : Option Entry) (node : Option NodeParts) : Type 0 where
   pull_is : IsSoundPull name pull
   own_is : IfAny (IsGoodAt name) own
