@@ -8,3 +8,13 @@ mod CalmPull
 mod ContentFacts
 mod CalmFinish
 mod KeepsOwn
+mod SoundParts
+mod LowerLaws
+mod GoodRecords
+mod GoodVersions
+mod SoundMaps
+mod SoundChanges
+mod GoodChoice
+mod WrittenNode
+mod SoundLocal
+mod SoundPull
