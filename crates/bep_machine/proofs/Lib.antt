@@ -1,1 +1,9 @@
 mod CalmParts
+mod Places
+mod RowFacts
+mod CalmTables
+mod CalmMoves
+mod CalmReplicaStep
+mod LinkQueues
+mod ReadOn
+mod LinkSteps
