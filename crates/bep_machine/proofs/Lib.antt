@@ -7,3 +7,7 @@ mod CalmReplicaStep
 mod LinkQueues
 mod ReadOn
 mod LinkSteps
+mod Arrivals
+mod ReadingSteps
+mod ThereDecided
+mod CalmStep
