@@ -12,6 +12,7 @@ use Rattle.bep_machine.specs.Replica.{Replica, own_at, node_at, viewed_at, targe
 use Rattle.bep_machine.specs.Cluster.{Config, Cluster}
 use Rattle.bep_machine.specs.Said.{looked_up, on_its_way, tables_of_cluster}
 use Rattle.bep_machine.proofs.CalmParts.{GoesOn}
+use Rattle.bep_machine.proofs.CalmScan.{same_file}
 use Rattle.bep_machine.proofs.CalmTables.{HasDue, IsQuietMove}
 
 -- a record that a device has of others in a folder, in its views or as a target; without a replica it has none
@@ -27,15 +28,11 @@ pub record IsQuietPlace (Comes : FileName → Entry → Type 0) (old new : Optio
   pub clean : (name : FileName) → IsClean (looked_up node_at name old) (looked_up own_at name old) → IsClean (looked_up node_at name new) (looked_up own_at name new)
   pub elsewhere : (name : FileName) (entry : Entry) → ElsewhereIn new name entry → ElsewhereIn old name entry ⊎ Comes name entry
 
-pub same_file_itself : (node : Option NodeParts) → SameFile node node
-same_file_itself None = tt
-same_file_itself (Some node) = (refl, refl, refl)
-
 -- the replica stays
 pub quiet_where_same : (Comes : FileName → Entry → Type 0) (replica : Option Replica) → IsQuietPlace Comes replica replica
 quiet_where_same Comes replica = record {
   own = λ name. inl refl;
-  file = λ name. same_file_itself _;
+  file = λ name. same_file _;
   clean = λ name clean. clean;
   elsewhere = λ name entry was. inl was;
 }

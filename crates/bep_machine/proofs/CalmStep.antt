@@ -5,6 +5,7 @@ use Rattle.bep_facts.specs.Members.{Contains-one, Contains-flat_map, Contains-fr
 use Rattle.std.specs.List.{flat_map}
 use Rattle.bep_record.specs.declared.entry.Entry.{Entry}
 use Rattle.bep_record.specs.Content.{Content, content_of}
+use Rattle.bep_record.specs.Laws.{CutIsOfOneLength}
 use Rattle.bep_index.specs.Laws.{FoundIsOfBatchOrBefore, AmongIsContained}
 use Rattle.bep_model.specs.declared.flight.Flight.{Flight}
 use Rattle.bep_model.specs.Tables.{Device, Folder, FileName, Shares}
@@ -30,7 +31,11 @@ use Rattle.bep_machine.proofs.CalmTables.{HasDue, calm_after_move, kept_after_mo
 use Rattle.bep_machine.proofs.CalmMoves.{IsQuietPlace, AllDue, IsComing, AreQuietParts, move_of_parts}
 use Rattle.bep_machine.proofs.CalmReplicaStep.{calm_replica, quiet_parts_of_change}
 use Rattle.bep_machine.proofs.Places.{each_name_after_insert, each_after_change}
-use Rattle.bep_machine.proofs.RowFacts.{row_becomes}
+use Rattle.bep_machine.proofs.CalmRows.{at_becomes}
+use Rattle.bep_machine.proofs.CalmScan.{scan_is_quiet}
+use Rattle.bep_machine.proofs.CalmPull.{start_pull_is_quiet}
+use Rattle.bep_machine.proofs.CalmFinish.{finish_is_quiet}
+use Rattle.bep_machine.proofs.KeepsOwn.{KeepsOwn, scan_keeps_own, start_pull_keeps_own, finish_keeps_own}
 use Rattle.bep_machine.proofs.ThereDecided.{there_decided}
 use Rattle.bep_machine.proofs.ReadOn.{quiet_where_read}
 use Rattle.bep_machine.proofs.LinkQueues.{queue_between, LinkGoesOn, queues_go_on}
@@ -100,9 +105,8 @@ RowIsQuiet device row =
     (contents : FileName → Option Content) (old new : Replica) (answer : Answer) → IsSoundReplica device old → IsCalmReplica contents old → row old new answer → IsQuietChange old new
 
 -- and takes no own record away, calm or not
-abbrev pub RowKeepsRecords : Device → (Replica → Row Replica) → Type 0
-RowKeepsRecords device row =
-    (old new : Replica) (answer : Answer) → IsSoundReplica device old → row old new answer → (name : FileName) → IsSome (own_at old name) → IsSome (own_at new name)
+abbrev pub RowKeepsOwn : (Replica → Row Replica) → Type 0
+RowKeepsOwn row = (old new : Replica) (answer : Answer) → row old new answer → KeepsOwn old new
 
 -- the cluster stays calm, with its files
 abbrev KeepsCalm : Contents → Cluster → Cluster → Type 0
@@ -122,15 +126,15 @@ replica_keeps_calm contents old new device folder row answer quiet sound calm sh
     let change = quiet (contents folder) made.0 made.1 answer (sound_at old sound device folder made.0 shares here) (calm_replica contents old calm device folder made.0 shares here) made.3 in
     subst (λ one. KeepsCalm contents old one) (sym made.4) (parts_keep_calm contents old _ calm (quiet_parts_of_change contents old device folder made.0 made.1 here change))
 
-replica_keeps_records : (old new : Cluster) (device : Device) (folder : Folder) (row : Replica → Row Replica) (answer : Answer) → RowKeepsRecords device row → IsSound old → SharesFolder old.config device folder → AtReplica device folder row old new answer → KeepsRecords (tables_of_cluster old) (tables_of_cluster new)
-replica_keeps_records old new device folder row answer keeps sound shares made =
+replica_keeps_records : (old new : Cluster) (device : Device) (folder : Folder) (row : Replica → Row Replica) (answer : Answer) → RowKeepsOwn row → AtReplica device folder row old new answer → KeepsRecords (tables_of_cluster old) (tables_of_cluster new)
+replica_keeps_records old new device folder row answer keeps made =
     subst (λ one. KeepsRecords (tables_of_cluster old) (tables_of_cluster one)) (sym made.4)
     (each_after_change (λ one peer. (in_folder : Folder) (name : FileName) → IsSome (looked_up own_at name (get (old.peer one).replicas in_folder)) → IsSome (looked_up own_at name (get peer.replicas in_folder)))
     old.peer device (with_replica (old.peer device) folder made.1)
     (each_name_after_insert (λ in_folder replica. (name : FileName) → IsSome (looked_up own_at name (get (old.peer device).replicas in_folder)) → IsSome (looked_up own_at name replica))
     (old.peer device).replicas folder made.1
     (subst (λ replica. (name : FileName) → IsSome (looked_up own_at name replica) → IsSome (own_at made.1 name)) (sym made.2)
-    (λ name has. keeps made.0 made.1 answer (sound_at old sound device folder made.0 shares made.2) made.3 name has))
+    (λ name has. keeps made.0 made.1 answer made.3 name has))
     (λ in_folder name has. has))
     (λ one in_folder name has. has))
 
@@ -143,34 +147,23 @@ reading_keeps_records old new step device folder name has = subst (λ own. IsSom
 step_or_nothing : (P : Cluster → Type 0) (step : Step) (failed : Option ℕ) (old new : Cluster) (answer : Answer) → P old → (IsThere old.config step → StepRow step failed old new answer → P new) → IsStep step failed old new answer → P new
 step_or_nothing P step failed old new answer nothing made is =
     ⊎_elim
-    (λ memory. row_becomes P memory.1 nothing)
+    (λ memory. at_becomes P memory.1 nothing)
     (λ row.
     ⊎_elim
-    (λ refused. row_becomes P refused.1 nothing)
+    (λ refused. at_becomes P refused.1 nothing)
     (λ goes. ⊎_elim (λ there. made there goes.1) (λ absent. absurd (goes.0 absent)) (there_decided old.config step))
     row)
     is
 
--- the three quiet steps of a replica
-pub record QuietRows : Type 0 where
-  pub scan : (device : Device) (name : FileName) (failed : Option ℕ) → RowIsQuiet device (ScanRow device name failed)
-  pub start_pull : (device : Device) (name : FileName) → RowIsQuiet device (StartPullRow device name)
-  pub finish : (device : Device) (name : FileName) (failed : Option ℕ) → RowIsQuiet device (FinishRow device name failed)
-
-pub record KeepingRows : Type 0 where
-  pub scan : (device : Device) (name : FileName) (failed : Option ℕ) → RowKeepsRecords device (ScanRow device name failed)
-  pub start_pull : (device : Device) (name : FileName) → RowKeepsRecords device (StartPullRow device name)
-  pub finish : (device : Device) (name : FileName) (failed : Option ℕ) → RowKeepsRecords device (FinishRow device name failed)
-
 module _ (found : FoundIsOfBatchOrBefore) (among : AmongIsContained) where
-  module _ (rows : QuietRows) (contents : Contents) (old new : Cluster) (answer : Answer) (failed : Option ℕ) (sound : IsSound old) (calm : IsCalm (tables_of_cluster old) contents) where
+  module _ (one_length : CutIsOfOneLength) (contents : Contents) (old new : Cluster) (answer : Answer) (failed : Option ℕ) (sound : IsSound old) (calm : IsCalm (tables_of_cluster old) contents) where
     reading_keeps_calm : IsReadingStep old new → KeepsCalm contents old new
     reading_keeps_calm step = parts_keep_calm contents old new calm (reading_parts among contents old sound calm new step)
 
     row_keeps_calm : (step : Step) → IsQuiet step → IsThere old.config step → StepRow step failed old new answer → KeepsCalm contents old new
     row_keeps_calm (Edit device folder name node) quiet there made = absurd quiet
     row_keeps_calm (Remove device folder name) quiet there made = absurd quiet
-    row_keeps_calm (Scan device folder name) quiet there made = replica_keeps_calm contents old new device folder (ScanRow device name failed) answer (rows.scan device name failed) sound calm there made
+    row_keeps_calm (Scan device folder name) quiet there made = replica_keeps_calm contents old new device folder (ScanRow device name failed) answer (λ contents old new answer. scan_is_quiet contents device name failed old new answer) sound calm there made
     row_keeps_calm (Override device folder name) quiet there made = absurd quiet
     row_keeps_calm (Revert device folder name) quiet there made = absurd quiet
     row_keeps_calm (Connect one other) quiet there made = reading_keeps_calm (connect_reads old new one other answer made)
@@ -178,16 +171,16 @@ module _ (found : FoundIsOfBatchOrBefore) (among : AmongIsContained) where
     row_keeps_calm (Begin device other) quiet there made = reading_keeps_calm (begin_reads old sound device other there new answer made)
     row_keeps_calm (Deliver device other) quiet there made = reading_keeps_calm (deliver_reads old sound device other there found among failed new answer made)
     row_keeps_calm (Announce device other folder) quiet there made = reading_keeps_calm (announce_reads old sound device other there.0 folder new answer made)
-    row_keeps_calm (StartPull device folder name) quiet there made = replica_keeps_calm contents old new device folder (StartPullRow device name) answer (rows.start_pull device name) sound calm there made
+    row_keeps_calm (StartPull device folder name) quiet there made = replica_keeps_calm contents old new device folder (StartPullRow device name) answer (λ contents old new answer. start_pull_is_quiet contents device name old new answer) sound calm there made
     row_keeps_calm (Ask device other folder name) quiet there made = reading_keeps_calm (ask_reads old sound device other there.0 folder name new answer made)
-    row_keeps_calm (Finish device folder name) quiet there made = replica_keeps_calm contents old new device folder (FinishRow device name failed) answer (rows.finish device name failed) sound calm there made
+    row_keeps_calm (Finish device folder name) quiet there made = replica_keeps_calm contents old new device folder (FinishRow device name failed) answer (λ contents old new answer. finish_is_quiet one_length contents device name failed old new answer) sound calm there made
     row_keeps_calm (Restart device) quiet there made = reading_keeps_calm (restart_reads old new device answer made)
 
-  module _ (rows : KeepingRows) (old new : Cluster) (answer : Answer) (failed : Option ℕ) (sound : IsSound old) where
+  module _ (old new : Cluster) (answer : Answer) (failed : Option ℕ) (sound : IsSound old) where
     row_keeps_records : (step : Step) → IsQuiet step → IsThere old.config step → StepRow step failed old new answer → KeepsRecords (tables_of_cluster old) (tables_of_cluster new)
     row_keeps_records (Edit device folder name node) quiet there made = absurd quiet
     row_keeps_records (Remove device folder name) quiet there made = absurd quiet
-    row_keeps_records (Scan device folder name) quiet there made = replica_keeps_records old new device folder (ScanRow device name failed) answer (rows.scan device name failed) sound there made
+    row_keeps_records (Scan device folder name) quiet there made = replica_keeps_records old new device folder (ScanRow device name failed) answer (scan_keeps_own device name failed) made
     row_keeps_records (Override device folder name) quiet there made = absurd quiet
     row_keeps_records (Revert device folder name) quiet there made = absurd quiet
     row_keeps_records (Connect one other) quiet there made = reading_keeps_records old new (connect_reads old new one other answer made)
@@ -195,23 +188,23 @@ module _ (found : FoundIsOfBatchOrBefore) (among : AmongIsContained) where
     row_keeps_records (Begin device other) quiet there made = reading_keeps_records old new (begin_reads old sound device other there new answer made)
     row_keeps_records (Deliver device other) quiet there made = reading_keeps_records old new (deliver_reads old sound device other there found among failed new answer made)
     row_keeps_records (Announce device other folder) quiet there made = reading_keeps_records old new (announce_reads old sound device other there.0 folder new answer made)
-    row_keeps_records (StartPull device folder name) quiet there made = replica_keeps_records old new device folder (StartPullRow device name) answer (rows.start_pull device name) sound there made
+    row_keeps_records (StartPull device folder name) quiet there made = replica_keeps_records old new device folder (StartPullRow device name) answer (start_pull_keeps_own device name) made
     row_keeps_records (Ask device other folder name) quiet there made = reading_keeps_records old new (ask_reads old sound device other there.0 folder name new answer made)
-    row_keeps_records (Finish device folder name) quiet there made = replica_keeps_records old new device folder (FinishRow device name failed) answer (rows.finish device name failed) sound there made
+    row_keeps_records (Finish device folder name) quiet there made = replica_keeps_records old new device folder (FinishRow device name failed) answer (finish_keeps_own device name failed) made
     row_keeps_records (Restart device) quiet there made = reading_keeps_records old new (restart_reads old new device answer made)
 
   -- a quiet step keeps calm, and each store byte for byte
-  pub quiet_steps_keep_calm_lem : QuietRows → QuietStepsKeepCalm
-  quiet_steps_keep_calm_lem rows contents step failed old new answer quiet sound calm made =
+  pub quiet_steps_keep_calm_lem : CutIsOfOneLength → QuietStepsKeepCalm
+  quiet_steps_keep_calm_lem one_length contents step failed old new answer quiet sound calm made =
       step_or_nothing (KeepsCalm contents old) step failed old new answer
-      (reading_keeps_calm rows contents old old answer failed sound calm (nothing_happens old))
-      (λ there row. row_keeps_calm rows contents old new answer failed sound calm step quiet there row)
+      (reading_keeps_calm one_length contents old old answer failed sound calm (nothing_happens old))
+      (λ there row. row_keeps_calm one_length contents old new answer failed sound calm step quiet there row)
       made
 
   -- a quiet step takes no own record away
-  pub quiet_steps_keep_records_lem : KeepingRows → QuietStepsKeepRecords
-  quiet_steps_keep_records_lem rows step failed old new answer quiet sound made =
+  pub quiet_steps_keep_records_lem : QuietStepsKeepRecords
+  quiet_steps_keep_records_lem step failed old new answer quiet sound made =
       step_or_nothing (λ one. KeepsRecords (tables_of_cluster old) (tables_of_cluster one)) step failed old new answer
       (λ device folder name has. has)
-      (λ there row. row_keeps_records rows old new answer failed sound step quiet there row)
+      (λ there row. row_keeps_records old new answer failed sound step quiet there row)
       made

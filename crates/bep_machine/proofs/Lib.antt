@@ -1,6 +1,13 @@
 mod CalmParts
+mod CalmRows
+mod ReplicaFacts
+mod ChoiceFacts
+mod CalmScan
+mod CalmPull
+mod ContentFacts
+mod CalmFinish
+mod KeepsOwn
 mod Places
-mod RowFacts
 mod CalmTables
 mod CalmMoves
 mod CalmReplicaStep

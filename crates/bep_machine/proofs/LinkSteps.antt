@@ -34,8 +34,7 @@ use Rattle.bep_machine.specs.Steps.{SharesFolder, AreLinked}
 use Rattle.bep_machine.specs.Said.{is_among, both_share, flight_when, flights_of, are_linked, on_its_way, tables_of_cluster}
 use Rattle.bep_machine.specs.Sound.{IsSound, IsSoundPeer}
 use Rattle.bep_machine.proofs.ReadOn.{IsReadOn, AreReadOn, none_read, one_read, all_renewed_read, nothing_read, read_with_view, read_with_block}
-use Rattle.bep_machine.proofs.LinkQueues.{queue_between, waiting_is_there}
-use Rattle.bep_machine.proofs.RowFacts.{row_becomes, row_when, row_answers}
+use Rattle.bep_machine.proofs.CalmRows.{at_answers, at_becomes}
 
 -- ---- tests of lists
 
@@ -92,21 +91,24 @@ module _ (Comes : Folder → FileName → Entry → Type 0) (old : Peer) where
   }
 
   refused_or : {acted : Acted} {answer given : Answer} {C Rest : Type 0} → (C × ((acted ≡ idle old) × (answer ≡ given))) ⊎ ((¬ C) × Rest) → (Rest → IsLinkStep Comes old acted) → IsLinkStep Comes old acted
-  refused_or made more = row_answers (IsLinkStep Comes old) made nothing_done_there more
+  refused_or made more = at_answers (IsLinkStep Comes old) made nothing_done_there (λ _ rest. more rest)
+
+  one_or_other : {acted : Acted} {C One Rest : Type 0} → (C × One) ⊎ ((¬ C) × Rest) → (One → IsLinkStep Comes old acted) → (Rest → IsLinkStep Comes old acted) → IsLinkStep Comes old acted
+  one_or_other made first second = ⊎_elim (λ taken. first taken.1) (λ passed. second passed.1) made
 
   session_step : (other : Device) (sight : Sight) (rest : Session → Row Acted) (acted : Acted) (answer : Answer) → ((session : Session) → get old.sessions other ≡ Some session → rest session acted answer → IsLinkStep Comes old acted) → SessionRow other sight old rest acted answer → IsLinkStep Comes old acted
   session_step other sight rest acted answer more made =
       refused_or made (λ up. refused_or up (λ has. more has.0 has.1.0 has.2))
 
   losing_step : (acted : Acted) (answer : Answer) → LosingRow old acted answer → IsLinkStep Comes old acted
-  losing_step acted answer made = row_becomes (IsLinkStep Comes old) made (silent (record { peer = old; deed = losing }) refl (none_read Comes old.replicas))
+  losing_step acted answer made = at_becomes (IsLinkStep Comes old) made (silent (record { peer = old; deed = losing }) refl (none_read Comes old.replicas))
 
   -- ---- begin, announce and ask
 
   pub begin_step : (other : Device) (sight : Sight) (acted : Acted) (answer : Answer) → BeginRow other sight old acted answer → IsLinkStep Comes old acted
   begin_step other sight acted answer made =
       refused_or made (λ up. refused_or up (λ none. refused_or none (λ begins.
-      row_becomes (IsLinkStep Comes old) begins (says _ (messages.ClusterConfig (config_for other old)) refl refl tt))))
+      at_becomes (IsLinkStep Comes old) begins (says _ (messages.ClusterConfig (config_for other old)) refl refl tt))))
 
   among_records : (records : ByName Entry) (batch : List Entry) (entry : Entry) → AreRecords records batch → IsAmong entry batch → IsRecord records entry
   among_records records [] entry are among = absurd among
@@ -119,12 +121,12 @@ module _ (Comes : Folder → FileName → Entry → Type 0) (old : Peer) where
   sending_step : (other : Device) (folder : Folder) (full : Bool) (session : Session) (cursor : Plan) (replica : Replica) (acted : Acted) (answer : Answer) → get old.replicas folder ≡ Some replica → SendingRow other folder full session cursor old replica acted answer → IsLinkStep Comes old acted
   sending_step other folder full session cursor replica acted answer here made =
       refused_or made.2 (λ left. refused_or left (λ sends.
-      row_becomes (IsLinkStep Comes old) sends
+      at_becomes (IsLinkStep Comes old) sends
       (says _ (index_message cursor folder made.0) refl refl
       (carries_own cursor folder made.0 (replica, here, λ entry among. among_records _ made.0 entry made.1.run.recorded among)))))
 
   cursor_step : (other : Device) (folder : Folder) (full : Bool) (session : Session) (cursor : Option Plan) (acted : Acted) (answer : Answer) → CursorRow other folder full session cursor old acted answer → IsLinkStep Comes old acted
-  cursor_step other folder full session None acted answer made = row_becomes (IsLinkStep Comes old) made nothing_done_there
+  cursor_step other folder full session None acted answer made = at_becomes (IsLinkStep Comes old) made nothing_done_there
   cursor_step other folder full session (Some cursor) acted answer made = sending_step other folder full session cursor made.0 acted answer made.1 made.2
 
   pub announce_step : (other : Device) (folder : Folder) (sight : Sight) (acted : Acted) (answer : Answer) → AnnounceRow other folder sight old acted answer → IsLinkStep Comes old acted
@@ -137,13 +139,13 @@ module _ (Comes : Folder → FileName → Entry → Type 0) (old : Peer) where
       session_step other sight (λ session. ReplicaRow folder old (AskingRow other folder name sight.full session old)) acted answer
       (λ session is made.
       refused_or made.2 (λ can. refused_or can (λ asks.
-      row_becomes (IsLinkStep Comes old) asks.2 (says _ (messages.Request (request_for session folder name asks.0)) refl refl tt))))
+      at_becomes (IsLinkStep Comes old) asks.2 (says _ (messages.Request (request_for session folder name asks.0)) refl refl tt))))
 
   -- ---- taking a request or a response
 
   request_step : (request : Request) (failed : Option ℕ) (full : Bool) (replica : Replica) (acted : Acted) (answer : Answer) → RequestRow request failed full replica old acted answer → IsLinkStep Comes old acted
   request_step request failed full replica acted answer made =
-      refused_or made (λ answers. row_becomes (IsLinkStep Comes old) answers.2 (says _ (messages.Response answers.0) refl refl tt))
+      refused_or made (λ answers. at_becomes (IsLinkStep Comes old) answers.2 (says _ (messages.Response answers.0) refl refl tt))
 
   received_read : (peer : Peer) (request : Request) (bytes : List ℕ) → peer.replicas ≡ old.replicas → (found : Option Replica) → get peer.replicas request.folder ≡ found → AreReadOn Comes old.replicas (with_received request bytes found peer).replicas
   received_read peer request bytes same None is = subst (λ replicas. AreReadOn Comes old.replicas replicas) (sym same) (none_read Comes old.replicas)
@@ -155,28 +157,28 @@ module _ (Comes : Folder → FileName → Entry → Type 0) (old : Peer) where
   answered_step : (other : Device) (session : Session) (response : Response) (request : Request) (acted : Acted) (answer : Answer) → AnsweredRow other session response request old acted answer → IsLinkStep Comes old acted
   answered_step other session response request acted answer made =
       let answered : Peer = with_session old other (record session { outstanding = without response.id session.outstanding }) in
-      row_when (IsLinkStep Comes old) made
-      (λ right. row_becomes (IsLinkStep Comes old) right (silent _ refl (received_read answered request response.bytes refl (get old.replicas request.folder) refl)))
-      (λ wrong. row_becomes (IsLinkStep Comes old) wrong (silent _ refl (none_read Comes old.replicas)))
+      one_or_other made
+      (λ right. at_becomes (IsLinkStep Comes old) right (silent _ refl (received_read answered request response.bytes refl (get old.replicas request.folder) refl)))
+      (λ wrong. at_becomes (IsLinkStep Comes old) wrong (silent _ refl (none_read Comes old.replicas)))
 
   response_step : (other : Device) (session : Session) (response : Response) (acted : Acted) (answer : Answer) → ResponseRow other session response old acted answer → IsLinkStep Comes old acted
   response_step other session response acted answer made =
-      row_when (IsLinkStep Comes old) made
+      one_or_other made
       (λ one. answered_step other session response one.0 acted answer one.2)
-      (λ none. row_becomes (IsLinkStep Comes old) none (silent _ refl (none_read Comes old.replicas)))
+      (λ none. at_becomes (IsLinkStep Comes old) none (silent _ refl (none_read Comes old.replicas)))
 
   -- ---- taking records
 
   view_step : (other : Device) (folder : Folder) (view : Listing) (replica : Replica) (acted : Acted) (answer : Answer) → get old.replicas folder ≡ Some replica → ((name : FileName) (entry : Entry) → get view.records name ≡ Some entry → (viewed_at replica other name ≡ Some entry) ⊎ Comes folder name entry) → ViewRow other folder view replica old acted answer → IsLinkStep Comes old acted
   view_step other folder view replica acted answer here seen made =
-      refused_or made (λ room. row_becomes (IsLinkStep Comes old) room
+      refused_or made (λ room. at_becomes (IsLinkStep Comes old) room
       (silent _ refl (one_read Comes old.replicas folder replica (with_view replica other view) here (read_with_view (Comes folder) replica other view seen))))
 
   module _ (found : FoundIsOfBatchOrBefore) where
     message_step : (other : Device) (failed : Option ℕ) (full : Bool) (session : Session) (message : Message) (acted : Acted) (answer : Answer) → ((folder : Folder) (batch : List Entry) → IsNamed session folder → (message ≡ messages.Index folder batch) ⊎ (message ≡ messages.IndexUpdate folder batch) → (name : FileName) (entry : Entry) → IsAmong entry batch → entry.name ≡ name → Comes folder name entry) → MessageRow other failed full session message old acted answer → IsLinkStep Comes old acted
     message_step other failed full session (messages.ClusterConfig named) acted answer arrives made =
-        row_when (IsLinkStep Comes old) made
-        (λ good. row_becomes (IsLinkStep Comes old) good (silent _ refl (all_renewed_read Comes other named old.replicas)))
+        one_or_other made
+        (λ good. at_becomes (IsLinkStep Comes old) good (silent _ refl (all_renewed_read Comes other named old.replicas)))
         (λ bad. losing_step acted answer bad)
     message_step other failed full session (messages.Index folder batch) acted answer arrives made =
         ⊎_elim
@@ -195,7 +197,7 @@ module _ (Comes : Folder → FileName → Entry → Type 0) (old : Peer) where
         ⊎_elim
         (λ named.
         let replica = named.1.0 in
-        row_when (IsLinkStep Comes old) named.1.2
+        one_or_other named.1.2
         (λ bad. losing_step acted answer bad)
         (λ good. view_step other folder (amended (view_of replica other) batch) replica acted answer named.1.1
         (λ name entry has.
@@ -207,13 +209,13 @@ module _ (Comes : Folder → FileName → Entry → Type 0) (old : Peer) where
         (λ unnamed. losing_step acted answer unnamed.1)
         made
     message_step other failed full session (messages.Request request) acted answer arrives made =
-        row_when (IsLinkStep Comes old) made
+        one_or_other made
         (λ named. request_step request failed full named.0 acted answer named.2)
         (λ unnamed. losing_step acted answer unnamed)
     message_step other failed full session (messages.Response response) acted answer arrives made = response_step other session response acted answer made
 
     pub waiting_step : (other : Device) (failed : Option ℕ) (full : Bool) (session : Session) (waiting : Option Message) (acted : Acted) (answer : Answer) → ((message : Message) (folder : Folder) (batch : List Entry) → waiting ≡ Some message → IsNamed session folder → (message ≡ messages.Index folder batch) ⊎ (message ≡ messages.IndexUpdate folder batch) → (name : FileName) (entry : Entry) → IsAmong entry batch → entry.name ≡ name → Comes folder name entry) → WaitingRow other failed full session waiting old acted answer → IsLinkStep Comes old acted
-    waiting_step other failed full session None acted answer arrives made = row_becomes (IsLinkStep Comes old) made nothing_done_there
+    waiting_step other failed full session None acted answer arrives made = at_becomes (IsLinkStep Comes old) made nothing_done_there
     waiting_step other failed full session (Some message) acted answer arrives made = message_step other failed full session message acted answer (λ folder batch. arrives message folder batch refl) made
 
     pub deliver_step : (other : Device) (failed : Option ℕ) (sight : Sight) (acted : Acted) (answer : Answer) → ((session : Session) (message : Message) (folder : Folder) (batch : List Entry) → get old.sessions other ≡ Some session → sight.waiting ≡ Some message → IsNamed session folder → (message ≡ messages.Index folder batch) ⊎ (message ≡ messages.IndexUpdate folder batch) → (name : FileName) (entry : Entry) → IsAmong entry batch → entry.name ≡ name → Comes folder name entry) → DeliverRow other failed sight old acted answer → IsLinkStep Comes old acted

@@ -17,7 +17,8 @@ use Rattle.bep_machine.specs.declared.message.Request.{Request}
 use Rattle.bep_machine.specs.Replica.{Pull, Replica, own_at, node_at, pull_at, target_at, view_of, viewed_at, with_view, with_pull}
 use Rattle.bep_machine.specs.Exchange.{known_under, renewed, all_renewed, received_at, with_block}
 use Rattle.bep_machine.specs.Said.{looked_up}
-use Rattle.bep_machine.proofs.CalmMoves.{ElsewhereIn, IsQuietPlace, same_file_itself}
+use Rattle.bep_machine.proofs.CalmMoves.{ElsewhereIn, IsQuietPlace}
+use Rattle.bep_machine.proofs.CalmScan.{same_file}
 use Rattle.bep_machine.proofs.Places.{each_name_after_insert, each_device_after_insert}
 
 -- ---- a replica
@@ -41,7 +42,7 @@ read_then Comes first second third one two = record {
 pub quiet_where_read : (Comes More : FileName → Entry → Type 0) → ((name : FileName) (entry : Entry) → Comes name entry → More name entry) → (old new : Option Replica) → IsReadOn Comes old new → IsQuietPlace More old new
 quiet_where_read Comes More more old new read = record {
   own = λ name. inl (read.own name);
-  file = λ name. subst (λ node. SameFile (looked_up node_at name old) node) (sym (read.node name)) (same_file_itself _);
+  file = λ name. subst (λ node. SameFile (looked_up node_at name old) node) (sym (read.node name)) (same_file _);
   clean = λ name clean. subst (λ node. IsClean node (looked_up own_at name new)) (sym (read.node name)) (subst (λ own. IsClean (looked_up node_at name old) own) (sym (read.own name)) clean);
   elsewhere = λ name entry has. ⊎_elim (λ was. inl was) (λ comes. inr (more name entry comes)) (read.elsewhere name entry has);
 }

@@ -21,7 +21,7 @@ use Rattle.bep_machine.specs.Steps.{AreLinked, OverLink, AtLink, ConnectRow, Los
 use Rattle.bep_machine.specs.Said.{tables_of_cluster}
 use Rattle.bep_machine.specs.Sound.{IsSound}
 use Rattle.bep_machine.proofs.Places.{each_after_change}
-use Rattle.bep_machine.proofs.RowFacts.{row_becomes, row_answers}
+use Rattle.bep_machine.proofs.CalmRows.{at_answers, at_becomes}
 use Rattle.bep_machine.proofs.CalmMoves.{ElsewhereIn}
 use Rattle.bep_machine.proofs.ReadOn.{IsReadOn, AreReadOn, none_read, nothing_read}
 use Rattle.bep_machine.proofs.LinkQueues.{LinkGoesOn, link_stays, nothing_on_its_way, each_link, links_after_deed}
@@ -65,14 +65,14 @@ same_link old lower upper = record {
 
 pub connect_reads : (old new : Cluster) (lower upper : Device) (answer : Answer) → AtLink lower upper ConnectRow old new answer → IsReadingStep old new
 connect_reads old new lower upper answer made = subst (λ one. IsReadingStep old one) (sym made.2) (
-    row_answers (λ link. IsReadingStep old (with_link old lower upper link)) made.1 (same_link old lower upper)
-    (λ down. row_answers (λ link. IsReadingStep old (with_link old lower upper link)) down (same_link old lower upper)
-    (λ comes. row_becomes (λ link. IsReadingStep old (with_link old lower upper link)) comes (link_step old lower upper (connected (old.link lower upper)) refl refl))))
+    at_answers (λ link. IsReadingStep old (with_link old lower upper link)) made.1 (same_link old lower upper)
+    (λ _ down. at_answers (λ link. IsReadingStep old (with_link old lower upper link)) down (same_link old lower upper)
+    (λ _ comes. at_becomes (λ link. IsReadingStep old (with_link old lower upper link)) comes (link_step old lower upper (connected (old.link lower upper)) refl refl))))
 
 pub lose_reads : (old new : Cluster) (lower upper : Device) (answer : Answer) → AtLink lower upper LoseRow old new answer → IsReadingStep old new
 lose_reads old new lower upper answer made = subst (λ one. IsReadingStep old one) (sym made.2) (
-    row_answers (λ link. IsReadingStep old (with_link old lower upper link)) made.1 (same_link old lower upper)
-    (λ goes. row_becomes (λ link. IsReadingStep old (with_link old lower upper link)) goes (link_step old lower upper (lost (old.link lower upper)) refl refl)))
+    at_answers (λ link. IsReadingStep old (with_link old lower upper link)) made.1 (same_link old lower upper)
+    (λ _ goes. at_becomes (λ link. IsReadingStep old (with_link old lower upper link)) goes (link_step old lower upper (lost (old.link lower upper)) refl refl)))
 
 -- ---- restart
 
@@ -106,7 +106,7 @@ read_without_pulls Comes (Some replica) = record {
         cases (Some pull) is target = nothing_in_empty (slice_cmp nat_cmp) name pull is
 
 pub restart_reads : (old new : Cluster) (device : Device) (answer : Answer) → RestartRow device old new answer → IsReadingStep old new
-restart_reads old new device answer made = row_becomes (IsReadingStep old) made (record {
+restart_reads old new device answer made = at_becomes (IsReadingStep old) made (record {
   config = refl;
   reads = each_after_change (λ one peer. AreReadOn (IsFlying (tables_of_cluster old) one) (old.peer one).replicas peer.replicas)
       old.peer device (restarted (old.peer device))
