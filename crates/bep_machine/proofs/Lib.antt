@@ -17,4 +17,4 @@ mod LinkSteps
 mod Arrivals
 mod ReadingSteps
 mod ThereDecided
-mod CalmStep
+pub mod CalmStep
