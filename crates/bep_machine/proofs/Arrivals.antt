@@ -1,13 +1,12 @@
 -- In a sound cluster the records of a message that a device takes were on their way to it, from a device that shares
 -- the folder.
-use Rattle.std.proofs.Common.{◌≡◌, ◌⊎◌, ◌==◌, ◌&&◌, ◌||◌, ℕ, Bool, true, false, List, [], ◌∷◌, Option, Some, None, IsSome, IsTrue, Contains, refl, sym, ap, subst, ◌∙◌, inl, inr, ⊎_elim, if◌then◌else◌}
+use Rattle.std.proofs.Common.{◌≡◌, ◌⊎◌, ◌==◌, ◌&&◌, ◌||◌, ℕ, Bool, true, false, List, [], Option, Some, None, IsSome, Contains, refl, sym, subst, ⊎_elim, if◌then◌else◌}
 use Rattle.std.proofs.lemmas.Bool.{eqb-true, eq-eqb}
-use Rattle.std.specs.List.{list_any, flat_map}
+use Rattle.std.specs.List.{flat_map}
 use Rattle.std.specs.FinMap.{get}
 use Rattle.bep_facts.specs.Members.{Contains-first, Contains-flat_map}
 use Rattle.bep_record.specs.declared.entry.Entry.{Entry}
 use Rattle.bep_record.specs.declared.folder_kind.FolderKind.{FolderKind}
-use Rattle.bep_index.specs.declared.send.Plan.{Plan}
 use Rattle.bep_index.specs.After.{IsAmong}
 use Rattle.bep_index.specs.Laws.{AmongIsContained}
 use Rattle.bep_model.specs.declared.flight.Flight.{Flight}
@@ -15,9 +14,8 @@ use Rattle.bep_model.specs.Tables.{Device, Folder, FileName}
 use Rattle.bep_model.specs.Foreign.{IsFlying}
 use Rattle.bep_machine.specs.declared.message.Message.{Message}
 use Rattle.bep_machine.specs.declared.message.Message.TheVariants as messages
-use Rattle.bep_machine.specs.Replica.{Replica}
 use Rattle.bep_machine.specs.Link.{end_of, sight_of}
-use Rattle.bep_machine.specs.Peer.{Session, is_shared_with}
+use Rattle.bep_machine.specs.Peer.{Session}
 use Rattle.bep_machine.specs.Exchange.{SharesWith, IsNamed}
 use Rattle.bep_machine.specs.Cluster.{Config, Cluster, link_between}
 use Rattle.bep_machine.specs.Steps.{SharesFolder, AreLinked}

@@ -1,12 +1,11 @@
 -- What each device's replicas and each link may do, so that the cluster makes a quiet move.
-use Rattle.std.proofs.Common.{◌≡◌, ◌⊎◌, false, List, Option, Some, None, Contains, refl, sym, ap, subst, inl, inr, ⊎_elim}
+use Rattle.std.proofs.Common.{◌≡◌, ◌⊎◌, false, Option, Some, Contains, refl, subst, inl, inr, ⊎_elim}
 use Rattle.std.specs.FinMap.{get}
 use Rattle.bep_record.specs.declared.entry.Entry.{Entry}
-use Rattle.bep_record.specs.declared.node.NodeParts.{NodeParts}
 use Rattle.bep_record.specs.Node.{IsClean}
 use Rattle.bep_model.specs.declared.flight.Flight.{Flight}
-use Rattle.bep_model.specs.Tables.{Tables, Device, Folder, FileName, Shares}
-use Rattle.bep_model.specs.Foreign.{IsViewed, IsFlying, IsTarget, IsForeign}
+use Rattle.bep_model.specs.Tables.{Device, Folder, FileName, Shares}
+use Rattle.bep_model.specs.Foreign.{IsFlying, IsForeign}
 use Rattle.bep_model.specs.Calm.{Contents, IsCalm, SameFile}
 use Rattle.bep_machine.specs.Replica.{Replica, own_at, node_at, viewed_at, target_at}
 use Rattle.bep_machine.specs.Cluster.{Config, Cluster}

@@ -1,17 +1,16 @@
 -- A calm cluster is calm at each replica, and a quiet change of one replica is a quiet move.
-use Rattle.std.proofs.Common.{◌≡◌, ◌⊎◌, false, List, Option, Some, None, Contains, refl, sym, ap, subst, ◌∙◌, inl, inr, ⊎_elim}
+use Rattle.std.proofs.Common.{◌≡◌, false, Some, None, refl, sym, ap, subst, ◌∙◌, inl, inr, ⊎_elim}
 use Rattle.std.specs.FinMap.{get}
 use Rattle.bep_record.specs.declared.entry.Entry.{Entry}
-use Rattle.bep_record.specs.Node.{IsClean}
 use Rattle.bep_model.specs.Tables.{Device, Folder, FileName, Shares}
 use Rattle.bep_model.specs.Foreign.{IsForeign, IsHarmless}
 use Rattle.bep_model.specs.Calm.{Contents, content_due, OwnIsCalm, StoreIsCalm, NodeIsCalm, IsCalm}
 use Rattle.bep_machine.specs.Replica.{Replica, own_at, node_at, viewed_at, target_at}
-use Rattle.bep_machine.specs.Peer.{Peer, with_replica}
+use Rattle.bep_machine.specs.Peer.{with_replica}
 use Rattle.bep_machine.specs.Cluster.{Cluster, with_peer}
 use Rattle.bep_machine.specs.Said.{looked_up, tables_of_cluster}
-use Rattle.bep_machine.proofs.CalmParts.{IsElsewhere, IsCalmThere, IsCalmReplica, IsQuietChange}
-use Rattle.bep_machine.proofs.CalmMoves.{ElsewhereIn, IsQuietPlace, IsComing, AreQuietParts, quiet_where_same}
+use Rattle.bep_machine.proofs.CalmParts.{IsElsewhere, IsCalmReplica, IsQuietChange}
+use Rattle.bep_machine.proofs.CalmMoves.{IsQuietPlace, IsComing, AreQuietParts, quiet_where_same}
 use Rattle.bep_machine.proofs.Places.{each_name_after_insert, each_after_change}
 
 -- ---- a replica of a calm cluster
@@ -26,8 +25,9 @@ module _ (contents : Contents) (cluster : Cluster) (calm : IsCalm (tables_of_clu
     valid = valid;
   }
 
-  calm_there : (name : FileName) → IsCalmThere (contents folder) replica name
-  calm_there name =
+  -- it is calm at each name
+  pub calm_replica : IsCalmReplica (contents folder) replica
+  calm_replica name =
       let at = calm device folder name shares in
       record {
         own = subst (λ one. OwnIsCalm (looked_up own_at name one) (content_due (contents folder name))) here at.own;
@@ -36,12 +36,9 @@ module _ (contents : Contents) (cluster : Cluster) (calm : IsCalm (tables_of_clu
         elsewhere = λ entry has valid. subst (λ one. IsHarmless (looked_up own_at name one) (content_due (contents folder name)) entry) here (at.foreign entry (elsewhere_is_foreign name entry has valid));
         unlisted = λ none. (
           subst (λ one. looked_up own_at name one ≡ None) here (at.unlisted none).own,
-          λ entry has valid. (at.unlisted none).foreign entry (elsewhere_is_foreign name entry has valid)
+          λ entry has valid. (at.unlisted none).foreign entry (elsewhere_is_foreign name entry has valid),
         );
       }
-
-  pub calm_replica : IsCalmReplica (contents folder) replica
-  calm_replica = calm_there
 
 -- ---- a quiet change of one replica
 

@@ -1,5 +1,5 @@
 -- Every quiet step of a sound cluster keeps calm, and takes no own record away.
-use Rattle.std.proofs.Common.{◌≡◌, ◌⊎◌, ◌==◌, ℕ, Bool, true, false, if◌then◌else◌, List, [], ◌∷◌, Option, Some, None, IsSome, Contains, refl, sym, ap, subst, ◌∙◌, inl, inr, ⊎_elim}
+use Rattle.std.proofs.Common.{◌≡◌, ◌⊎◌, ℕ, Bool, true, false, if◌then◌else◌, List, [], Option, Some, None, IsSome, Contains, refl, sym, ap, subst, ◌∙◌, inl, inr, ⊎_elim}
 use Rattle.std.specs.FinMap.{get}
 use Rattle.bep_facts.specs.Members.{Contains-one, Contains-flat_map, Contains-from_flat_map, not_in_none}
 use Rattle.std.specs.List.{flat_map}
@@ -8,7 +8,7 @@ use Rattle.bep_record.specs.Content.{Content, content_of}
 use Rattle.bep_record.specs.Laws.{CutIsOfOneLength}
 use Rattle.bep_index.specs.Laws.{FoundIsOfBatchOrBefore, AmongIsContained}
 use Rattle.bep_model.specs.declared.flight.Flight.{Flight}
-use Rattle.bep_model.specs.Tables.{Device, Folder, FileName, Shares}
+use Rattle.bep_model.specs.Tables.{Device, Folder, FileName}
 use Rattle.bep_model.specs.Calm.{Contents, content_due, OwnIsCalm, IsCalm, Kept}
 use Rattle.bep_model.specs.Foreign.{IsFlying}
 use Rattle.bep_machine.specs.declared.message.Message.{Message}
@@ -20,15 +20,15 @@ use Rattle.bep_machine.specs.Replica.{Replica, own_at}
 use Rattle.bep_machine.specs.Link.{Link}
 use Rattle.bep_machine.specs.Local.{ScanRow}
 use Rattle.bep_machine.specs.Pull.{StartPullRow, FinishRow}
-use Rattle.bep_machine.specs.Peer.{Peer, with_replica}
-use Rattle.bep_machine.specs.Cluster.{Config, Cluster, with_peer}
+use Rattle.bep_machine.specs.Peer.{with_replica}
+use Rattle.bep_machine.specs.Cluster.{Cluster}
 use Rattle.bep_machine.specs.Steps.{SharesFolder, IsThere, AtReplica, StepRow, IsStep, IsQuiet}
-use Rattle.bep_machine.specs.Said.{looked_up, both_share, flight_when, flights_of, are_linked, on_its_way, tables_of_cluster}
+use Rattle.bep_machine.specs.Said.{looked_up, both_share, flight_when, flights_of, are_linked, tables_of_cluster}
 use Rattle.bep_machine.specs.Sound.{IsSound, IsSoundReplica}
 use Rattle.bep_machine.specs.Laws.{QuietStepsKeepCalm, KeepsRecords, QuietStepsKeepRecords}
 use Rattle.bep_machine.proofs.CalmParts.{IsCalmReplica, IsQuietChange}
 use Rattle.bep_machine.proofs.CalmTables.{HasDue, calm_after_move, kept_after_move}
-use Rattle.bep_machine.proofs.CalmMoves.{IsQuietPlace, AllDue, IsComing, AreQuietParts, move_of_parts}
+use Rattle.bep_machine.proofs.CalmMoves.{AllDue, IsComing, AreQuietParts, move_of_parts}
 use Rattle.bep_machine.proofs.CalmReplicaStep.{calm_replica, quiet_parts_of_change}
 use Rattle.bep_machine.proofs.Places.{each_name_after_insert, each_after_change}
 use Rattle.bep_machine.proofs.CalmRows.{at_becomes}
@@ -39,7 +39,7 @@ use Rattle.bep_machine.proofs.KeepsOwn.{KeepsOwn, scan_keeps_own, start_pull_kee
 use Rattle.bep_machine.proofs.ThereDecided.{there_decided}
 use Rattle.bep_machine.proofs.ReadOn.{quiet_where_read}
 use Rattle.bep_machine.proofs.LinkQueues.{queue_between, LinkGoesOn, queues_go_on}
-use Rattle.bep_machine.proofs.LinkSteps.{AreOwn, CarriesOwn}
+use Rattle.bep_machine.proofs.LinkSteps.{AreOwn}
 use Rattle.bep_machine.proofs.ReadingSteps.{SendsOwn, IsReadingStep, nothing_happens, connect_reads, lose_reads, restart_reads, begin_reads, announce_reads, ask_reads, deliver_reads}
 
 -- ---- what is sent has the contents that are due
@@ -97,7 +97,6 @@ module _ (among : AmongIsContained) (contents : Contents) (cluster : Cluster) (s
   }
 
 -- ---- steps of one replica
-
 
 -- the row of a quiet step of a device's replica changes a calm replica quietly
 abbrev pub RowIsQuiet : Device → (Replica → Row Replica) → Type 0

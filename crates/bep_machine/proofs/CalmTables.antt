@@ -1,17 +1,16 @@
 -- Calm is kept by every change of the tables in which own records go on and nothing new comes from elsewhere.
-use Rattle.std.proofs.Common.{◌≡◌, ◌⊎◌, ℕ, ◌≤◌, false, List, Option, Some, None, refl, sym, ap, subst, ◌∙◌, inl, inr, ⊎_elim, arith}
+use Rattle.std.proofs.Common.{◌≡◌, ◌⊎◌, ℕ, List, Option, Some, None, sym, ap, subst, ◌∙◌, inl, inr, ⊎_elim, arith}
 use Rattle.bep_record.specs.declared.entry.Entry.{Entry}
 use Rattle.bep_record.specs.declared.node.NodeParts.{NodeParts}
-use Rattle.bep_record.specs.Content.{Content, Deleted, content_of, content_of_kind}
+use Rattle.bep_record.specs.Content.{Content, content_of, content_of_kind}
 use Rattle.bep_record.specs.Block.{base_block_size}
 use Rattle.bep_record.specs.Node.{IsClean}
-use Rattle.bep_record.specs.Vector.{counter_of, IsAtMost, IsBelow}
+use Rattle.bep_record.specs.Vector.{IsAtMost, IsBelow}
 use Rattle.bep_blocks.specs.Plain.{plain_blocks}
 use Rattle.bep_model.specs.Tables.{Tables, Device, Folder, FileName, Shares}
 use Rattle.bep_model.specs.Foreign.{IsForeign, IsHarmless}
-use Rattle.bep_model.specs.Settled.{content_of_node}
 use Rattle.bep_model.specs.Calm.{Contents, content_due, OwnIsCalm, StoreIsCalm, HasNoRecord, IsCalmAt, IsCalm, SameFile, Kept}
-use Rattle.bep_machine.proofs.CalmParts.{IsSuccessor, GoesOn}
+use Rattle.bep_machine.proofs.CalmParts.{GoesOn}
 
 -- the name is to have this content, which is the record's
 abbrev pub HasDue : Contents → Folder → FileName → Entry → Type 0
@@ -67,7 +66,7 @@ harmless_after old new content entry goes harmless =
     (λ next.
     let was : IsHarmless (Some next.0) content entry = subst (λ own. IsHarmless own content entry) next.2 harmless in
     let will : IsHarmless (Some next.1) content entry =
-        ⊎_elim (λ has. inl has) (λ below. inr (below_next entry.version next.0.version next.1.version below next.4.above)) was in
+    ⊎_elim (λ has. inl has) (λ below. inr (below_next entry.version next.0.version next.1.version below next.4.above)) was in
     subst (λ own. IsHarmless own content entry) (sym next.3) will)
     goes
 

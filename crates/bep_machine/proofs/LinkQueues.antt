@@ -1,11 +1,11 @@
 -- What is on its way after a link was changed: what was there before, and what was sent.
-use Rattle.std.proofs.Common.{◌≡◌, ◌⊎◌, ◌==◌, ◌&&◌, ◌||◌, ◌++◌, ◌≤◌, ℕ, Bool, true, false, nat_lt, drop, List, [], ◌∷◌, Option, Some, None, Contains, refl, sym, ap, subst, ◌∙◌, inl, inr, ⊎_elim, if◌then◌else◌, arith}
-use Rattle.std.proofs.lemmas.Bool.{eqb-true, ltb-true, ltb-false, cases_Bool}
+use Rattle.std.proofs.Common.{◌≡◌, ◌⊎◌, ◌==◌, ◌&&◌, Bool, true, false, nat_lt, List, [], ◌∷◌, Option, Some, None, Contains, refl, sym, ap, subst, ◌∙◌, inl, inr, ⊎_elim, if◌then◌else◌, arith}
+use Rattle.std.proofs.lemmas.Bool.{eqb-true, ltb-true, ltb-false}
 use Rattle.std.proofs.lemmas.List.Elements.{Contains-append_cases}
 use Rattle.bep_facts.specs.Members.{not_in_none, Contains-first, Contains-more, Contains-one}
 use Rattle.bep_model.specs.Tables.{Device}
 use Rattle.bep_machine.specs.declared.message.Message.{Message}
-use Rattle.bep_machine.specs.Link.{End, Lower, Upper, Link, Deed, end_of, queue_to, queue_from, first_of_queue, connected, lost, after_taking, after_sending, after_deed}
+use Rattle.bep_machine.specs.Link.{Lower, Upper, Link, Deed, end_of, queue_to, first_of_queue, lost, after_taking, after_sending, after_deed}
 use Rattle.bep_machine.specs.Cluster.{Cluster, link_between, with_link, with_link_between}
 
 -- what is on its way from one device to another
@@ -32,9 +32,6 @@ module _ (MaySend : Device → Device → Message → Type 0) (old new : Device 
   pub queues_go_on : (sender receiver : Device) (message : Message) → Contains (queue_between new sender receiver) message → Contains (queue_between old sender receiver) message ⊎ MaySend sender receiver message
   queues_go_on sender receiver message = cases (nat_lt sender receiver) (nat_lt receiver sender) refl refl
     where
-      queue : (Device → Device → Link) → Bool → Bool → List Message
-      queue link up down = queue_to (if down then Lower else Upper) (if up then link sender receiver else link receiver sender)
-
       cases : (up down : Bool) → nat_lt sender receiver ≡ up → nat_lt receiver sender ≡ down → Contains (queue_to (if down then Lower else Upper) (if up then new sender receiver else new receiver sender)) message → Contains (queue_to (if down then Lower else Upper) (if up then old sender receiver else old receiver sender)) message ⊎ MaySend sender receiver message
       cases true true less more has =
           let one = ltb-true sender receiver less in

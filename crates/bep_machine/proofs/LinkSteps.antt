@@ -1,39 +1,31 @@
 -- What a device learns and sends by a step over a link: it learns what was on its way to it, and sends own records.
-use Rattle.std.proofs.Common.{◌≡◌, ◌⊎◌, ◌==◌, ◌&&◌, ◌||◌, ℕ, Bool, true, false, List, [], ◌∷◌, Option, Some, None, IsSome, IsTrue, Contains, refl, sym, ap, subst, ◌∙◌, inl, inr, ⊎_elim, if◌then◌else◌}
-use Rattle.std.proofs.lemmas.Bool.{eqb-true, eq-eqb}
+use Rattle.std.proofs.Common.{◌≡◌, ◌⊎◌, ◌||◌, ℕ, Bool, true, false, List, [], ◌∷◌, Option, Some, None, Contains, refl, sym, ap, subst, ◌∙◌, inl, inr, ⊎_elim}
 use Rattle.std.specs.Bool.{⊤}
 use Rattle.std.specs.Ordering.{nat_cmp}
 use Rattle.std.specs.Cmp.Lexicographic.{slice_cmp}
-use Rattle.std.specs.List.{list_any, flat_map}
+use Rattle.std.specs.List.{list_any}
 use Rattle.std.specs.FinMap.{empty, get}
 use Rattle.bep_facts.specs.Maps.{nothing_in_empty}
-use Rattle.bep_facts.specs.Members.{not_in_none, Contains-first, Contains-more, Contains-cons_cases, Contains-flat_map}
+use Rattle.bep_facts.specs.Members.{not_in_none, Contains-first, Contains-more, Contains-cons_cases}
 use Rattle.bep_map.specs.NameMap.{ByName}
 use Rattle.bep_record.specs.declared.entry.Entry.{Entry}
-use Rattle.bep_record.specs.declared.folder_kind.FolderKind.{FolderKind}
 use Rattle.bep_index.specs.declared.send.Plan.{Plan}
 use Rattle.bep_index.specs.declared.send.Plan.TheVariants.{Full, Above}
 use Rattle.bep_index.specs.Listing.{Listing, IsRecord}
 use Rattle.bep_index.specs.After.{IsAmong, AreRecords}
-use Rattle.bep_index.specs.Laws.{FoundIsOfBatchOrBefore, AmongIsContained}
-use Rattle.bep_index.specs.View.{replaced, amended, IsOld}
-use Rattle.bep_model.specs.declared.flight.Flight.{Flight}
+use Rattle.bep_index.specs.Laws.{FoundIsOfBatchOrBefore}
+use Rattle.bep_index.specs.View.{replaced, amended}
 use Rattle.bep_model.specs.Tables.{Device, Folder, FileName}
-use Rattle.bep_model.specs.Foreign.{IsFlying}
 use Rattle.bep_machine.specs.declared.message.Message.{Message}
 use Rattle.bep_machine.specs.declared.message.Message.TheVariants as messages
 use Rattle.bep_machine.specs.declared.message.Request.{Request}
 use Rattle.bep_machine.specs.declared.message.Response.{Response}
-use Rattle.bep_machine.specs.Answer.{Answer, Done, Refused, Row}
+use Rattle.bep_machine.specs.Answer.{Answer, Row}
 use Rattle.bep_machine.specs.Replica.{Replica, own_at, pull_at, view_of, viewed_at, with_view}
-use Rattle.bep_machine.specs.Link.{Sight, Link, end_of, queue_to, sight_of, taking, losing}
-use Rattle.bep_machine.specs.Peer.{Session, Peer, Acted, idle, with_replica, with_session, config_for}
-use Rattle.bep_machine.specs.Exchange.{HasSession, SharesWith, SessionRow, ReplicaRow, BeginRow, IsNamed, ViewRow, RequestRow, AnsweredRow, ResponseRow, MessageRow, WaitingRow, DeliverRow, LosingRow, taken_by, with_received, with_block, index_message, SendingRow, CursorRow, AnnounceRow, AskingRow, AskRow, request_for, without}
-use Rattle.bep_machine.specs.Cluster.{Config, Cluster, link_between}
-use Rattle.bep_machine.specs.Steps.{SharesFolder, AreLinked}
-use Rattle.bep_machine.specs.Said.{is_among, both_share, flight_when, flights_of, are_linked, on_its_way, tables_of_cluster}
-use Rattle.bep_machine.specs.Sound.{IsSound, IsSoundPeer}
-use Rattle.bep_machine.proofs.ReadOn.{IsReadOn, AreReadOn, none_read, one_read, all_renewed_read, nothing_read, read_with_view, read_with_block}
+use Rattle.bep_machine.specs.Link.{Sight, losing}
+use Rattle.bep_machine.specs.Peer.{Session, Peer, Acted, idle, with_session, config_for}
+use Rattle.bep_machine.specs.Exchange.{SessionRow, ReplicaRow, BeginRow, IsNamed, ViewRow, RequestRow, AnsweredRow, ResponseRow, MessageRow, WaitingRow, DeliverRow, LosingRow, with_received, with_block, index_message, SendingRow, CursorRow, AnnounceRow, AskingRow, AskRow, request_for, without}
+use Rattle.bep_machine.proofs.ReadOn.{AreReadOn, none_read, one_read, all_renewed_read, read_with_view, read_with_block}
 use Rattle.bep_machine.proofs.CalmRows.{at_answers, at_becomes}
 
 -- ---- tests of lists

@@ -1,12 +1,12 @@
 -- What holds at each place of a finite map, or of a function, after one place was changed.
-use Rattle.std.proofs.Common.{◌≡◌, ◌==◌, ℕ, Bool, true, false, cond, List, Option, Some, None, refl, sym, subst, if◌then◌else◌}
+use Rattle.std.proofs.Common.{◌≡◌, ◌==◌, ℕ, Bool, true, false, cond, List, Option, Some, refl, sym, subst, if◌then◌else◌}
 use Rattle.std.proofs.lemmas.Bool.{eqb-true}
 use Rattle.std.proofs.lemmas.Cmp.{nat_list_cmp_total}
 use Rattle.std.proofs.lemmas.Map.Lookups.{exact_bytes}
 use Rattle.std.specs.declared.cmp.Ordering.{Ordering}
-use Rattle.std.specs.Ordering.{nat_cmp, eq_by_cmp}
+use Rattle.std.specs.Ordering.{eq_by_cmp}
 use Rattle.std.specs.Cmp.{IsTotalOrder, nat_cmp_total}
-use Rattle.std.specs.FinMap.{FinMap, IsAntisymmetric, get, insert, remove, get-insert, get-remove, nat_cmp-IsAntisymmetric}
+use Rattle.std.specs.FinMap.{FinMap, IsAntisymmetric, get, insert, get-insert, nat_cmp-IsAntisymmetric}
 use Rattle.bep_facts.specs.Maps.{same_key}
 use Rattle.bep_map.specs.NameMap.{ByName}
 use Rattle.bep_machine.specs.Replica.{ByDevice}
@@ -18,13 +18,6 @@ module _ {K V : Type 0} {R : K → K → Ordering} (total : IsTotalOrder R) (exa
     where
       there : (b : Bool) → eq_by_cmp R other key ≡ b → P other (cond b (Some value) (get m other))
       there true tied = subst (λ k. P k (Some value)) (sym (same_key exact other key tied)) here
-      there false apart = rest other
-
-  pub each_after_remove : (m : FinMap R V) (key : K) → P key None → ((other : K) → P other (get m other)) → (other : K) → P other (get (remove m key) other)
-  each_after_remove m key here rest other = subst (P other) (sym (get-remove total m key other)) (there (eq_by_cmp R other key) refl)
-    where
-      there : (b : Bool) → eq_by_cmp R other key ≡ b → P other (cond b None (get m other))
-      there true tied = subst (λ k. P k None) (sym (same_key exact other key tied)) here
       there false apart = rest other
 
 module _ {V : Type 0} (P : List ℕ → Option V → Type 0) where

@@ -1,11 +1,10 @@
 -- Steps over links and restarts: what each device learns, and what is sent.
-use Rattle.std.proofs.Common.{◌≡◌, ◌⊎◌, ◌==◌, ◌&&◌, ◌||◌, ℕ, Bool, true, false, cond, nat_lt, map, List, [], ◌∷◌, Option, Some, None, option_map, Contains, refl, sym, ap, subst, ◌∙◌, inl, inr, ⊎_elim, if◌then◌else◌}
+use Rattle.std.proofs.Common.{◌≡◌, ◌⊎◌, ◌==◌, ◌||◌, ℕ, Bool, true, false, cond, nat_lt, map, List, [], ◌∷◌, Option, Some, None, option_map, Contains, refl, sym, ap, subst, ◌∙◌, inl, ⊎_elim, if◌then◌else◌}
 use Rattle.std.proofs.lemmas.Cmp.{nat_list_cmp_total}
 use Rattle.std.specs.Ordering.{nat_cmp, eq_by_cmp}
 use Rattle.std.specs.Cmp.Lexicographic.{slice_cmp}
-use Rattle.std.specs.FinMap.{empty, entries, from_entries, get, find, get-entries, get-from_entries}
+use Rattle.std.specs.FinMap.{empty, entries, get, find, get-entries, get-from_entries}
 use Rattle.bep_facts.specs.Maps.{nothing_in_empty}
-use Rattle.bep_map.specs.NameMap.{ByName}
 use Rattle.bep_record.specs.declared.entry.Entry.{Entry}
 use Rattle.bep_index.specs.Laws.{FoundIsOfBatchOrBefore, AmongIsContained}
 use Rattle.bep_model.specs.Tables.{Device, Folder, FileName}
@@ -16,7 +15,7 @@ use Rattle.bep_machine.specs.Replica.{Pull, Replica, target_at}
 use Rattle.bep_machine.specs.Link.{Sight, Link, end_of, sight_of, after_deed, connected, lost}
 use Rattle.bep_machine.specs.Peer.{Peer, Acted}
 use Rattle.bep_machine.specs.Exchange.{BeginRow, DeliverRow, AnnounceRow, AskRow}
-use Rattle.bep_machine.specs.Cluster.{Config, Cluster, link_between, with_link, with_link_between, with_peer, without_links}
+use Rattle.bep_machine.specs.Cluster.{Cluster, link_between, with_link, with_link_between, with_peer}
 use Rattle.bep_machine.specs.Steps.{AreLinked, OverLink, AtLink, ConnectRow, LoseRow, without_pulls, restarted, RestartRow}
 use Rattle.bep_machine.specs.Said.{tables_of_cluster}
 use Rattle.bep_machine.specs.Sound.{IsSound}
