@@ -18,3 +18,14 @@ mod GoodChoice
 mod WrittenNode
 mod SoundLocal
 mod SoundPull
+mod Places
+mod CalmTables
+mod CalmMoves
+mod CalmReplicaStep
+mod LinkQueues
+mod ReadOn
+mod LinkSteps
+mod Arrivals
+mod ReadingSteps
+mod ThereDecided
+pub mod CalmStep

@@ -3,6 +3,7 @@
 //! Nearly all of this crate is definitions, in `specs/`, and the laws that follow from them.
 #![tactic(auto)]
 
+mod calm;
 mod laws;
 mod limits;
 mod message;
@@ -10,6 +11,7 @@ mod moved;
 mod refusal;
 mod step;
 
+pub use calm::{quiet_steps_keep_calm, quiet_steps_keep_records};
 pub use limits::{MAX_EPOCH, MAX_OUTSTANDING, MAX_REQUEST_ID};
 pub use message::{Announced, Code, Message, Request, Response};
 pub use moved::Moved;
