@@ -6,3 +6,14 @@ mod FoldersKept
 mod PeerKept
 mod RestartKept
 mod LinkKept
+mod ActedKept
+mod BeginKept
+mod BatchSent
+mod AnnounceKept
+mod ViewKept
+mod ConfigKept
+mod ReceivedKept
+mod DeliverKept
+mod ClusterKept
+mod PlacesKept
+mod StepsKept
