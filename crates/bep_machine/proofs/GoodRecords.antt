@@ -1,5 +1,5 @@
 -- Records that are good stay so under another version, and a record that a device makes is good.
-use Rattle.std.proofs.Common.{◌≡◌, ◌≢◌, ◌≤◌, ◌∙◌, ℕ, Bool, true, false, IsTrue, List, [], ◌∷◌, length, map, Option, Some, None, refl, sym, ap, subst, arith}
+use Rattle.std.proofs.Common.{◌≡◌, ◌≤◌, ◌∙◌, ℕ, Bool, true, false, List, [], ◌∷◌, length, map, refl, sym, ap, subst, arith}
 use Rattle.bep_record.specs.declared.kind.Kind.{Kind}
 use Rattle.bep_record.specs.declared.kind.Kind.TheVariants.{File, Directory, Symlink}
 use Rattle.bep_record.specs.declared.entry.Entry.{Entry}
@@ -7,10 +7,10 @@ use Rattle.bep_record.specs.declared.block.Block.{Block}
 use Rattle.bep_record.specs.declared.node.NodeParts.{NodeParts}
 use Rattle.bep_record.specs.declared.limits.TheConstants.{HASH_OF_NOTHING}
 use Rattle.bep_record.specs.Block.{base_block_size, CutWhole}
-use Rattle.bep_record.specs.Entry.{HasNoBlocks, HasBlocks, HasBody, IsWellFormed, SameEntry, SameBody}
+use Rattle.bep_record.specs.Entry.{HasNoBlocks, HasBlocks, HasBody, SameEntry, SameBody}
 use Rattle.bep_record.specs.Node.{FitsKind, IsNode}
 use Rattle.bep_record.specs.Vector.{IsVersion, most_counters}
-use Rattle.bep_blocks.specs.Plain.{plain_blocks, block_of, hash_of}
+use Rattle.bep_blocks.specs.Plain.{plain_blocks}
 use Rattle.bep_blocks.specs.Laws.{NothingIsOneBlock, NothingHasItsHash, PlainIsCutWhole}
 use Rattle.bep_model.specs.Tables.{Device, FileName}
 use Rattle.bep_machine.specs.Local.{blocks_of_kind, block_size_of_kind, record_of_node, deletion_of}

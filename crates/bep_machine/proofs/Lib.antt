@@ -1,6 +1,14 @@
 mod CalmParts
 mod SoundParts
+mod LowerLaws
 mod GoodRecords
+mod GoodVersions
+mod SoundMaps
+mod SoundChanges
+mod GoodChoice
+mod WrittenNode
+mod SoundLocal
+mod SoundPull
 mod FoundAfter
 mod FoldersKept
 mod PeerKept

@@ -17,6 +17,10 @@ unchanged sound = record { sound = sound; kind = refl; others = refl }
 pub same_is_sound : {device : Device} {old new : Replica} → IsSoundReplica device old → new ≡ old → SoundChange device old new
 same_is_sound {device} {old} sound same = subst (λ replica. SoundChange device old replica) (sym same) (unchanged sound)
 
+-- a change that was made
+pub made_is_sound : {device : Device} {old made new : Replica} → SoundChange device old made → new ≡ made → SoundChange device old new
+made_is_sound {device} {old} change is = subst (λ replica. SoundChange device old replica) (sym is) change
+
 -- where one change follows another
 pub then_sound : {device : Device} {old next new : Replica} → SoundChange device old next → SoundChange device next new → SoundChange device old new
 then_sound one other = record { sound = other.sound; kind = other.kind ∙ one.kind; others = other.others ∙ one.others }
