@@ -29,3 +29,19 @@ mod Arrivals
 mod ReadingSteps
 mod ThereDecided
 pub mod CalmStep
+mod FoundAfter
+mod FoldersKept
+mod PeerKept
+mod RestartKept
+mod LinkKept
+mod ActedKept
+mod BeginKept
+mod BatchSent
+mod AnnounceKept
+mod ViewKept
+mod ConfigKept
+mod ReceivedKept
+mod DeliverKept
+mod ClusterKept
+mod PlacesKept
+mod StepsKept

@@ -9,6 +9,7 @@ mod limits;
 mod message;
 mod moved;
 mod refusal;
+mod sound;
 mod step;
 
 pub use calm::{quiet_steps_keep_calm, quiet_steps_keep_records};
@@ -16,4 +17,5 @@ pub use limits::{MAX_EPOCH, MAX_OUTSTANDING, MAX_REQUEST_ID};
 pub use message::{Announced, Code, Message, Request, Response};
 pub use moved::Moved;
 pub use refusal::Refusal;
+pub use sound::steps_keep_sound;
 pub use step::Step;
