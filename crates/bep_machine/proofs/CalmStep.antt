@@ -25,7 +25,8 @@ use Rattle.bep_machine.specs.Cluster.{Cluster}
 use Rattle.bep_machine.specs.Steps.{SharesFolder, IsThere, AtReplica, StepRow, IsStep, IsQuiet}
 use Rattle.bep_machine.specs.Said.{looked_up, both_share, flight_when, flights_of, are_linked, tables_of_cluster}
 use Rattle.bep_machine.specs.Sound.{IsSound, IsSoundReplica}
-use Rattle.bep_machine.specs.Laws.{QuietStepsKeepCalm, KeepsRecords, QuietStepsKeepRecords}
+use Rattle.bep_machine.specs.Laws.{QuietStepsKeepCalm, QuietStepsKeepRecords}
+use Rattle.bep_model.specs.Stays.{KeepsRecords}
 use Rattle.bep_machine.proofs.CalmParts.{IsCalmReplica, IsQuietChange}
 use Rattle.bep_machine.proofs.CalmTables.{HasDue, calm_after_move, kept_after_move}
 use Rattle.bep_machine.proofs.CalmMoves.{AllDue, IsComing, AreQuietParts, move_of_parts}

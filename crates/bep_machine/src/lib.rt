@@ -4,7 +4,7 @@
 #![tactic(auto)]
 
 mod calm;
-mod laws;
+mod headline;
 mod limits;
 mod message;
 mod moved;
@@ -13,6 +13,7 @@ mod sound;
 mod step;
 
 pub use calm::{quiet_steps_keep_calm, quiet_steps_keep_records};
+pub use headline::{settled_stays_put, settled_stays_settled};
 pub use limits::{MAX_EPOCH, MAX_OUTSTANDING, MAX_REQUEST_ID};
 pub use message::{Announced, Code, Message, Request, Response};
 pub use moved::Moved;
