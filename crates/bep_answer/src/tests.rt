@@ -1,4 +1,4 @@
-// Documents of a folder `docs` that three devices share, of which one holds a directory; the lines were written by hand.
+//! Documents of a folder `docs` that three devices share, of which one holds a directory; the lines were written by hand.
 use crate::*;
 use bep_report::ReportError;
 use std::alloc::Global;

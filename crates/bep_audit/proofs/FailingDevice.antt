@@ -18,12 +18,12 @@ use Rattle.bep_cut.specs.declared.cut.CutParts.{CutParts}
 use Rattle.bep_cut.specs.Cut.{IsCut, shares_of, tables_of}
 use Rattle.bep_audit.specs.Share.{AsksHere, ShareIsAsked}
 use Rattle.bep_audit.specs.Held.{AsksOf, AsksAmong}
-use Rattle.bep_audit.specs.Search.{FindsFirst, FindsFault}
+use Rattle.bep_audit.specs.Search.{FindsFirst, FindsFailing}
 use Rattle.bep_audit.specs.Shown.{part_of}
 use Rattle.bep_audit.proofs.AskedAtRow.{IsOfDevices}
 use Rattle.bep_audit.proofs.CutFacts.{CutSays, share_of_device, device_of_share}
 use Rattle.bep_audit.proofs.ForeignFacts.{views_asked, flights_asked, pulls_asked}
-use Rattle.bep_audit.proofs.RowFault.{less_by_order, finds_none, finds_part}
+use Rattle.bep_audit.proofs.FailingRow.{less_by_order, finds_none, finds_part}
 
 -- a reason that asks something of devices asks nothing of a name as a whole
 no_name : (t : Tables) (rows : List Row) (reason : Reason) (folder : Folder) (name : FileName) → IsOfDevices reason → AsksName t rows reason folder name
@@ -83,7 +83,7 @@ module _ (said : CutSays) (asked_here : ShareIsAsked) (cut : CutParts) (is_cut :
         (asked_exactly reason share member).1 (subst (λ (d : Device). AsksShare (tables_of cut) reason row d) (sym same) of_device),
   )
 
-  found_exactly : (reason : Reason) → IsOfDevices reason → (found : Option Device) → FindsFirst nat_cmp (AsksAmong reason row cut.links (shares_of row.folder cut.folders)) found → FindsFault (tables_of cut) (row ∷ []) reason (option_map (part_of row) found)
+  found_exactly : (reason : Reason) → IsOfDevices reason → (found : Option Device) → FindsFirst nat_cmp (AsksAmong reason row cut.links (shares_of row.folder cut.folders)) found → FindsFailing (tables_of cut) (row ∷ []) reason (option_map (part_of row) found)
   found_exactly reason of_devices None none = finds_none (tables_of cut) reason row (omega (arith, of_devices)) each where
     each : (device : Option Device) → AsksAt (tables_of cut) (row ∷ []) reason row.folder row.entry.name device
     each None = no_name (tables_of cut) (row ∷ []) reason row.folder row.entry.name of_devices
@@ -96,7 +96,7 @@ module _ (said : CutSays) (asked_here : ShareIsAsked) (cut : CutParts) (is_cut :
       before (Some earlier) less = (part_exactly reason earlier).0 (first.before earlier (less_by_order earlier device (omega (arith, less))))
 
   -- what is found among the shares is what is found at the row
-  pub finds_device : (reason : Reason) → IsOfDevices reason → (links : List LinkState) → links ≡ cut.links → (shares : List Share) → shares ≡ shares_of row.folder cut.folders → (found : Option Device) → FindsFirst nat_cmp (AsksAmong reason row links shares) found → FindsFault (tables_of cut) (row ∷ []) reason (option_map (part_of row) found)
+  pub finds_device : (reason : Reason) → IsOfDevices reason → (links : List LinkState) → links ≡ cut.links → (shares : List Share) → shares ≡ shares_of row.folder cut.folders → (found : Option Device) → FindsFirst nat_cmp (AsksAmong reason row links shares) found → FindsFailing (tables_of cut) (row ∷ []) reason (option_map (part_of row) found)
   finds_device reason of_devices links over shares is found finds =
       let of_all = subst (λ (all : List LinkState). FindsFirst nat_cmp (AsksAmong reason row all shares) found) over finds in
       found_exactly reason of_devices found (subst (λ (all : List Share). FindsFirst nat_cmp (AsksAmong reason row cut.links all) found) is of_all)

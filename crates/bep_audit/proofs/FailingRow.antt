@@ -13,7 +13,7 @@ use Rattle.bep_model.specs.Foreign.{IsKnown}
 use Rattle.bep_model.specs.Winner.{IsWinner}
 use Rattle.bep_model.specs.Settled.{key_of}
 use Rattle.bep_model.specs.Reasons.{Place, place_cmp, device_rank, AsksAt, AsksName, AsksDevice, first_disordered}
-use Rattle.bep_audit.specs.Search.{FindsFault}
+use Rattle.bep_audit.specs.Search.{FindsFailing}
 use Rattle.bep_audit.specs.Shown.{name_of}
 use Rattle.bep_audit.proofs.AskedAtRow.{IsOfRows, asked_if_here}
 use Rattle.bep_audit.proofs.RowWalk.{device_before}
@@ -35,11 +35,11 @@ module _ (t : Tables) (reason : Reason) (row : Row) (of_rows : IsOfRows reason) 
   at_key folder name device key asked = subst (λ (k : Folder × FileName). AsksAt t (row ∷ []) reason k.0 k.1 device) key asked
 
   -- nothing fails at the row
-  pub finds_none : ((device : Option Device) → AsksHere device) → FindsFault t (row ∷ []) reason None
+  pub finds_none : ((device : Option Device) → AsksHere device) → FindsFailing t (row ∷ []) reason None
   finds_none asked place = asked_if_here t reason row place of_rows (λ here. at_key place.folder place.name place.device here (asked place.device))
 
   -- something fails at the row, for the first time at this part of it
-  pub finds_part : (device : Option Device) → ¬ AsksHere device → ((earlier : Option Device) → device_rank earlier < device_rank device → AsksHere earlier) → FindsFault t (row ∷ []) reason (Some (record { folder = row.folder; name = row.entry.name; device = device }))
+  pub finds_part : (device : Option Device) → ¬ AsksHere device → ((earlier : Option Device) → device_rank earlier < device_rank device → AsksHere earlier) → FindsFailing t (row ∷ []) reason (Some (record { folder = row.folder; name = row.entry.name; device = device }))
   finds_part device unmet before = record {
     fails = unmet;
     before = λ place less.
@@ -51,7 +51,7 @@ module _ (t : Tables) (reason : Reason) (row : Row) (of_rows : IsOfRows reason) 
 -- ---- the order of rows
 
 -- a row out of order is told at its name
-pub finds_disordered : (t : Tables) (rows : List Row) (row : Row) → Some (key_of row) ≡ first_disordered rows → FindsFault t rows CertificateOrder (Some (name_of row))
+pub finds_disordered : (t : Tables) (rows : List Row) (row : Row) → Some (key_of row) ≡ first_disordered rows → FindsFailing t rows CertificateOrder (Some (name_of row))
 finds_disordered t rows row is = record { fails = λ asked. asked (sym is); before = λ place less. before place.folder place.name place.device less }
   where
     before : (folder : Folder) (name : FileName) (device : Option Device) → place_cmp (record { folder = folder; name = name; device = device }) (name_of row) ≡ Less → AsksAt t rows CertificateOrder folder name device
@@ -63,21 +63,21 @@ finds_disordered t rows row is = record { fails = λ asked. asked (sym is); befo
 -- ---- the name as a whole
 
 module _ (t : Tables) (reason : Reason) (row : Row) (of_rows : IsOfRows reason) (no_part : (device : Device) → AsksDevice t (row ∷ []) reason row.folder row.entry.name device) where
-  pub finds_name : (holds : Bool) (found : Option Place) → IsTrue holds ↔ AsksName t (row ∷ []) reason row.folder row.entry.name → found ≡ (if holds then None else Some (name_of row)) → FindsFault t (row ∷ []) reason found
-  finds_name true found exactly is = subst (FindsFault t (row ∷ []) reason) (sym is) (finds_none t reason row of_rows each) where
+  pub finds_name : (holds : Bool) (found : Option Place) → IsTrue holds ↔ AsksName t (row ∷ []) reason row.folder row.entry.name → found ≡ (if holds then None else Some (name_of row)) → FindsFailing t (row ∷ []) reason found
+  finds_name true found exactly is = subst (FindsFailing t (row ∷ []) reason) (sym is) (finds_none t reason row of_rows each) where
     each : (device : Option Device) → AsksAt t (row ∷ []) reason row.folder row.entry.name device
     each None = exactly.0 refl
     each (Some device) = no_part device
   finds_name false found exactly is =
-      subst (FindsFault t (row ∷ []) reason) (sym is)
+      subst (FindsFailing t (row ∷ []) reason) (sym is)
       (finds_part t reason row of_rows None (λ asked. true≢false (sym (exactly.1 asked))) (λ earlier less. absurd (omega (arith, less))))
 
-pub finds_unknown : (t : Tables) (row : Row) (known : Bool) (found : Option Place) → IsTrue known ↔ IsKnown t row.folder row.entry.name → found ≡ (if known then None else Some (name_of row)) → FindsFault t (row ∷ []) NameUnknown found
+pub finds_unknown : (t : Tables) (row : Row) (known : Bool) (found : Option Place) → IsTrue known ↔ IsKnown t row.folder row.entry.name → found ≡ (if known then None else Some (name_of row)) → FindsFailing t (row ∷ []) NameUnknown found
 finds_unknown t row known found exactly =
     finds_name t NameUnknown row (omega arith) (λ device one member key shares. tt) known found
     (λ is has. exactly.0 is, λ asked. exactly.1 (asked (row, Contains-first row [], refl)))
 
-pub finds_loser : (t : Tables) (row : Row) (wins : Bool) (found : Option Place) → IsTrue wins ↔ IsWinner t row.folder row.entry.name (row.device, row.entry) → found ≡ (if wins then None else Some (name_of row)) → FindsFault t (row ∷ []) NotWinner found
+pub finds_loser : (t : Tables) (row : Row) (wins : Bool) (found : Option Place) → IsTrue wins ↔ IsWinner t row.folder row.entry.name (row.device, row.entry) → found ≡ (if wins then None else Some (name_of row)) → FindsFailing t (row ∷ []) NotWinner found
 finds_loser t row wins found exactly =
     finds_name t NotWinner row (omega arith) (λ device one member key shares. tt) wins found (
       λ is one member key. subst (λ (r : Row). IsWinner t row.folder row.entry.name (r.device, r.entry)) (Contains-one row one member) (exactly.0 is),

@@ -7,7 +7,7 @@ ghost use Rattle.bep_cut.specs.Cut.{tables_of};
 ghost use Rattle.bep_audit.specs.declared.verdict.Verdict.TheVariants.{Settled};
 ghost use Rattle.bep_audit.specs.Shown.{verdict_shown};
 
-use crate::fault::first_fault;
+use crate::failing::first_failing;
 use crate::{Certificate, Verdict};
 use bep_cut::Cut;
 use bep_model::{
@@ -45,7 +45,7 @@ pub fn check_plain<'a>(cut: &'a Cut, certificate: &'a Certificate) -> Verdict<'a
     reasons_are_numbered();
     rows_rise_in_order();
     for reason in REASONS {
-        if let Some(spot) = first_fault(cut, certificate.rows(), reason) {
+        if let Some(spot) = first_failing(cut, certificate.rows(), reason) {
             return Verdict::at(reason, spot);
         }
     }

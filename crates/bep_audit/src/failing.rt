@@ -8,7 +8,7 @@ ghost use Rattle.bep_model.specs.Settled.{Rise};
 ghost use Rattle.bep_model.specs.Verdict.{number_of};
 ghost use Rattle.bep_cut.specs.Cut.{tables_of, devices_of};
 ghost use Rattle.bep_audit.specs.Held.{AsksOf, AsksAmong};
-ghost use Rattle.bep_audit.specs.Search.{FindsFirst, FindsFault};
+ghost use Rattle.bep_audit.specs.Search.{FindsFirst, FindsFailing};
 ghost use Rattle.bep_audit.specs.Shown.{place_shown, name_of};
 
 use crate::foreign::meets_foreign;
@@ -21,9 +21,9 @@ use bep_model::{Reason, Row};
 use bep_record::DeviceId;
 
 /// The first place at which the reason fails, by folder, name and device; `None` where it fails nowhere.
-pub fn first_fault<'a>(cut: &'a Cut, rows: &'a [Row], reason: Reason) -> Option<Spot<'a>>
+pub fn first_failing<'a>(cut: &'a Cut, rows: &'a [Row], reason: Reason) -> Option<Spot<'a>>
     requires { reason ≢ CertificateOrder → Rise rows.now }
-    ensures { FindsFault (tables_of cut.now) rows.now reason (option_map place_shown result) }
+    ensures { FindsFailing (tables_of cut.now) rows.now reason (option_map place_shown result) }
 {
     match reason {
         Reason::CertificateOrder => first_out_of_order(rows),
@@ -34,7 +34,7 @@ pub fn first_fault<'a>(cut: &'a Cut, rows: &'a [Row], reason: Reason) -> Option<
 
 // The name of the first row that isn't above the row before it, whatever the cut.
 fn first_out_of_order(rows: &[Row]) -> Option<Spot<'_>>
-    ensures { (t : Tables) → FindsFault t rows.now CertificateOrder (option_map place_shown result) }
+    ensures { (t : Tables) → FindsFailing t rows.now CertificateOrder (option_map place_shown result) }
 {
     match first_disordered(rows) {
         None => None,
@@ -46,10 +46,10 @@ fn first_out_of_order(rows: &[Row]) -> Option<Spot<'_>>
 fn first_at_row<'a>(cut: &Cut, rows: &'a [Row], reason: Reason) -> Option<Spot<'a>>
     requires rise { Rise rows.now }
     requires of_rows { number_of NameMissing < number_of reason }
-    ensures { FindsFault (tables_of cut.now) rows.now reason (option_map place_shown result) }
+    ensures { FindsFailing (tables_of cut.now) rows.now reason (option_map place_shown result) }
 {
     for row in rows {
-        if let Some(spot) = fault_at(cut, row, reason) {
+        if let Some(spot) = failing_at(cut, row, reason) {
             return Some(spot);
         }
     }
@@ -57,14 +57,14 @@ fn first_at_row<'a>(cut: &Cut, rows: &'a [Row], reason: Reason) -> Option<Spot<'
 }
 
 // Where the reason first fails at the row, as if there were no other row.
-fn fault_at<'a>(cut: &Cut, row: &'a Row, reason: Reason) -> Option<Spot<'a>>
+fn failing_at<'a>(cut: &Cut, row: &'a Row, reason: Reason) -> Option<Spot<'a>>
     requires { number_of NameMissing < number_of reason }
-    ensures { FindsFault (tables_of cut.now) (row.now ∷ []) reason (option_map place_shown result) }
+    ensures { FindsFailing (tables_of cut.now) (row.now ∷ []) reason (option_map place_shown result) }
 {
     match reason {
         Reason::NameUnknown => unless(is_known(cut, &row.folder, &row.entry.entry().name), row),
         Reason::NotWinner => unless(is_winner(cut, row), row),
-        _ => fault_of_device(cut, row, reason),
+        _ => failing_device(cut, row, reason),
     }
 }
 
@@ -76,9 +76,9 @@ fn unless<'a>(holds: bool, row: &'a Row) -> Option<Spot<'a>>
 }
 
 // The first device, if any, of which a reason that asks something of devices fails at the row.
-fn fault_of_device<'a>(cut: &Cut, row: &'a Row, reason: Reason) -> Option<Spot<'a>>
+fn failing_device<'a>(cut: &Cut, row: &'a Row, reason: Reason) -> Option<Spot<'a>>
     requires { number_of NotWinner < number_of reason }
-    ensures { FindsFault (tables_of cut.now) (row.now ∷ []) reason (option_map place_shown result) }
+    ensures { FindsFailing (tables_of cut.now) (row.now ∷ []) reason (option_map place_shown result) }
 {
     cut_says();
     share_is_asked();

@@ -1,4 +1,4 @@
-// Exit statuses and words as the profile has them; the kinds of refusal are those that clap's documentation names.
+//! Exit statuses and words as the profile has them; the kinds of refusal are those that clap's documentation names.
 use crate::*;
 use bep_report::ReportError;
 use clap::error::ErrorKind;

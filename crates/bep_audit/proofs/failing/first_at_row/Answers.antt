@@ -4,7 +4,7 @@ use Rattle.bep_cut.specs.Cut.{tables_of}
 use Rattle.bep_audit.specs.Shown.{place_shown}
 use Rattle.bep_audit.proofs.RowWalk.{AsksRow, rows_in_order, found_in_rows}
 use Rattle.bep_audit.proofs.WalkFacts.{walk_starts, walk_goes_on, walk_stops, walk_ends}
-use Rattle.bep_audit.proofs.fault.first_at_row.Goals as goal
+use Rattle.bep_audit.proofs.failing.first_at_row.Goals as goal
 
 pub loop-row-init : goal.loop-row-init
 loop-row-init c = walk_starts place_cmp (AsksRow (tables_of c.args.cut.now) c.args.reason) c.args.rows.now

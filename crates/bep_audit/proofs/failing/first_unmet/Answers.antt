@@ -2,7 +2,7 @@ use Rattle.std.proofs.Common.{◌∙◌, sym, true≢false}
 use Rattle.std.specs.Ordering.{nat_cmp}
 use Rattle.bep_audit.proofs.UnmetFacts.{MeetsAs, devices_in_order, meets, fails_first}
 use Rattle.bep_audit.proofs.WalkFacts.{walk_starts, walk_goes_on, walk_stops, walk_ends}
-use Rattle.bep_audit.proofs.fault.first_unmet.Goals as goal
+use Rattle.bep_audit.proofs.failing.first_unmet.Goals as goal
 
 pub loop-share-init : goal.loop-share-init
 loop-share-init c = walk_starts nat_cmp (MeetsAs c.args.reason c.args.row.now c.args.links.now) c.args.shares.now

@@ -2,7 +2,7 @@ use Rattle.std.proofs.Common.{◌≡◌, ◌↔◌, Bool, true, false, IsTrue, O
 use Rattle.std.specs.Prelude.{not}
 use Rattle.bep_record.specs.declared.entry.Entry.{Entry}
 use Rattle.bep_audit.specs.Share.{AsksValid}
-use Rattle.bep_audit.proofs.device.is_valid.Goals as goal
+use Rattle.bep_audit.proofs.share.is_valid.Goals as goal
 
 false_if_not : (b : Bool) → IsTrue (not b) → b ≡ false
 false_if_not true h = absurd (cc)
