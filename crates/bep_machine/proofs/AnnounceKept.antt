@@ -1,10 +1,9 @@
 -- Records that are announced keep a device sound.
-use Rattle.std.proofs.Common.{◌≡◌, List, Option, Some, None, false, refl, sym, subst, ◌∙◌, ap, inl, inr, ⊎_elim}
+use Rattle.std.proofs.Common.{◌≡◌, List, Option, Some, None, false, refl, sym, ◌∙◌, ap, inl, inr}
 use Rattle.std.specs.Ordering.{nat_cmp}
-use Rattle.std.specs.Cmp.Lexicographic.{slice_cmp, nat_list_cmp_total}
+use Rattle.std.specs.Cmp.Lexicographic.{slice_cmp}
 use Rattle.std.specs.FinMap.{get, insert}
-use Rattle.std.proofs.lemmas.Map.Lookups.{exact_bytes}
-use Rattle.bep_facts.specs.Maps.{found_after_insert, nothing_in_empty}
+use Rattle.bep_facts.specs.Maps.{nothing_in_empty}
 use Rattle.bep_map.specs.NameMap.{ByName}
 use Rattle.bep_record.specs.declared.entry.Entry.{Entry}
 use Rattle.bep_index.specs.declared.send.Plan.{Plan}
@@ -18,6 +17,7 @@ use Rattle.bep_machine.specs.Peer.{Session, Peer, Acted, with_session}
 use Rattle.bep_machine.specs.Exchange.{SharesWith, sent_up_to, index_message, SendingRow, CursorRow, AnnounceRow}
 use Rattle.bep_machine.specs.Cluster.{Config}
 use Rattle.bep_machine.specs.Sound.{AllGood, IsSoundMessage, IsSoundSession, IsSoundPeer}
+use Rattle.bep_machine.proofs.SoundMaps.{each_after_insert}
 use Rattle.bep_machine.proofs.PeerKept.{sound_with_session}
 use Rattle.bep_machine.proofs.ActedKept.{SoundActed, KeepsPeer, stayed, sent, in_session}
 use Rattle.bep_machine.proofs.BatchSent.{batch_after, records_are_good}
@@ -26,11 +26,7 @@ use Rattle.bep_machine.proofs.BatchSent.{batch_after, records_are_good}
 moved_is_sound : (other : Device) (peer : Peer) (session : Session) (folder : Folder) (cursor next : Plan) → get session.cursors folder ≡ Some cursor → IsSoundSession other peer session
     → IsSoundSession other peer (record session { cursors = insert session.cursors folder next })
 moved_is_sound other peer session folder cursor next is sound = record {
-  named = λ name plan found.
-      ⊎_elim
-      (λ here. subst (λ f. SharesWith other peer f) (sym here.0) (sound.named folder cursor is))
-      (λ apart. sound.named name plan apart.1)
-      (found_after_insert nat_list_cmp_total exact_bytes session.cursors folder next name plan found);
+  named = each_after_insert (λ name plan. SharesWith other peer name) session.cursors folder sound.named next (sound.named folder cursor is);
   unnamed = λ no. nothing_in_empty (slice_cmp nat_cmp) folder cursor (sym (ap (λ (cursors : ByName Plan). get cursors folder) (sound.unnamed no)) ∙ is);
   few = sound.few;
 }

@@ -1,11 +1,11 @@
 -- What is announced of an index is a batch of well-formed records.
-use Rattle.std.proofs.Common.{◌≡◌, ◌<◌, ◌≤◌, ◌≢◌, ℕ, List, [], ◌∷◌, length, Some, refl, sym, ap, subst, ◌∙◌, ⊎_elim, arith, le_refl}
+use Rattle.std.proofs.Common.{◌≤◌, ◌≢◌, ℕ, List, [], ◌∷◌, sym, ap, subst, ◌∙◌, ⊎_elim, arith, le_refl}
 use Rattle.std.specs.FinMap.{get}
 use Rattle.std.proofs.lemmas.Option.{same_Some}
 use Rattle.bep_map.specs.NameMap.{ByName}
 use Rattle.bep_record.specs.declared.entry.Entry.{Entry}
 use Rattle.bep_index.specs.Listing.{IsRecord}
-use Rattle.bep_index.specs.After.{IsAmong, AreRecords, IsAfter}
+use Rattle.bep_index.specs.After.{AreRecords, IsAfter}
 use Rattle.bep_index.specs.Batch.{Rises, HasNo, NamesDiffer, IsBatch}
 use Rattle.bep_index.specs.declared.limits.TheConstants.{MAX_RECORDS}
 use Rattle.bep_machine.specs.Sound.{IsGood, AreGood, AllGood}

@@ -1,6 +1,6 @@
 -- A cluster stays sound where one device, or one link, becomes another sound one.
-use Rattle.std.proofs.Common.{◌≡◌, ◌==◌, ◌&&◌, ◌||◌, ◌⊎◌, ◌<◌, Bool, true, false, List, [], ◌∷◌, Contains, nat_lt, if◌then◌else◌, refl, sym, ap, subst, inl, inr, ⊎_elim, arith, eqb-true, ltb-true, ltb-false, true≢false}
-use Rattle.std.proofs.lemmas.Bool.{cases_eq}
+use Rattle.std.proofs.Common.{◌≡◌, ◌==◌, ◌&&◌, ◌||◌, ◌⊎◌, ◌<◌, Bool, true, false, List, [], ◌∷◌, Contains, nat_lt, if◌then◌else◌, refl, sym, ap, subst, inl, inr, ⊎_elim, arith, eqb-true, ltb-true, ltb-false}
+use Rattle.std.proofs.lemmas.Bool.{and_parts, cases_eq}
 use Rattle.bep_facts.specs.Members.{not_in_none, Contains-first, Contains-more, Contains-cons_cases}
 use Rattle.bep_model.specs.Tables.{Device}
 use Rattle.bep_machine.specs.Link.{Link, lost}
@@ -23,10 +23,6 @@ sound_with_peer cluster device peer sound new = record {
         subst (λ d. IsSoundPeer cluster.config d peer) (sym is) (new (subst (λ d. Contains cluster.config.devices d) is member))
     cases one member false apart = sound.peers one member
 
-both_true : (a b : Bool) → (a && b) ≡ true → (a ≡ true) × (b ≡ true)
-both_true true b e = (refl, e)
-both_true false b e = absurd (true≢false (sym e))
-
 pub sound_with_link : (cluster : Cluster) (lower upper : Device) (link : Link) → IsSound cluster → (Contains cluster.config.links (lower, upper) → IsSoundLink link) → IsSound (with_link cluster lower upper link)
 sound_with_link cluster lower upper link sound new = record {
   config = sound.config;
@@ -36,7 +32,7 @@ sound_with_link cluster lower upper link sound new = record {
   where
     cases : (a b : Device) → Contains cluster.config.links (a, b) → (t : Bool) → ((a == lower) && (b == upper)) ≡ t → IsSoundLink (if t then link else cluster.link a b)
     cases a b member true same =
-        let both = both_true (a == lower) (b == upper) same in
+        let both = and_parts (a == lower) (b == upper) same in
         let first = eqb-true a lower both.0 in
         let second = eqb-true b upper both.1 in
         new (subst (λ d. Contains cluster.config.links (d, upper)) first (subst (λ d. Contains cluster.config.links (a, d)) second member))
@@ -68,6 +64,7 @@ linked_is_sound cluster device other sound (inl member) = (joins.1, cases (nat_l
   where
     joins : (device < other) × Contains cluster.config.devices device × Contains cluster.config.devices other
     joins = sound.config.links device other member
+
     cases : (b : Bool) → nat_lt device other ≡ b → IsSoundLink (if b then cluster.link device other else cluster.link other device)
     cases true below = sound.links device other member
     cases false above = absurd (let less = joins.0 in let more = ltb-false device other above in omega arith)
@@ -75,6 +72,7 @@ linked_is_sound cluster device other sound (inr member) = (joins.2, cases (nat_l
   where
     joins : (other < device) × Contains cluster.config.devices other × Contains cluster.config.devices device
     joins = sound.config.links other device member
+
     cases : (b : Bool) → nat_lt device other ≡ b → IsSoundLink (if b then cluster.link device other else cluster.link other device)
     cases true below = absurd (let less = joins.0 in let more = ltb-true device other below in omega arith)
     cases false above = sound.links other device member

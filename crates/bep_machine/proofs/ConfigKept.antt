@@ -1,10 +1,9 @@
 -- A ClusterConfig that is taken keeps a device sound.
-use Rattle.std.proofs.Common.{◌≡◌, ◌==◌, ℕ, Bool, true, false, List, [], ◌∷◌, Option, Some, None, if◌then◌else◌, refl, sym, subst, ⊎_elim, true≢false}
+use Rattle.std.proofs.Common.{◌≡◌, ◌==◌, ℕ, Bool, true, false, List, [], ◌∷◌, Option, Some, None, if◌then◌else◌, refl, true≢false}
 use Rattle.std.specs.Ordering.{nat_cmp}
-use Rattle.std.specs.Cmp.Lexicographic.{slice_cmp, nat_list_cmp_total}
+use Rattle.std.specs.Cmp.Lexicographic.{slice_cmp}
 use Rattle.std.specs.FinMap.{empty, get}
-use Rattle.std.proofs.lemmas.Map.Lookups.{exact_bytes}
-use Rattle.bep_facts.specs.Maps.{found_after_insert, nothing_in_empty}
+use Rattle.bep_facts.specs.Maps.{nothing_in_empty}
 use Rattle.bep_map.specs.NameMap.{ByName}
 use Rattle.bep_index.specs.Listing.{Listing}
 use Rattle.bep_index.specs.View.{IsView, cleared}
@@ -17,6 +16,7 @@ use Rattle.bep_machine.specs.Peer.{Session, Peer}
 use Rattle.bep_machine.specs.Exchange.{SharesWith, NamesShared, known_under, cursor_after, renewed, all_renewed, with_cursor, cursors_for, configured_by}
 use Rattle.bep_machine.specs.Cluster.{Config}
 use Rattle.bep_machine.specs.Sound.{AreGood, IsSoundSession, IsSoundPeer}
+use Rattle.bep_machine.proofs.SoundMaps.{each_after_insert}
 use Rattle.bep_machine.proofs.FoldersKept.{AllSound, AllSound_after, KeepsFolders, KeepsFolders-refl, KeepsFolders-trans, KeepsFolders-insert}
 use Rattle.bep_machine.proofs.PeerKept.{shares_still, sound_with_folders, sound_with_session}
 use Rattle.bep_machine.proofs.ViewKept.{is_other_of, none_is_good, view_is_sound, with_view_changes}
@@ -56,10 +56,7 @@ with_cursor_within : (P : Folder → Type 0) (one : Announced) (o : Option Repli
     → (folder : Folder) (cursor : Plan) → get (with_cursor one o cursors) folder ≡ Some cursor → P folder
 with_cursor_within P one None cursors old here folder cursor is = old folder cursor is
 with_cursor_within P one (Some replica) cursors old here folder cursor is =
-    ⊎_elim
-    (λ same. subst P (sym same.0) here)
-    (λ apart. old folder cursor apart.1)
-    (found_after_insert nat_list_cmp_total exact_bytes cursors one.folder (cursor_after replica.index one.known_id one.known_sequence) folder cursor is)
+    each_after_insert (λ name plan. P name) cursors one.folder old (cursor_after replica.index one.known_id one.known_sequence) here folder cursor is
 
 cursors_within : (other : Device) (peer : Peer) (named : List Announced) (replicas : ByName Replica) (cursors : ByName Plan) → ((folder : Folder) (cursor : Plan) → get cursors folder ≡ Some cursor → SharesWith other peer folder) → NamesShared other peer named
     → (folder : Folder) (cursor : Plan) → get (cursors_for named replicas cursors) folder ≡ Some cursor → SharesWith other peer folder

@@ -1,5 +1,5 @@
 -- A message that is taken keeps a device sound.
-use Rattle.std.proofs.Common.{◌≡◌, ◌≤◌, ℕ, Option, Some, None, IsSome, false, refl, sym, subst, inl, inr, arith}
+use Rattle.std.proofs.Common.{◌≡◌, ◌≤◌, ℕ, Option, Some, None, false, refl, sym, subst, inl, inr, arith}
 use Rattle.std.specs.FinMap.{get, len}
 use Rattle.bep_index.specs.Listing.{Listing}
 use Rattle.bep_index.specs.View.{IsView, replaced, amended}
@@ -17,6 +17,7 @@ use Rattle.bep_machine.specs.Peer.{Session, Peer, Acted, with_replica}
 use Rattle.bep_machine.specs.Exchange.{SharesWith, IsNamed, ViewRow, RequestRow, MessageRow, WaitingRow, DeliverRow, configured_by}
 use Rattle.bep_machine.specs.Cluster.{Config}
 use Rattle.bep_machine.specs.Sound.{AreGood, IsSoundMessage, IsSoundSession, IsSoundPeer}
+use Rattle.bep_machine.proofs.FoundAfter.{value_of}
 use Rattle.bep_machine.proofs.LinkKept.{one_sent}
 use Rattle.bep_machine.proofs.PeerKept.{sound_with_replica}
 use Rattle.bep_machine.proofs.ActedKept.{SoundActed, KeepsPeer, stayed, took, gave_up, in_session}
@@ -24,12 +25,8 @@ use Rattle.bep_machine.proofs.ViewKept.{is_other_of, all_are_good, only_these_ar
 use Rattle.bep_machine.proofs.ConfigKept.{configured_is_sound}
 use Rattle.bep_machine.proofs.ReceivedKept.{response_keeps}
 
-found : {V : Type 0} (o : Option V) → IsSome o → (x : V) × (o ≡ Some x)
-found None is = absurd (cc)
-found (Some x) is = (x, refl)
-
 named_is_shared : (other : Device) (peer : Peer) (session : Session) (folder : Folder) → IsSoundSession other peer session → IsNamed session folder → SharesWith other peer folder
-named_is_shared other peer session folder one named = let cursor = found (get session.cursors folder) named in one.named folder cursor.0 cursor.1
+named_is_shared other peer session folder one named = let cursor = value_of (get session.cursors folder) named in one.named folder cursor.0 cursor.1
 
 module _ (law : FoundIsOfBatchOrBefore) (config : Config) (device other : Device) (sight : Sight) (session : Session) (old : Peer) (acted : Acted) (answer : Answer)
     (sound : IsSoundPeer config device old) (one : IsSoundSession other old session) (up : ¬ (sight.up ≡ false)) where

@@ -1,5 +1,5 @@
 -- What a step keeps of a device's folders: the same ones are there, each of them sound and shared with the same devices.
-use Rattle.std.proofs.Common.{◌≡◌, List, Option, Some, None, refl, sym, ap, subst, ◌∙◌, ⊎_elim}
+use Rattle.std.proofs.Common.{◌≡◌, Some, refl, sym, ap, subst, ◌∙◌, ⊎_elim}
 use Rattle.std.specs.Cmp.Lexicographic.{nat_list_cmp_total}
 use Rattle.std.specs.FinMap.{get, insert}
 use Rattle.std.proofs.lemmas.Map.Lookups.{exact_bytes}
@@ -51,6 +51,7 @@ KeepsFolders-insert device old folder before after all is change = record { back
         (λ here. (before, ap (get old) here.0 ∙ is, subst (λ r. SoundChange device before r) (sym here.1) change))
         (λ apart. (found, apart.1, unchanged (all name found apart.1)))
         (found_after_insert nat_list_cmp_total exact_bytes old folder after name found e)
+
     on : (name : Folder) (earlier : Replica) → get old name ≡ Some earlier → (found : Replica) × (get (insert old folder after) name ≡ Some found) × (found.others ≡ earlier.others)
     on name earlier e =
         ⊎_elim

@@ -1,5 +1,5 @@
 -- What is found in a map after one of its keys got a value, or after each value was mapped.
-use Rattle.std.proofs.Common.{◌≡◌, ◌⊎◌, Bool, true, false, cond, List, [], ◌∷◌, map, Option, Some, None, option_map, inl, inr, refl, sym, ap, ◌∙◌}
+use Rattle.std.proofs.Common.{◌≡◌, ◌⊎◌, Bool, true, false, cond, List, [], ◌∷◌, map, Option, Some, None, IsSome, option_map, inl, inr, refl, sym, ap, ◌∙◌}
 use Rattle.std.specs.declared.cmp.Ordering.{Ordering}
 use Rattle.std.specs.Ordering.{eq_by_cmp}
 use Rattle.std.specs.Cmp.{IsTotalOrder}
@@ -32,3 +32,8 @@ get-mapped {R = R} total f m q = get-from_entries total (map (λ one. (one.0, f 
 pub some_before : {V W : Type 0} (f : V → W) (o : Option V) (y : W) → option_map f o ≡ Some y → (x : V) × (o ≡ Some x) × (f x ≡ y)
 some_before f None y e = absurd (none-some y e)
 some_before f (Some x) y e = (x, refl, cc)
+
+-- the value that is there
+pub value_of : {V : Type 0} (o : Option V) → IsSome o → (x : V) × (o ≡ Some x)
+value_of None is = absurd (cc)
+value_of (Some x) is = (x, refl)

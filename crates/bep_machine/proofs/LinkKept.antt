@@ -1,5 +1,5 @@
 -- A link stays sound, whatever a device may do to it.
-use Rattle.std.proofs.Common.{◌≡◌, ◌<◌, ◌+◌, ◌++◌, Bool, true, false, List, [], ◌∷◌, length, drop, Option, Some, None, Contains, nat_le, if◌then◌else◌, refl, sym, ap, subst, ◌∙◌, ⊎_elim, arith, length-append, leb-false, true≢false}
+use Rattle.std.proofs.Common.{◌≡◌, Bool, true, false, List, [], ◌∷◌, length, drop, Option, Some, None, nat_le, if◌then◌else◌, refl, ap, subst, ⊎_elim, arith, length-append, leb-false, true≢false}
 use Rattle.std.proofs.lemmas.Bool.{cases_Bool}
 use Rattle.std.proofs.lemmas.List.Elements.{Contains-push_cases}
 use Rattle.std.proofs.lemmas.Option.{none-some, same_Some}

@@ -1,10 +1,8 @@
 -- A device stays sound where its folders are kept, or one of its sessions becomes another sound one.
-use Rattle.std.proofs.Common.{◌≡◌, ◌==◌, List, Option, Some, None, IsSome, IsTrue, Contains, ◌↔◌, ◌≢◌, refl, sym, ap, subst, ◌∙◌, ⊎_elim}
+use Rattle.std.proofs.Common.{◌≡◌, ◌==◌, List, Some, IsSome, IsTrue, Contains, ◌↔◌, ◌≢◌, refl, sym, subst, ⊎_elim}
 use Rattle.std.specs.List.{list_any}
-use Rattle.std.specs.Ordering.{nat_cmp}
 use Rattle.std.specs.Cmp.{nat_cmp_total}
 use Rattle.std.specs.FinMap.{nat_cmp-IsAntisymmetric, get, insert}
-use Rattle.std.proofs.lemmas.Option.{none-some}
 use Rattle.bep_facts.specs.Maps.{found_after_insert}
 use Rattle.bep_map.specs.NameMap.{ByName}
 use Rattle.bep_model.specs.Tables.{Device, Folder}
@@ -13,8 +11,9 @@ use Rattle.bep_machine.specs.Peer.{Session, Peer, with_replica, with_session}
 use Rattle.bep_machine.specs.Exchange.{SharesWith}
 use Rattle.bep_machine.specs.Cluster.{Config}
 use Rattle.bep_machine.specs.Steps.{SharesFolder}
-use Rattle.bep_machine.specs.Sound.{IsSoundReplica, FitsFolder, IsSoundSession, IsSoundPeer}
+use Rattle.bep_machine.specs.Sound.{FitsFolder, IsSoundSession, IsSoundPeer}
 use Rattle.bep_machine.proofs.SoundParts.{SoundChange}
+use Rattle.bep_machine.proofs.FoundAfter.{value_of}
 use Rattle.bep_machine.proofs.FoldersKept.{KeepsFolders, KeepsFolders-insert}
 
 -- ---- what of a device depends on its folders
@@ -37,10 +36,6 @@ fits_still config device folder before after change fits = record {
   others = subst (λ (others : List Device). (other : Device) → Contains others other ↔ ((other ≢ device) × SharesFolder config other folder)) (sym change.others) fits.others;
 }
 
-found : {V : Type 0} (o : Option V) → IsSome o → (x : V) × (o ≡ Some x)
-found None is = absurd (cc)
-found (Some x) is = (x, refl)
-
 -- ---- the device
 
 -- with other sessions, where these are sound
@@ -52,7 +47,7 @@ sound_after config device old new sound keeps sessions = record {
       let before = keeps.back folder replica is in
       fits_still config device folder before.0 replica before.2 (sound.fit folder before.0 before.1);
   all = λ folder shares.
-      let had = found (get old.replicas folder) (sound.all folder shares) in
+      let had = value_of (get old.replicas folder) (sound.all folder shares) in
       let next = keeps.on folder had.0 had.1 in
       subst (λ o. IsSome o) (sym next.1) refl;
   sessions = sessions;

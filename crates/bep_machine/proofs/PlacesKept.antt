@@ -1,6 +1,5 @@
 -- A step that changes one replica, or what one device does over one link, keeps a cluster sound where its row does.
-use Rattle.std.proofs.Common.{◌≡◌, Some, Contains, sym, subst, inl, inr}
-use Rattle.std.specs.FinMap.{get}
+use Rattle.std.proofs.Common.{Contains, sym, subst, inl, inr}
 use Rattle.bep_model.specs.Tables.{Device, Folder}
 use Rattle.bep_machine.specs.Answer.{Answer, Row}
 use Rattle.bep_machine.specs.Replica.{Replica}
@@ -36,6 +35,7 @@ link_row_keeps device other row old new answer keeps sound linked (acted, made, 
   where
     ends : Contains old.config.devices device × IsSoundLink (link_between old device other)
     ends = linked_is_sound old device other sound linked
+
     done : SoundActed old.config device (sight_of (end_of device other) (link_between old device other)) acted
     done =
         keeps (sight_of (end_of device other) (link_between old device other)) (old.peer device) acted answer (sound.peers device ends.0)

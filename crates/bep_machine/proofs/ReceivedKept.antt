@@ -1,9 +1,10 @@
 -- A response that is taken keeps a device sound.
-use Rattle.std.proofs.Common.{◌≡◌, ◌+◌, ◌≤◌, ◌==◌, ◌&&◌, ℕ, Bool, true, false, cond, List, [], ◌∷◌, length, Option, Some, None, if◌then◌else◌, is_some, refl, sym, ap, subst, ◌∙◌, ⊎_elim, inl, inr, arith, eqb-true, true≢false}
+use Rattle.std.proofs.Common.{◌≡◌, ◌+◌, ◌≤◌, ◌==◌, ◌&&◌, ℕ, Bool, true, false, cond, List, [], ◌∷◌, length, Option, Some, None, if◌then◌else◌, is_some, refl, ap, ◌∙◌, inl, inr, arith, eqb-true}
 use Rattle.std.specs.Cmp.Lexicographic.{nat_list_cmp_total}
-use Rattle.std.specs.FinMap.{get, insert, len, len-insert}
+use Rattle.std.specs.FinMap.{get, len, len-insert}
+use Rattle.std.proofs.lemmas.Bool.{and_parts}
 use Rattle.std.proofs.lemmas.Map.Lookups.{exact_bytes}
-use Rattle.bep_facts.specs.Maps.{same_key, found_after_insert}
+use Rattle.bep_facts.specs.Maps.{same_key}
 use Rattle.bep_record.specs.declared.block.Block.{Block}
 use Rattle.bep_blocks.specs.Plain.{hash_of}
 use Rattle.bep_model.specs.Tables.{Device}
@@ -13,23 +14,20 @@ use Rattle.bep_machine.specs.Answer.{Answer}
 use Rattle.bep_machine.specs.Replica.{Pull, Replica, pull_at}
 use Rattle.bep_machine.specs.Link.{Sight}
 use Rattle.bep_machine.specs.Peer.{Session, Peer, Acted, with_session}
-use Rattle.bep_machine.specs.Exchange.{same_bytes, is_about, without, HasBytes, received_at, with_block, with_received, AnsweredRow, ResponseRow}
+use Rattle.bep_machine.specs.Exchange.{same_bytes, is_about, without, received_at, with_block, with_received, AnsweredRow, ResponseRow}
 use Rattle.bep_machine.specs.Cluster.{Config}
 use Rattle.bep_machine.specs.Sound.{AreReceived, IsSoundPull, IsSoundReplica, IsSoundSession, IsSoundPeer}
 use Rattle.bep_machine.proofs.SoundParts.{SoundChange, unchanged}
+use Rattle.bep_machine.proofs.SoundMaps.{each_after_insert}
 use Rattle.bep_machine.proofs.PeerKept.{sound_with_replica, sound_with_session}
 use Rattle.bep_machine.proofs.ActedKept.{SoundActed, took}
 
 -- ---- the bytes stand at the block that was asked for
 
-both_true : (a b : Bool) → (a && b) ≡ true → (a ≡ true) × (b ≡ true)
-both_true true b e = (refl, e)
-both_true false b e = absurd (true≢false (sym e))
-
 about_block : (request : Request) (block : Block) → is_about request block ≡ true → (request.size ≡ block.size) × (request.hash ≡ block.hash)
 about_block request block is =
-    let place = both_true (request.offset == block.offset) ((request.size == block.size) && same_bytes request.hash block.hash) is in
-    let rest = both_true (request.size == block.size) (same_bytes request.hash block.hash) place.1 in
+    let place = and_parts (request.offset == block.offset) ((request.size == block.size) && same_bytes request.hash block.hash) is in
+    let rest = and_parts (request.size == block.size) (same_bytes request.hash block.hash) place.1 in
     (eqb-true request.size block.size rest.0, same_key exact_bytes request.hash block.hash rest.1)
 
 module _ (request : Request) (bytes : List ℕ) (long : length bytes ≡ request.size) (hashed : hash_of bytes ≡ request.hash) where
@@ -55,11 +53,7 @@ module _ (request : Request) (bytes : List ℕ) (long : length bytes ≡ request
       id = sound.id;
       own = sound.own;
       views = sound.views;
-      pulls = λ name found at.
-          ⊎_elim
-          (λ here. subst (λ n. IsSoundPull n found) (sym here.0) (subst (λ p. IsSoundPull request.name p) (sym here.1) (later (sound.pulls request.name pull is))))
-          (λ apart. sound.pulls name found apart.1)
-          (found_after_insert nat_list_cmp_total exact_bytes replica.pulls request.name new name found at);
+      pulls = each_after_insert IsSoundPull replica.pulls request.name sound.pulls new (later (sound.pulls request.name pull is));
       few_pulls =
           let size = len-insert nat_list_cmp_total replica.pulls request.name new ∙ ap (λ o. cond (is_some o) (len replica.pulls) (len replica.pulls + 1)) is in
           let few = sound.few_pulls in
@@ -72,6 +66,7 @@ module _ (request : Request) (bytes : List ℕ) (long : length bytes ≡ request
     where
       new : Pull
       new = record pull { received = received_at request bytes pull.target.blocks pull.received }
+
       later : IsSoundPull request.name pull → IsSoundPull request.name new
       later old = record { named = old.named; valid = old.valid; good = old.good; received = are_received pull.target.blocks pull.received old.received }
 

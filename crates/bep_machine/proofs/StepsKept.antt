@@ -1,5 +1,5 @@
 -- No step breaks what holds of every cluster.
-use Rattle.std.proofs.Common.{◌≡◌, ℕ, Option, sym, subst, inl, inr}
+use Rattle.std.proofs.Common.{ℕ, Option, sym, subst, inl, inr}
 use Rattle.bep_index.specs.Laws.{FoundIsOfBatchOrBefore}
 use Rattle.bep_machine.specs.declared.step.Step.{Step}
 use Rattle.bep_machine.specs.declared.step.Step.TheVariants.{Edit, Remove, Scan, Override, Revert, Connect, Lose, Begin, Deliver, Announce, StartPull, Ask, Finish, Restart}
@@ -8,7 +8,7 @@ use Rattle.bep_machine.specs.Local.{EditRow, RemoveRow, ScanRow, OverrideRow, Re
 use Rattle.bep_machine.specs.Pull.{StartPullRow, FinishRow}
 use Rattle.bep_machine.specs.Exchange.{BeginRow, DeliverRow, AnnounceRow, AskRow}
 use Rattle.bep_machine.specs.Cluster.{Cluster}
-use Rattle.bep_machine.specs.Steps.{IsThere, StepRow, IsStep}
+use Rattle.bep_machine.specs.Steps.{IsThere, StepRow}
 use Rattle.bep_machine.specs.Sound.{IsSound}
 use Rattle.bep_machine.specs.Laws.{IsSoundStep, StepsKeepSound}
 use Rattle.bep_machine.proofs.LowerLaws.{LowerLaws}
