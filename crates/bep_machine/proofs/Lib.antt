@@ -2,8 +2,13 @@ mod CalmParts
 mod CalmRows
 mod ReplicaFacts
 mod ChoiceFacts
+mod ContentFacts
 mod CalmScan
 mod CalmPull
-mod ContentFacts
 mod CalmFinish
 mod KeepsOwn
+mod ContentDecided
+mod EffectFacts
+mod ScanEffect
+mod PullEffect
+mod OverrideEffect

@@ -3,6 +3,7 @@
 //! Nearly all of this crate is definitions, in `specs/`, and the laws that follow from them.
 #![tactic(auto)]
 
+mod effects;
 mod laws;
 mod limits;
 mod message;
@@ -10,6 +11,9 @@ mod moved;
 mod refusal;
 mod step;
 
+pub use effects::{
+    finish_adopts, override_wins, revert_takes_back, scan_records, start_pull_begins,
+};
 pub use limits::{MAX_EPOCH, MAX_OUTSTANDING, MAX_REQUEST_ID};
 pub use message::{Announced, Code, Message, Request, Response};
 pub use moved::Moved;
