@@ -90,12 +90,12 @@ looks_like_adopted kinds.File node target version sequence looks = looks
 looks_like_adopted kinds.Directory node target version sequence looks = looks
 looks_like_adopted kinds.Symlink node target version sequence looks = looks
 
-clean_against_adopted : (node : Option NodeParts) (target : Entry) (version : List (ℕ × ℕ)) (sequence : ℕ) → IsClean node (Some target) → IsClean node (Some (numbered (record target { version = version; invalid = false }) sequence))
+pub clean_against_adopted : (node : Option NodeParts) (target : Entry) (version : List (ℕ × ℕ)) (sequence : ℕ) → IsClean node (Some target) → IsClean node (Some (numbered (record target { version = version; invalid = false }) sequence))
 clean_against_adopted None target version sequence clean = clean
 clean_against_adopted (Some node) target version sequence clean = (clean.0, clean.1, looks_like_adopted node.kind node target version sequence clean.2)
 
 module _ (one_length : CutIsOfOneLength) where
-  timed_is_clean_there : (own : Option Entry) (node : Option NodeParts) (target : Entry) → ((entry : Entry) → own ≡ Some entry → IsGood entry) → IsGood target → HasContentOf own target → IsClean node own → IsClean (timed node target) (Some target)
+  pub timed_is_clean_there : (own : Option Entry) (node : Option NodeParts) (target : Entry) → ((entry : Entry) → own ≡ Some entry → IsGood entry) → IsGood target → HasContentOf own target → IsClean node own → IsClean (timed node target) (Some target)
   timed_is_clean_there None held target good too has clean = absurd has
   timed_is_clean_there (Some own) held target good too has clean = timed_is_clean one_length held own target (good own refl).formed too.formed has clean
 

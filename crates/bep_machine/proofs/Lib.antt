@@ -8,6 +8,7 @@ mod CalmPull
 mod CalmFinish
 mod KeepsOwn
 mod ContentDecided
+mod WholeFile
 mod EffectFacts
 mod ScanEffect
 mod PullEffect

@@ -1,8 +1,8 @@
 -- A pull begins and ends where nothing stands in its way.
-use Rattle.std.proofs.Common.{◌≡◌, ◌≢◌, ◌∙◌, ◌≤◌, ℕ, ◌+◌, false, List, length, Option, Some, None, refl, sym, ap, subst, inl, inr, ⊎_elim, arith}
+use Rattle.std.proofs.Common.{◌≡◌, ◌≢◌, ◌∙◌, ◌≤◌, ℕ, ◌+◌, false, List, length, Option, Some, None, refl, sym, ap, subst, subst₂, inl, inr, ⊎_elim, arith}
 use Rattle.bep_record.specs.declared.entry.Entry.{Entry}
 use Rattle.bep_record.specs.declared.node.NodeParts.{NodeParts}
-use Rattle.bep_record.specs.Laws.{MergeExists}
+use Rattle.bep_record.specs.Laws.{CutIsOfOneLength, MergeExists}
 use Rattle.bep_record.specs.Node.{IsClean}
 use Rattle.bep_record.specs.Name.{max_name_len}
 use Rattle.bep_record.specs.Content.{content_of}
@@ -15,9 +15,11 @@ use Rattle.bep_machine.specs.Replica.{Replica, Pull, own_at, node_at, pull_at, v
 use Rattle.bep_machine.specs.Pull.{FinishRow, EndingRow, CopyingRow, SettlingRow, RoomRow, IsAdopted, IsConflictDue, EndsWith, new_pull, timed, written, copy_name}
 use Rattle.bep_machine.specs.Effects.{HasRoom, CanFinish, HasFinished, StartPullBegins, FinishAdopts, FinishKeepsCopy}
 use Rattle.bep_machine.specs.Sound.{IsSoundReplica}
+use Rattle.bep_machine.proofs.CalmFinish.{clean_against_adopted, timed_is_clean_there}
 use Rattle.bep_machine.proofs.CalmRows.{CopiedRow}
 use Rattle.bep_machine.proofs.ContentDecided.{has_content_or_not}
 use Rattle.bep_machine.proofs.EffectFacts.{none_fails, own_version}
+use Rattle.bep_machine.proofs.WholeFile.{written_is_clean}
 use Rattle.bep_machine.proofs.ReplicaFacts.{insert_here, remove_here, with_node_here, with_node_apart, ended, own_here}
 
 pub start_pull_begins_lem : StartPullBegins
@@ -49,16 +51,33 @@ settling_row name pull call own held after start entry ends adopted =
 room_row : (name : FileName) (own : Option Entry) (target : Entry) (old new : Replica) (answer : Answer) (rest : Row Replica) → ids_in_either (version_of own) target.version ≤ most_counters → HasRoom old.index name → rest new answer → RoomRow name own target old rest new answer
 room_row name own target old new answer rest few room row = inr (λ many. omega (arith, few, many), inr (room.numbers, inr (room.names, row)))
 
-finished : (device : Device) (name : FileName) (old start : Replica) (pull : Pull) (after : Option NodeParts) (entry : Entry) → IsSoundReplica device old → pull_at old name ≡ Some pull → EndsWith (own_at old name) (node_at old name) pull after → IsAdopted (own_at old name) pull.target entry → HasFinished name old pull (ended start name after entry)
-finished device name old start pull after entry sound is ends adopted =
-    let named : entry.name ≡ name = ap (λ (e : Entry). e.name) adopted.same ∙ (sound.pulls name pull is).named in
+-- what the name holds at the end is clean against the target
+end_is_clean : CutIsOfOneLength → (device : Device) (name : FileName) (old : Replica) (pull : Pull) (after : Option NodeParts) → IsSoundReplica device old → CanFinish device name old pull → EndsWith (own_at old name) (node_at old name) pull after → IsClean after (Some pull.target)
+end_is_clean one_length device name old pull after sound can ends =
+    let is_pull = sound.pulls name pull can.pulled in
+    ⊎_elim
+    (λ same.
+    subst (λ (n : Option NodeParts). IsClean n (Some pull.target)) (sym same.1)
+    (timed_is_clean_there one_length (own_at old name) (node_at old name) pull.target (sound.own name) is_pull.good same.0 can.clean))
+    (λ new.
+    subst (λ (n : Option NodeParts). IsClean n (Some pull.target)) (sym new.1)
+    (written_is_clean name pull is_pull (λ missing. can.received (missing.0, new.0, missing.1))))
+    ends
+
+finished : CutIsOfOneLength → (device : Device) (name : FileName) (old start : Replica) (pull : Pull) (after : Option NodeParts) (entry : Entry) → IsSoundReplica device old → CanFinish device name old pull → EndsWith (own_at old name) (node_at old name) pull after → IsAdopted (own_at old name) pull.target entry → HasFinished name old pull (ended start name after entry)
+finished one_length device name old start pull after entry sound can ends adopted =
+    let named : entry.name ≡ name = ap (λ (e : Entry). e.name) adopted.same ∙ (sound.pulls name pull can.pulled).named in
+    let number = (with_node start name after).index.sequence + 1 in
+    let clean = clean_against_adopted after pull.target adopted.version number (end_is_clean one_length device name old pull after sound can ends) in
     record {
-      entry = numbered entry ((with_node start name after).index.sequence + 1);
+      entry = numbered entry number;
       own = own_here start name after entry named;
       content = ap content_of adopted.same;
       valid = ap (λ (e : Entry). e.invalid) adopted.same;
       merge = subst (λ (v : List (ℕ × ℕ)). IsMerge (version_of (own_at old name)) pull.target.version v) (sym (ap (λ (e : Entry). e.version) adopted.same)) adopted.merge;
       node = subst (λ (n : Option NodeParts). EndsWith (own_at old name) (node_at old name) pull n) (sym (with_node_here start name after)) ends;
+      clean =
+          subst₂ (λ (n : Option NodeParts) (e : Entry). IsClean n (Some (numbered e number))) (sym (with_node_here start name after)) (sym adopted.same) clean;
       gone = remove_here (with_node start name after).pulls name;
     }
 
@@ -69,8 +88,8 @@ finish_row device name old new answer pull can row =
     let is = can.pulled in
     inr (λ none. cc, (pull, can.pulled, inl (can.wanted, row)))
 
-pub finish_adopts_lem : MergeExists → FinishAdopts
-finish_adopts_lem merge_exists device name old pull sound can no_conflict =
+pub finish_adopts_lem : MergeExists → CutIsOfOneLength → FinishAdopts
+finish_adopts_lem merge_exists one_length device name old pull sound can no_conflict =
     let end = end_exists (own_at old name) (node_at old name) pull in
     let adopted = adopted_exists merge_exists device name old pull sound can.pulled in
     let new = ended old name end.0 adopted.0 in
@@ -78,7 +97,7 @@ finish_adopts_lem merge_exists device name old pull sound can no_conflict =
     let row = room_row name (own_at old name) pull.target old new (Done Changed) (SettlingRow name pull 2 None (own_at old name) (node_at old name) old) can.few can.room settles in (
       new,
       finish_row device name old new (Done Changed) pull can (inr (can.received, inr (none_fails 1, inr (λ unclean. unclean can.clean, inr (no_conflict, row))))),
-      finished device name old old pull end.0 adopted.0 sound can.pulled end.1 adopted.1,
+      finished one_length device name old old pull end.0 adopted.0 sound can end.1 adopted.1,
     )
 
 -- what loses is there
@@ -91,8 +110,8 @@ copying_row : (name : FileName) (pull : Pull) (own : Option Entry) (node : Optio
 copying_row name pull own held old new answer short free few room settles =
     inr (λ long. omega (arith, short, long), inr (none_fails 2, inr (λ there. there.0 free, room_row name own pull.target old new answer (CopiedRow name pull None own held old) few room (inl (free, inr (none_fails 3, settles))))))
 
-pub finish_keeps_copy_lem : MergeExists → FinishKeepsCopy
-finish_keeps_copy_lem merge_exists device name old pull sound can due short free =
+pub finish_keeps_copy_lem : MergeExists → CutIsOfOneLength → FinishKeepsCopy
+finish_keeps_copy_lem merge_exists one_length device name old pull sound can due short free =
     let own = own_at old name in
     let node = node_at old name in
     let copy = copy_name own in
@@ -105,6 +124,6 @@ finish_keeps_copy_lem merge_exists device name old pull sound can due short free
     let apart : copy ≢ name = λ same. loser_is_there own node pull.target due can.clean (subst (λ (n : FileName). node_at old n ≡ None) same free) in (
       new,
       finish_row device name old new (Done Changed) pull can (inr (can.received, inr (none_fails 1, inr (λ unclean. unclean can.clean, inl (due, row))))),
-      finished device name old start pull end.0 adopted.0 sound can.pulled end.1 adopted.1,
+      finished one_length device name old start pull end.0 adopted.0 sound can end.1 adopted.1,
       with_node_apart start name end.0 copy apart ∙ with_node_here old copy node,
     )

@@ -65,8 +65,8 @@ pub record CanFinish (device : Device) (name : FileName) (old : Replica) (pull :
   pub few : ids_in_either (version_of (own_at old name)) pull.target.version ≤ most_counters
   pub room : HasRoom old.index name
 
--- the name has the target's content in its record, under the merged version, and its file or what had that content
--- already; the pull is gone
+-- the name has the target's content in its record, under the merged version, and in its file, which is clean; the pull is
+-- gone
 pub record HasFinished (name : FileName) (old : Replica) (pull : Pull) (new : Replica) : Type 0 where
   pub entry : Entry
   pub own : own_at new name ≡ Some entry
@@ -74,6 +74,7 @@ pub record HasFinished (name : FileName) (old : Replica) (pull : Pull) (new : Re
   pub valid : entry.invalid ≡ false
   pub merge : IsMerge (version_of (own_at old name)) pull.target.version entry.version
   pub node : EndsWith (own_at old name) (node_at old name) pull (node_at new name)
+  pub clean : IsClean (node_at new name) (Some entry)
   pub gone : pull_at new name ≡ None
 
 -- such a pull ends
@@ -109,7 +110,7 @@ OverrideWins =
     (new : Replica) × (entry : Entry) × OverrideRow device name old new (Done Changed) × (own_at new name ≡ Some entry) ×
     (content_of entry ≡ content_owned (own_at old name)) × IsBelow chosen.version entry.version × (new.store ≡ old.store)
 
--- a revert removes the file, and leaves a deletion that any record of others is above or equal to
+-- a revert removes the file, and leaves a deletion with an empty version
 abbrev pub RevertTakesBack : Type 0
 RevertTakesBack =
     (device : Device) (name : FileName) (old : Replica) (own : Entry) →

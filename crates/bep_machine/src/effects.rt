@@ -2,7 +2,7 @@
 //! contract is the law.
 ghost use Rattle.bep_machine.specs.Effects.{ScanRaises, ScanMarks, StartPullBegins, FinishAdopts, FinishKeepsCopy, OverrideWins, RevertTakesBack};
 
-use bep_record::{Vector, bump_exists, merge_exists};
+use bep_record::{Vector, bump_exists, cut_is_of_one_length, merge_exists};
 
 /// A scan of a name that isn't clean records what is there: with the device's counter raised, or, in a receive-only
 /// folder, marked local-only.
@@ -25,6 +25,7 @@ pub fn finish_adopts()
     ensures keeps { FinishKeepsCopy }
 {
     merge_exists();
+    cut_is_of_one_length();
 }
 
 /// An override puts the device's own content above the record that it would choose.
