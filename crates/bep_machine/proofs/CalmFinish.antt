@@ -94,6 +94,10 @@ pub clean_against_adopted : (node : Option NodeParts) (target : Entry) (version 
 clean_against_adopted None target version sequence clean = clean
 clean_against_adopted (Some node) target version sequence clean = (clean.0, clean.1, looks_like_adopted node.kind node target version sequence clean.2)
 
+abbrev pub FinishIsQuiet : Type 0
+FinishIsQuiet = (contents : FileName → Option Content) (device : Device) (name : FileName) (failed : Option ℕ) (old new : Replica) (answer : Answer) →
+    IsSoundReplica device old → IsCalmReplica contents old → FinishRow device name failed old new answer → IsQuietChange old new
+
 module _ (one_length : CutIsOfOneLength) where
   pub timed_is_clean_there : (own : Option Entry) (node : Option NodeParts) (target : Entry) → ((entry : Entry) → own ≡ Some entry → IsGood entry) → IsGood target → HasContentOf own target → IsClean node own → IsClean (timed node target) (Some target)
   timed_is_clean_there None held target good too has clean = absurd has
@@ -142,10 +146,6 @@ module _ (one_length : CutIsOfOneLength) where
         viewed = λ from other. with_node_viewed old name after from other;
         target = λ other target found. inr (target_before_end old name after entry named other target found);
       }
-
-  abbrev pub FinishIsQuiet : Type 0
-  FinishIsQuiet = (contents : FileName → Option Content) (device : Device) (name : FileName) (failed : Option ℕ) (old new : Replica) (answer : Answer) →
-      IsSoundReplica device old → IsCalmReplica contents old → FinishRow device name failed old new answer → IsQuietChange old new
 
   dropped_is_quiet : (contents : FileName → Option Content) (old : Replica) (name : FileName) → IsCalmReplica contents old → IsQuietChange old (without_pull old name)
   dropped_is_quiet contents old name calm = record {
