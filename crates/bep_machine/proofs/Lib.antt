@@ -13,3 +13,14 @@ mod EffectFacts
 mod ScanEffect
 mod PullEffect
 mod OverrideEffect
+mod Places
+mod CalmTables
+mod CalmMoves
+mod CalmReplicaStep
+mod LinkQueues
+mod ReadOn
+mod LinkSteps
+mod Arrivals
+mod ReadingSteps
+mod ThereDecided
+pub mod CalmStep

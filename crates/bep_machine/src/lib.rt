@@ -3,6 +3,7 @@
 //! Nearly all of this crate is definitions, in `specs/`, and the laws that follow from them.
 #![tactic(auto)]
 
+mod calm;
 mod effects;
 mod laws;
 mod limits;
@@ -11,6 +12,7 @@ mod moved;
 mod refusal;
 mod step;
 
+pub use calm::{quiet_steps_keep_calm, quiet_steps_keep_records};
 pub use effects::{
     finish_adopts, override_wins, revert_takes_back, scan_records, start_pull_begins,
 };
