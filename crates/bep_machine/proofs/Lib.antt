@@ -3,9 +3,9 @@ mod RunFacts
 mod CalmRows
 mod ReplicaFacts
 mod ChoiceFacts
+mod ContentFacts
 mod CalmScan
 mod CalmPull
-mod ContentFacts
 mod CalmFinish
 mod KeepsOwn
 mod SoundParts
@@ -18,6 +18,12 @@ mod GoodChoice
 mod WrittenNode
 mod SoundLocal
 mod SoundPull
+mod ContentDecided
+mod WholeFile
+mod EffectFacts
+mod ScanEffect
+mod PullEffect
+mod OverrideEffect
 mod Places
 mod CalmTables
 mod CalmMoves

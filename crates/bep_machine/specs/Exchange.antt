@@ -1,6 +1,6 @@
 -- The steps of a device over a link: begin a session, take a message, announce records, ask for a block
 -- (BEP v1, 'Cluster Config', 'Index', 'Index Update', 'Request', 'Response'; limits are this project's profile).
-use Rattle.std.specs.Prelude.{◌≡◌, ◌≢◌, ◌⊎◌, ◌+◌, ◌<◌, ◌≤◌, ◌==◌, ◌&&◌, not, nat_le, ℕ, Bool, true, false, List, [], ◌∷◌, ◌++◌, length, take, drop, ⊤, Option, Some, None, IsSome, IsTrue, Contains, if◌then◌else◌}
+use Rattle.std.specs.Prelude.{◌≡◌, ◌≢◌, ◌⊎◌, ◌+◌, ◌<◌, ◌≤◌, ◌==◌, ◌&&◌, nat_le, ℕ, Bool, true, false, List, [], ◌∷◌, ◌++◌, length, take, drop, ⊤, Option, Some, None, IsSome, IsTrue, Contains, if◌then◌else◌}
 use Rattle.std.specs.List.{list_any}
 use Rattle.std.specs.Ordering.{nat_cmp, is_eq}
 use Rattle.std.specs.Cmp.Lexicographic.{slice_cmp}
@@ -30,10 +30,10 @@ use Rattle.bep_machine.specs.declared.message.Code.{Code}
 use Rattle.bep_machine.specs.declared.message.Code.TheVariants.{NoError, Generic, NoSuchFile, InvalidFile}
 use Rattle.bep_machine.specs.declared.moved.Moved.TheVariants.{Changed, LinkLost}
 use Rattle.bep_machine.specs.declared.refusal.Refusal.TheVariants.{IndexFull, LinkDown, LinkFull, NotBegun, NothingToDo}
-use Rattle.bep_machine.specs.Answer.{Answer, Done, Refused, Row, becomes, when◌then◌else◌, ◌answers◌when◌else◌}
-use Rattle.bep_machine.specs.Replica.{ByDevice, Pull, Replica, own_at, node_at, pull_at, view_of, viewed_at, HasContentOf, with_view, with_pull}
+use Rattle.bep_machine.specs.Answer.{Done, Refused, Row, becomes, when◌then◌else◌, ◌answers◌when◌else◌}
+use Rattle.bep_machine.specs.Replica.{Pull, Replica, own_at, node_at, pull_at, view_of, viewed_at, HasContentOf, with_view, with_pull}
 use Rattle.bep_machine.specs.Local.{Fails}
-use Rattle.bep_machine.specs.Link.{Sight, Deed, taking, sending, losing}
+use Rattle.bep_machine.specs.Link.{Sight, taking, sending, losing}
 use Rattle.bep_machine.specs.Peer.{Session, Peer, Acted, idle, new_session, with_replica, with_session, is_shared_with, config_for}
 
 -- ---- sessions

@@ -1,6 +1,6 @@
 -- What holds of every cluster: its records are well formed and stand under their names, its sessions and links fit its
 -- configuration (the limits are this project's profile).
-use Rattle.std.specs.Prelude.{◌≡◌, ◌≢◌, ◌⊎◌, ◌↔◌, ◌<◌, ◌≤◌, ℕ, ⊤, false, List, [], ◌∷◌, length, Option, Some, None, IsSome, Contains}
+use Rattle.std.specs.Prelude.{◌≡◌, ◌≢◌, ◌↔◌, ◌<◌, ◌≤◌, ℕ, ⊤, false, List, [], ◌∷◌, length, Option, Some, None, IsSome, Contains}
 use Rattle.std.specs.FinMap.{empty, get, len}
 use Rattle.bep_map.specs.NameMap.{ByName}
 use Rattle.bep_record.specs.declared.block.Block.{Block}
@@ -113,8 +113,9 @@ pub record IsSoundLink (link : Link) : Type 0 where
 
 -- ---- the whole
 
--- folders are shared by devices of the cluster, each once, and links join two of these, the smaller first
+-- folders are shared by devices of the cluster, whose numbers are 1 or more, and links join two of these, the smaller first
 pub record IsSoundConfig (config : Config) : Type 0 where
+  pub numbered : (device : Device) → Contains config.devices device → 1 ≤ device
   pub sharing : (folder : Folder) (device : Device) → SharesFolder config device folder → Contains config.devices device
   pub links : (one other : Device) → Contains config.links (one, other) →
       (one < other) × Contains config.devices one × Contains config.devices other

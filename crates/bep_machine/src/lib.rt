@@ -4,6 +4,7 @@
 #![tactic(auto)]
 
 mod calm;
+mod effects;
 mod headline;
 mod limits;
 mod message;
@@ -13,6 +14,9 @@ mod sound;
 mod step;
 
 pub use calm::{quiet_steps_keep_calm, quiet_steps_keep_records};
+pub use effects::{
+    finish_adopts, override_wins, revert_takes_back, scan_records, start_pull_begins,
+};
 pub use headline::{settled_stays_put, settled_stays_settled};
 pub use limits::{MAX_EPOCH, MAX_OUTSTANDING, MAX_REQUEST_ID};
 pub use message::{Announced, Code, Message, Request, Response};
