@@ -39,7 +39,7 @@ pub const REASONS: [Reason; 12] = [
 /// reasons.
 ///
 /// Where it answers `Settled`, what the cluster holds stays put: after every list of further steps without local edits,
-/// from every cluster with the cut's tables, each folder holds byte for byte what it held, each name has its certified
+/// from every sound cluster with the cut's tables, each folder holds byte for byte what it held, each name has its certified
 /// content, and the cluster is settled again, for the winners that it has then.
 pub fn check_plain<'a>(cut: &'a Cut, certificate: &'a Certificate) -> Verdict<'a>
     ensures verdict { IsVerdict (tables_of cut.now) certificate.now (verdict_shown result) }
