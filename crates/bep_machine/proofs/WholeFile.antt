@@ -47,7 +47,7 @@ received_whole [] (one ∷ more) are none_missing = absurd are
 received_whole (block ∷ blocks) [] are none_missing = absurd are
 received_whole (block ∷ blocks) (None ∷ received) are none_missing = absurd (none_missing (Contains-first None received))
 received_whole (block ∷ blocks) (Some bytes ∷ received) are none_missing =
-    let later = received_whole blocks received are.2 (λ missing. none_missing (Contains-more (Some bytes) received None missing)) in
+    let later = received_whole blocks received are.1 (λ missing. none_missing (Contains-more (Some bytes) received None missing)) in
     let both = length-append bytes (bytes_of received) in
     let here = are.0 in
     omega arith

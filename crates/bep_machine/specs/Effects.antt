@@ -1,5 +1,5 @@
--- That each step of a replica does what it is for, where nothing stands in its way; so no row of the table is empty of
--- meaning. The functions of src/effects.rt have these as contracts.
+-- That a scan, a pull's beginning and end, an override and a revert do what they are for, where nothing stands in their
+-- way. The functions of src/effects.rt have these as contracts.
 use Rattle.std.specs.Prelude.{◌≡◌, ◌≢◌, ◌≤◌, max, true, false, [], length, Option, Some, None}
 use Rattle.bep_record.specs.declared.entry.Entry.{Entry}
 use Rattle.bep_record.specs.declared.folder_kind.FolderKind.TheVariants.{SendOnly, ReceiveOnly}

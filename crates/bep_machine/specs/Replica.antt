@@ -29,7 +29,7 @@ pub record Pull : Type 0 where
 pub record Replica : Type 0 where
   -- what the device does with the folder
   pub kind : FolderKind
-  -- the other devices that share it, numbers rising
+  -- the other devices that share it
   pub others : List Device
   -- the device's own index
   pub index : Listing

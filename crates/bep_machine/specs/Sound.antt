@@ -10,7 +10,6 @@ use Rattle.bep_record.specs.declared.limits.TheConstants.{MAX_MESSAGES, MAX_PULL
 use Rattle.bep_record.specs.Entry.{IsWellFormed}
 use Rattle.bep_record.specs.Node.{IsNode}
 use Rattle.bep_record.specs.Vector.{IsVersion, most_counters}
-use Rattle.bep_blocks.specs.Plain.{hash_of}
 use Rattle.bep_index.specs.Listing.{Listing}
 use Rattle.bep_index.specs.Index.{IsIndex}
 use Rattle.bep_index.specs.View.{IsView}
@@ -44,12 +43,13 @@ AllGood batch = (entry : Entry) → IsAmong entry batch → IsGood entry
 
 -- ---- a replica
 
--- each block that was received has its block's size and hash
+-- each block that was received has its block's size (that it has the hash isn't asked: a device tests it before it takes
+-- the block, and nothing here rests on it)
 abbrev pub AreReceived : List Block → List (Option (List ℕ)) → Type 0
 AreReceived [] [] = ⊤
 AreReceived (block ∷ blocks) (None ∷ received) = AreReceived blocks received
 AreReceived (block ∷ blocks) (Some bytes ∷ received) =
-    (length bytes ≡ block.size) × (hash_of bytes ≡ block.hash) × AreReceived blocks received
+    (length bytes ≡ block.size) × AreReceived blocks received
 AreReceived _ _ = ⊥
 
 -- a pull stands at its target's name; nobody pulls an invalid record
