@@ -1,3 +1,4 @@
+//! The way back from an index's last change.
 use crate::IndexId;
 use bep_record::{Name, Record};
 use std::marker::Model;
@@ -7,7 +8,7 @@ use std::marker::Model;
 #[derive(Debug, Drop)]
 pub struct Undo {
     pub(crate) id: IndexId,
-    pub(crate) sequence: u64,
+    pub(crate) given: u64,
     pub(crate) name: Name,
     pub(crate) old: Option<Record>,
 }
@@ -17,5 +18,5 @@ impl Model for Undo {
 
     ghost Value = { Change };
 
-    ghost view = { λ undo. record { id = undo.id; sequence = undo.sequence; name = undo.name; before = undo.old } };
+    ghost view = { λ undo. record { id = undo.id; sequence = undo.given; name = undo.name; before = undo.old } };
 }

@@ -38,8 +38,8 @@ pub use items::Items;
 pub use kind::Kind;
 pub use laws::{bump_exists, cut_is_of_one_length, merge_exists};
 pub use limits::{
-    HASH_OF_NOTHING, MAX_DEVICES, MAX_FILE_SIZE, MAX_FOLDERS, MAX_MESSAGES, MAX_NANOSECONDS,
-    MAX_PULLS,
+    BASE_BLOCK_SIZE, HASH_OF_NOTHING, MAX_DEVICES, MAX_FILE_SIZE, MAX_FOLDER_NAME_LEN, MAX_FOLDERS,
+    MAX_MESSAGES, MAX_NAME_LEN, MAX_NANOSECONDS, MAX_PULLS, MAX_TARGET_LEN,
 };
 pub use name::Name;
 pub use node::{Node, NodeParts};

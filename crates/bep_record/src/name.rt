@@ -1,3 +1,4 @@
+//! The names of files.
 ghost use Rattle.std.specs.Prelude.{◌≡◌, ◌⊎◌, ◌↔◌, ℕ, List, All, IsTrue, IfOk, IfErr, IsErrOf, OnOk, MatchOption, Some, nat_eq, refl};
 ghost use Rattle.std.specs.Ordering.{nat_cmp};
 ghost use Rattle.std.specs.Hash as fed;
@@ -9,15 +10,13 @@ ghost use Rattle.std.proofs.Common.{rules};
 ghost use Rattle.bep_record.specs.Name.{IsName, IsPart, parts_of};
 
 use crate::error::RecordError;
+use crate::limits::MAX_NAME_LEN;
 use crate::text::plain_text;
 use std::alloc::{AllocError, Global};
 use std::cmp::Ordering;
 use std::fmt;
 use std::hash::{Hash, Hasher};
 use std::marker::Model;
-
-// The most bytes that a name has.
-pub(crate) const MAX_LEN: usize = 1024;
 
 /// The name of a file in a folder: 1 to 1024 bytes of UTF-8 without NUL, whose parts between slashes are neither empty
 /// nor `.` nor `..`. Names are compared by their bytes.
@@ -57,7 +56,7 @@ fn has_good_parts(text: &str) -> bool
 fn name_text(bytes: &[u8]) -> Option<&str>
     ensures { MatchOption result (¬ IsName bytes.now) (λ text. (text.now ≡ bytes.now) × IsName bytes.now) }
 {
-    if bytes.is_empty() || bytes.len() > MAX_LEN {
+    if bytes.is_empty() || bytes.len() > MAX_NAME_LEN {
         return None;
     }
     let text = plain_text(bytes)?;

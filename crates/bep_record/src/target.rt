@@ -1,3 +1,4 @@
+//! Where symlinks point.
 ghost use Rattle.std.specs.Prelude.{◌≡◌, ◌⊎◌, ◌↔◌, ℕ, List, [], IfOk, IfErr, IsErrOf, OnOk, MatchOption, nat_eq};
 ghost use Rattle.std.specs.Cmp.Lexicographic.{pointwise, nat_list_eq_equiv};
 ghost use Rattle.std.specs.Cmp.{partial_equiv_from_equiv};
@@ -5,13 +6,11 @@ ghost use Rattle.std.specs.String.{string_bytes};
 ghost use Rattle.bep_record.specs.Target.{IsTarget};
 
 use crate::error::RecordError;
+use crate::limits::MAX_TARGET_LEN;
 use crate::text::plain_text;
 use std::alloc::{AllocError, Global};
 use std::fmt;
 use std::marker::Model;
-
-// The most bytes that a target has.
-const MAX_LEN: usize = 1024;
 
 /// Where a symlink points: at most 1024 bytes of UTF-8 without NUL. What is no symlink has the empty target.
 ///
@@ -33,7 +32,7 @@ impl Model for Target {
 fn target_text(bytes: &[u8]) -> Option<&str>
     ensures { MatchOption result (¬ IsTarget bytes.now) (λ text. (text.now ≡ bytes.now) × IsTarget bytes.now) }
 {
-    if bytes.len() > MAX_LEN {
+    if bytes.len() > MAX_TARGET_LEN {
         return None;
     }
     plain_text(bytes)

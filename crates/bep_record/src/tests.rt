@@ -1,4 +1,4 @@
-// Records and nodes by this project's profile of BEP v1, 'FileInfo'; the hash of `hello` is that of `sha256sum`.
+//! Records and nodes by this project's profile of BEP v1, 'FileInfo'; the hash of `hello` is that of `sha256sum`.
 use crate::*;
 use std::alloc::Global;
 use std::test::Fail;
@@ -46,7 +46,7 @@ fn hello(alloc: Global) -> Result<Entry, RecordError> {
     let mut entry = deletion(alloc)?;
     entry.deleted = false;
     entry.size = 5;
-    entry.block_size = 131072;
+    entry.block_size = BASE_BLOCK_SIZE;
     entry.blocks = blocks(alloc, &[block(0, 5, HASH_OF_HELLO)])?;
     Ok(entry)
 }
@@ -121,7 +121,7 @@ fn what_is_no_file_has_no_blocks(rt: HostRuntime) -> Result<(), Fail> {
     assert!(rt; is_record(other(alloc, Kind::Symlink)?));
 
     let mut sized = other(alloc, Kind::Directory)?;
-    sized.block_size = 131072;
+    sized.block_size = BASE_BLOCK_SIZE;
     assert!(rt; !is_record(sized));
 
     let mut aimless = other(alloc, Kind::Symlink)?;
