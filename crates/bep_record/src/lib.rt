@@ -1,5 +1,13 @@
 //! Records of the Block Exchange Protocol: devices, version vectors, names, block lists, nodes, and the file
 //! information that devices exchange about each name.
+//!
+//! ```rust
+//! // What a device that changed the name puts into its index, in place of its own record.
+//! let mut entry = own.into_entry();
+//! entry.version.bump(device)?;
+//! entry.deleted = true;
+//! let deletion = Record::read(entry); // Err gives the fields back: those of a deletion have no blocks
+//! ```
 #![tactic(auto)]
 
 mod block;

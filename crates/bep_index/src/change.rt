@@ -1,4 +1,4 @@
-//! The way back from an index's last change.
+//! A change of an index, and the way back from it.
 use crate::IndexId;
 use bep_record::{Name, Record};
 use std::marker::Model;
