@@ -115,32 +115,25 @@ impl fmt::Debug for Target {
 mod tests {
     use super::*;
 
-    // Why the bytes are refused; `None` where they are read as they are.
-    fn refusal(alloc: Global, bytes: &[u8]) -> Option<RecordError> {
-        match Target::read(alloc, bytes) {
-            Ok(target) if target.as_bytes() == bytes => None,
-            Ok(_) => Some(RecordError::Memory),
-            Err(error) => Some(error),
-        }
+    fn is_target(alloc: Global, bytes: &[u8]) -> bool {
+        Target::read(alloc, bytes).is_ok()
     }
 
     #[test]
     fn reads_targets_alone(rt: HostRuntime) {
         // By this profile's limits.
         for target in ["", "notes.txt", "../a//b/."] {
-            assert_eq!(rt; refusal(rt.alloc(), target.as_bytes()), None, "{target}");
+            assert!(rt; is_target(rt.alloc(), target.as_bytes()), "{target}");
         }
-        assert_eq!(rt; refusal(rt.alloc(), b"a\0b"), Some(RecordError::NodeBad));
-        assert_eq!(rt; refusal(rt.alloc(), &[0xff]), Some(RecordError::NodeBad));
+        assert!(rt; !is_target(rt.alloc(), b"a\0b"));
+        assert!(rt; !is_target(rt.alloc(), &[0xff]));
         // A surrogate's three bytes are no UTF-8.
-        assert_eq!(rt;
-            refusal(rt.alloc(), &[0xed, 0xa0, 0x80]),
-            Some(RecordError::NodeBad)
-        );
+        assert!(rt; !is_target(rt.alloc(), &[0xed, 0xa0, 0x80]));
 
         let bytes = [b't'; 1025];
-        assert_eq!(rt; refusal(rt.alloc(), &bytes[..1024]), None);
-        assert_eq!(rt; refusal(rt.alloc(), &bytes), Some(RecordError::NodeBad));
+        assert!(rt; is_target(rt.alloc(), &bytes[..1024]));
+        assert!(rt; !is_target(rt.alloc(), &bytes));
+        assert!(rt; Target::read(rt.alloc(), &bytes).err() == Some(RecordError::NodeBad));
     }
 
     #[test]
