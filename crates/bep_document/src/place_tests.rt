@@ -138,6 +138,6 @@ fn a_document_is_read(rt: HostRuntime) -> Result<(), Fail> {
         }
     }
     readings_are_faultless();
-    tests_tell();
+    records_are_told();
     Ok(())
 }

@@ -1,3 +1,4 @@
+//! Records, well formed or not.
 ghost use Rattle.std.specs.Prelude.{◌≡◌, ◌≤◌, ◌+◌, ◌-◌, min, IfOk};
 ghost use Rattle.serde_json.specs.View.{view};
 ghost use Rattle.bep_json.specs.Reading.{Gives};
