@@ -1,0 +1,2 @@
+mod CalmParts
+mod RunFacts

@@ -1,0 +1,1 @@
+//! What follows from the definitions alone, for every cluster and every list of steps.

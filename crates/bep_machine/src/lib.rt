@@ -1,0 +1,17 @@
+//! A cluster of devices that replicate folders, each of its steps, and what holds after every list of steps.
+//!
+//! Nearly all of this crate is definitions, in `specs/`, and the laws that follow from them.
+#![tactic(auto)]
+
+mod laws;
+mod limits;
+mod message;
+mod moved;
+mod refusal;
+mod step;
+
+pub use limits::{MAX_EPOCH, MAX_OUTSTANDING, MAX_REQUEST_ID};
+pub use message::{Announced, Code, Message, Request, Response};
+pub use moved::Moved;
+pub use refusal::Refusal;
+pub use step::Step;
