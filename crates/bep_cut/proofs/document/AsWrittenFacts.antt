@@ -19,12 +19,12 @@ use Rattle.bep_document.specs.declared.parts.CheckParts.{CheckParts}
 use Rattle.bep_document.specs.Faultless.{HasNoKey, KeysDiffer, IsFaultless, IsFaultlessShare, IsFaultlessFolder}
 use Rattle.bep_cut.specs.declared.share.Share.{Share}
 use Rattle.bep_cut.specs.declared.share.SharedFolder.{SharedFolder}
-use Rattle.bep_cut.specs.AsWritten.{IsWrittenIn, SharingIsAsWritten, OwnIsAsWritten, NodeIsAsWritten}
+use Rattle.bep_cut.specs.document.AsWritten.{IsWrittenIn, SharingIsAsWritten, OwnIsAsWritten, NodeIsAsWritten}
 use Rattle.bep_cut.specs.Cut.{shares_of}
-use Rattle.bep_cut.specs.Written.{by_device, by_folder, with_nodes, share_written, folder_written, cut_written}
+use Rattle.bep_cut.specs.document.Written.{by_device, by_folder, with_nodes, share_written, folder_written, cut_written}
 use Rattle.bep_cut.proofs.Tables.{folder_is_found, share_has_folder, sharing_is_said, own_is_said, node_is_said}
-use Rattle.bep_cut.proofs.WrittenFacts.{from_part, part_there}
-use Rattle.bep_cut.proofs.CutWritten.{CutIsWritten}
+use Rattle.bep_cut.proofs.document.WrittenFacts.{from_part, part_there}
+use Rattle.bep_cut.proofs.document.CutWritten.{CutIsWritten}
 
 -- ---- a listed device's share
 shares_written : CutIsWritten → (parts : CheckParts) (folder : FolderParts) → IsFaultless parts → Contains parts.folders folder → shares_of folder.folder (cut_written parts.folders parts.links).folders ≡ (folder_written folder).shares

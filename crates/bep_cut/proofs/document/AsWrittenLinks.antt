@@ -6,12 +6,12 @@ use Rattle.bep_document.specs.declared.parts.LinkParts.{LinkParts}
 use Rattle.bep_document.specs.declared.parts.CheckParts.{CheckParts}
 use Rattle.bep_cut.specs.declared.link.LinkState.{LinkState}
 use Rattle.bep_cut.specs.declared.cut.CutParts.{CutParts}
-use Rattle.bep_cut.specs.AsWritten.{FlyingIsAsWritten, UnlinkedIsQuiet}
+use Rattle.bep_cut.specs.document.AsWritten.{FlyingIsAsWritten, UnlinkedIsQuiet}
 use Rattle.bep_cut.specs.Cut.{IsCut, link_of, tables_of}
-use Rattle.bep_cut.specs.Written.{by_ends, flight_written, link_written, cut_written}
+use Rattle.bep_cut.specs.document.Written.{by_ends, flight_written, link_written, cut_written}
 use Rattle.bep_cut.proofs.Tables.{is_link, link_has_ends, link_is_found}
-use Rattle.bep_cut.proofs.WrittenFacts.{from_part, part_there}
-use Rattle.bep_cut.proofs.CutWritten.{CutIsWritten}
+use Rattle.bep_cut.proofs.document.WrittenFacts.{from_part, part_there}
+use Rattle.bep_cut.proofs.document.CutWritten.{CutIsWritten}
 
 -- no link joins the two ends of a link the other way round
 no_link_back : (cut : CutParts) (link : LinkState) → IsCut cut → Contains cut.links link → link_of link.b link.a cut.links ≡ None

@@ -13,15 +13,15 @@ use Rattle.bep_document.specs.declared.parts.ShareParts.{ShareParts}
 use Rattle.bep_document.specs.declared.parts.ViewParts.{ViewParts}
 use Rattle.bep_document.specs.Faultless.{IsNumbered, IsFaultlessIndex, IsFaultlessShare}
 use Rattle.bep_cut.specs.declared.share.PeerView.{PeerView}
-use Rattle.bep_cut.specs.AsWritten.{ViewedIsAsWritten, TargetIsAsWritten}
+use Rattle.bep_cut.specs.document.AsWritten.{ViewedIsAsWritten, TargetIsAsWritten}
 use Rattle.bep_cut.specs.Cut.{view_of}
-use Rattle.bep_cut.specs.Written.{by_viewed, has_point, view_written, share_written, cut_written}
+use Rattle.bep_cut.specs.document.Written.{by_viewed, has_point, view_written, share_written, cut_written}
 use Rattle.bep_cut.proofs.Found.{found_itself, find_gives}
 use Rattle.bep_cut.proofs.Tables.{are_views, target_is_said, viewed_by_share}
-use Rattle.bep_cut.proofs.Kept.{kept}
-use Rattle.bep_cut.proofs.WrittenFacts.{part_there, view_part}
-use Rattle.bep_cut.proofs.CutWritten.{CutIsWritten}
-use Rattle.bep_cut.proofs.AsWrittenFacts.{among_is_contained, faultless_share, share_there}
+use Rattle.bep_cut.proofs.document.Kept.{kept}
+use Rattle.bep_cut.proofs.document.WrittenFacts.{part_there, view_part}
+use Rattle.bep_cut.proofs.document.CutWritten.{CutIsWritten}
+use Rattle.bep_cut.proofs.document.AsWrittenFacts.{among_is_contained, faultless_share, share_there}
 
 -- the record that a listed view has of a name is the one that it lists
 view_lists : RecordsAreFound → (share : ShareParts) (view : ViewParts) (name : FileName) (entry : Entry) → IsFaultlessShare share → Contains share.views view → (get (view_written view).records name ≡ Some entry) ↔ (Contains view.records entry × (entry.name ≡ name))

@@ -21,12 +21,12 @@ use Rattle.bep_document.specs.Faultless.{IsFaultlessFolder, IsFaultless, AreOf}
 use Rattle.bep_cut.specs.declared.share.Share.{Share}
 use Rattle.bep_cut.specs.declared.share.SharedFolder.{SharedFolder}
 use Rattle.bep_cut.specs.Cut.{AreShares, HasDevice, IsCut, devices_of, ends_of}
-use Rattle.bep_cut.specs.Written.{by_device, by_folder, share_written, folder_written, link_written, cut_written}
+use Rattle.bep_cut.specs.document.Written.{by_device, by_folder, share_written, folder_written, link_written, cut_written}
 use Rattle.bep_cut.proofs.Found.{all_from_each, any_tied, one_tied}
-use Rattle.bep_cut.proofs.SortingFacts.{length-in_order}
-use Rattle.bep_cut.proofs.WrittenFacts.{from_part, rise_written, shares_in_order}
+use Rattle.bep_cut.proofs.document.SortingFacts.{length-in_order}
+use Rattle.bep_cut.proofs.document.WrittenFacts.{from_part, rise_written, shares_in_order}
 use Rattle.bep_cut.proofs.Tables.{ends_total, same_ends}
-use Rattle.bep_cut.proofs.LinkFacts.{folders_in_order, links_in_order}
+use Rattle.bep_cut.proofs.document.LinksWritten.{folders_in_order, links_in_order}
 
 device_known : (folders : List FolderParts) (devices : List ℕ) (device : Device) → AreOf devices folders → HasDevice (folders_in_order folders) device → Contains devices device
 device_known folders devices device known has =

@@ -14,10 +14,10 @@ use Rattle.bep_document.specs.declared.parts.LinkParts.{LinkParts}
 use Rattle.bep_document.specs.Faultless.{IsSharedBy, IsDeviceOf, SharesFolder, IsFaultlessFlight, IsFaultlessLink}
 use Rattle.bep_cut.specs.declared.share.SharedFolder.{SharedFolder}
 use Rattle.bep_cut.specs.Cut.{HasDevice, IsFlight, IsLink, devices_of, shares_of}
-use Rattle.bep_cut.specs.Sorting.{in_order}
-use Rattle.bep_cut.specs.Written.{by_folder, by_ends, AreWellFormed, IsWellFormedLink, folder_written, flight_written, link_written}
+use Rattle.bep_cut.specs.document.Sorting.{in_order}
+use Rattle.bep_cut.specs.document.Written.{by_folder, by_ends, AreWellFormed, IsWellFormedLink, folder_written, flight_written, link_written}
 use Rattle.bep_cut.proofs.Found.{all_from_each, any_gives, found_itself}
-use Rattle.bep_cut.proofs.WrittenFacts.{device_written, from_part, part_there}
+use Rattle.bep_cut.proofs.document.WrittenFacts.{device_written, from_part, part_there}
 
 -- ---- the folders that the ends of a link share
 abbrev pub folders_in_order : List FolderParts → List SharedFolder

@@ -23,11 +23,11 @@ use Rattle.bep_document.specs.Faultless.{HasNoKey, KeysDiffer, IsNumbered, IsFau
 use Rattle.bep_cut.specs.declared.share.Share.{Share}
 use Rattle.bep_cut.specs.declared.share.PeerView.{PeerView}
 use Rattle.bep_cut.specs.Cut.{HasPoint, AreViews, ArePulls, AreShares, devices_of, index_of, known_of}
-use Rattle.bep_cut.specs.Sorting.{in_order}
-use Rattle.bep_cut.specs.Written.{by_viewed, by_device, has_point, view_written, share_written, folder_written}
+use Rattle.bep_cut.specs.document.Sorting.{in_order}
+use Rattle.bep_cut.specs.document.Written.{by_viewed, by_device, has_point, view_written, share_written, folder_written}
 use Rattle.bep_cut.proofs.Found.{all_from_each, any_gives}
-use Rattle.bep_cut.proofs.Kept.{differ_kept, from_kept}
-use Rattle.bep_cut.proofs.SortingFacts.{Contains-in_order, in_in_order, rises-in_order}
+use Rattle.bep_cut.proofs.document.Kept.{differ_kept, from_kept}
+use Rattle.bep_cut.proofs.document.SortingFacts.{Contains-in_order, in_in_order, rises-in_order}
 
 -- ---- records
 among_holds : (P : Entry → Type 0) (entries : List Entry) (entry : Entry) → AllByRecursion P entries → IsAmong entry entries → P entry

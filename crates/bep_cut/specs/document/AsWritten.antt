@@ -11,7 +11,7 @@ use Rattle.bep_document.specs.declared.parts.LinkParts.{LinkParts}
 use Rattle.bep_document.specs.declared.parts.CheckParts.{CheckParts}
 use Rattle.bep_document.specs.Faultless.{IsFaultless}
 use Rattle.bep_cut.specs.Cut.{tables_of}
-use Rattle.bep_cut.specs.Written.{flight_written, cut_written}
+use Rattle.bep_cut.specs.document.Written.{flight_written, cut_written}
 
 -- the tables of the cut that the document writes down
 abbrev pub tables_written : CheckParts → Tables

@@ -25,7 +25,7 @@ use Rattle.bep_cut.specs.declared.share.SharedFolder.{SharedFolder}
 use Rattle.bep_cut.specs.declared.link.LinkState.{LinkState}
 use Rattle.bep_cut.specs.declared.cut.CutParts.{CutParts}
 use Rattle.bep_cut.specs.Cut.{ends_of, ends_cmp}
-use Rattle.bep_cut.specs.Sorting.{in_order}
+use Rattle.bep_cut.specs.document.Sorting.{in_order}
 
 -- views in the order of the devices that they are of
 abbrev pub by_viewed : PeerView → PeerView → Ordering
@@ -37,7 +37,7 @@ by_device = on (λ share. share.device) nat_cmp
 
 -- folders in the order of their names
 abbrev pub by_folder : SharedFolder → SharedFolder → Ordering
-by_folder = on (λ held. held.folder) (slice_cmp nat_cmp)
+by_folder = on (λ shared. shared.folder) (slice_cmp nat_cmp)
 
 -- links in the order of their ends
 abbrev pub by_ends : LinkState → LinkState → Ordering

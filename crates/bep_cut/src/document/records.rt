@@ -1,11 +1,11 @@
-//! The records and nodes that a document writes down.
+//! Records, nodes and rows, made of what a document says of them.
 ghost use Rattle.std.specs.Prelude.{◌≡◌, IfOk, OnOk, map};
 ghost use Rattle.std.specs.List.{AllByRecursion};
 ghost use Rattle.std.specs.FinMap.{empty, insert};
 ghost use Rattle.bep_record.specs.Entry.{IsWellFormed};
 ghost use Rattle.bep_record.specs.Node.{IsNode};
 ghost use Rattle.bep_index.specs.Batch.{with_all};
-ghost use Rattle.bep_cut.specs.Written.{with_nodes, row_written};
+ghost use Rattle.bep_cut.specs.document.Written.{with_nodes, row_written};
 
 use bep_document::RowParts;
 use bep_json::NamedParts;
@@ -46,7 +46,7 @@ fn record_of(entry: Entry) -> Record
 }
 
 // The records, as they stand.
-pub(crate) fn records_in_order(
+pub(crate) fn records_as_listed(
     alloc: Global,
     entries: Items<Entry>,
 ) -> Result<Items<Record>, AllocError>
@@ -84,18 +84,18 @@ fn put_node(held: &mut NameMap<Node>, node: NamedParts) -> Result<(), AllocError
 }
 
 // The rows of the certificate, as they stand.
-pub(crate) fn rows_written(alloc: Global, parts: Items<RowParts>) -> Result<Vec<Row>, AllocError>
+pub(crate) fn rows_from(alloc: Global, parts: Items<RowParts>) -> Result<Vec<Row>, AllocError>
     requires { AllByRecursion (λ row. IsWellFormed row.entry) parts }
     ensures { IfOk result (λ rows. rows.items ≡ map row_written parts) }
 {
     let mut rows = Vec::with_capacity(alloc, parts.as_slice().len())?;
     for part in parts.into_vec() {
-        rows.push(row_written(part))?;
+        rows.push(row_from(part))?;
     }
     Ok(rows)
 }
 
-fn row_written(parts: RowParts) -> Row
+fn row_from(parts: RowParts) -> Row
     requires { IsWellFormed parts.entry }
     ensures { result ≡ row_written parts }
 {

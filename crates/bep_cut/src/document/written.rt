@@ -1,74 +1,74 @@
-//! The folders and links that a document writes down.
+//! Folders and links, made of what a document says of them.
 ghost use Rattle.std.specs.Prelude.{◌≡◌, IfOk, [], map};
 ghost use Rattle.std.specs.List.{AllByRecursion, filter};
 ghost use Rattle.bep_record.specs.Entry.{IsWellFormed};
 ghost use Rattle.bep_document.specs.Faultless.{IsFaultlessIndex, IsFaultlessShare, IsFaultlessFolder};
-ghost use Rattle.bep_cut.specs.Sorting.{in_order};
-ghost use Rattle.bep_cut.specs.Written.{AreWellFormed, IsWellFormedLink, has_point, view_written, share_written, folder_written, flight_written, link_written};
+ghost use Rattle.bep_cut.specs.document.Sorting.{in_order};
+ghost use Rattle.bep_cut.specs.document.Written.{AreWellFormed, IsWellFormedLink, has_point, view_written, share_written, folder_written, flight_written, link_written};
 
-use crate::order::{Ordered, place};
-use crate::records::{nodes_by_name, records_by_name, records_in_order};
+use crate::document::records::{nodes_by_name, records_as_listed, records_by_name};
+use crate::document::sorting::{Ordered, place};
 use crate::{Flight, LinkState, PeerView, Share, SharedFolder};
 use bep_document::{FlightParts, FolderParts, LinkParts, ShareParts, ViewParts};
 use bep_record::Items;
 use std::alloc::{AllocError, Global};
 
-/// What a document writes down in lists that are put in order.
-pub(crate) trait Written: Ordered + Drop {
+/// What stands in order in a cut, made of what a document says of it.
+pub(crate) trait FromParts: Ordered + Drop {
     /// What the document says of it.
     type Parts: Drop;
 
-    /// Which parts write something down.
-    ghost is_writable: { Self.Parts → Type 0 };
+    /// Which parts it can be made of.
+    ghost is_sound: { Self.Parts → Type 0 };
 
-    /// What the parts write down.
-    ghost written: { Self.Parts → Self };
+    /// What is made of the parts.
+    ghost made_of: { Self.Parts → Self };
 
-    /// What the parts write down, or want of memory.
-    fn written(alloc: Global, parts: Self::Parts) -> Result<Self, AllocError>
-        requires { is_writable parts }
-        ensures { IfOk result (λ made. made ≡ written parts) };
+    /// What is made of the parts, or want of memory.
+    fn from_parts(alloc: Global, parts: Self::Parts) -> Result<Self, AllocError>
+        requires { is_sound parts }
+        ensures { IfOk result (λ made. made ≡ made_of parts) };
 }
 
-// What each of these parts writes down, in order.
-pub(crate) fn all_written<T: Written>(
+// What is made of each of these parts, in order.
+pub(crate) fn all_in_order<T: FromParts>(
     alloc: Global,
     parts: Items<T::Parts>,
 ) -> Result<Items<T>, AllocError>
-    requires { AllByRecursion T.is_writable parts }
-    ensures { IfOk result (λ made. made ≡ in_order T.order [] (map T.written parts)) }
+    requires { AllByRecursion T.is_sound parts }
+    ensures { IfOk result (λ made. made ≡ in_order T.order [] (map T.made_of parts)) }
 {
     let mut made = Vec::new(alloc);
     for part in parts.into_vec() {
-        let one = T::written(alloc, part)?;
+        let one = T::from_parts(alloc, part)?;
         place(&mut made, one)?;
     }
     Ok(Items::new(made))
 }
 
-impl Written for SharedFolder {
+impl FromParts for SharedFolder {
     type Parts = FolderParts;
 
-    ghost is_writable = { IsFaultlessFolder };
+    ghost is_sound = { IsFaultlessFolder };
 
-    ghost written = { folder_written };
+    ghost made_of = { folder_written };
 
-    fn written(alloc: Global, folder: FolderParts) -> Result<Self, AllocError> {
+    fn from_parts(alloc: Global, folder: FolderParts) -> Result<Self, AllocError> {
         Ok(SharedFolder {
             folder: folder.folder,
-            shares: all_written(alloc, folder.devices)?,
+            shares: all_in_order(alloc, folder.devices)?,
         })
     }
 }
 
-impl Written for Share {
+impl FromParts for Share {
     type Parts = ShareParts;
 
-    ghost is_writable = { IsFaultlessShare };
+    ghost is_sound = { IsFaultlessShare };
 
-    ghost written = { share_written };
+    ghost made_of = { share_written };
 
-    fn written(alloc: Global, share: ShareParts) -> Result<Self, AllocError> {
+    fn from_parts(alloc: Global, share: ShareParts) -> Result<Self, AllocError> {
         Ok(Share {
             device: share.device,
             kind: share.kind,
@@ -76,7 +76,7 @@ impl Written for Share {
             max_sequence: share.max,
             own: records_by_name(alloc, share.own)?,
             store: nodes_by_name(alloc, share.store)?,
-            views: all_written(alloc, known_views(share.views))?,
+            views: all_in_order(alloc, known_views(share.views))?,
             pulls: records_by_name(alloc, share.pulls)?,
         })
     }
@@ -91,14 +91,14 @@ fn known_views(views: Items<ViewParts>) -> Items<ViewParts>
     Items::new(views)
 }
 
-impl Written for PeerView {
+impl FromParts for PeerView {
     type Parts = ViewParts;
 
-    ghost is_writable = { λ view. IsFaultlessIndex view.max view.records };
+    ghost is_sound = { λ view. IsFaultlessIndex view.max view.records };
 
-    ghost written = { view_written };
+    ghost made_of = { view_written };
 
-    fn written(alloc: Global, view: ViewParts) -> Result<Self, AllocError> {
+    fn from_parts(alloc: Global, view: ViewParts) -> Result<Self, AllocError> {
         Ok(PeerView {
             of: view.of,
             index_id: view.index_id,
@@ -108,45 +108,45 @@ impl Written for PeerView {
     }
 }
 
-impl Written for LinkState {
+impl FromParts for LinkState {
     type Parts = LinkParts;
 
-    ghost is_writable = { IsWellFormedLink };
+    ghost is_sound = { IsWellFormedLink };
 
-    ghost written = { link_written };
+    ghost made_of = { link_written };
 
-    fn written(alloc: Global, link: LinkParts) -> Result<Self, AllocError> {
+    fn from_parts(alloc: Global, link: LinkParts) -> Result<Self, AllocError> {
         Ok(LinkState {
             a: link.a,
             b: link.b,
             up: link.up,
             epoch: link.epoch,
-            to_a: flights_written(alloc, link.to_a)?,
-            to_b: flights_written(alloc, link.to_b)?,
+            to_a: flights_from(alloc, link.to_a)?,
+            to_b: flights_from(alloc, link.to_b)?,
         })
     }
 }
 
 // The messages, as they stand in the document.
-fn flights_written(alloc: Global, parts: Items<FlightParts>) -> Result<Items<Flight>, AllocError>
+fn flights_from(alloc: Global, parts: Items<FlightParts>) -> Result<Items<Flight>, AllocError>
     requires { AreWellFormed parts }
     ensures { IfOk result (λ made. made ≡ map flight_written parts) }
 {
     let mut flights = Vec::with_capacity(alloc, parts.as_slice().len())?;
     for part in parts.into_vec() {
-        let flight = flight_written(alloc, part)?;
+        let flight = flight_from(alloc, part)?;
         flights.push(flight)?;
     }
     Ok(Items::new(flights))
 }
 
-fn flight_written(alloc: Global, parts: FlightParts) -> Result<Flight, AllocError>
+fn flight_from(alloc: Global, parts: FlightParts) -> Result<Flight, AllocError>
     requires { AllByRecursion IsWellFormed parts.records }
     ensures { IfOk result (λ made. made ≡ flight_written parts) }
 {
     Ok(Flight {
         folder: parts.folder,
         full: parts.full,
-        records: records_in_order(alloc, parts.records)?,
+        records: records_as_listed(alloc, parts.records)?,
     })
 }

@@ -1,8 +1,8 @@
-use Rattle.bep_cut.proofs.CutWritten.{cut_is_written}
-use Rattle.bep_cut.proofs.AsWrittenFacts.{sharing_is_as_written, own_is_as_written, node_is_as_written}
-use Rattle.bep_cut.proofs.AsWrittenViews.{viewed_is_as_written, target_is_as_written}
-use Rattle.bep_cut.proofs.AsWrittenLinks.{flying_is_as_written, unlinked_is_quiet}
-use Rattle.bep_cut.proofs.laws.cut_is_as_written.Goals as goal
+use Rattle.bep_cut.proofs.document.CutWritten.{cut_is_written}
+use Rattle.bep_cut.proofs.document.AsWrittenFacts.{sharing_is_as_written, own_is_as_written, node_is_as_written}
+use Rattle.bep_cut.proofs.document.AsWrittenViews.{viewed_is_as_written, target_is_as_written}
+use Rattle.bep_cut.proofs.document.AsWrittenLinks.{flying_is_as_written, unlinked_is_quiet}
+use Rattle.bep_cut.proofs.document.laws.cut_is_as_written.Goals as goal
 
 pub returns-clause-sharing : goal.returns-clause-sharing
 returns-clause-sharing c =

@@ -1,11 +1,11 @@
 use Rattle.std.proofs.Common.{sym, subst}
 use Rattle.bep_cut.specs.Cut.{IsCut}
-use Rattle.bep_cut.proofs.CutWritten.{cut_is_written}
-use Rattle.bep_cut.proofs.LinkFacts.{links_well_formed}
-use Rattle.bep_cut.proofs.read.check_written.Goals as goal
+use Rattle.bep_cut.proofs.document.CutWritten.{cut_is_written}
+use Rattle.bep_cut.proofs.document.LinksWritten.{links_well_formed}
+use Rattle.bep_cut.proofs.document.reading.check_from.Goals as goal
 
-pub all_written-requires-2 : goal.all_written-requires-2
-all_written-requires-2 c = links_well_formed c.args.parts.folders c.args.parts.links c.requires.each_link
+pub all_in_order-requires-2 : goal.all_in_order-requires-2
+all_in_order-requires-2 c = links_well_formed c.args.parts.folders c.args.parts.links c.requires.each_link
 
 pub of-requires : goal.of-requires
 of-requires c =

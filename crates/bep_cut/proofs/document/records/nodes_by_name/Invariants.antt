@@ -2,8 +2,8 @@ use Rattle.std.proofs.Common.{◌≡◌}
 use Rattle.std.specs.List.{AllByRecursion}
 use Rattle.std.specs.FinMap.{empty}
 use Rattle.bep_record.specs.Node.{IsNode}
-use Rattle.bep_cut.specs.Written.{with_nodes}
-use Rattle.bep_cut.proofs.records.nodes_by_name.Given as goal
+use Rattle.bep_cut.specs.document.Written.{with_nodes}
+use Rattle.bep_cut.proofs.document.records.nodes_by_name.Given as goal
 
 -- the nodes so far with those that are left are all of them
 abbrev pub invariant-loop-node : goal.invariant-loop-node

@@ -3,7 +3,7 @@ use Rattle.std.specs.List.{AllByRecursion}
 use Rattle.std.specs.FinMap.{empty}
 use Rattle.bep_record.specs.Entry.{IsWellFormed}
 use Rattle.bep_index.specs.Batch.{with_all}
-use Rattle.bep_cut.proofs.records.records_by_name.Given as goal
+use Rattle.bep_cut.proofs.document.records.records_by_name.Given as goal
 
 -- the records so far with the entries that are left are all of them
 abbrev pub invariant-loop-entry : goal.invariant-loop-entry

@@ -1,8 +1,8 @@
 use Rattle.std.proofs.Common.{◌≡◌, ◌++◌, map}
 use Rattle.std.specs.List.{AllByRecursion}
 use Rattle.bep_record.specs.Entry.{IsWellFormed}
-use Rattle.bep_cut.specs.Written.{row_written}
-use Rattle.bep_cut.proofs.records.rows_written.Given as goal
+use Rattle.bep_cut.specs.document.Written.{row_written}
+use Rattle.bep_cut.proofs.document.records.rows_from.Given as goal
 
 -- the rows so far with those that are left are all of them
 abbrev pub invariant-loop-part : goal.invariant-loop-part

@@ -1,6 +1,6 @@
 use Rattle.std.proofs.Common.{◌≡◌, ◌++◌, map}
-use Rattle.bep_cut.specs.Written.{AreWellFormed, flight_written}
-use Rattle.bep_cut.proofs.written.flights_written.Given as goal
+use Rattle.bep_cut.specs.document.Written.{AreWellFormed, flight_written}
+use Rattle.bep_cut.proofs.document.written.flights_from.Given as goal
 
 -- the messages so far with those that are left are all of them
 abbrev pub invariant-loop-part : goal.invariant-loop-part

@@ -1,8 +1,8 @@
 use Rattle.std.proofs.Common.{ap, ◌∙◌, rules}
 use Rattle.std.proofs.lemmas.Fn.{filter_same}
 use Rattle.std.specs.List.{filter}
-use Rattle.bep_cut.specs.Written.{has_point}
-use Rattle.bep_cut.proofs.written.known_views.Goals as goal
+use Rattle.bep_cut.specs.document.Written.{has_point}
+use Rattle.bep_cut.proofs.document.written.known_views.Goals as goal
 
 pub returns : goal.returns
 returns c =
