@@ -9,7 +9,7 @@ use Rattle.bep_json.specs.Numbers.{read_number, read_signed, read_flag, read_kin
 use Rattle.bep_json.specs.Records.{read_record, default_block_size}
 use Rattle.bep_json.specs.Texts.{read_name, read_target, read_hash, read_folder_name, read_folder_kind}
 use Rattle.bep_index.specs.declared.limits.TheConstants.{MAX_NAMES, MAX_RECORDS, MAX_SEQUENCE}
-use Rattle.bep_record.specs.declared.limits.TheConstants.{MAX_FOLDERS, MAX_PULLS, MAX_MESSAGES}
+use Rattle.bep_record.specs.declared.limits.TheConstants.{MAX_FILE_SIZE, MAX_NANOSECONDS, MAX_FOLDERS, MAX_PULLS, MAX_MESSAGES}
 use Rattle.bep_document.specs.declared.parts.ShareParts.{ShareParts}
 use Rattle.bep_document.specs.declared.parts.ViewParts.{ViewParts}
 use Rattle.bep_document.specs.declared.parts.FolderParts.{FolderParts}
@@ -37,8 +37,8 @@ record_in_range d =
     skip (read_member (codes "modified_by") (read_number 1 greatest_id) d) (λ modified_by.
     skip (read_member (codes "version") read_version d) (λ version.
     keep (member_read (number_read 0 MAX_SEQUENCE) (codes "sequence") d) (λ sequence within.
-    skip (read_member_or (codes "size") (read_number 0 16777216) 0 d) (λ size.
-    skip (read_member_or (codes "modified_ns") (read_number 0 999999999) 0 d) (λ modified_ns.
+    skip (read_member_or (codes "size") (read_number 0 MAX_FILE_SIZE) 0 d) (λ size.
+    skip (read_member_or (codes "modified_ns") (read_number 0 MAX_NANOSECONDS) 0 d) (λ modified_ns.
     skip (read_member_or (codes "deleted") read_flag false d) (λ deleted.
     skip (read_member_or (codes "invalid") read_flag false d) (λ invalid.
     skip (read_member_or (codes "block_size") (read_number 0 4294967295) (default_block_size kind deleted) d) (λ block_size.

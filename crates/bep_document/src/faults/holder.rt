@@ -45,13 +45,6 @@ impl<'a> Holder<'a> {
         DocFault::at_device(alloc, fault, self.folder, self.device)
     }
 
-    // A fault at a name.
-    fn fault_at(&self, alloc: Global, fault: Fault, name: &Name) -> Result<DocFault, AllocError>
-        ensures { IfOk result (λ found. found ≡ at_name fault self.now.folder.now self.now.device name.now) }
-    {
-        DocFault::at_name(alloc, fault, self.folder, self.device, name)
-    }
-
     // A fault at a name, unless all is well there.
     pub(crate) fn fault_unless(
         &self,
@@ -66,7 +59,7 @@ impl<'a> Holder<'a> {
         if is_well {
             return Ok(None);
         }
-        let found = self.fault_at(alloc, fault, name)?;
+        let found = DocFault::at_name(alloc, fault, self.folder, self.device, name)?;
         Ok(Some(found))
     }
 }
