@@ -1,7 +1,7 @@
 //! A check document's audit, from the bytes that come in to the bytes that go out.
 ghost use Rattle.std.specs.Prelude.{◌≡◌, IfOk, IfErr};
 ghost use Rattle.bep_document.specs.Reading.{Read};
-ghost use Rattle.bep_cut.specs.Written.{check_of};
+ghost use Rattle.bep_cut.specs.document.Written.{check_of};
 ghost use Rattle.bep_report.specs.Report.{report_text};
 ghost use Rattle.bep_report.specs.Text.{AppendsWhole};
 ghost use Rattle.bep_answer.specs.Answer.{IsAnswer, IsReport, IsAnswered, IsCutShort, SaysSettled, fault_text};
