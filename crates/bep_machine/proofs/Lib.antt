@@ -51,3 +51,9 @@ mod DeliverKept
 mod ClusterKept
 mod PlacesKept
 mod StepsKept
+mod RowEnds
+mod LinkDeeds
+mod HalfSteps
+mod ActedEnds
+mod Replays
+mod StepHalves
