@@ -4,12 +4,14 @@ use Rattle.std.specs.FinMap.{get}
 use Rattle.bep_index.specs.declared.send.Plan.{Plan}
 use Rattle.bep_model.specs.Tables.{Device, Folder, FileName}
 use Rattle.bep_machine.specs.declared.message.Message.{Message}
+use Rattle.bep_machine.specs.declared.message.Request.{Request}
+use Rattle.bep_machine.specs.declared.message.Response.{Response}
 use Rattle.bep_machine.specs.declared.message.Message.TheVariants as messages
 use Rattle.bep_machine.specs.Answer.{Answer, Row}
 use Rattle.bep_machine.specs.Replica.{Replica}
 use Rattle.bep_machine.specs.Link.{Sight}
 use Rattle.bep_machine.specs.Peer.{Session, Peer, Acted, idle}
-use Rattle.bep_machine.specs.Exchange.{SessionRow, BeginRow, MessageRow, WaitingRow, DeliverRow, SendingRow, CursorRow, AnnounceRow, AskingRow, AskRow}
+use Rattle.bep_machine.specs.Exchange.{SessionRow, BeginRow, AskedRow, asked_for, MessageRow, WaitingRow, DeliverRow, SendingRow, CursorRow, AnnounceRow, AskingRow, AskRow}
 use Rattle.bep_machine.proofs.RowEnds.{Stays, stays_at, stays_done, stays_or}
 
 -- what isn't done leaves the device idle
@@ -38,6 +40,11 @@ pub ask_rests : (other : Device) (folder : Folder) (name : FileName) → Rests (
 ask_rests other folder name sight old acted answer row =
     stays_or row (λ up. stays_or up (λ has. asking_rests other folder name sight.full has.0 old has.2.0 acted answer has.2.2))
 
+asked_rests : (other : Device) (session : Session) (response : Response) (asked : Option Request) (old : Peer) (acted : Acted) (answer : Answer) → AskedRow other session response asked old acted answer → Stays (idle old) acted answer
+asked_rests other session response None old acted answer row = stays_done row
+asked_rests other session response (Some request) old acted answer (inl right) = stays_done right.1
+asked_rests other session response (Some request) old acted answer (inr wrong) = stays_done wrong.1
+
 message_rests : (other : Device) (failed : Option ℕ) (full : Bool) (session : Session) (message : Message) (old : Peer) (acted : Acted) (answer : Answer) → MessageRow other failed full session message old acted answer → Stays (idle old) acted answer
 message_rests other failed full session (messages.ClusterConfig named) old acted answer (inl good) = stays_done good.1
 message_rests other failed full session (messages.ClusterConfig named) old acted answer (inr bad) = stays_done bad.1
@@ -48,9 +55,7 @@ message_rests other failed full session (messages.IndexUpdate folder batch) old 
 message_rests other failed full session (messages.IndexUpdate folder batch) old acted answer (inr bad) = stays_done bad.1
 message_rests other failed full session (messages.Request request) old acted answer (inl named) = stays_or named.1.2 (λ made. stays_done made.2)
 message_rests other failed full session (messages.Request request) old acted answer (inr bad) = stays_done bad.1
-message_rests other failed full session (messages.Response response) old acted answer (inl (any, (request, is, inl right))) = stays_done right.1
-message_rests other failed full session (messages.Response response) old acted answer (inl (any, (request, is, inr wrong))) = stays_done wrong.1
-message_rests other failed full session (messages.Response response) old acted answer (inr none) = stays_done none.1
+message_rests other failed full session (messages.Response response) old acted answer row = asked_rests other session response (asked_for response.id session.outstanding) old acted answer row
 
 waiting_rests : (other : Device) (failed : Option ℕ) (full : Bool) (session : Session) (waiting : Option Message) (old : Peer) (acted : Acted) (answer : Answer) → WaitingRow other failed full session waiting old acted answer → Stays (idle old) acted answer
 waiting_rests other failed full session None old acted answer row = stays_at row

@@ -13,7 +13,7 @@ use Rattle.bep_machine.specs.Answer.{Answer, Done, Refused, OutOfMemory, Row, be
 use Rattle.bep_machine.specs.Replica.{Replica}
 use Rattle.bep_machine.specs.Link.{Sight, Deed, sending, taking, losing}
 use Rattle.bep_machine.specs.Peer.{Session, Peer, Acted, idle, config_for}
-use Rattle.bep_machine.specs.Exchange.{SessionRow, BeginRow, LosingRow, ViewRow, RequestRow, AnsweredRow, ResponseRow, MessageRow, WaitingRow, DeliverRow, index_message, SendingRow, CursorRow, AnnounceRow, AskingRow, AskRow, request_for}
+use Rattle.bep_machine.specs.Exchange.{SessionRow, BeginRow, LosingRow, ViewRow, RequestRow, AnsweredRow, AskedRow, asked_for, ResponseRow, MessageRow, WaitingRow, DeliverRow, index_message, SendingRow, CursorRow, AnnounceRow, AskingRow, AskRow, request_for}
 use Rattle.bep_machine.specs.Halves.{Exchanged, Sent, Took, Broke, Traffic, deed_told, waiting_told, sight_told, IsSeen}
 
 -- a row that is done was not refused
@@ -155,6 +155,11 @@ module _ (other : Device) (failed : Option ℕ) (session : Session) (old : Peer)
   breaks : (full : Bool) (message : Message) (acted : Acted) (moved : Moved) → LosingRow old acted (Done moved) → MessageRow other failed false session message old acted (Done moved) → TakesOne full message acted moved
   breaks full message acted moved losing made = record { done = Broke message; deed = ap (λ a. a.deed) losing.0; waits = refl; seen = λ sight waiting room. waiting; made = made }
 
+  asked_takes : (response : Response) (asked : Option Request) (acted : Acted) (moved : Moved) → AskedRow other session response asked old acted (Done moved) → acted.deed ≡ taking
+  asked_takes response None acted moved row = ap (λ a. a.deed) row.0
+  asked_takes response (Some request) acted moved (inl right) = ap (λ a. a.deed) right.1.0
+  asked_takes response (Some request) acted moved (inr wrong) = ap (λ a. a.deed) wrong.1.0
+
   message_tells : (full : Bool) (message : Message) (acted : Acted) (moved : Moved) → MessageRow other failed full session message old acted (Done moved) → TakesOne full message acted moved
   message_tells full (messages.ClusterConfig named) acted moved (inl good) = takes full _ acted moved (ap (λ a. a.deed) good.1.0) (inl good)
   message_tells full (messages.ClusterConfig named) acted moved (inr bad) = breaks full _ acted moved bad.1 (inr bad)
@@ -173,9 +178,7 @@ module _ (other : Device) (failed : Option ℕ) (session : Session) (old : Peer)
         made = inl (named, (replica, is, inr ((λ wrong. absurd (cc)), room.1)));
       }
   message_tells full (messages.Request request) acted moved (inr bad) = breaks full _ acted moved bad.1 (inr bad)
-  message_tells full (messages.Response response) acted moved (inl (any, (request, is, inl right))) = takes full _ acted moved (ap (λ a. a.deed) right.1.0) (inl (any, (request, is, inl right)))
-  message_tells full (messages.Response response) acted moved (inl (any, (request, is, inr wrong))) = takes full _ acted moved (ap (λ a. a.deed) wrong.1.0) (inl (any, (request, is, inr wrong)))
-  message_tells full (messages.Response response) acted moved (inr none) = takes full _ acted moved (ap (λ a. a.deed) none.1.0) (inr none)
+  message_tells full (messages.Response response) acted moved row = takes full _ acted moved (asked_takes response (asked_for response.id session.outstanding) acted moved row) row
 
   -- where a request is answered, there is room
   has_room : (done : Exchanged) (response : Response) (sight : Sight) → deed_told done ≡ record taking { sends = Some (messages.Response response) } → IsSeen done sight → sight.full ≡ false
