@@ -1,2 +1,3 @@
 mod CalmParts
 mod RunFacts
+mod GapFacts
