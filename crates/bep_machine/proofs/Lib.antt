@@ -1,3 +1,4 @@
 mod CalmParts
 mod RunFacts
 mod GapFacts
+mod GapFlow
