@@ -2,3 +2,4 @@ mod CalmParts
 mod RunFacts
 mod GapFacts
 mod GapFlow
+mod GapMoves
