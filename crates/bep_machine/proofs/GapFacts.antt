@@ -30,6 +30,7 @@ pub record IsSent (index : Listing) (low : ℕ) (batch : List Entry) : Type 0 wh
   pub whole : (name : FileName) (entry : Entry) → get index.records name ≡ Some entry → low < entry.sequence → entry.sequence ≤ last_sequence low batch → IsAmong entry batch
   pub present : (entry : Entry) → IsAmong entry batch → (now : Entry) × (get index.records entry.name ≡ Some now) × (entry.sequence ≤ now.sequence)
   pub rises : Rises low batch
+  pub differ : NamesDiffer batch
   pub behind : last_sequence low batch ≤ index.sequence
 
 -- two names are the same, or they aren't
@@ -90,10 +91,33 @@ sent_after_put index low batch put is_index sent = record {
       let later = not_older_after_put index put is_index entry.name now.0 now.1 in
       (later.0, later.1, omega (arith, now.2, later.2));
   rises = sent.rises;
+  differ = sent.differ;
   behind = omega (arith, sent.behind);
 }
 
 -- ---- what is announced is sent
+
+some_sequence : (one other : Entry) → Some one ≡ Some other → one.sequence ≡ other.sequence
+some_sequence one other same = ap sequence_of same
+  where
+    sequence_of : Option Entry → ℕ
+    sequence_of None = 0
+    sequence_of (Some entry) = entry.sequence
+
+-- records of an index whose numbers rise have different names
+none_named : (index : Listing) (first : Entry) (low : ℕ) (batch : List Entry) → get index.records first.name ≡ Some first → first.sequence ≤ low → AreRecords index.records batch → Rises low batch → HasNo first.name batch
+none_named index first low [] here small all rises = tt
+none_named index first low (entry ∷ more) here small all rises = (
+  λ same.
+      let equal = some_sequence entry first (sym all.0 ∙ ap (get index.records) same ∙ here) in
+      absurd (omega (arith, equal, small, rises.0)),
+  none_named index first entry.sequence more here (omega (arith, small, rises.0)) all.1 rises.2,
+)
+
+records_differ : (index : Listing) (low : ℕ) (batch : List Entry) → AreRecords index.records batch → Rises low batch → NamesDiffer batch
+records_differ index low [] all rises = tt
+records_differ index low (first ∷ more) all rises =
+    (none_named index first first.sequence more all.0 (omega arith) all.1 rises.2, records_differ index first.sequence more all.1 rises.2)
 
 recorded : (index : Listing) (batch : List Entry) → AreRecords index.records batch → (entry : Entry) → IsAmong entry batch → get index.records entry.name ≡ Some entry
 recorded index [] all entry among = absurd among
@@ -115,6 +139,7 @@ sent_when_announced index low limit batch is_index given after = record {
       after.run.whole entry (subst (λ (n : FileName). get index.records n ≡ Some entry) (sym named) found) above small;
   present = λ entry among. (entry, recorded index batch after.run.recorded entry among, omega arith);
   rises = after.run.rises;
+  differ = records_differ index low batch after.run.recorded after.run.rises;
   behind = last_is_given index low batch is_index given after.run.recorded;
 }
 
@@ -127,13 +152,6 @@ above_low low (first ∷ more) rises entry among =
     (λ here. subst (λ (e : Entry). low < e.sequence) (sym here) rises.0)
     (λ later. let next = above_low first.sequence more rises.2 entry later in omega (arith, next, rises.0))
     among
-
-some_sequence : (one other : Entry) → Some one ≡ Some other → one.sequence ≡ other.sequence
-some_sequence one other same = ap sequence_of same
-  where
-    sequence_of : Option Entry → ℕ
-    sequence_of None = 0
-    sequence_of (Some entry) = entry.sequence
 
 above_or_not : (n m : ℕ) → (m < n) ⊎ (n ≤ m)
 above_or_not n m =

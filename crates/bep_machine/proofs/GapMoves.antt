@@ -2,7 +2,11 @@
 use Rattle.std.proofs.Common.{◌≡◌, ◌≢◌, ◌⊎◌, ◌≤◌, ◌==◌, ◌&&◌, nat_le, ℕ, Bool, true, false, if◌then◌else◌, List, [], ◌∷◌, ◌++◌, Option, Some, None, refl, sym, ap, subst, ◌∙◌, inl, inr, ⊎_elim, arith}
 use Rattle.std.proofs.lemmas.Bool.{cases_Bool}
 use Rattle.std.proofs.lemmas.Bool.Decides.{nat_tests}
-use Rattle.std.specs.FinMap.{empty, get, get-empty}
+use Rattle.std.specs.FinMap.{get}
+use Rattle.std.specs.Ordering.{nat_cmp}
+use Rattle.std.specs.Cmp.Lexicographic.{slice_cmp}
+use Rattle.std.proofs.lemmas.Option.{same_Some}
+use Rattle.bep_facts.specs.Maps.{nothing_in_empty}
 use Rattle.bep_record.specs.declared.entry.Entry.{Entry}
 use Rattle.bep_index.specs.declared.send.Plan.{Plan}
 use Rattle.bep_index.specs.declared.send.Plan.TheVariants.{Full, Above}
@@ -151,19 +155,20 @@ nothing_known : (index view : Listing) → view.id ≢ index.id → IsIndex inde
 nothing_known index view apart is_index = record {
   no_gap = record {
     held = λ name entry there small. absurd (omega (arith, small, (is_index.numbered name entry there).1));
-    named = λ name entry seen. let none = sym (get-empty name) ∙ seen in absurd (cc);
+    named = λ name entry seen. nothing_in_empty (slice_cmp nat_cmp) name entry seen;
   };
   behind = omega arith;
 }
 
+on_from_nowhere : (index : Listing) (part : Part) (start : Option ℕ) (rest : Option ℕ → Type 0) → (rest None → rest start) → AfterPart index part None rest → AfterPart index part start rest
+on_from_nowhere index (Whole batch) start rest more after = after
+on_from_nowhere index (Further batch) start rest more after = absurd (let e = after.1 in cc)
+on_from_nowhere index Other start rest more after = more after
+
 from_nowhere : (folder : Folder) (index : Listing) (start : Option ℕ) (queue : List Message) (end : ℕ) → Flows folder index None queue end → Flows folder index start queue end
 from_nowhere folder index start [] end flows = absurd (cc)
-from_nowhere folder index start (first ∷ more) end flows = by_part (part_of folder first) flows
-  where
-    by_part : (part : Part) → AfterPart index part None (λ next. Flows folder index next more end) → AfterPart index part start (λ next. Flows folder index next more end)
-    by_part (Whole batch) after = after
-    by_part (Further batch) after = absurd (let e = after.1 in cc)
-    by_part Other after = ?
+from_nowhere folder index start (first ∷ more) end flows =
+    on_from_nowhere index (part_of folder first) start (λ next. Flows folder index next more end) (from_nowhere folder index start more end) flows
 
 said_nowhere : (folder : Folder) (index view other : Listing) → view.id ≢ index.id → (named : List Announced) → EachSays folder (SaysPoint index view) named → EachSays folder (SaysPoint index other) named
 said_nowhere folder index view other apart [] says = tt
@@ -180,3 +185,94 @@ told_nowhere folder index view other apart (first ∷ more) all = (by_message fi
     by_message (messages.IndexUpdate named batch) says = tt
     by_message (messages.Request request) says = tt
     by_message (messages.Response response) says = tt
+
+-- the flow of a queue without its first message, which isn't of the folder's index
+rest_of_flow : (folder : Folder) (index : Listing) (start : Option ℕ) (first : Message) (queue : List Message) (cursor : Option Plan) → part_of folder first ≡ Other → IsFlow folder index start (first ∷ queue) cursor → IsFlow folder index start queue cursor
+rest_of_flow folder index start first queue None other flows = flows.1
+rest_of_flow folder index start first queue (Some Full) other flows = flows.1
+rest_of_flow folder index start first queue (Some (Above end)) other flows =
+    (subst (λ (part : Part). AfterPart index part start (λ next. Flows folder index next queue end)) other flows.0, flows.1)
+
+flow_from_nowhere : (folder : Folder) (index : Listing) (start : Option ℕ) (queue : List Message) (cursor : Option Plan) → IsFlow folder index None queue cursor → IsFlow folder index start queue cursor
+flow_from_nowhere folder index start queue None flows = flows
+flow_from_nowhere folder index start queue (Some Full) flows = flows
+flow_from_nowhere folder index start queue (Some (Above end)) flows = (from_nowhere folder index start queue end flows.0, flows.1)
+
+-- it takes a ClusterConfig that tells another id than that of its view
+pub in_step_cleared : (folder : Folder) (index view : Listing) (cursor : Option Plan) (Named Later : Type 0) (first : Message) (queue back : List Message) → part_of folder first ≡ Other → view.id ≢ index.id → IsIndex index → IsInStep folder index view cursor Named (first ∷ queue) back → IsInStep folder index (cleared index.id) cursor Later queue back
+in_step_cleared folder index view cursor Named Later first queue back other apart is_index step = record {
+  keeps_up = λ same. nothing_known index view apart is_index;
+  flow =
+      flow_from_nowhere folder index (start_of index (cleared index.id)) queue cursor
+      (rest_of_flow folder index None first queue cursor other
+      (subst (λ (start : Option ℕ). IsFlow folder index start (first ∷ queue) cursor) (other_id index view apart) step.flow));
+  ids = step.ids.1;
+  points = λ none. told_nowhere folder index view (cleared index.id) apart back (step.points none);
+  named = λ later. refl;
+}
+
+-- the session names it, or doesn't, where the view is of this index
+pub in_step_named : (folder : Folder) (index view : Listing) (cursor : Option Plan) (Named Later : Type 0) (queue back : List Message) → (Later → view.id ≡ index.id) → IsInStep folder index view cursor Named queue back → IsInStep folder index view cursor Later queue back
+in_step_named folder index view cursor Named Later queue back named step = record {
+  keeps_up = step.keeps_up;
+  flow = step.flow;
+  ids = step.ids;
+  points = step.points;
+  named = named;
+}
+
+-- nothing is on its way, and no session was begun
+pub in_step_anew : (folder : Folder) (index view : Listing) (Named : Type 0) → (¬ Named) → (view.id ≡ index.id → KeepsUp index view) → IsInStep folder index view None Named [] []
+in_step_anew folder index view Named never keeps = record {
+  keeps_up = keeps;
+  flow = tt;
+  ids = tt;
+  points = λ none. tt;
+  named = λ named. absurd (never named);
+}
+
+-- ---- the receiver takes what is of the index
+
+module _ (folder : Folder) (index : Listing) (first : Message) (queue : List Message) (batch : List Entry) where
+  whole_taken : (start : Option ℕ) (cursor : Option Plan) → part_of folder first ≡ Whole batch → IsFlow folder index start (first ∷ queue) cursor → IsSent index 0 batch × IsFlow folder index (Some (last_sequence 0 batch)) queue cursor × (cursor ≢ None)
+  whole_taken start None whole flows = let never : Whole batch ≡ Other = sym whole ∙ flows.0 in absurd (cc)
+  whole_taken start (Some Full) whole flows = let never : Whole batch ≡ Other = sym whole ∙ flows.0 in absurd (cc)
+  whole_taken start (Some (Above end)) whole flows =
+      let after = subst (λ (part : Part). AfterPart index part start (λ next. Flows folder index next queue end)) whole flows.0 in
+      (after.0, (after.1, flows.1), λ none. cc)
+
+  further_taken : (low : ℕ) (cursor : Option Plan) → part_of folder first ≡ Further batch → IsFlow folder index (Some low) (first ∷ queue) cursor → IsSent index low batch × IsFlow folder index (Some (last_sequence low batch)) queue cursor × (cursor ≢ None)
+  further_taken low None further flows = let never : Further batch ≡ Other = sym further ∙ flows.0 in absurd (cc)
+  further_taken low (Some Full) further flows = let never : Further batch ≡ Other = sym further ∙ flows.0 in absurd (cc)
+  further_taken low (Some (Above end)) further flows =
+      let after = subst (λ (part : Part). AfterPart index part (Some low) (λ next. Flows folder index next queue end)) further flows.0 in
+      let same = sym (same_Some low after.0 after.1) in
+      (subst (λ l. IsSent index l batch) same after.2, (subst (λ l. Flows folder index (Some (last_sequence l batch)) queue end) same after.3, flows.1), λ none. cc)
+
+module _ (found : FoundIsOfBatchOrBefore) (taken : BatchIsFound) (others : OthersAreKept) where
+  -- it takes an Index
+  pub in_step_taking_whole : (folder : Folder) (index view : Listing) (cursor : Option Plan) (Named : Type 0) (first : Message) (queue back : List Message) (batch : List Entry) → part_of folder first ≡ Whole batch → Named → IsIndex index → IsInStep folder index view cursor Named (first ∷ queue) back → IsInStep folder index (replaced view batch) cursor Named queue back
+  in_step_taking_whole folder index view cursor Named first queue back batch whole named is_index step =
+      let same = step.named named in
+      let comes = whole_taken folder index first queue batch (start_of index view) cursor whole step.flow in
+      record {
+        keeps_up = λ _. keeps_up_when_replaced found taken others index view batch is_index comes.0.differ comes.0;
+        flow = subst (λ (start : Option ℕ). IsFlow folder index start queue cursor) (sym (same_id index (replaced view batch) same)) comes.1;
+        ids = step.ids.1;
+        points = λ none. absurd (comes.2 none);
+        named = λ _. same;
+      }
+
+  -- it takes an IndexUpdate
+  pub in_step_taking_further : (folder : Folder) (index view : Listing) (cursor : Option Plan) (Named : Type 0) (first : Message) (queue back : List Message) (batch : List Entry) → part_of folder first ≡ Further batch → Named → IsIndex index → IsInStep folder index view cursor Named (first ∷ queue) back → IsInStep folder index (amended view batch) cursor Named queue back
+  in_step_taking_further folder index view cursor Named first queue back batch further named is_index step =
+      let same = step.named named in
+      let comes = further_taken folder index first queue batch view.sequence cursor further
+          (subst (λ (start : Option ℕ). IsFlow folder index start (first ∷ queue) cursor) (same_id index view same) step.flow) in
+      record {
+        keeps_up = λ _. keeps_up_when_amended found taken others index view batch is_index comes.0.differ (step.keeps_up same) comes.0;
+        flow = subst (λ (start : Option ℕ). IsFlow folder index start queue cursor) (sym (same_id index (amended view batch) same)) comes.1;
+        ids = step.ids.1;
+        points = λ none. absurd (comes.2 none);
+        named = λ _. same;
+      }
