@@ -20,7 +20,7 @@ use Rattle.bep_cut.specs.declared.cut.CutParts.{CutParts}
 use Rattle.bep_cut.specs.Cut.{IsCut, tables_of}
 use Rattle.bep_audit.specs.Known.{IsKnownFrom}
 use Rattle.bep_audit.specs.Missing.{FindsMissing}
-use Rattle.bep_audit.specs.Search.{FindsFirst, FindsFault}
+use Rattle.bep_audit.specs.Search.{FindsFirst, FindsFailing}
 use Rattle.bep_audit.proofs.SearchFacts.{AllSay, finds_as}
 use Rattle.bep_audit.proofs.WalkFacts.{IsBefore, AreInOrder, in_order_by_key}
 use Rattle.bep_audit.proofs.CutFacts.{CutSays, share_of_device, known_exactly}
@@ -118,7 +118,7 @@ module _ (said : CutSays) (cut : CutParts) (is_cut : IsCut cut) (rows : List Row
   at_each folder name (Some device) each = λ row member key shares. tt
 
   -- what is found in the folders is what is found
-  pub found_in_folders : (folders : List SharedFolder) → folders ≡ cut.folders → (found : Option Place) → FindsFirst place_cmp (AllSay place_cmp (AsksFolder cut rows) folders) found → FindsFault (tables_of cut) rows NameMissing found
+  pub found_in_folders : (folders : List SharedFolder) → folders ≡ cut.folders → (found : Option Place) → FindsFirst place_cmp (AllSay place_cmp (AsksFolder cut rows) folders) found → FindsFailing (tables_of cut) rows NameMissing found
   found_in_folders folders is found finds =
       finds_as place_cmp (AllSay place_cmp (AsksFolder cut rows) cut.folders) (Asks (tables_of cut) rows NameMissing)
       (λ place each. at_each place.folder place.name place.device (λ held member same. each held member same))

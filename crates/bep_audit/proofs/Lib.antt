@@ -11,8 +11,8 @@ pub mod RowsFacts
 pub mod RowSearch
 pub mod AskedAtRow
 pub mod RowWalk
-pub mod RowFault
-pub mod DeviceFault
+pub mod FailingRow
+pub mod FailingDevice
 pub mod ReasonWalk
 pub mod WinnerFacts
 pub mod CandidateFacts

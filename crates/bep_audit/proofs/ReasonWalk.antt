@@ -14,7 +14,7 @@ use Rattle.bep_model.specs.Laws.{RowsRiseInOrder, NumbersAreWithin, NumbersDiffe
 use Rattle.bep_audit.specs.declared.verdict.Verdict as program
 use Rattle.bep_audit.specs.declared.verdict.Verdict.TheVariants as lends
 use Rattle.bep_audit.specs.declared.checkers.TheConstants.{REASONS}
-use Rattle.bep_audit.specs.Search.{FindsFault}
+use Rattle.bep_audit.specs.Search.{FindsFailing}
 use Rattle.bep_audit.specs.Shown.{verdict_shown}
 
 -- ---- the order of reasons
@@ -47,7 +47,7 @@ module _ (t : Tables) (rows : List Row) where
   pub reasons_start : NumbersAreWithin → HoldBefore t rows 0
   reasons_start within = record { holds = λ lesser any below. let positive = (within lesser).0 in absurd (omega (arith, positive)) }
 
-  pub reasons_go_on : NumbersDiffer → (place : ℕ) → place < 12 → HoldBefore t rows place → FindsFault t rows (reason_at place) None → HoldBefore t rows (place + 1)
+  pub reasons_go_on : NumbersDiffer → (place : ℕ) → place < 12 → HoldBefore t rows place → FindsFailing t rows (reason_at place) None → HoldBefore t rows (place + 1)
   reasons_go_on different place below before here = record {
     holds = λ lesser any up_to.
         ⊎_elim
@@ -69,8 +69,8 @@ module _ (t : Tables) (rows : List Row) where
       (none_from_no_value (first_disordered rows)
       (λ key. before.holds CertificateOrder (record { folder = key.0; name = key.1; device = None }) later))
 
-  pub first_fault_at : (place : ℕ) → place < 12 → HoldBefore t rows place → (spot : Place) → FindsFault t rows (reason_at place) (Some spot) → IsFirstFault t rows (reason_at place) spot
-  first_fault_at place below before spot first = record {
+  pub first_failing_at : (place : ℕ) → place < 12 → HoldBefore t rows place → (spot : Place) → FindsFailing t rows (reason_at place) (Some spot) → IsFirstFault t rows (reason_at place) spot
+  first_failing_at place below before spot first = record {
     fails = first.fails;
     least = λ lesser any less. before.holds lesser any (let number = number_of_reason_at place below in omega (arith, number, less));
     first = first.before;
@@ -82,16 +82,16 @@ module _ (t : Tables) (rows : List Row) where
 
   -- ---- what the verdict says
 
-  pub fault_is_verdict : (shown : Verdict) (reason : Reason) (spot : Place) → shown ≡ Not reason spot.folder spot.name spot.device → IsFirstFault t rows reason spot → IsVerdict t rows shown
-  fault_is_verdict shown reason spot is fault = subst (IsVerdict t rows) (sym is) fault
+  pub failing_is_verdict : (shown : Verdict) (reason : Reason) (spot : Place) → shown ≡ Not reason spot.folder spot.name spot.device → IsFirstFault t rows reason spot → IsVerdict t rows shown
+  failing_is_verdict shown reason spot is failing = subst (IsVerdict t rows) (sym is) failing
 
   not_both : (verdict : program.Verdict) (reason : Reason) (spot : Place) → verdict_shown verdict ≡ Not reason spot.folder spot.name spot.device → verdict ≡ lends.Settled → ⊥
   not_both verdict reason spot is settled = let e : Settled ≡ Not reason spot.folder spot.name spot.device = sym (ap verdict_shown settled) ∙ is in cc
 
-  pub fault_is_not_settled : SettledIsFaultless → (verdict : program.Verdict) (reason : Reason) (spot : Place) → verdict_shown verdict ≡ Not reason spot.folder spot.name spot.device → IsFirstFault t rows reason spot → (verdict ≡ lends.Settled) ↔ IsSettled t rows
-  fault_is_not_settled faultless verdict reason spot is fault = (
+  pub failing_is_not_settled : SettledIsFaultless → (verdict : program.Verdict) (reason : Reason) (spot : Place) → verdict_shown verdict ≡ Not reason spot.folder spot.name spot.device → IsFirstFault t rows reason spot → (verdict ≡ lends.Settled) ↔ IsSettled t rows
+  failing_is_not_settled faultless verdict reason spot is failing = (
     λ settled. absurd (not_both verdict reason spot is settled),
-    λ settled. absurd (fault.fails ((faultless t rows).0 settled reason spot)),
+    λ settled. absurd (failing.fails ((faultless t rows).0 settled reason spot)),
   )
 
   pub calm_of_none : {A : Type 0} (verdict : program.Verdict) (reason : Reason) (spot : Place) → verdict_shown verdict ≡ Not reason spot.folder spot.name spot.device → verdict ≡ lends.Settled → A

@@ -11,7 +11,7 @@ use Rattle.bep_model.specs.declared.reason.Reason.{Reason}
 use Rattle.bep_model.specs.Tables.{Tables, Folder, FileName}
 use Rattle.bep_model.specs.Settled.{Rise, key_of, key_cmp}
 use Rattle.bep_model.specs.Reasons.{Place, place_cmp, device_rank, Asks}
-use Rattle.bep_audit.specs.Search.{FindsFirst, FindsFault}
+use Rattle.bep_audit.specs.Search.{FindsFirst, FindsFailing}
 use Rattle.bep_audit.proofs.SearchFacts.{AllSay, finds_as}
 use Rattle.bep_audit.proofs.WalkFacts.{IsBefore, AreInOrder, in_order_by_key}
 use Rattle.bep_audit.proofs.RowsFacts.{rows_sorted}
@@ -62,7 +62,7 @@ module _ (t : Tables) (reason : Reason) (of_rows : IsOfRows reason) where
   pub rows_in_order : (rows : List Row) → Rise rows → AreInOrder place_cmp (AsksRow t reason) rows
   rows_in_order rows rise = in_order_by_key place_cmp (AsksRow t reason) key_cmp key_of row_is_before rows (rows_sorted rows rise)
 
-  pub found_in_rows : (rows : List Row) (found : Option Place) → FindsFirst place_cmp (AllSay place_cmp (AsksRow t reason) rows) found → FindsFault t rows reason found
+  pub found_in_rows : (rows : List Row) (found : Option Place) → FindsFirst place_cmp (AllSay place_cmp (AsksRow t reason) rows) found → FindsFailing t rows reason found
   found_in_rows rows =
       finds_as place_cmp (AllSay place_cmp (AsksRow t reason) rows) (Asks t rows reason)
       (λ place each. asked_of_each t rows reason place of_rows each)

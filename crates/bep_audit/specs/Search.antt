@@ -19,8 +19,8 @@ FindsFirst {X} cmp Holds None = (x : X) → Holds x
 FindsFirst {X} cmp Holds (Some here) = FailsFirst cmp Holds here
 
 -- what is found of the places at which a reason fails
-abbrev pub FindsFault : Tables → List Row → Reason → Option Place → Type 0
-FindsFault t rows reason = FindsFirst place_cmp (Asks t rows reason)
+abbrev pub FindsFailing : Tables → List Row → Reason → Option Place → Type 0
+FindsFailing t rows reason = FindsFirst place_cmp (Asks t rows reason)
 
 -- the lesser of two, where each may be missing; the first of two that tie
 abbrev pub lesser : {X : Type 0} → (X → X → Ordering) → Option X → Option X → Option X

@@ -1,5 +1,5 @@
 //! The checkers: whether a cut and a certificate are settled, or why not.
-ghost use Rattle.std.specs.Prelude.{◌≡◌, ◌↔◌, IfOk};
+ghost use Rattle.std.specs.Prelude.{◌≡◌, ◌↔◌, IfOk, IsOk};
 ghost use Rattle.bep_model.specs.Calm.{IsCalm, contents_of};
 ghost use Rattle.bep_model.specs.Settled.{IsSettled};
 ghost use Rattle.bep_model.specs.Verdict.{IsVerdict};
@@ -7,7 +7,7 @@ ghost use Rattle.bep_cut.specs.Cut.{tables_of};
 ghost use Rattle.bep_audit.specs.declared.verdict.Verdict.TheVariants.{Settled};
 ghost use Rattle.bep_audit.specs.Shown.{verdict_shown};
 
-use crate::fault::first_fault;
+use crate::failing::first_failing;
 use crate::{Certificate, Verdict};
 use bep_cut::Cut;
 use bep_model::{
@@ -45,19 +45,20 @@ pub fn check_plain<'a>(cut: &'a Cut, certificate: &'a Certificate) -> Verdict<'a
     reasons_are_numbered();
     rows_rise_in_order();
     for reason in REASONS {
-        if let Some(spot) = first_fault(cut, certificate.rows(), reason) {
+        if let Some(spot) = first_failing(cut, certificate.rows(), reason) {
             return Verdict::at(reason, spot);
         }
     }
     Verdict::Settled
 }
 
-/// What `check_plain` answers, or want of memory.
+/// What `check_plain` answers; today always, later or want of memory.
 pub fn check<'a>(
     _alloc: Global,
     cut: &'a Cut,
     certificate: &'a Certificate,
 ) -> Result<Verdict<'a>, AllocError>
+    ensures answers { IsOk result }
     ensures verdict { IfOk result (λ verdict. IsVerdict (tables_of cut.now) certificate.now (verdict_shown verdict)) }
     ensures settled { IfOk result (λ verdict. (verdict ≡ Settled) ↔ IsSettled (tables_of cut.now) certificate.now) }
     ensures calm { IfOk result (λ verdict. verdict ≡ Settled → IsCalm (tables_of cut.now) (contents_of certificate.now)) }

@@ -1,3 +1,4 @@
+//! Why a cut has no certificate.
 ghost use Rattle.std.specs.Prelude.{◌≡◌};
 ghost use Rattle.bep_audit.specs.declared.error.CertifyError.TheVariants.{Memory};
 

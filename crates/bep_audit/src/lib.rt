@@ -1,15 +1,21 @@
 //! The auditor: whether a cut and a certificate are settled, or the first reason why not, and the certificate of a cut.
 //!
 //! `check` and `check_plain` answer the verdict, and `certify` the certificate. Of a store they believe no recorded
-//! hash: they hash the bytes that stand there. Nothing here takes memory but copies and `certify`.
+//! hash: they hash the bytes that stand there. Nothing here takes memory but copies and `certify`. A caller reads a
+//! document and asks:
+//!
+//!     let (cut, rows) = read_check(alloc, bytes)?;
+//!     match check_plain(&cut, &Certificate::of(rows)) {
+//!         Verdict::Settled => ..,
+//!         Verdict::Not(reason, folder, name, device) => ..,
+//!     }
 #![tactic(auto)]
 
 mod candidates;
 mod certifier;
 mod checkers;
-mod device;
 mod error;
-mod fault;
+mod failing;
 mod foreign;
 mod known;
 mod least;
@@ -17,6 +23,7 @@ mod missing;
 mod missing_held;
 mod missing_on_its_way;
 mod rows;
+mod share;
 mod spot;
 #[cfg(test)]
 mod tests;
@@ -25,11 +32,11 @@ mod winner;
 
 pub use certifier::certify;
 pub use checkers::{check, check_plain};
-pub use device::{
+pub use error::CertifyError;
+pub use rows::{Certificate, compare_row, compare_rows, find_row, first_disordered};
+pub use share::{
     is_clean, is_harmless, is_there, is_valid, meets_share, says_as_winner, share_is_asked,
     store_holds,
 };
-pub use error::CertifyError;
-pub use rows::{Certificate, compare_row, compare_rows, find_row, first_disordered};
 pub use verdict::Verdict;
 pub use winner::{is_winner, winner_of};

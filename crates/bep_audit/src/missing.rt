@@ -6,7 +6,7 @@ ghost use Rattle.bep_model.specs.Settled.{Rise};
 ghost use Rattle.bep_cut.specs.Cut.{tables_of};
 ghost use Rattle.bep_audit.specs.Known.{IsKnownFrom};
 ghost use Rattle.bep_audit.specs.Missing.{FindsMissing};
-ghost use Rattle.bep_audit.specs.Search.{FindsFault};
+ghost use Rattle.bep_audit.specs.Search.{FindsFailing};
 ghost use Rattle.bep_audit.specs.Shown.{place_shown};
 
 use crate::least::lesser;
@@ -20,7 +20,7 @@ use bep_record::Name;
 /// The first place of a known name that has no row.
 pub fn first_missing<'a>(cut: &'a Cut, rows: &[Row]) -> Option<Spot<'a>>
     requires { Rise rows.now }
-    ensures { FindsFault (tables_of cut.now) rows.now NameMissing (option_map place_shown result) }
+    ensures { FindsFailing (tables_of cut.now) rows.now NameMissing (option_map place_shown result) }
 {
     cut_says();
     for held in cut.folders() {

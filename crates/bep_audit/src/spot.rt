@@ -1,3 +1,4 @@
+//! A place at which a reason fails.
 ghost use Rattle.std.specs.Prelude.{◌≡◌, None};
 ghost use Rattle.bep_model.specs.Reasons.{Place};
 ghost use Rattle.bep_audit.specs.Shown.{place_shown, name_of, part_of};
@@ -5,14 +6,14 @@ ghost use Rattle.bep_audit.specs.Shown.{place_shown, name_of, part_of};
 use bep_model::Row;
 use bep_record::{DeviceId, FolderName, Name};
 
-/// Where a reason fails, lent: a name in a folder, and the device where it is a device's fault.
+/// Where a reason fails, lent: a name in a folder, and the device where it fails at one.
 #[derive(Clone, Copy, Debug, PartialEq, Eq)]
 pub struct Spot<'a> {
     /// The folder.
     pub folder: &'a FolderName,
     /// The name.
     pub name: &'a Name,
-    /// The device, where it is a device's fault.
+    /// The device, where it fails at one.
     pub device: Option<DeviceId>,
 }
 

@@ -1,3 +1,4 @@
+//! What the auditor finds.
 ghost use Rattle.std.specs.Prelude.{◌≡◌};
 ghost use Rattle.bep_model.specs.Verdict.{Not};
 ghost use Rattle.bep_audit.specs.Shown.{verdict_shown};
@@ -11,7 +12,7 @@ use bep_record::{DeviceId, FolderName, Name};
 pub enum Verdict<'a> {
     /// The cut and the certificate are settled.
     Settled,
-    /// The first reason that fails, and where: a folder, a name, and the device where it is a device's fault.
+    /// The first reason that fails, and where: a folder, a name, and the device where it fails at one.
     Not(Reason, &'a FolderName, &'a Name, Option<DeviceId>),
 }
 

@@ -1,7 +1,8 @@
 -- What a device knows of others and what it pulls, from what the document lists.
-use Rattle.std.proofs.Common.{◌≡◌, ◌↔◌, map, Option, Some, None, Contains, option_and_then, refl, sym, ap, ◌∙◌}
+use Rattle.std.proofs.Common.{◌≡◌, ◌↔◌, ◌==◌, ◌||◌, not, eqb-true, arith, Bool, true, false, map, Option, Some, None, Contains, option_and_then, refl, sym, ap, ◌∙◌}
 use Rattle.std.specs.Ordering.{nat_cmp, is_eq}
 use Rattle.std.specs.Cmp.{nat_cmp_total, Equal-is}
+use Rattle.std.specs.List.{filter}
 use Rattle.std.specs.FinMap.{get, nat_cmp-IsAntisymmetric}
 use Rattle.std.proofs.lemmas.Map.Keys.{sorted_from_strictly_increasing}
 use Rattle.bep_facts.specs.Members.{holds_of_member}
@@ -10,14 +11,15 @@ use Rattle.bep_index.specs.Laws.{RecordsAreFound}
 use Rattle.bep_model.specs.Tables.{Device, FileName}
 use Rattle.bep_document.specs.declared.parts.ShareParts.{ShareParts}
 use Rattle.bep_document.specs.declared.parts.ViewParts.{ViewParts}
-use Rattle.bep_document.specs.Faultless.{IsFaultlessIndex, IsFaultlessShare}
+use Rattle.bep_document.specs.Faultless.{IsNumbered, IsFaultlessIndex, IsFaultlessShare}
 use Rattle.bep_cut.specs.declared.share.PeerView.{PeerView}
 use Rattle.bep_cut.specs.AsWritten.{ViewedIsAsWritten, TargetIsAsWritten}
 use Rattle.bep_cut.specs.Cut.{view_of}
-use Rattle.bep_cut.specs.Written.{by_viewed, view_written, share_written, cut_written}
+use Rattle.bep_cut.specs.Written.{by_viewed, has_point, view_written, share_written, cut_written}
 use Rattle.bep_cut.proofs.Found.{found_itself, find_gives}
 use Rattle.bep_cut.proofs.Tables.{are_views, target_is_said, viewed_by_share}
-use Rattle.bep_cut.proofs.WrittenFacts.{from_part, part_there}
+use Rattle.bep_cut.proofs.Kept.{kept}
+use Rattle.bep_cut.proofs.WrittenFacts.{part_there, view_part}
 use Rattle.bep_cut.proofs.CutWritten.{CutIsWritten}
 use Rattle.bep_cut.proofs.AsWrittenFacts.{among_is_contained, faultless_share, share_there}
 
@@ -29,6 +31,26 @@ view_lists found share view name entry faultless h =
       λ is. let l = lists.0 is in (among.0 l.0, l.1),
       λ is. lists.1 (among.1 is.0, is.1),
     )
+
+-- something is known where a record is listed
+listed_has_point : (share : ShareParts) (view : ViewParts) (entry : Entry) → IsFaultlessShare share → Contains share.views view → Contains view.records entry → has_point view ≡ true
+listed_has_point share view entry faultless h listed = cases (view.index_id == 0) (view.max == 0) refl where
+  numbered : IsNumbered view.max entry
+  numbered =
+      holds_of_member (IsNumbered view.max) view.records entry
+      (holds_of_member (λ (v : ViewParts). IsFaultlessIndex v.max v.records) share.views view faultless.views h).numbered listed
+
+  no_greatest : (view.max == 0) ≡ true → ⊥
+  no_greatest e =
+      let none = eqb-true view.max 0 e in
+      let from = numbered.0 in
+      let to = numbered.1 in
+      omega arith
+
+  cases : (a b : Bool) → (view.max == 0) ≡ b → (not a || not b) ≡ true
+  cases a true e = absurd (no_greatest e)
+  cases true false e = refl
+  cases false false e = refl
 
 -- what a device's views have of a name is what the document lists in one of them
 abbrev IsListed : ShareParts → Device → FileName → Entry → Type 0
@@ -42,7 +64,7 @@ listed_from_view found share other name entry faultless None e is = absurd (diff
 listed_from_view found share other name entry faultless (Some held) e is =
     let gives = find_gives (λ (view : PeerView). is_eq (nat_cmp view.of other)) (share_written share).views held e in
     let of_other = nat_cmp-IsAntisymmetric held.of other ((Equal-is _).0 gives.1) in
-    let part = from_part by_viewed view_written share.views held gives.0 in
+    let part = view_part share held gives.0 in
     let has = (view_lists found share part.0 name entry faultless part.1).0 (ap (λ (view : PeerView). get view.records name) part.2 ∙ is) in
     (part.0, part.1, ap (λ (view : PeerView). view.of) part.2 ∙ of_other, has.0, has.1)
 
@@ -55,7 +77,7 @@ viewed_is_as_written is_cut found parts folder share other name entry faultless 
       λ is. listed_from_view found share other name entry faultless_here (view_of other (share_written share).views) refl (sym viewed ∙ is),
       λ listed.
           let rise = sorted_from_strictly_increasing (map (λ (view : PeerView). view.of) (share_written share).views) (are_views (cut_written parts.folders parts.links) folder.folder (share_written share) cut there).rise in
-          let itself = found_itself nat_cmp_total (λ (view : PeerView). view.of) (share_written share).views (view_written listed.0) rise (part_there by_viewed view_written share.views listed.0 listed.1) in
+          let itself = found_itself nat_cmp_total (λ (view : PeerView). view.of) (share_written share).views (view_written listed.0) rise (part_there by_viewed view_written (filter has_point share.views) listed.0 (kept has_point share.views listed.0 listed.1 (listed_has_point share listed.0 entry faultless_here listed.1 listed.3))) in
           let held = ap (λ one. view_of one (share_written share).views) (sym listed.2) ∙ itself in
           viewed ∙ ap (option_and_then (λ (view : PeerView). get view.records name)) held
           ∙ (view_lists found share listed.0 name entry faultless_here listed.1).1 (listed.3, listed.4),

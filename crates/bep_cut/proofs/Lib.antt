@@ -4,6 +4,7 @@ mod Values
 mod Added
 mod Known
 mod Finite
+mod Kept
 mod SortingFacts
 mod WrittenFacts
 mod LinkFacts

@@ -1,9 +1,10 @@
 -- What a document without faults writes down of its links.
-use Rattle.std.proofs.Common.{◌≡◌, List, [], ◌∷◌, map, unwrap_or, option_map, All, Contains, sym, ap, subst, ◌∙◌}
+use Rattle.std.proofs.Common.{◌≡◌, List, [], ◌∷◌, map, unwrap_or, option_map, All, Contains, sym, ap, subst, ◌∙◌, arith}
 use Rattle.std.specs.Ordering.{nat_cmp}
 use Rattle.std.specs.Cmp.Lexicographic.{slice_cmp, nat_list_cmp_total}
 use Rattle.std.specs.List.{AllByRecursion}
 use Rattle.std.specs.List.Sorted.{IsStrictlySortedBy}
+use Rattle.std.proofs.lemmas.List.{length-map}
 use Rattle.bep_facts.specs.Members.{Contains-from_image, holds_of_member}
 use Rattle.bep_record.specs.Entry.{IsWellFormed}
 use Rattle.bep_model.specs.Tables.{Device, Folder}
@@ -67,6 +68,8 @@ link_in_order folders link rise faultless = record {
   a_device = device_there folders link.a faultless.a_device;
   b_device = device_there folders link.b faultless.b_device;
   epoch = faultless.epoch;
+  few_to_a = let l = length-map link.to_a flight_written in let few = faultless.few_to_a in omega arith;
+  few_to_b = let l = length-map link.to_b flight_written in let few = faultless.few_to_b in omega arith;
   quiet = λ down. let none = faultless.quiet down in (nothing_written link.to_a none.0, nothing_written link.to_b none.1);
   to_a = flights_of_link folders link link.to_a rise faultless.to_a;
   to_b = flights_of_link folders link link.to_b rise faultless.to_b;

@@ -1,11 +1,11 @@
 -- What a document without faults writes down of its devices and folders.
-use Rattle.std.proofs.Common.{◌≡◌, ◌≢◌, inr, ℕ, ◌+◌, ◌≤◌, true, false, Bool, cond, List, [], ◌∷◌, map, length, All, Contains, sym, ap, subst, ◌∙◌, ⊎_elim, arith}
+use Rattle.std.proofs.Common.{◌≡◌, ◌≢◌, inr, ℕ, ◌==◌, ◌+◌, ◌≤◌, eq-eqb, true, false, Bool, cond, List, [], ◌∷◌, map, length, All, Contains, sym, ap, subst, ◌∙◌, ⊎_elim, arith}
 use Rattle.std.specs.declared.cmp.Ordering.{Ordering}
 use Rattle.std.specs.Ordering.{nat_cmp, on}
 use Rattle.std.specs.Cmp.{IsTotalOrder, nat_cmp_total}
 use Rattle.std.specs.Cmp.Lexicographic.{slice_cmp, nat_list_cmp_total}
 use Rattle.std.specs.FinMap.{IsAntisymmetric, empty, insert, len, contains_key, len-insert, len-empty, nat_cmp-IsAntisymmetric}
-use Rattle.std.specs.List.{AllByRecursion}
+use Rattle.std.specs.List.{AllByRecursion, filter}
 use Rattle.std.specs.List.Sorted.{IsStrictlySortedBy}
 use Rattle.std.proofs.lemmas.Map.Keys.{IsStrictlyIncreasing-from_sorted}
 use Rattle.bep_facts.specs.Members.{Contains-from_image, Contains-image, holds_of_member, not_in_none}
@@ -22,10 +22,11 @@ use Rattle.bep_document.specs.declared.parts.FolderParts.{FolderParts}
 use Rattle.bep_document.specs.Faultless.{HasNoKey, KeysDiffer, IsNumbered, IsFaultlessIndex, IsFaultlessShare, IsSharedBy, IsOfAnother, IsFaultlessFolder}
 use Rattle.bep_cut.specs.declared.share.Share.{Share}
 use Rattle.bep_cut.specs.declared.share.PeerView.{PeerView}
-use Rattle.bep_cut.specs.Cut.{AreViews, ArePulls, AreShares, devices_of, index_of, known_of}
+use Rattle.bep_cut.specs.Cut.{HasPoint, AreViews, ArePulls, AreShares, devices_of, index_of, known_of}
 use Rattle.bep_cut.specs.Sorting.{in_order}
-use Rattle.bep_cut.specs.Written.{by_viewed, by_device, view_written, share_written, folder_written}
+use Rattle.bep_cut.specs.Written.{by_viewed, by_device, has_point, view_written, share_written, folder_written}
 use Rattle.bep_cut.proofs.Found.{all_from_each, any_gives}
+use Rattle.bep_cut.proofs.Kept.{differ_kept, from_kept}
 use Rattle.bep_cut.proofs.SortingFacts.{Contains-in_order, in_in_order, rises-in_order}
 
 -- ---- records
@@ -127,18 +128,34 @@ device_written parts device has =
     subst (Contains (devices_of (folder_written parts).shares)) share.2
     (Contains-image (λ (s : Share). s.device) (folder_written parts).shares (share_written share.0) (part_there by_device share_written parts.devices share.0 share.1))
 
+-- a view was written of a listed one, of which something is known
+pub view_part : (share : ShareParts) (view : PeerView) → Contains (share_written share).views view → (part : ViewParts) × Contains share.views part × (view_written part ≡ view) × (has_point part ≡ true)
+view_part share view h =
+    let part = from_part by_viewed view_written (filter has_point share.views) view h in
+    let listed = from_kept has_point share.views part.0 part.1 in
+    (part.0, listed.0, part.2, listed.1)
+
+point_told : (part : ViewParts) → has_point part ≡ true → HasPoint (view_written part)
+point_told part has at =
+    let id : (part.index_id == 0) ≡ true = eq-eqb part.index_id 0 at.0 in
+    let max : (part.max == 0) ≡ true = eq-eqb part.max 0 at.1 in
+    absurd (cc)
+
 views_written : RecordsMakeAnIndex → (parts : FolderParts) (share : ShareParts) → IsFaultlessShare share → AllByRecursion (IsOfAnother parts share) share.views → AreViews (devices_of (folder_written parts).shares) share.device (share_written share).views
 views_written law parts share faultless others = record {
   rise = IsStrictlyIncreasing-from_sorted (map (λ (view : PeerView). view.of) (share_written share).views)
-      (rise_written nat_cmp_total nat_cmp-IsAntisymmetric (λ (view : PeerView). view.of) view_written share.views faultless.viewed);
+      (rise_written nat_cmp_total nat_cmp-IsAntisymmetric (λ (view : PeerView). view.of) view_written (filter has_point share.views) (differ_kept has_point (λ (view : ViewParts). view.of) share.views faultless.viewed));
   others = all_from_each (λ (view : PeerView). (view.of ≢ share.device) × Contains (devices_of (folder_written parts).shares) view.of) (share_written share).views (λ view h.
-      let part = from_part by_viewed view_written share.views view h in
+      let part = view_part share view h in
       let other = holds_of_member (IsOfAnother parts share) share.views part.0 others part.1 in
       subst (λ (v : PeerView). (v.of ≢ share.device) × Contains (devices_of (folder_written parts).shares) v.of) part.2 (other.0, device_written parts part.0.of other.1));
   indexes = all_from_each (λ view. IsIndex (known_of view)) (share_written share).views (λ view h.
-      let part = from_part by_viewed view_written share.views view h in
+      let part = view_part share view h in
       let known = holds_of_member (λ (v : ViewParts). IsFaultlessIndex v.max v.records) share.views part.0 faultless.views part.1 in
       subst (λ v. IsIndex (known_of v)) part.2 (index_written law part.0.index_id part.0.max part.0.records known));
+  known = all_from_each HasPoint (share_written share).views (λ view h.
+      let part = view_part share view h in
+      subst HasPoint part.2 (point_told part.0 part.3));
 }
 
 pub shares_in_order : RecordsMakeAnIndex → RecordsAreFound → (parts : FolderParts) → IsFaultlessFolder parts → AreShares (folder_written parts).shares

@@ -19,7 +19,7 @@ use Rattle.bep_cut.specs.declared.share.PeerView.{PeerView}
 use Rattle.bep_cut.specs.declared.share.SharedFolder.{SharedFolder}
 use Rattle.bep_cut.specs.declared.link.LinkState.{LinkState}
 use Rattle.bep_cut.specs.declared.cut.CutParts.{CutParts}
-use Rattle.bep_record.specs.declared.limits.TheConstants.{MAX_FOLDERS, MAX_DEVICES, MAX_PULLS}
+use Rattle.bep_record.specs.declared.limits.TheConstants.{MAX_FOLDERS, MAX_DEVICES, MAX_PULLS, MAX_MESSAGES}
 
 -- the index that a device has of a folder
 abbrev pub index_of : Share → Listing
@@ -37,12 +37,17 @@ devices_of = map (λ share. share.device)
 abbrev pub HasDevice : List SharedFolder → Device → Type 0
 HasDevice folders device = (held : SharedFolder) × Contains folders held × Contains (devices_of held.shares) device
 
+-- something is known of another's index: the view isn't at point (0, 0), where it would be empty
+abbrev pub HasPoint : PeerView → Type 0
+HasPoint view = ¬ ((view.index_id ≡ 0) × (view.max_sequence ≡ 0))
+
 -- a device's views are of other devices that share the folder, one of each, devices rising; what they know is of an
--- index
+-- index, and empty views don't stand
 pub record AreViews (devices : List Device) (device : Device) (views : List PeerView) : Type 0 where
   pub rise : IsStrictlyIncreasing (map (λ view. view.of) views)
   pub others : All (λ view. (view.of ≢ device) × Contains devices view.of) views
   pub indexes : All (λ view. IsIndex (known_of view)) views
+  pub known : All HasPoint views
 
 -- each pull stands at its name, and none is invalid
 abbrev pub AreNamed : ByName Entry → Type 0
@@ -74,13 +79,16 @@ pub record IsFlight (folders : List SharedFolder) (a b : Device) (flight : Fligh
   pub shared_by_a : Contains (devices_of (shares_of flight.folder folders)) a
   pub shared_by_b : Contains (devices_of (shares_of flight.folder folders)) b
 
--- a link joins two devices of the cluster, the smaller one first; nothing is on its way while it is down
+-- a link joins two devices of the cluster, the smaller one first; at most 1024 messages are on their way to either, and
+-- none while it is down
 pub record IsLink (folders : List SharedFolder) (link : LinkState) : Type 0 where
   pub ends : link.a < link.b
   pub a_device : HasDevice folders link.a
   pub b_device : HasDevice folders link.b
   pub epoch : link.epoch ≤ MAX_SEQUENCE
   pub quiet : link.up ≡ false → (link.to_a ≡ []) × (link.to_b ≡ [])
+  pub few_to_a : length link.to_a ≤ MAX_MESSAGES
+  pub few_to_b : length link.to_b ≤ MAX_MESSAGES
   pub to_a : All (IsFlight folders link.a link.b) link.to_a
   pub to_b : All (IsFlight folders link.a link.b) link.to_b
 

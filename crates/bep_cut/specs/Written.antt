@@ -1,10 +1,10 @@
 -- The cut and the certificate that a check document writes down (this project's profile).
-use Rattle.std.specs.Prelude.{ℕ, List, [], ◌∷◌, map}
+use Rattle.std.specs.Prelude.{ℕ, ◌==◌, ◌||◌, not, Bool, List, [], ◌∷◌, map}
 use Rattle.std.specs.declared.cmp.Ordering.{Ordering}
 use Rattle.std.specs.Ordering.{nat_cmp, on}
 use Rattle.std.specs.Cmp.Lexicographic.{slice_cmp}
 use Rattle.std.specs.FinMap.{empty, insert}
-use Rattle.std.specs.List.{AllByRecursion}
+use Rattle.std.specs.List.{AllByRecursion, filter}
 use Rattle.bep_map.specs.NameMap.{ByName}
 use Rattle.bep_record.specs.Entry.{IsWellFormed}
 use Rattle.bep_record.specs.declared.node.NodeParts.{NodeParts}
@@ -48,6 +48,10 @@ abbrev pub with_nodes : ByName NodeParts → List NamedParts → ByName NodePart
 with_nodes nodes [] = nodes
 with_nodes nodes (node ∷ more) = with_nodes (insert nodes node.name node.parts) more
 
+-- something is known of another's index; a view at point (0, 0) is as one that isn't listed
+abbrev pub has_point : ViewParts → Bool
+has_point parts = not (parts.index_id == 0) || not (parts.max == 0)
+
 -- what a device knows of another's index
 abbrev pub view_written : ViewParts → PeerView
 view_written parts = record {
@@ -57,7 +61,7 @@ view_written parts = record {
   records = with_all empty parts.records;
 }
 
--- what a device has of a folder, its views in order
+-- what a device has of a folder, its views in order and without those that say nothing
 abbrev pub share_written : ShareParts → Share
 share_written parts = record {
   device = parts.device;
@@ -66,7 +70,7 @@ share_written parts = record {
   max_sequence = parts.max;
   own = with_all empty parts.own;
   store = with_nodes empty parts.store;
-  views = in_order by_viewed [] (map view_written parts.views);
+  views = in_order by_viewed [] (map view_written (filter has_point parts.views));
   pulls = with_all empty parts.pulls;
 }
 

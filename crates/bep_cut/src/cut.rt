@@ -20,7 +20,8 @@ pub struct CutParts {
 /// holds, what it knows of the others' indexes and what it pulls; and which records are on their way over which link.
 ///
 /// At most 16 folders and 16 devices; folders, devices and links rise; each device's records, and each view's, are those
-/// of an index; views and messages are of devices that share the folder; nothing is on its way over a link that is down.
+/// of an index; views and messages are of devices that share the folder, and no view is empty; at most 1024 messages are
+/// on their way to either end of a link, and none over a link that is down.
 #[derive(Drop)]
 pub struct Cut {
     parts: CutParts,

@@ -31,10 +31,11 @@ const LINKED: &str = "{\"version\":1,\"cut\":{\"folders\":[
 \"size\":3,\"modified_ns\":8,\"deleted\":false,\"invalid\":false,\"block_size\":131072,
 \"blocks\":[\"ba7816bf8f01cfea414140de5dae2223b00361a396177a9cb410ff61f20015ad\"],\"target\":\"\"},
 {\"name\":\"b\",\"type\":4,\"modified_s\":5,\"modified_by\":7,\"version\":[[7,1]],\"sequence\":4,\"target\":\"a\"}]},
-{\"of\":5,\"index_id\":0,\"max\":0,\"records\":[]}],
+{\"of\":5,\"index_id\":15,\"max\":0,\"records\":[]}],
 \"pulls\":[
 {\"name\":\"b\",\"type\":4,\"modified_s\":5,\"modified_by\":7,\"version\":[[7,1]],\"sequence\":4,\"target\":\"a\"}]},
-{\"device\":5,\"kind\":\"send-receive\",\"index_id\":15,\"max\":0},
+{\"device\":5,\"kind\":\"send-receive\",\"index_id\":15,\"max\":0,
+\"views\":[{\"of\":2,\"index_id\":0,\"max\":0,\"records\":[]}]},
 {\"device\":7,\"kind\":\"send-receive\",\"index_id\":17,\"max\":10}]}],
 \"links\":[
 {\"a\":2,\"b\":7,\"up\":true,\"epoch\":3,
@@ -122,16 +123,21 @@ fn own_records_and_stores_know_names(rt: HostRuntime) -> Result<(), Fail> {
 fn views_are_put_in_order(rt: HostRuntime) -> Result<(), Fail> {
     let alloc = rt.alloc();
     let (cut, _rows) = read_check(alloc, LINKED.as_bytes())?;
-    let [two, _five, seven] = cut.shares(&folder(alloc, "docs")?) else {
+    let [two, five, seven] = cut.shares(&folder(alloc, "docs")?) else {
         assert!(rt; false, "three devices share the folder");
         return Ok(());
     };
-    assert_eq!(rt; (seven.views.as_slice().len(), seven.pulls.len()), (0, 0));
+    // An empty view says as much as none.
+    assert_eq!(rt;
+        (five.views.as_slice().len(), seven.views.as_slice().len()),
+        (0, 0)
+    );
+    assert_eq!(rt; seven.pulls.len(), 0);
     let [of_five, of_seven] = two.views.as_slice() else {
         assert!(rt; false, "the smallest device has two views");
         return Ok(());
     };
-    assert_eq!(rt; point_of(of_five), (5, 0, 0, 0));
+    assert_eq!(rt; point_of(of_five), (5, 15, 0, 0));
     assert_eq!(rt; point_of(of_seven), (7, 17, 9, 2));
     Ok(())
 }

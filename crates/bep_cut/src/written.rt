@@ -1,10 +1,10 @@
 //! The folders and links that a document writes down.
 ghost use Rattle.std.specs.Prelude.{◌≡◌, IfOk, [], map};
-ghost use Rattle.std.specs.List.{AllByRecursion};
+ghost use Rattle.std.specs.List.{AllByRecursion, filter};
 ghost use Rattle.bep_record.specs.Entry.{IsWellFormed};
 ghost use Rattle.bep_document.specs.Faultless.{IsFaultlessIndex, IsFaultlessShare, IsFaultlessFolder};
 ghost use Rattle.bep_cut.specs.Sorting.{in_order};
-ghost use Rattle.bep_cut.specs.Written.{AreWellFormed, IsWellFormedLink, view_written, share_written, folder_written, flight_written, link_written};
+ghost use Rattle.bep_cut.specs.Written.{AreWellFormed, IsWellFormedLink, has_point, view_written, share_written, folder_written, flight_written, link_written};
 
 use crate::order::{Ordered, place};
 use crate::records::{nodes_by_name, records_by_name, records_in_order};
@@ -76,10 +76,19 @@ impl Written for Share {
             max_sequence: share.max,
             own: records_by_name(alloc, share.own)?,
             store: nodes_by_name(alloc, share.store)?,
-            views: all_written(alloc, share.views)?,
+            views: all_written(alloc, known_views(share.views))?,
             pulls: records_by_name(alloc, share.pulls)?,
         })
     }
+}
+
+// The views of which something is known.
+fn known_views(views: Items<ViewParts>) -> Items<ViewParts>
+    ensures { result ≡ filter has_point views }
+{
+    let mut views = views.into_vec();
+    views.retain(|view| view.index_id != 0 || view.max != 0);
+    Items::new(views)
 }
 
 impl Written for PeerView {

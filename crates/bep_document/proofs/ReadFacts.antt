@@ -9,7 +9,7 @@ use Rattle.bep_json.specs.Numbers.{read_number, read_signed, read_flag, read_kin
 use Rattle.bep_json.specs.Records.{read_record, default_block_size}
 use Rattle.bep_json.specs.Texts.{read_name, read_target, read_hash, read_folder_name}
 use Rattle.bep_index.specs.declared.limits.TheConstants.{MAX_NAMES, MAX_RECORDS, MAX_SEQUENCE}
-use Rattle.bep_record.specs.declared.limits.TheConstants.{MAX_FOLDERS, MAX_PULLS}
+use Rattle.bep_record.specs.declared.limits.TheConstants.{MAX_FOLDERS, MAX_PULLS, MAX_MESSAGES}
 use Rattle.bep_document.specs.declared.parts.ShareParts.{ShareParts}
 use Rattle.bep_document.specs.declared.parts.ViewParts.{ViewParts}
 use Rattle.bep_document.specs.declared.parts.FolderParts.{FolderParts}
@@ -105,6 +105,8 @@ flight_in_range d =
 -- a link's epoch, and what is on its way
 pub record IsLinkInRange (link : LinkParts) : Type 0 where
   pub epoch : link.epoch ≤ MAX_SEQUENCE
+  pub few_to_a : length link.to_a ≤ MAX_MESSAGES
+  pub few_to_b : length link.to_b ≤ MAX_MESSAGES
   pub to_a : AllByRecursion IsFlightInRange link.to_a
   pub to_b : AllByRecursion IsFlightInRange link.to_b
 
@@ -115,9 +117,9 @@ link_in_range d =
     skip (read_member (codes "b") (read_number 1 greatest_id) d) (λ b.
     skip (read_member (codes "up") read_flag d) (λ up.
     keep (member_read (number_read 0 MAX_SEQUENCE) (codes "epoch") d) (λ epoch within.
-    keep (member_or_read (list_read flight_in_range) tt (codes "to_a") d) (λ to_a first.
-    keep (member_or_read (list_read flight_in_range) tt (codes "to_b") d) (λ to_b second.
-    made IsLinkInRange _ (record { epoch = within; to_a = first; to_b = second })))))))
+    keep (member_or_read (few_read MAX_MESSAGES flight_in_range) (omega arith, tt) (codes "to_a") d) (λ to_a first.
+    keep (member_or_read (few_read MAX_MESSAGES flight_in_range) (omega arith, tt) (codes "to_b") d) (λ to_b second.
+    made IsLinkInRange _ (record { epoch = within; few_to_a = first.0; few_to_b = second.0; to_a = first.1; to_b = second.1 })))))))
 
 -- the folders and the links of a cut
 pub record IsCutInRange (folders : List FolderParts) (links : List LinkParts) : Type 0 where

@@ -90,6 +90,8 @@ link_faultless folders link both flights = record {
   b_device = both.1.b_device;
   epoch = both.0.epoch;
   quiet = both.1.quiet;
+  few_to_a = both.0.few_to_a;
+  few_to_b = both.0.few_to_b;
   to_a = flights.0;
   to_b = flights.1;
 }

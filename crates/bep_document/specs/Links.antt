@@ -7,8 +7,9 @@ use Rattle.bep_json.specs.Tree.{has_only, has_member, may_have_member}
 use Rattle.bep_json.specs.Reading.{◌>>=◌, read_member, read_member_or}
 use Rattle.bep_json.specs.Numbers.{is_whole, is_flag, read_number, read_flag, greatest_id}
 use Rattle.bep_json.specs.Texts.{is_text, read_folder_name}
-use Rattle.bep_json.specs.Lists.{is_list, read_list}
+use Rattle.bep_json.specs.Lists.{is_list}
 use Rattle.bep_json.specs.Records.{is_record, read_record}
+use Rattle.bep_record.specs.declared.limits.TheConstants.{MAX_MESSAGES}
 use Rattle.bep_document.specs.Few.{read_few}
 use Rattle.bep_document.specs.declared.parts.FlightParts.{FlightParts}
 use Rattle.bep_document.specs.declared.parts.LinkParts.{LinkParts}
@@ -51,13 +52,13 @@ has_link_members d =
 unfoldable pub is_link : Data → Bool
 is_link d = has_only link_members d && has_link_members d
 
--- the link, with what is on its way over it
+-- the link, with at most 1024 messages on their way to either end
 unfoldable pub read_link : Data → Option LinkParts
 read_link d = do
   a ← read_member (codes "a") (read_number 1 greatest_id) d
   b ← read_member (codes "b") (read_number 1 greatest_id) d
   up ← read_member (codes "up") read_flag d
   epoch ← read_member (codes "epoch") (read_number 0 MAX_SEQUENCE) d
-  to_a ← read_member_or (codes "to_a") (read_list read_flight) [] d
-  to_b ← read_member_or (codes "to_b") (read_list read_flight) [] d
+  to_a ← read_member_or (codes "to_a") (read_few MAX_MESSAGES read_flight) [] d
+  to_b ← read_member_or (codes "to_b") (read_few MAX_MESSAGES read_flight) [] d
   Some (record { a = a; b = b; up = up; epoch = epoch; to_a = to_a; to_b = to_b })

@@ -7,7 +7,7 @@ use crate::few::Few;
 use crate::{FlightParts, LinkParts};
 use bep_index::MAX_RECORDS;
 use bep_json::{ReadError, Readable, Sequence, has, has_only, may_have, member, member_or};
-use bep_record::{DeviceId, Entry, FolderName, Items};
+use bep_record::{DeviceId, Entry, FolderName, Items, MAX_MESSAGES};
 use serde_json::Value;
 use std::alloc::Global;
 
@@ -55,17 +55,17 @@ impl Readable for LinkParts {
         let b = member::<DeviceId>(alloc, value, "b")?;
         let up = member::<bool>(alloc, value, "up")?;
         let epoch = member::<Sequence>(alloc, value, "epoch")?;
-        let none = Items::new(Vec::new(alloc));
-        let to_a = member_or::<Items<FlightParts>>(alloc, value, "to_a", none)?;
-        let none = Items::new(Vec::new(alloc));
-        let to_b = member_or::<Items<FlightParts>>(alloc, value, "to_b", none)?;
+        let none = Few::none(alloc);
+        let to_a = member_or::<Few<FlightParts, MAX_MESSAGES>>(alloc, value, "to_a", none)?;
+        let none = Few::none(alloc);
+        let to_b = member_or::<Few<FlightParts, MAX_MESSAGES>>(alloc, value, "to_b", none)?;
         Ok(LinkParts {
             a,
             b,
             up,
             epoch: epoch.number(),
-            to_a,
-            to_b,
+            to_a: to_a.into_items(),
+            to_b: to_b.into_items(),
         })
     }
 }

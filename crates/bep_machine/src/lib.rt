@@ -3,15 +3,20 @@
 //! Nearly all of this crate is definitions, in `specs/`, and the laws that follow from them.
 #![tactic(auto)]
 
-mod laws;
+mod calm;
+mod headline;
 mod limits;
 mod message;
 mod moved;
 mod refusal;
+mod sound;
 mod step;
 
+pub use calm::{quiet_steps_keep_calm, quiet_steps_keep_records};
+pub use headline::{settled_stays_put, settled_stays_settled};
 pub use limits::{MAX_EPOCH, MAX_OUTSTANDING, MAX_REQUEST_ID};
 pub use message::{Announced, Code, Message, Request, Response};
 pub use moved::Moved;
 pub use refusal::Refusal;
+pub use sound::steps_keep_sound;
 pub use step::Step;

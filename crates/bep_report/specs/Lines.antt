@@ -27,10 +27,6 @@ word_of ViewAhead = codes "ViewAhead"
 word_of FlightAhead = codes "FlightAhead"
 word_of PullAhead = codes "PullAhead"
 
--- a folder and a name in it, each after a space
-abbrev pub name_in_folder : Folder → FileName → List ℕ
-name_in_folder folder name = concat (codes " " ∷ folder ∷ codes " " ∷ printed name ∷ [])
-
 -- where a fault is on a device, ` on ` and its number
 abbrev pub on_device : Option Device → List ℕ
 on_device None = []
@@ -40,7 +36,7 @@ on_device (Some device) = codes " on " ++ decimal device
 abbrev pub verdict_line : Verdict → List ℕ
 verdict_line Settled = codes "settled" ++ newline
 verdict_line (Not reason folder name device) =
-    concat (codes "not settled: " ∷ word_of reason ∷ name_in_folder folder name ∷ on_device device ∷ newline ∷ [])
+    concat (codes "not settled: " ∷ word_of reason ∷ codes " " ∷ folder ∷ codes " " ∷ printed name ∷ on_device device ∷ newline ∷ [])
 
 -- the line of a folder: how many names are known in it, how many of them no store holds, how many devices share it
 abbrev pub folder_line : Folder → ℕ → ℕ → ℕ → List ℕ
@@ -48,15 +44,15 @@ folder_line folder names deleted devices =
     concat (codes "folder " ∷ folder ∷ codes ": " ∷ decimal names ∷ codes " names, " ∷ decimal deleted ∷ codes " deleted, "
     ∷ decimal devices ∷ codes " devices" ∷ newline ∷ [])
 
--- a part of a place after a space, `-` where there is none
+-- a part of a place, `-` where there is none
 abbrev pub part_text : Option (List ℕ) → List ℕ
-part_text None = codes " -"
-part_text (Some part) = codes " " ++ part
+part_text None = codes "-"
+part_text (Some part) = part
 
--- a place in a document: a folder, a device and a name, as far as it has them
+-- a place in a document: a folder, a device and a name, as far as it has them, each after a space
 abbrev pub place_text : Option Folder → Option Device → Option FileName → List ℕ
 place_text folder device name =
-    concat (part_text folder ∷ part_text (option_map decimal device) ∷ part_text (option_map printed name) ∷ [])
+    concat (codes " " ∷ part_text folder ∷ codes " " ∷ part_text (option_map decimal device) ∷ codes " " ∷ part_text (option_map printed name) ∷ [])
 
 -- the numbers of the faults that have a place
 abbrev pub has_place : ℕ → Bool

@@ -1,3 +1,4 @@
+//! Why there is no answer.
 ghost use Rattle.std.specs.Prelude.{◌≡◌};
 ghost use Rattle.bep_report.specs.declared.error.ReportError.TheVariants.{Memory};
 

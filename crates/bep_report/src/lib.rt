@@ -1,6 +1,10 @@
 //! The lines of the report, and the bytes that come in and go out.
 //!
-//! A text is made in memory and then written, so that no line stands half printed where memory runs out.
+//! A text is made in memory and then written, so that no line stands half printed where memory runs out:
+//!
+//!     let mut text = Vec::new(alloc);
+//!     push_report(alloc, &mut text, &cut, &check_plain(&cut, &certificate))?;
+//!     write_all(writer, text.as_slice())?;
 #![tactic(auto)]
 
 mod error;

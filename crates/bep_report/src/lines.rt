@@ -1,78 +1,49 @@
-//! The lines of the report. Each function appends to a text and fails for memory alone.
-ghost use Rattle.std.specs.Prelude.{◌≡◌, [], ◌∷◌, ◌++◌, OnOk, option_map, codes};
+//! The lines of the report. Each function appends a line to a text; it fails for memory alone, and then the text is as
+//! before.
+ghost use Rattle.std.specs.Prelude.{◌≡◌, option_map};
 ghost use Rattle.std.specs.Fmt.{decimal};
-ghost use Rattle.std.specs.List.{concat};
 ghost use Rattle.std.specs.Option.{option_copied};
 ghost use Rattle.bep_model.specs.Verdict.{Settled, Not};
 ghost use Rattle.bep_report.specs.Lines as spec;
-ghost use Rattle.bep_report.specs.Text.{printed};
+ghost use Rattle.bep_report.specs.Text.{AppendsWhole, piece_text, printed};
 
-use crate::text::push_printed;
-use crate::words::{push_number, push_str, word_of};
+use crate::text::{Piece, push_pieces};
+use crate::words::word_of;
 use bep_model::Reason;
 use bep_record::{DeviceId, FolderName, Name};
 use std::alloc::AllocError;
 
 /// Appends the line of a cut that is settled.
 pub fn push_settled(text: &mut Vec<u8>) -> Result<(), AllocError>
-    ensures { OnOk result (text.new.items ≡ text.old.items ++ spec.verdict_line Settled) }
+    ensures { AppendsWhole result text.old.items text.new.items (spec.verdict_line Settled) }
 {
-    push_str(text, "settled\n")
-}
-
-// Appends ` on ` and the device, where there is one.
-fn push_on_device(text: &mut Vec<u8>, device: Option<DeviceId>) -> Result<(), AllocError>
-    ensures { OnOk result (text.new.items ≡ text.old.items ++ spec.on_device device) }
-{
-    match device {
-        None => Ok(()),
-        Some(device) => {
-            push_str(text, " on ")?;
-            push_number(text, device.number())
-        }
-    }
-}
-
-// Appends a folder and a name in it, each after a space.
-fn push_name_in_folder(
-    text: &mut Vec<u8>,
-    folder: &FolderName,
-    name: &Name,
-) -> Result<(), AllocError>
-    ensures { OnOk result (text.new.items ≡ text.old.items ++ spec.name_in_folder folder.now name.now) }
-{
-    push_str(text, " ")?;
-    push_str(text, folder.as_str())?;
-    push_str(text, " ")?;
-    push_printed(text, name.as_bytes())
+    push_pieces(text, &[Piece::Text("settled\n")])
 }
 
 /// Appends the line of a cut that isn't settled: the reason, and where it fails.
-pub fn push_not_settled(
+pub fn push_not_settled<'a>(
     text: &mut Vec<u8>,
     reason: Reason,
-    folder: &FolderName,
-    name: &Name,
+    folder: &'a FolderName,
+    name: &'a Name,
     device: Option<DeviceId>,
 ) -> Result<(), AllocError>
-    ensures { OnOk result (text.new.items
-        ≡ text.old.items ++ spec.verdict_line (Not reason folder.now name.now device)) }
+    ensures { AppendsWhole result text.old.items text.new.items
+        (spec.verdict_line (Not reason folder.now name.now device)) }
 {
-    push_str(text, "not settled: ")?;
-    push_str(text, word_of(reason))?;
-    push_name_in_folder(text, folder, name)?;
-    push_on_device(text, device)?;
-    push_str(text, "\n")
-}
-
-// Appends a count, with what stands before and after it.
-fn push_count(text: &mut Vec<u8>, before: &str, count: usize, after: &str) -> Result<(), AllocError>
-    ensures { OnOk result (text.new.items
-        ≡ text.old.items ++ concat (before.now ∷ decimal count ∷ after.now ∷ [])) }
-{
-    push_str(text, before)?;
-    push_number(text, count as u64)?;
-    push_str(text, after)
+    let (said, reason) = (Piece::Text("not settled: "), Piece::Text(word_of(reason)));
+    let (folder, name) = (Piece::Text(folder.as_str()), Piece::Name(name.as_bytes()));
+    let (space, end) = (Piece::Text(" "), Piece::Text("\n"));
+    match device {
+        None => push_pieces(text, &[said, reason, space, folder, space, name, end]),
+        Some(device) => {
+            let (on, device) = (Piece::Text(" on "), Piece::Number(device.number()));
+            push_pieces(
+                text,
+                &[said, reason, space, folder, space, name, on, device, end],
+            )
+        }
+    }
 }
 
 /// Appends the line of a folder: how many names are known in it, how many of these no store holds, and how many devices
@@ -84,97 +55,77 @@ pub fn push_folder(
     deleted: usize,
     devices: usize,
 ) -> Result<(), AllocError>
-    ensures { OnOk result (text.new.items ≡ text.old.items ++ spec.folder_line folder.now names deleted devices) }
+    ensures { AppendsWhole result text.old.items text.new.items
+        (spec.folder_line folder.now names deleted devices) }
 {
-    push_str(text, "folder ")?;
-    push_str(text, folder.as_str())?;
-    push_count(text, ": ", names, " names")?;
-    push_count(text, ", ", deleted, " deleted")?;
-    push_count(text, ", ", devices, " devices\n")
+    let pieces = [
+        Piece::Text("folder "),
+        Piece::Text(folder.as_str()),
+        Piece::Text(": "),
+        Piece::Number(names as u64),
+        Piece::Text(" names, "),
+        Piece::Number(deleted as u64),
+        Piece::Text(" deleted, "),
+        Piece::Number(devices as u64),
+        Piece::Text(" devices\n"),
+    ];
+    push_pieces(text, &pieces)
 }
 
-// Appends a space and the folder, `-` where there is none.
-fn push_folder_part(text: &mut Vec<u8>, folder: Option<&FolderName>) -> Result<(), AllocError>
-    ensures { OnOk result (text.new.items ≡ text.old.items ++ spec.part_text (option_copied folder.entry)) }
+// The folder, `-` where there is none.
+fn folder_or_dash<'a>(folder: Option<&'a FolderName>) -> Piece<'a>
+    ensures { piece_text result ≡ spec.part_text (option_copied folder.entry) }
 {
     match folder {
-        None => push_str(text, " -"),
-        Some(part) => {
-            push_str(text, " ")?;
-            push_str(text, part.as_str())
-        }
+        None => Piece::Text("-"),
+        Some(folder) => Piece::Text(folder.as_str()),
     }
 }
 
-// Appends a space and the device, `-` where there is none.
-fn push_device_part(text: &mut Vec<u8>, device: Option<DeviceId>) -> Result<(), AllocError>
-    ensures { OnOk result (text.new.items ≡ text.old.items ++ spec.part_text (option_map decimal device)) }
+// The device, `-` where there is none.
+fn device_or_dash(device: Option<DeviceId>) -> Piece<'static>
+    ensures { piece_text result ≡ spec.part_text (option_map decimal device) }
 {
     match device {
-        None => push_str(text, " -"),
-        Some(part) => {
-            push_str(text, " ")?;
-            push_number(text, part.number())
-        }
+        None => Piece::Text("-"),
+        Some(device) => Piece::Number(device.number()),
     }
 }
 
-// Appends a space and the name, `-` where there is none.
-fn push_name_part(text: &mut Vec<u8>, name: Option<&Name>) -> Result<(), AllocError>
-    ensures { OnOk result (text.new.items
-        ≡ text.old.items ++ spec.part_text (option_map printed (option_copied name.entry))) }
+// The name as it is printed, `-` where there is none.
+fn name_or_dash<'a>(name: Option<&'a Name>) -> Piece<'a>
+    ensures { piece_text result ≡ spec.part_text (option_map printed (option_copied name.entry)) }
 {
     match name {
-        None => push_str(text, " -"),
-        Some(part) => {
-            push_str(text, " ")?;
-            push_printed(text, part.as_bytes())
-        }
+        None => Piece::Text("-"),
+        Some(name) => Piece::Name(name.as_bytes()),
     }
-}
-
-// Appends a place in a document.
-fn push_place(
-    text: &mut Vec<u8>,
-    folder: Option<&FolderName>,
-    device: Option<DeviceId>,
-    name: Option<&Name>,
-) -> Result<(), AllocError>
-    ensures { OnOk result (text.new.items
-        ≡ text.old.items ++ spec.place_text (option_copied folder.entry) device (option_copied name.entry)) }
-{
-    push_folder_part(text, folder)?;
-    push_device_part(text, device)?;
-    push_name_part(text, name)
-}
-
-// Appends a fault's number and word.
-fn push_fault(text: &mut Vec<u8>, number: u32, word: &str) -> Result<(), AllocError>
-    ensures { OnOk result (text.new.items
-        ≡ text.old.items ++ concat (codes "refused: " ∷ decimal number ∷ codes " " ∷ word.now ∷ [])) }
-{
-    push_str(text, "refused: ")?;
-    push_number(text, u64::from(number))?;
-    push_str(text, " ")?;
-    push_str(text, word)
 }
 
 /// Appends the line of a document that is refused: the number and the word of the fault, and, for the numbers that have
 /// one, its place.
-pub fn push_refused(
+pub fn push_refused<'a>(
     text: &mut Vec<u8>,
     number: u32,
-    word: &str,
-    folder: Option<&FolderName>,
+    word: &'a str,
+    folder: Option<&'a FolderName>,
     device: Option<DeviceId>,
-    name: Option<&Name>,
+    name: Option<&'a Name>,
 ) -> Result<(), AllocError>
-    ensures { OnOk result (text.new.items ≡ text.old.items
-        ++ spec.refused_line number word.now (option_copied folder.entry) device (option_copied name.entry)) }
+    ensures { AppendsWhole result text.old.items text.new.items
+        (spec.refused_line number word.now (option_copied folder.entry) device (option_copied name.entry)) }
 {
-    push_fault(text, number, word)?;
+    let (said, word) = (Piece::Text("refused: "), Piece::Text(word));
+    let fault = Piece::Number(u64::from(number));
+    let (space, end) = (Piece::Text(" "), Piece::Text("\n"));
     if matches!(number, 185..=189) {
-        push_place(text, folder, device, name)?;
+        let (folder, device) = (folder_or_dash(folder), device_or_dash(device));
+        let name = name_or_dash(name);
+        let pieces = [
+            said, fault, space, word, space, folder, space, device, space, name, end,
+        ];
+        push_pieces(text, &pieces)
+    } else {
+        push_pieces(text, &[said, fault, space, word, end])
     }
-    push_str(text, "\n")
 }

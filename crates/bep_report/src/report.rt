@@ -1,34 +1,37 @@
 //! The report on a cut.
-ghost use Rattle.std.specs.Prelude.{◌≡◌, ◌++◌, IfErr, OnOk, OnErr};
+ghost use Rattle.std.specs.Prelude.{◌≡◌};
 ghost use Rattle.std.specs.FinMap.{keys};
-ghost use Rattle.std.specs.Io.KnownBytes.{Appends};
 ghost use Rattle.bep_audit.specs.Shown.{verdict_shown};
 ghost use Rattle.bep_report.specs.Lines.{verdict_line};
-ghost use Rattle.bep_report.specs.Output.{AppendsBeginning};
 ghost use Rattle.bep_report.specs.Report.{is_stored, count_deleted, folder_text, folders_text, report_text};
+ghost use Rattle.bep_report.specs.Text.{AppendsWhole};
 
 use crate::lines::{push_folder, push_not_settled, push_settled};
+use crate::text::or_as_before;
 use bep_audit::Verdict;
 use bep_cut::{Cut, Share, SharedFolder};
 use bep_map::NameMap;
 use bep_record::Name;
 use std::alloc::{AllocError, Global};
 
-/// Appends the report on the cut: the line of the verdict, then a line for each folder, names rising.
+/// Appends the report on the cut: the line of the verdict, then a line for each folder, names rising. Fails for memory
+/// alone, and then the text is as before.
 pub fn push_report(
     alloc: Global,
     text: &mut Vec<u8>,
     cut: &Cut,
     verdict: &Verdict<'_>,
 ) -> Result<(), AllocError>
-    ensures { OnOk result (text.new.items ≡ text.old.items ++ report_text cut.now (verdict_shown verdict.now)) }
+    ensures { AppendsWhole result text.old.items text.new.items (report_text cut.now (verdict_shown verdict.now)) }
 {
+    let len = text.len();
     push_verdict(text, verdict)?;
-    push_folders(alloc, text, cut, cut.folders())
+    let pushed = push_folders(alloc, text, cut, cut.folders());
+    or_as_before(text, len, pushed)
 }
 
 fn push_verdict(text: &mut Vec<u8>, verdict: &Verdict<'_>) -> Result<(), AllocError>
-    ensures { OnOk result (text.new.items ≡ text.old.items ++ verdict_line (verdict_shown verdict.now)) }
+    ensures { AppendsWhole result text.old.items text.new.items (verdict_line (verdict_shown verdict.now)) }
 {
     match *verdict {
         Verdict::Settled => push_settled(text),
@@ -44,10 +47,12 @@ fn push_folders(
     cut: &Cut,
     folders: &[SharedFolder],
 ) -> Result<(), AllocError>
-    ensures { OnOk result (text.new.items ≡ text.old.items ++ folders_text cut.now folders.now) }
+    ensures { AppendsWhole result text.old.items text.new.items (folders_text cut.now folders.now) }
 {
+    let len = text.len();
     for held in folders {
-        push_held(alloc, text, cut, held)?;
+        let pushed = push_held(alloc, text, cut, held);
+        or_as_before(text, len, pushed)?;
     }
     Ok(())
 }
@@ -59,7 +64,7 @@ fn push_held(
     cut: &Cut,
     held: &SharedFolder,
 ) -> Result<(), AllocError>
-    ensures { OnOk result (text.new.items ≡ text.old.items ++ folder_text cut.now held.now) }
+    ensures { AppendsWhole result text.old.items text.new.items (folder_text cut.now held.now) }
 {
     let names = cut.known_names(alloc, &held.folder)?;
     let shares = held.shares.as_slice();

@@ -1,3 +1,2 @@
 pub mod Mode
-pub mod Outcome
-pub mod Answer
+pub mod Status

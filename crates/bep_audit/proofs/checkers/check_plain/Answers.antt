@@ -2,40 +2,40 @@ use Rattle.std.proofs.Common.{List, Some, None, subst, sym, refl}
 use Rattle.bep_model.specs.declared.row.Row.{Row}
 use Rattle.bep_model.specs.Settled.{Rise}
 use Rattle.bep_cut.specs.Cut.{tables_of}
-use Rattle.bep_audit.specs.Search.{FindsFault}
+use Rattle.bep_audit.specs.Search.{FindsFailing}
 use Rattle.bep_audit.specs.Shown.{verdict_shown, place_shown}
-use Rattle.bep_audit.proofs.ReasonWalk.{reason_at, reasons_start, reasons_go_on, rows_rise, first_fault_at, settled_at_last, fault_is_verdict, fault_is_not_settled, calm_of_none}
+use Rattle.bep_audit.proofs.ReasonWalk.{reason_at, reasons_start, reasons_go_on, rows_rise, first_failing_at, settled_at_last, failing_is_verdict, failing_is_not_settled, calm_of_none}
 use Rattle.bep_audit.proofs.checkers.check_plain.Goals as goal
 
 pub loop-reason-init : goal.loop-reason-init
 loop-reason-init c = reasons_start (tables_of c.args.cut.now) c.args.certificate.now c.reasons_are_numbered.ensures.within
 
-pub first_fault-requires : goal.first_fault-requires
-first_fault-requires c = λ differs.
+pub first_failing-requires : goal.first_failing-requires
+first_failing-requires c = λ differs.
     subst Rise (sym c.rows.ensures) (rows_rise (tables_of c.args.cut.now) c.args.certificate.now c.rows_rise_in_order.ensures c.reasons_are_numbered.ensures.different c.loop-reason.reason-index c.loop-reason-test.true c.loop-reason.invariant differs)
 
 pub loop-reason-preserved : goal.loop-reason-preserved
 loop-reason-preserved c =
     reasons_go_on (tables_of c.args.cut.now) c.args.certificate.now c.reasons_are_numbered.ensures.different c.loop-reason.reason-index c.loop-reason-test.true c.loop-reason.invariant
-    (subst (λ (rows : List Row). FindsFault (tables_of c.args.cut.now) rows (reason_at c.loop-reason.reason-index) None) c.rows.ensures c.in_default.ensures)
+    (subst (λ (rows : List Row). FindsFailing (tables_of c.args.cut.now) rows (reason_at c.loop-reason.reason-index) None) c.rows.ensures c.in_default.ensures)
 
 pub returns-in-Some-clause-verdict : goal.returns-in-Some-clause-verdict
 returns-in-Some-clause-verdict c =
     let t = tables_of c.args.cut.now in
     let rows = c.args.certificate.now in
     let spot = place_shown c.in-Some.spot in
-    let found = subst (λ (all : List Row). FindsFault t all (reason_at c.loop-reason.reason-index) (Some spot)) c.rows.ensures c.in-Some.ensures in
-    fault_is_verdict t rows (verdict_shown c.at.result) (reason_at c.loop-reason.reason-index) spot c.at.ensures
-    (first_fault_at t rows c.loop-reason.reason-index c.loop-reason-test.true c.loop-reason.invariant spot found)
+    let found = subst (λ (all : List Row). FindsFailing t all (reason_at c.loop-reason.reason-index) (Some spot)) c.rows.ensures c.in-Some.ensures in
+    failing_is_verdict t rows (verdict_shown c.at.result) (reason_at c.loop-reason.reason-index) spot c.at.ensures
+    (first_failing_at t rows c.loop-reason.reason-index c.loop-reason-test.true c.loop-reason.invariant spot found)
 
 pub returns-in-Some-clause-settled : goal.returns-in-Some-clause-settled
 returns-in-Some-clause-settled c =
     let t = tables_of c.args.cut.now in
     let rows = c.args.certificate.now in
     let spot = place_shown c.in-Some.spot in
-    let found = subst (λ (all : List Row). FindsFault t all (reason_at c.loop-reason.reason-index) (Some spot)) c.rows.ensures c.in-Some.ensures in
-    fault_is_not_settled t rows c.settled_is_faultless.ensures c.at.result (reason_at c.loop-reason.reason-index) spot c.at.ensures
-    (first_fault_at t rows c.loop-reason.reason-index c.loop-reason-test.true c.loop-reason.invariant spot found)
+    let found = subst (λ (all : List Row). FindsFailing t all (reason_at c.loop-reason.reason-index) (Some spot)) c.rows.ensures c.in-Some.ensures in
+    failing_is_not_settled t rows c.settled_is_faultless.ensures c.at.result (reason_at c.loop-reason.reason-index) spot c.at.ensures
+    (first_failing_at t rows c.loop-reason.reason-index c.loop-reason-test.true c.loop-reason.invariant spot found)
 
 pub returns-in-Some-clause-calm : goal.returns-in-Some-clause-calm
 returns-in-Some-clause-calm c =

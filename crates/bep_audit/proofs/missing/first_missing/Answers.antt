@@ -3,7 +3,7 @@ use Rattle.bep_cut.specs.declared.share.SharedFolder.{SharedFolder}
 use Rattle.bep_model.specs.declared.reason.Reason.TheVariants.{NameMissing}
 use Rattle.bep_model.specs.Reasons.{place_cmp}
 use Rattle.bep_cut.specs.Cut.{tables_of}
-use Rattle.bep_audit.specs.Search.{FindsFault}
+use Rattle.bep_audit.specs.Search.{FindsFailing}
 use Rattle.bep_audit.proofs.CutFacts.{CutSays}
 use Rattle.bep_audit.proofs.FolderWalk.{AsksFolder, folders_in_order, folder_has_rows, folder_lacks_row, found_in_folders}
 use Rattle.bep_audit.proofs.WalkFacts.{walk_starts, walk_goes_on, walk_stops, walk_ends}
@@ -29,7 +29,7 @@ returns-in-Some c =
     let folders = c.folders-held-items.result.now in
     let said : CutSays = record { found = c.cut_says.ensures.found; has_folder = c.cut_says.ensures.has_folder; sharing = c.cut_says.ensures.sharing; own = c.cut_says.ensures.own; node = c.cut_says.ensures.node; viewed = c.cut_says.ensures.viewed; target = c.cut_says.ensures.target; flying = c.cut_says.ensures.flying; receiver = c.cut_says.ensures.receiver } in
     let member = subst (λ (all : List SharedFolder). Contains all c.held-item.result) c.folders-held-items.ensures.value (c.loop-held.held-index, c.loop-held-test.true, sym c.held-item.is) in
-    subst (λ place. FindsFault (tables_of cut) rows NameMissing (Some place)) (sym c.of_name.ensures)
+    subst (λ place. FindsFailing (tables_of cut) rows NameMissing (Some place)) (sym c.of_name.ensures)
     (found_in_folders said cut c.folders-held-items.ensures.a_cut rows folders c.folders-held-items.ensures.value
     (Some (record { folder = c.held-item.result.folder; name = c.in-Some.name.now; device = None }))
     (walk_stops place_cmp (AsksFolder cut rows) folders c.loop-held.held-index c.held-item.result

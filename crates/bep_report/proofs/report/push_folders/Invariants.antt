@@ -1,8 +1,11 @@
-use Rattle.std.proofs.Common.{◌≡◌, ◌++◌, drop}
+use Rattle.std.proofs.Common.{◌≡◌, ◌++◌, take, drop}
 use Rattle.bep_report.specs.Report.{folders_text}
 use Rattle.bep_report.proofs.report.push_folders.Given as goal
 
--- the text so far with the lines of the folders that are left is the whole
+-- the text so far with the lines of the folders that are left is the whole; the old text stands at its front
 abbrev pub invariant-loop-held : goal.invariant-loop-held
 invariant-loop-held l =
-    l.text.items ++ folders_text l.cut (drop l.held-index l.folders) ≡ l.initial.text.items ++ folders_text l.cut l.folders
+    record {
+      whole : l.text.items ++ folders_text l.cut (drop l.held-index l.folders) ≡ l.fn.text.items ++ folders_text l.cut l.folders;
+      front : take l.len l.text.items ≡ l.fn.text.items;
+    }

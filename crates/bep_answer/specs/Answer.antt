@@ -1,0 +1,75 @@
+-- What the program answers to the bytes of a document, and what it has written after it.
+use Rattle.std.specs.Prelude.{◌≡◌, ℕ, List, Option}
+use Rattle.std.specs.Io.KnownBytes.{Appends, Keeps}
+use Rattle.bep_document.specs.declared.fault.DocFault.{DocFault}
+use Rattle.bep_document.specs.Fault.{number_of, name_of}
+use Rattle.bep_document.specs.Reading.{Reading, Read, Refused}
+use Rattle.bep_model.specs.declared.row.Row.{Row}
+use Rattle.bep_model.specs.Settled.{IsSettled}
+use Rattle.bep_model.specs.Verdict as verdicts
+use Rattle.bep_cut.specs.declared.cut.CutParts.{CutParts}
+use Rattle.bep_cut.specs.Cut.{tables_of}
+use Rattle.bep_cut.specs.Written.{check_of}
+use Rattle.bep_report.specs.declared.error.ReportError.{ReportError}
+use Rattle.bep_report.specs.declared.error.ReportError.TheVariants.{Memory}
+use Rattle.bep_report.specs.declared.error.ReportError.TheVariants as faults
+use Rattle.bep_report.specs.Input.{IsRead}
+use Rattle.bep_report.specs.Lines.{refused_line}
+use Rattle.bep_report.specs.Output.{AppendsBeginning}
+use Rattle.bep_report.specs.Report.{report_text}
+use Rattle.bep_answer.specs.declared.outcome.Outcome.{Outcome}
+use Rattle.bep_answer.specs.declared.outcome.Outcome.TheVariants as outcomes
+
+-- the outcome of a verdict
+abbrev pub outcome_of : verdicts.Verdict → Outcome
+outcome_of verdicts.Settled = outcomes.Settled
+outcome_of (verdicts.Not reason folder name device) = outcomes.NotSettled
+
+-- the line of a fault
+abbrev pub fault_text : DocFault → List ℕ
+fault_text fault = refused_line (number_of fault.fault) (name_of fault.fault) fault.folder fault.device fault.name
+
+-- the cut and the rows of a document have this verdict, and it is told
+pub record IsReport (cut : CutParts) (rows : List Row) (outcome : Outcome) (text : List ℕ) : Type 0 where
+  pub verdict : verdicts.Verdict
+  pub judged : verdicts.IsVerdict (tables_of cut) rows verdict
+  pub told : outcome ≡ outcome_of verdict
+  pub reported : text ≡ report_text cut verdict
+
+-- the outcome and the text for what a document says: its report, or the fault for which it is refused
+abbrev pub IsAnswer : Reading (CutParts × List Row) → Outcome → List ℕ → Type 0
+IsAnswer (Read check) outcome text = IsReport check.0 check.1 outcome text
+IsAnswer (Refused fault) outcome text = (outcome ≡ outcomes.Refused) × (text ≡ fault_text fault)
+
+-- a document was read, its outcome was told and its text written, and nothing else
+pub record IsAnswered (unread left held now : Option (List ℕ)) (outcome : Outcome) : Type 0 where
+  pub bytes : List ℕ
+  pub read : IsRead unread left bytes
+  pub text : List ℕ
+  pub answer : IsAnswer (check_of bytes) outcome text
+  pub written : Appends held now text
+
+-- a document was read, and a beginning of its text written
+pub record IsBegun (unread left held now : Option (List ℕ)) : Type 0 where
+  pub bytes : List ℕ
+  pub read : IsRead unread left bytes
+  pub outcome : Outcome
+  pub text : List ℕ
+  pub answer : IsAnswer (check_of bytes) outcome text
+  pub written : AppendsBeginning held now text
+
+-- what is written where there is no answer: nothing after a read fault or want of memory, a beginning of the text after
+-- a write fault
+abbrev pub IsCutShort : Option (List ℕ) → Option (List ℕ) → Option (List ℕ) → Option (List ℕ) → ReportError → Type 0
+IsCutShort unread left held now Memory = Keeps held now
+IsCutShort unread left held now faults.Read = Keeps held now
+IsCutShort unread left held now faults.Write = IsBegun unread left held now
+
+-- the bytes that were read say a cut and a certificate, and these are settled
+pub record SaysSettled (unread left : Option (List ℕ)) : Type 0 where
+  pub bytes : List ℕ
+  pub read : IsRead unread left bytes
+  pub cut : CutParts
+  pub rows : List Row
+  pub says : check_of bytes ≡ Read (cut, rows)
+  pub settled : IsSettled (tables_of cut) rows

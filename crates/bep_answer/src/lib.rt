@@ -1,0 +1,18 @@
+//! What the auditor's program answers to a document, from the bytes that come in to the bytes that go out.
+//!
+//! It stands apart from the program, which adds the words of its command line and its exit statuses:
+//!
+//!     match check_text(alloc, &mut reader, &mut writer)? {
+//!         Outcome::Settled => ..,
+//!         Outcome::NotSettled => ..,
+//!         Outcome::Refused => ..,
+//!     }
+#![tactic(auto)]
+
+mod check;
+mod outcome;
+#[cfg(test)]
+mod tests;
+
+pub use check::check_text;
+pub use outcome::Outcome;

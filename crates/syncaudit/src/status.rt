@@ -1,0 +1,22 @@
+//! The exit statuses.
+ghost use Rattle.std.specs.Prelude.{◌≡◌};
+ghost use Rattle.syncaudit.specs.Status as spec;
+
+use bep_answer::Outcome;
+use bep_report::ReportError;
+
+/// The exit status for words that aren't understood, and for help.
+pub const USAGE: u8 = 3;
+
+/// The exit status: 0 settled, 1 not settled, 2 refused, 4 memory, 5 a read or write fault.
+pub fn status_of(answer: Result<Outcome, ReportError>) -> u8
+    ensures { result ≡ spec.status_of answer }
+{
+    match answer {
+        Ok(Outcome::Settled) => 0,
+        Ok(Outcome::NotSettled) => 1,
+        Ok(Outcome::Refused) => 2,
+        Err(ReportError::Memory) => 4,
+        Err(ReportError::Read | ReportError::Write) => 5,
+    }
+}

@@ -1,0 +1,71 @@
+#!/usr/bin/env bash
+# run.sh PROGRAM: runs the built program as each row of README.md says, and compares its standard output, its standard
+# error and its status with the row's. The last line is 'N passed, M failed'.
+set -euo pipefail
+program=$(readlink -m "$1")
+cd "$(dirname "$0")/.."
+passed=0
+failed=0
+work=$(mktemp -d)
+trap 'rm -rf "$work"' EXIT
+
+syncaudit() {
+  "$program" "$@"
+}
+
+# The lines that a cell of a table has, each between backquotes.
+lines_of() {
+  sed 's/^ *//; s/ *$//; s/<br>/\n/g; s/`//g; /^$/d' <<< "$1"
+}
+
+# compare NAME WANTED: says where what was written isn't the lines of this cell.
+compare() {
+  lines_of "$2" > "$work/wanted"
+  cmp -s "$work/$1" "$work/wanted" || faults+=("$1 is '$(cat "$work/$1")', and not '$(cat "$work/wanted")'")
+}
+
+# check_row RUN OUTPUT ERROR STATUS: runs the words, in a shell of their own, and compares. An error without backquotes is
+# a text that has no promise, but there is one.
+check_row() {
+  local status=0 faults=()
+  (eval "$1") > "$work/output" 2> "$work/error" < /dev/null || status=$?
+  [ "$status" = "${4// /}" ] || faults+=("the status is $status, and not ${4// /}")
+  compare output "$2"
+  if [[ $3 = *[a-z]* && $3 != *\`* ]]; then
+    [ -s "$work/error" ] || faults+=("nothing is on standard error")
+  else
+    compare error "$3"
+  fi
+  if [ ${#faults[@]} = 0 ]; then
+    passed=$((passed + 1))
+  else
+    failed=$((failed + 1))
+    printf '%s\n' "${faults[@]/#/"examples: $1: "}"
+  fi
+}
+
+if [ ! -x "$program" ]; then
+  echo "examples: there is no program $1"
+  echo "0 passed, 1 failed"
+  exit 1
+fi
+
+# A row of the first table has a file's name, what it shows, what is written, and the status.
+while IFS='|' read -r _ name _ output status _; do
+  check_row "syncaudit check < examples/$(lines_of "$name")" "$output" '' "$status"
+done < <(grep '^| `[a-z-]*\.json` |' examples/README.md)
+
+# A row of the second table has the words, what they show, what is written, what is told, and the status.
+while IFS='|' read -r _ words _ output error status _; do
+  check_row "$(lines_of "$words")" "$output" "$error" "$status"
+done < <(grep '^| `' examples/README.md | grep -v '^| `[a-z-]*\.json` |')
+
+# Each document has its row.
+for file in examples/*.json; do
+  if ! grep -q "^| \`$(basename "$file")\` |" examples/README.md; then
+    failed=$((failed + 1))
+    echo "examples: $(basename "$file") has no row in README.md"
+  fi
+done
+echo "$passed passed, $failed failed"
+[ "$failed" = 0 ]
