@@ -48,3 +48,4 @@ mod DeliverKept
 mod ClusterKept
 mod PlacesKept
 mod StepsKept
+mod GapPair
