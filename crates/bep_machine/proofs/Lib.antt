@@ -49,3 +49,6 @@ mod ClusterKept
 mod PlacesKept
 mod StepsKept
 mod GapPair
+mod GapEntries
+mod GapSend
+mod GapNamed
