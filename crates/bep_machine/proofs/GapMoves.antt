@@ -39,7 +39,7 @@ other_id index view apart = by_test (view.id == index.id) refl
     by_test true e = absurd (apart (grind (arith, nat_tests)))
     by_test false e = refl
 
-same_id_or_not : (index view : Listing) → (view.id ≡ index.id) ⊎ (view.id ≢ index.id)
+pub same_id_or_not : (index view : Listing) → (view.id ≡ index.id) ⊎ (view.id ≢ index.id)
 same_id_or_not index view =
     ⊎_elim (λ same. inl (grind (arith, nat_tests))) (λ apart. inr (λ same. grind (arith, nat_tests))) (cases_Bool (view.id == index.id))
 

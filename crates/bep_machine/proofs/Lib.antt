@@ -52,3 +52,4 @@ mod GapPair
 mod GapEntries
 mod GapSend
 mod GapNamed
+mod GapTake
