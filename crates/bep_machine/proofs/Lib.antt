@@ -53,3 +53,6 @@ mod GapEntries
 mod GapSend
 mod GapNamed
 mod GapTake
+mod GapRows
+mod GapLinks
+mod GapCluster
