@@ -56,3 +56,5 @@ mod GapTake
 mod GapRows
 mod GapLinks
 mod GapCluster
+mod GapSteps
+mod GapRun
