@@ -4,6 +4,7 @@
 #![tactic(auto)]
 
 mod calm;
+mod gapless;
 mod headline;
 mod limits;
 mod message;
@@ -13,6 +14,7 @@ mod sound;
 mod step;
 
 pub use calm::{quiet_steps_keep_calm, quiet_steps_keep_records};
+pub use gapless::{runs_are_gapless, same_point_same_index};
 pub use headline::{settled_stays_put, settled_stays_settled};
 pub use limits::{MAX_EPOCH, MAX_OUTSTANDING, MAX_REQUEST_ID};
 pub use message::{Announced, Code, Message, Request, Response};
