@@ -235,7 +235,9 @@ def checked_step(walk: Walk, step: Step) -> Moved | Why:
     """Takes a step, and looks that all rules hold after it and no node was lost."""
     before = nodes_and_records(walk.cluster)
     answer = walk.take(step)
-    walk.answers["Finish", "with a conflict copy"] += wrote_copy(walk.cluster, step, before)
+    if wrote_copy(walk.cluster, step, before):
+        walk.answers["Finish", answer.name] -= 1
+        walk.answers["Finish", answer.name + ", with a conflict copy"] += 1
     broken = rules.broken_rule(walk.cluster)
     if broken:
         raise Contradiction(broken, step, answer)

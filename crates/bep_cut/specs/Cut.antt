@@ -35,7 +35,7 @@ devices_of = map (λ share. share.device)
 
 -- the device shares one of the folders
 abbrev pub HasDevice : List SharedFolder → Device → Type 0
-HasDevice folders device = (held : SharedFolder) × Contains folders held × Contains (devices_of held.shares) device
+HasDevice folders device = (shared : SharedFolder) × Contains folders shared × Contains (devices_of shared.shares) device
 
 -- something is known of another's index: the view isn't at point (0, 0), where it would be empty
 abbrev pub HasPoint : PeerView → Type 0
@@ -67,11 +67,11 @@ pub record AreShares (shares : List Share) : Type 0 where
 
 -- whether this is the folder of the name
 abbrev pub is_folder : Folder → SharedFolder → Bool
-is_folder folder held = is_eq (slice_cmp nat_cmp held.folder folder)
+is_folder folder shared = is_eq (slice_cmp nat_cmp shared.folder folder)
 
 -- what the devices have that share a folder
 abbrev pub shares_of : Folder → List SharedFolder → List Share
-shares_of folder folders = unwrap_or (option_map (λ held. held.shares) (find (is_folder folder) folders)) []
+shares_of folder folders = unwrap_or (option_map (λ shared. shared.shares) (find (is_folder folder) folders)) []
 
 -- a message of a folder that both devices share
 pub record IsFlight (folders : List SharedFolder) (a b : Device) (flight : Flight) : Type 0 where
@@ -101,8 +101,8 @@ ends_cmp = then_cmp (on (λ ends. ends.0) nat_cmp) (on (λ ends. ends.1) nat_cmp
 
 -- what holds of every cut
 pub record IsCut (cut : CutParts) : Type 0 where
-  pub rise : IsStrictlySortedBy (slice_cmp nat_cmp) (map (λ held. held.folder) cut.folders)
-  pub shares : All (λ held. AreShares held.shares) cut.folders
+  pub rise : IsStrictlySortedBy (slice_cmp nat_cmp) (map (λ shared. shared.folder) cut.folders)
+  pub shares : All (λ shared. AreShares shared.shares) cut.folders
   pub few_folders : length cut.folders ≤ MAX_FOLDERS
   pub few_devices : (devices : List Device) → IsStrictlyIncreasing devices → All (HasDevice cut.folders) devices → length devices ≤ MAX_DEVICES
   pub links_rise : IsStrictlySortedBy ends_cmp (map ends_of cut.links)

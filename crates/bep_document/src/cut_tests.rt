@@ -1,4 +1,4 @@
-// Views, pulls and links, by docs/DOCUMENTS.md.
+//! Views, pulls and links, by docs/DOCUMENTS.md.
 use crate::place_tests::records_of;
 use crate::tests::{BLOCKLESS, DEVICE, DOCUMENT, FOLDER, RECORD, answer, text_of};
 use crate::*;

@@ -4,7 +4,7 @@ use Rattle.std.specs.Ordering.{nat_cmp}
 use Rattle.std.specs.Cmp.Lexicographic.{slice_cmp, nat_list_cmp_total}
 use Rattle.std.specs.FinMap.{get, insert, empty, len, len-empty}
 use Rattle.std.proofs.lemmas.Map.Lookups.{exact_bytes}
-use Rattle.bep_facts.specs.Maps.{get-insert_here, nothing_in_empty}
+use Rattle.bep_facts.specs.Maps.{get-insert_here, nothing_in_empty, insert-what_is_there, insert-twice, remove-insert}
 use Rattle.bep_map.specs.NameMap.{ByName}
 use Rattle.bep_record.specs.declared.entry.Entry.{Entry}
 use Rattle.bep_index.specs.Listing.{Listing}
@@ -12,7 +12,7 @@ use Rattle.bep_index.specs.Index.{IsIndex, numbered, after_put}
 use Rattle.bep_index.specs.Change.{Change, given_back, taken_back, IsLastChange}
 use Rattle.bep_index.specs.Laws.{EarlierChangesDontFit, LastChangesAgree}
 use Rattle.bep_index.specs.declared.limits.TheConstants.{MAX_NAMES, MAX_SEQUENCE}
-use Rattle.bep_index.proofs.RecordsFacts.{AreNumbered-insert, HaveOwnNumbers-insert, remove-insert, insert-insert, len-insert_le}
+use Rattle.bep_index.proofs.RecordsFacts.{AreNumbered-insert, HaveOwnNumbers-insert, len-insert_le}
 
 pub IsIndex-empty : (id : ℕ) → IsIndex (record { id = id; sequence = 0; records = empty })
 IsIndex-empty id = record {
@@ -31,8 +31,9 @@ IsIndex-after_put index entry is not_full room = record {
 }
 
 given_back-insert : (records : ByName Entry) (name : List ℕ) (entry : Entry) (before : Option Entry) → get records name ≡ before → given_back (insert records name entry) name before ≡ records
-given_back-insert records name entry None was = remove-insert records name entry was
-given_back-insert records name entry (Some e) was = insert-insert records name entry e was
+given_back-insert records name entry None was = remove-insert nat_list_cmp_total exact_bytes records name entry was
+given_back-insert records name entry (Some e) was =
+    insert-twice nat_list_cmp_total exact_bytes records name entry e ∙ insert-what_is_there nat_list_cmp_total exact_bytes records name e was
 
 less_one : (n : ℕ) → (n + 1) - 1 ≡ n
 less_one n = omega arith

@@ -1,15 +1,14 @@
 -- Records that are put at their names.
-use Rattle.std.proofs.Common.{◌≡◌, refl, subst, inl, inr, ℕ, List, [], ◌∷◌, Some, Contains, sym, ap, ◌∙◌, ⊎_elim, arith}
+use Rattle.std.proofs.Common.{◌≡◌, refl, subst, inl, inr, ℕ, List, [], ◌∷◌, Some, sym, ap, ◌∙◌, ⊎_elim, arith}
 use Rattle.std.specs.Ordering.{nat_cmp}
 use Rattle.std.specs.Cmp.Lexicographic.{slice_cmp, nat_list_cmp_total}
 use Rattle.std.specs.FinMap.{get, insert, empty, len-empty}
 use Rattle.std.proofs.lemmas.Map.Lookups.{exact_bytes}
 use Rattle.bep_facts.specs.Maps.{found_after_insert, get-insert_here, get-insert_apart, nothing_in_empty}
-use Rattle.bep_facts.specs.Members.{not_in_none, Contains-first, Contains-more, Contains-cons_cases}
 use Rattle.bep_record.specs.declared.entry.Entry.{Entry}
 use Rattle.bep_index.specs.After.{IsAmong}
 use Rattle.bep_index.specs.Batch.{with_all}
-use Rattle.bep_index.specs.Laws.{RecordsMakeAnIndex, RecordsAreFound, FoundIsOfBatchOrBefore, BatchIsFound, OthersAreKept, AmongIsContained}
+use Rattle.bep_index.specs.Laws.{RecordsMakeAnIndex, RecordsAreFound, FoundIsOfBatchOrBefore, BatchIsFound, OthersAreKept}
 use Rattle.bep_index.proofs.BatchFacts.{len-with_all, new_names_le}
 use Rattle.bep_index.proofs.RecordsFacts.{clash}
 
@@ -67,17 +66,4 @@ pub records_are_found : RecordsAreFound
 records_are_found es name e differ = (
   λ found. found_among es name e found,
   λ h. subst (λ n. get (with_all empty es) n ≡ Some e) h.1 (is_in_all empty es e differ h.0),
-)
-
--- ---- elements of a list
-
-pub among_is_contained : AmongIsContained
-among_is_contained entry [] = (λ none. absurd none, λ none. not_in_none entry none)
-among_is_contained entry (first ∷ es) = (
-  λ among.
-      ⊎_elim
-      (λ same. subst (λ (e : Entry). Contains (first ∷ es) e) (sym same) (Contains-first first es))
-      (λ later. Contains-more first es entry ((among_is_contained entry es).0 later))
-      among,
-  λ contained. ⊎_elim (λ same. inl (sym same)) (λ later. inr ((among_is_contained entry es).1 later)) (Contains-cons_cases first es entry contained),
 )

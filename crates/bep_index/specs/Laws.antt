@@ -12,7 +12,8 @@ use Rattle.bep_index.specs.After.{IsAmong, IsRun}
 use Rattle.bep_index.specs.View.{replaced, amended}
 use Rattle.bep_index.specs.declared.limits.TheConstants.{MAX_NAMES, MAX_SEQUENCE}
 
--- each batch begins where the one before ended, and leaves none of the index's records out
+-- each batch begins where the one before ended, and leaves none of the index's records out; all are of this one index,
+-- which doesn't change between them
 abbrev pub FollowInOrder : Listing → ℕ → List (List Entry) → Type 0
 FollowInOrder index sequence [] = Unit {0}
 FollowInOrder index sequence (batch ∷ more) =
@@ -28,7 +29,8 @@ abbrev pub up_to : ℕ → Option Entry → Option Entry
 up_to sequence None = None
 up_to sequence (Some entry) = if nat_le entry.sequence sequence then Some entry else None
 
--- the view has exactly the index's records up to its sequence
+-- the view has exactly the index's records up to its sequence; where the index changes a record that was sent, it is no
+-- longer so, since the record then has a number above the view's
 abbrev pub HoldsUpTo : Listing → Listing → Type 0
 HoldsUpTo index view = (name : List ℕ) → get view.records name ≡ up_to view.sequence (get index.records name)
 

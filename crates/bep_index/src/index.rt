@@ -1,3 +1,4 @@
+//! A device's own index of a folder.
 ghost use Rattle.std.specs.Prelude.{◌≡◌, ◌↔◌, ◌+◌, ◌≤◌, IfOk, IfErr, OnOk, OnErr, IsErrOf, IsTrue};
 ghost use Rattle.std.specs.Option.{option_copied};
 ghost use Rattle.std.specs.FinMap as map;
@@ -152,7 +153,7 @@ impl Index {
         self.sequence = sequence;
         Ok(Undo {
             id: self.id,
-            sequence,
+            given: sequence,
             name,
             old,
         })

@@ -2,9 +2,9 @@
 //! law.
 ghost use Rattle.bep_index.specs.Laws.{BatchesBringTheIndex, SamePointSameIndex, RecordsMakeAnIndex, RecordsAreFound, FoundIsOfBatchOrBefore, BatchIsFound, OthersAreKept, AmongIsContained, EarlierChangesDontFit, LastChangesAgree};
 
-/// A view that takes the beginning of what is after 0 in place of all that it had, and adds the batches that follow, in
-/// order and without a gap, holds after each batch exactly the sender's records up to that batch's last sequence. So a
-/// view that comes to the index's point in this way is the index.
+/// Of an index that doesn't change meanwhile: a view that takes the beginning of what is after 0 in place of all that it
+/// had, and adds the batches that follow, in order and without a gap, holds after each batch exactly the sender's
+/// records up to that batch's last sequence. So a view that comes to the index's point in this way is the index.
 pub fn batches_bring_the_index()
     ensures up_to { BatchesBringTheIndex }
     ensures whole { SamePointSameIndex }

@@ -1,9 +1,19 @@
 //! The index of a device's folder, what a device knows of another's index, and what is sent of the one to bring the
 //! other up to date.
+//!
+//! ```rust
+//! // What a receiver is sent next, which announced the point of its view.
+//! let above = match plan(&index, id, max) {
+//!     Plan::Full => 0,
+//!     Plan::Above(sequence) => sequence,
+//! };
+//! let batch = Batch::new(index.after(alloc, above, MAX_RECORDS)?)?;
+//! ```
 #![tactic(auto)]
 
 mod all;
 mod batch;
+mod change;
 mod error;
 mod id;
 mod index;
@@ -15,10 +25,10 @@ mod receiver;
 mod send;
 #[cfg(test)]
 mod tests;
-mod undo;
 mod view;
 
 pub use batch::Batch;
+pub use change::Undo;
 pub use error::IndexError;
 pub use id::IndexId;
 pub use index::Index;
@@ -29,5 +39,4 @@ pub use laws::{
 pub use limits::{MAX_NAMES, MAX_RECORDS, MAX_SEQUENCE};
 pub use receiver::plan;
 pub use send::Plan;
-pub use undo::Undo;
 pub use view::View;

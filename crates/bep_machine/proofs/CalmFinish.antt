@@ -1,5 +1,5 @@
 -- At a calm replica the end of a pull drops it, or takes over the target's time and version; content stays as it was.
-use Rattle.std.proofs.Common.{◌≡◌, ◌≢◌, ◌∙◌, ℕ, ◌+◌, false, List, Option, Some, None, refl, sym, ap, subst, subst₂, inl, inr, ⊎_elim, max, arith}
+use Rattle.std.proofs.Common.{◌≡◌, ◌∙◌, ℕ, ◌+◌, false, List, Option, Some, None, refl, sym, ap, subst, subst₂, inl, inr, ⊎_elim, max, arith}
 use Rattle.bep_record.specs.declared.entry.Entry.{Entry}
 use Rattle.bep_record.specs.declared.kind.Kind.{Kind}
 use Rattle.bep_record.specs.declared.kind.Kind.TheVariants as kinds
@@ -15,16 +15,15 @@ use Rattle.bep_model.specs.Foreign.{IsHarmless}
 use Rattle.bep_model.specs.Calm.{content_due, OwnIsCalm, SameFile}
 use Rattle.bep_model.specs.Tables.{Device, FileName}
 use Rattle.bep_machine.specs.Answer.{Answer}
-use Rattle.bep_machine.specs.Replica.{Replica, Pull, own_at, node_at, pull_at, target_at, HasContentOf, Wants, with_record, with_node, without_pull}
+use Rattle.bep_machine.specs.Replica.{Replica, Pull, own_at, node_at, pull_at, HasContentOf, Wants, with_node, without_pull}
 use Rattle.bep_machine.specs.Pull.{FinishRow, EndingRow, SettlingRow, IsStillWanted, IsConflictDue, IsAdopted, EndsWith, timed}
 use Rattle.bep_machine.specs.Sound.{IsGood, IsSoundReplica}
 use Rattle.bep_machine.proofs.CalmParts.{IsCalmThere, IsCalmReplica, GoesOn, IsQuietChange}
-use Rattle.bep_machine.proofs.CalmPull.{target_at_pull}
 use Rattle.bep_machine.proofs.CalmRows.{at_answers, at_becomes}
 use Rattle.bep_machine.proofs.CalmScan.{same_file, nothing_is_quiet}
 use Rattle.bep_machine.proofs.ChoiceFacts.{chosen_is_known, chosen_is_valid, needed_is_newer, own_not_needed}
 use Rattle.bep_machine.proofs.ContentFacts.{not_deleted, timed_is_clean}
-use Rattle.bep_machine.proofs.ReplicaFacts.{same_name_or_not, target_says, without_pull_found, with_node_own, with_node_viewed, with_node_pull, with_node_here, with_node_apart, with_record_here, with_record_apart}
+use Rattle.bep_machine.proofs.ReplicaFacts.{same_name_or_not, target_at_pull, target_says, without_pull_found, with_node_viewed, with_node_here, with_node_apart, ended, own_here, own_apart, target_before_end}
 
 -- ---- what is wanted has the own content
 
@@ -91,30 +90,16 @@ looks_like_adopted kinds.File node target version sequence looks = looks
 looks_like_adopted kinds.Directory node target version sequence looks = looks
 looks_like_adopted kinds.Symlink node target version sequence looks = looks
 
-clean_against_adopted : (node : Option NodeParts) (target : Entry) (version : List (ℕ × ℕ)) (sequence : ℕ) → IsClean node (Some target) → IsClean node (Some (numbered (record target { version = version; invalid = false }) sequence))
+pub clean_against_adopted : (node : Option NodeParts) (target : Entry) (version : List (ℕ × ℕ)) (sequence : ℕ) → IsClean node (Some target) → IsClean node (Some (numbered (record target { version = version; invalid = false }) sequence))
 clean_against_adopted None target version sequence clean = clean
 clean_against_adopted (Some node) target version sequence clean = (clean.0, clean.1, looks_like_adopted node.kind node target version sequence clean.2)
 
--- ---- the replica afterwards
-
-abbrev ended : Replica → FileName → Option NodeParts → Entry → Replica
-ended old name after entry = without_pull (with_record (with_node old name after) entry) name
-
-module _ (old : Replica) (name : FileName) (after : Option NodeParts) (entry : Entry) (named : entry.name ≡ name) where
-  own_here : own_at (ended old name after entry) name ≡ Some (numbered entry ((with_node old name after).index.sequence + 1))
-  own_here = subst (λ (n : FileName). own_at (ended old name after entry) n ≡ Some (numbered entry ((with_node old name after).index.sequence + 1))) named (with_record_here (with_node old name after) entry)
-
-  own_apart : (other : FileName) → other ≢ name → own_at (ended old name after entry) other ≡ own_at old other
-  own_apart other apart = with_record_apart (with_node old name after) entry other (λ same. apart (same ∙ named)) ∙ with_node_own old name after other
-
-  target_before_end : (other : FileName) (target : Entry) → target_at (ended old name after entry) other ≡ Some target → target_at old other ≡ Some target
-  target_before_end other target is =
-      let found = target_says (pull_at (ended old name after entry) other) target is in
-      let before = sym (with_node_pull old name after other) ∙ without_pull_found (with_record (with_node old name after) entry) name other found.0 found.1 in
-      target_at_pull old other found.0 before ∙ ap (λ (e : Entry). Some e) found.2
+abbrev pub FinishIsQuiet : Type 0
+FinishIsQuiet = (contents : FileName → Option Content) (device : Device) (name : FileName) (failed : Option ℕ) (old new : Replica) (answer : Answer) →
+    IsSoundReplica device old → IsCalmReplica contents old → FinishRow device name failed old new answer → IsQuietChange old new
 
 module _ (one_length : CutIsOfOneLength) where
-  timed_is_clean_there : (own : Option Entry) (node : Option NodeParts) (target : Entry) → ((entry : Entry) → own ≡ Some entry → IsGood entry) → IsGood target → HasContentOf own target → IsClean node own → IsClean (timed node target) (Some target)
+  pub timed_is_clean_there : (own : Option Entry) (node : Option NodeParts) (target : Entry) → ((entry : Entry) → own ≡ Some entry → IsGood entry) → IsGood target → HasContentOf own target → IsClean node own → IsClean (timed node target) (Some target)
   timed_is_clean_there None held target good too has clean = absurd has
   timed_is_clean_there (Some own) held target good too has clean = timed_is_clean one_length held own target (good own refl).formed too.formed has clean
 
@@ -123,6 +108,8 @@ module _ (one_length : CutIsOfOneLength) where
       let taken = clean_against_adopted (timed node target) target adopted.version sequence (timed_is_clean_there own node target good too has clean) in
       let put : IsClean (timed node target) (Some (numbered entry sequence)) = subst (λ (e : Entry). IsClean (timed node target) (Some (numbered e sequence))) (sym adopted.same) taken in
       subst₂ (λ (n : Option NodeParts) (o : Option Entry). IsClean n o) (sym written) (sym is) put
+
+  -- ---- the replica afterwards
 
   -- where the target has the own content, its record takes the own one's place
   adopted_is_quiet : (contents : FileName → Option Content) (device : Device) (name : FileName) (old : Replica) (pull : Pull) (after : Option NodeParts) (entry : Entry) → IsSoundReplica device old → IsCalmReplica contents old → pull_at old name ≡ Some pull → HasContentOf (own_at old name) pull.target → after ≡ timed (node_at old name) pull.target → IsAdopted (own_at old name) pull.target entry → IsQuietChange old (ended old name after entry)
@@ -159,10 +146,6 @@ module _ (one_length : CutIsOfOneLength) where
         viewed = λ from other. with_node_viewed old name after from other;
         target = λ other target found. inr (target_before_end old name after entry named other target found);
       }
-
-  abbrev pub FinishIsQuiet : Type 0
-  FinishIsQuiet = (contents : FileName → Option Content) (device : Device) (name : FileName) (failed : Option ℕ) (old new : Replica) (answer : Answer) →
-      IsSoundReplica device old → IsCalmReplica contents old → FinishRow device name failed old new answer → IsQuietChange old new
 
   dropped_is_quiet : (contents : FileName → Option Content) (old : Replica) (name : FileName) → IsCalmReplica contents old → IsQuietChange old (without_pull old name)
   dropped_is_quiet contents old name calm = record {

@@ -1,5 +1,5 @@
 -- At a calm replica the beginning of a pull adds that pull alone, and its target was in a view.
-use Rattle.std.proofs.Common.{◌≡◌, ◌∙◌, Option, Some, refl, sym, ap, subst, inl, inr, ⊎_elim, option_map}
+use Rattle.std.proofs.Common.{◌≡◌, ◌∙◌, Option, Some, refl, sym, ap, subst, inl, inr, ⊎_elim}
 use Rattle.bep_record.specs.declared.entry.Entry.{Entry}
 use Rattle.bep_record.specs.Content.{Content}
 use Rattle.bep_choice.specs.Need.{IsNeeded}
@@ -12,10 +12,7 @@ use Rattle.bep_machine.proofs.CalmParts.{IsElsewhere, IsCalmReplica, IsQuietChan
 use Rattle.bep_machine.proofs.CalmRows.{at_answers, at_becomes}
 use Rattle.bep_machine.proofs.CalmScan.{same_file, nothing_is_quiet}
 use Rattle.bep_machine.proofs.ChoiceFacts.{chosen_is_known, chosen_is_valid, own_not_needed}
-use Rattle.bep_machine.proofs.ReplicaFacts.{target_says, with_pull_found}
-
-pub target_at_pull : (replica : Replica) (name : FileName) (pull : Pull) → pull_at replica name ≡ Some pull → target_at replica name ≡ Some pull.target
-target_at_pull replica name pull is = ap (λ (o : Option Pull). option_map (λ pull. pull.target) o) is
+use Rattle.bep_machine.proofs.ReplicaFacts.{target_at_pull, target_says, with_pull_found}
 
 -- what is chosen and needed was in a view
 needed_is_viewed : (device : Device) (old : Replica) (name : FileName) (chosen : Entry) → Chooses device old name chosen → ¬ (¬ IsNeeded old.kind (own_at old name) chosen) → IsElsewhere old name chosen

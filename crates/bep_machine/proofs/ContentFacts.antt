@@ -87,7 +87,7 @@ alike_where_same one other same there too =
       target = λ is. same_target one.kind other.kind one.blocks other.blocks one.target other.target is (sym kind ∙ is) e;
     }
 
-has_blocks : (entry : Entry) → IsWellFormed entry → entry.deleted ≡ false → entry.kind ≡ kinds.File → HasBlocks entry
+pub has_blocks : (entry : Entry) → IsWellFormed entry → entry.deleted ≡ false → entry.kind ≡ kinds.File → HasBlocks entry
 has_blocks entry formed there file =
     let body : HasBody false kinds.File entry = subst₂ (λ (deleted : Bool) (kind : Kind). HasBody deleted kind entry) there file formed.body in
     body.0

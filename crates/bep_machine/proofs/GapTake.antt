@@ -24,7 +24,7 @@ use Rattle.bep_machine.specs.Answer.{Answer}
 use Rattle.bep_machine.specs.Replica.{Replica, Pull, view_of, pull_at, with_view}
 use Rattle.bep_machine.specs.Link.{Deed, first_of_queue, taking, losing}
 use Rattle.bep_machine.specs.Peer.{Session, Peer, Acted, with_session, with_replica}
-use Rattle.bep_machine.specs.Exchange.{ReplicaRow, IsGoodConfig, SharesWith, NamesShared, known_under, cursor_after, all_renewed, cursors_for, configured_by, IsNamed, ViewRow, RequestRow, AnsweredRow, ResponseRow, MessageRow, WaitingRow, DeliverRow, taken_by, with_block, with_received, without}
+use Rattle.bep_machine.specs.Exchange.{ReplicaRow, IsGoodConfig, SharesWith, NamesShared, known_under, cursor_after, all_renewed, cursors_for, configured_by, IsNamed, ViewRow, RequestRow, asked_for, AnsweredRow, AskedRow, ResponseRow, MessageRow, WaitingRow, DeliverRow, taken_by, with_block, with_received, without}
 use Rattle.bep_machine.proofs.ReplicaFacts.{same_name_or_not, insert_here, insert_apart}
 use Rattle.bep_machine.proofs.GapFlow.{Part, Whole, Further, Other, part_of, EachSays, ConfigSays, SaysId, SaysPoint, IsInStep}
 use Rattle.bep_machine.proofs.GapMoves.{same_id_or_not, in_step_sending_other, in_step_with_cursor, in_step_less_back, in_step_more_back, in_step_taking_other, in_step_cleared, in_step_named, in_step_taking_whole, in_step_taking_further}
@@ -61,6 +61,10 @@ view_here replica other view = ap (λ o. unwrap_or o (cleared 0)) (get-insert_he
 
 view_apart : (replica : Replica) (other : Device) (view : Listing) (third : Device) → third ≢ other → view_of (with_view replica other view) third ≡ view_of replica third
 view_apart replica other view third apart = ap (λ o. unwrap_or o (cleared 0)) (get-insert_apart nat_cmp_total nat_cmp-IsAntisymmetric replica.views other view third apart)
+
+-- the index and all views are the same
+abbrev SameViews : Replica → Replica → Type 0
+SameViews before after = (after.index ≡ before.index) × ((third : Device) → view_of after third ≡ view_of before third)
 
 shared_at : (other : Device) (peer : Peer) (named : List Announced) (one : Announced) → Contains named one → NamesShared other peer named → SharesWith other peer one.folder
 shared_at other peer [] one stands shared = absurd (not_in_none one stands)
@@ -110,7 +114,7 @@ module _ (other : Device) (up : Bool) (epoch : ℕ) (first : Message) (rest back
 
     -- a session with the same cursors, and replicas with the same views
     response_taken : (next : Session) (peer : Peer) → next.epoch ≡ epoch → next.cursors ≡ session.cursors → peer.sessions ≡ insert old.sessions other next → ((folder : Folder) → part_of folder first ≡ Other) →
-        ((folder : Folder) → OfBoth (λ before after. (after.index ≡ before.index) × ((third : Device) → view_of after third ≡ view_of before third)) (get old.replicas folder) (get peer.replicas folder)) →
+        ((folder : Folder) → OfBoth SameViews (get old.replicas folder) (get peer.replicas folder)) →
         KeepsExchange other up epoch (first ∷ rest) back old (taken_by peer)
     response_taken next peer still cursors sessions part replicas =
         in_session_keeps other up epoch (first ∷ rest) back old (taken_by peer) session next has current
@@ -120,7 +124,7 @@ module _ (other : Device) (up : Bool) (epoch : ℕ) (first : Message) (rest back
         subst (λ (now : ByName Plan). OfBoth (KeepsFolder folder other up (first ∷ rest) back taking (get session.cursors folder) (get now folder)) (get old.replicas folder) (get peer.replicas folder)) (sym cursors)
         (each folder (get old.replicas folder) (get peer.replicas folder) (replicas folder)))
       where
-        each : (folder : Folder) (before after : Option Replica) → OfBoth (λ before after. (after.index ≡ before.index) × ((third : Device) → view_of after third ≡ view_of before third)) before after →
+        each : (folder : Folder) (before after : Option Replica) → OfBoth SameViews before after →
             OfBoth (KeepsFolder folder other up (first ∷ rest) back taking (get session.cursors folder) (get session.cursors folder)) before after
         each folder None None same = tt
         each folder None (Some after) same = absurd same
@@ -128,43 +132,38 @@ module _ (other : Device) (up : Bool) (epoch : ℕ) (first : Message) (rest back
         each folder (Some before) (Some after) same = other_taken folder (get session.cursors folder) before after (part folder) same.0 same.1
 
     response_keeps : (response : Response) → first ≡ messages.Response response → ResponseRow other session response old acted answer → KeepsExchange other up epoch (first ∷ rest) back old acted
-    response_keeps response is = by_row
+    response_keeps response is = by_row (asked_for response.id session.outstanding)
       where
         part : (folder : Folder) → part_of folder first ≡ Other
         part folder = ap (part_of folder) is
 
-        SameViews : Replica → Replica → Type 0
-        SameViews before after = (after.index ≡ before.index) × ((third : Device) → view_of after third ≡ view_of before third)
-
         next : Session
         next = record session { outstanding = without response.id session.outstanding }
 
-        stays : (peer : Peer) (replicas : ByName Replica) → replicas ≡ old.replicas → (folder : Folder) → OfBoth (λ before after. (after.index ≡ before.index) × ((third : Device) → view_of after third ≡ view_of before third)) (get old.replicas folder) (get replicas folder)
-        stays peer replicas same folder =
-            subst (λ (r : ByName Replica). OfBoth (λ before after. (after.index ≡ before.index) × ((third : Device) → view_of after third ≡ view_of before third)) (get old.replicas folder) (get r folder)) (sym same)
-            (of_same (λ before after. (after.index ≡ before.index) × ((third : Device) → view_of after third ≡ view_of before third)) (get old.replicas folder) (λ replica there. (refl, λ third. refl)))
+        stays : (folder : Folder) → OfBoth SameViews (get old.replicas folder) (get old.replicas folder)
+        stays folder = of_same SameViews (get old.replicas folder) (λ replica there. (refl, λ third. refl))
 
         received : (request : Request) (bytes : List ℕ) (found : Option Replica) → get old.replicas request.folder ≡ found → KeepsExchange other up epoch (first ∷ rest) back old (taken_by (with_received request bytes found (with_session old other next)))
         received request bytes None there =
-            response_taken next (with_session old other next) current refl refl part (stays old old.replicas refl)
+            response_taken next (with_session old other next) current refl refl part stays
         received request bytes (Some replica) there =
             response_taken next (with_received request bytes (Some replica) (with_session old other next)) current refl refl part
-            (after_insert (λ folder found. OfBoth (λ before after. (after.index ≡ before.index) × ((third : Device) → view_of after third ≡ view_of before third)) (get old.replicas folder) found)
+            (after_insert (λ folder found. OfBoth SameViews (get old.replicas folder) found)
             old.replicas request.folder (with_block request bytes (pull_at replica request.name) replica)
-            (subst (λ (o : Option Replica). OfBoth (λ before after. (after.index ≡ before.index) × ((third : Device) → view_of after third ≡ view_of before third)) o (Some (with_block request bytes (pull_at replica request.name) replica))) (sym there)
+            (subst (λ (o : Option Replica). OfBoth SameViews o (Some (with_block request bytes (pull_at replica request.name) replica))) (sym there)
             (same_block request bytes (pull_at replica request.name) replica))
-            (λ folder apart. stays old old.replicas refl folder))
+            (λ folder apart. stays folder))
 
         answered : (request : Request) → AnsweredRow other session response request old acted answer → KeepsExchange other up epoch (first ∷ rest) back old acted
         answered request (inl (right, made)) =
             subst (KeepsExchange other up epoch (first ∷ rest) back old) (sym made.0) (received request response.bytes (get old.replicas request.folder) refl)
         answered request (inr (wrong, made)) =
             subst (KeepsExchange other up epoch (first ∷ rest) back old) (sym made.0)
-            (response_taken next (with_session old other next) current refl refl part (stays old old.replicas refl))
+            (response_taken next (with_session old other next) current refl refl part stays)
 
-        by_row : ResponseRow other session response old acted answer → KeepsExchange other up epoch (first ∷ rest) back old acted
-        by_row (inl (one, (request, outstanding, row))) = answered request row
-        by_row (inr (none, made)) =
+        by_row : (request : Option Request) → AskedRow other session response request old acted answer → KeepsExchange other up epoch (first ∷ rest) back old acted
+        by_row (Some request) row = answered request row
+        by_row None made =
             subst (KeepsExchange other up epoch (first ∷ rest) back old) (sym made.0)
             (in_session_keeps other up epoch (first ∷ rest) back old (taken_by old) session session has current has current (λ third apart. refl)
             (λ folder. of_same (KeepsFolder folder other up (first ∷ rest) back taking (get session.cursors folder) (get session.cursors folder)) (get old.replicas folder)
@@ -210,9 +209,6 @@ module _ (other : Device) (up : Bool) (epoch : ℕ) (first : Message) (rest back
 
         no_cursor : (folder : Folder) → get session.cursors folder ≡ None
         no_cursor folder = ap (λ (cursors : ByName Plan). get cursors folder) (unnamed good.first) ∙ get-empty (slice_cmp nat_cmp) folder
-
-        Keeps : Folder → Option Plan → Option Plan → Option Replica → Option Replica → Type 0
-        Keeps folder mine now before after = OfBoth (KeepsFolder folder other up (first ∷ rest) back taking mine now) before after
 
         renewed_keeps : (folder : Folder) (one : Announced) (replica : Replica) → one.folder ≡ folder → Contains named one →
             KeepsFolder folder other up (first ∷ rest) back taking None (Some (cursor_after replica.index one.known_id one.known_sequence)) replica (with_view replica other (known_under one.index_id (view_of replica other)))

@@ -1,16 +1,15 @@
 -- Scanning, the beginning of a pull and its end take no own record away.
-use Rattle.std.proofs.Common.{◌≡◌, ◌∙◌, ℕ, Option, None, IsSome, is_some, sym, ap, subst, ⊎_elim}
+use Rattle.std.proofs.Common.{◌∙◌, ℕ, Option, IsSome, is_some, sym, ap, subst, ⊎_elim}
 use Rattle.bep_record.specs.declared.entry.Entry.{Entry}
 use Rattle.bep_record.specs.declared.node.NodeParts.{NodeParts}
 use Rattle.bep_record.specs.declared.folder_kind.FolderKind.{FolderKind}
 use Rattle.bep_record.specs.declared.folder_kind.FolderKind.TheVariants.{SendReceive, SendOnly, ReceiveOnly}
 use Rattle.bep_model.specs.Tables.{Device, FileName}
-use Rattle.bep_machine.specs.Answer.{Answer, Refused, Row, when◌then◌else◌, ◌answers◌when◌else◌}
+use Rattle.bep_machine.specs.Answer.{Answer}
 use Rattle.bep_machine.specs.Replica.{Replica, Pull, own_at, node_at, with_record, with_node}
-use Rattle.bep_machine.specs.declared.refusal.Refusal.TheVariants.{StoreFault}
-use Rattle.bep_machine.specs.Local.{Fails, ScanRow, FoundRow, PutRow}
+use Rattle.bep_machine.specs.Local.{ScanRow, FoundRow, PutRow}
 use Rattle.bep_machine.specs.Pull.{StartPullRow, FinishRow, EndingRow, CopyingRow, SettlingRow, RoomRow, copy_name}
-use Rattle.bep_machine.proofs.CalmRows.{at_answers, at_becomes}
+use Rattle.bep_machine.proofs.CalmRows.{CopiedRow, at_answers, at_becomes}
 use Rattle.bep_machine.proofs.ReplicaFacts.{same_name_or_not, with_node_own, with_record_here, with_record_apart}
 
 -- each name that has an own record has one afterwards
@@ -91,13 +90,6 @@ room_keeps name own target old new answer rest keeps row =
     (λ _ few.
     at_answers (KeepsOwn old) few (nothing_keeps old)
     (λ _ counted. at_answers (KeepsOwn old) counted (nothing_keeps old) (λ _ room. keeps room)))
-
--- the copy is written, or is there
-abbrev CopiedRow : FileName → Pull → Option ℕ → Option Entry → Option NodeParts → Replica → Row Replica
-CopiedRow name pull failed own node old =
-    when node_at old (copy_name own) ≡ None
-    then (old answers Refused StoreFault when Fails 3 failed else SettlingRow name pull 4 failed own node (with_node old (copy_name own) node))
-    else SettlingRow name pull 3 failed own node old
 
 copied_keeps : (name : FileName) (pull : Pull) (failed : Option ℕ) (own : Option Entry) (node : Option NodeParts) (old new : Replica) (answer : Answer) → CopiedRow name pull failed own node old new answer → KeepsOwn old new
 copied_keeps name pull failed own node old new answer row =

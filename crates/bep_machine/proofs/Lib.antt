@@ -6,9 +6,9 @@ mod GapMoves
 mod CalmRows
 mod ReplicaFacts
 mod ChoiceFacts
+mod ContentFacts
 mod CalmScan
 mod CalmPull
-mod ContentFacts
 mod CalmFinish
 mod KeepsOwn
 mod SoundParts
@@ -21,6 +21,12 @@ mod GoodChoice
 mod WrittenNode
 mod SoundLocal
 mod SoundPull
+mod ContentDecided
+mod WholeFile
+mod EffectFacts
+mod ScanEffect
+mod PullEffect
+mod OverrideEffect
 mod Places
 mod CalmTables
 mod CalmMoves

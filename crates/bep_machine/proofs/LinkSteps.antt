@@ -24,7 +24,7 @@ use Rattle.bep_machine.specs.Answer.{Answer, Row}
 use Rattle.bep_machine.specs.Replica.{Replica, own_at, pull_at, view_of, viewed_at, with_view}
 use Rattle.bep_machine.specs.Link.{Sight, losing}
 use Rattle.bep_machine.specs.Peer.{Session, Peer, Acted, idle, with_session, config_for}
-use Rattle.bep_machine.specs.Exchange.{SessionRow, ReplicaRow, BeginRow, IsNamed, ViewRow, RequestRow, AnsweredRow, ResponseRow, MessageRow, WaitingRow, DeliverRow, LosingRow, with_received, with_block, index_message, SendingRow, CursorRow, AnnounceRow, AskingRow, AskRow, request_for, without}
+use Rattle.bep_machine.specs.Exchange.{SessionRow, ReplicaRow, BeginRow, IsNamed, ViewRow, RequestRow, AnsweredRow, AskedRow, ResponseRow, asked_for, MessageRow, WaitingRow, DeliverRow, LosingRow, with_received, with_block, index_message, SendingRow, CursorRow, AnnounceRow, AskingRow, AskRow, request_for, without}
 use Rattle.bep_machine.proofs.ReadOn.{AreReadOn, none_read, one_read, all_renewed_read, read_with_view, read_with_block}
 use Rattle.bep_machine.proofs.CalmRows.{at_answers, at_becomes}
 
@@ -154,10 +154,11 @@ module _ (Comes : Folder → FileName → Entry → Type 0) (old : Peer) where
       (λ wrong. at_becomes (IsLinkStep Comes old) wrong (silent _ refl (none_read Comes old.replicas)))
 
   response_step : (other : Device) (session : Session) (response : Response) (acted : Acted) (answer : Answer) → ResponseRow other session response old acted answer → IsLinkStep Comes old acted
-  response_step other session response acted answer made =
-      one_or_other made
-      (λ one. answered_step other session response one.0 acted answer one.2)
-      (λ none. at_becomes (IsLinkStep Comes old) none (silent _ refl (none_read Comes old.replicas)))
+  response_step other session response acted answer made = by_asked (asked_for response.id session.outstanding) made
+    where
+      by_asked : (asked : Option Request) → AskedRow other session response asked old acted answer → IsLinkStep Comes old acted
+      by_asked None made = at_becomes (IsLinkStep Comes old) made (silent _ refl (none_read Comes old.replicas))
+      by_asked (Some request) made = answered_step other session response request acted answer made
 
   -- ---- taking records
 

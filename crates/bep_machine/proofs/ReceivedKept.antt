@@ -14,7 +14,7 @@ use Rattle.bep_machine.specs.Answer.{Answer}
 use Rattle.bep_machine.specs.Replica.{Pull, Replica, pull_at}
 use Rattle.bep_machine.specs.Link.{Sight}
 use Rattle.bep_machine.specs.Peer.{Session, Peer, Acted, with_session}
-use Rattle.bep_machine.specs.Exchange.{same_bytes, is_about, without, received_at, with_block, with_received, AnsweredRow, ResponseRow}
+use Rattle.bep_machine.specs.Exchange.{same_bytes, is_about, without, received_at, with_block, with_received, AnsweredRow, AskedRow, ResponseRow, asked_for}
 use Rattle.bep_machine.specs.Cluster.{Config}
 use Rattle.bep_machine.specs.Sound.{AreReceived, IsSoundPull, IsSoundReplica, IsSoundSession, IsSoundPeer}
 use Rattle.bep_machine.proofs.SoundParts.{SoundChange, unchanged}
@@ -24,15 +24,15 @@ use Rattle.bep_machine.proofs.ActedKept.{SoundActed, took}
 
 -- ---- the bytes stand at the block that was asked for
 
-about_block : (request : Request) (block : Block) → is_about request block ≡ true → (request.size ≡ block.size) × (request.hash ≡ block.hash)
+about_block : (request : Request) (block : Block) → is_about request block ≡ true → request.size ≡ block.size
 about_block request block is =
     let place = and_parts (request.offset == block.offset) ((request.size == block.size) && same_bytes request.hash block.hash) is in
     let rest = and_parts (request.size == block.size) (same_bytes request.hash block.hash) place.1 in
-    (eqb-true request.size block.size rest.0, same_key exact_bytes request.hash block.hash rest.1)
+    eqb-true request.size block.size rest.0
 
-module _ (request : Request) (bytes : List ℕ) (long : length bytes ≡ request.size) (hashed : hash_of bytes ≡ request.hash) where
+module _ (request : Request) (bytes : List ℕ) (long : length bytes ≡ request.size) where
   block_is_received : (block : Block) (blocks : List Block) (received : List (Option (List ℕ))) (b : Bool) → is_about request block ≡ b → AreReceived blocks received → AreReceived (block ∷ blocks) ((if b then Some bytes else None) ∷ received)
-  block_is_received block blocks received true about all = let same = about_block request block about in (long ∙ same.0, hashed ∙ same.1, all)
+  block_is_received block blocks received true about all = (long ∙ about_block request block about, all)
   block_is_received block blocks received false about all = all
 
   are_received : (blocks : List Block) (received : List (Option (List ℕ))) → AreReceived blocks received → AreReceived blocks (received_at request bytes blocks received)
@@ -41,7 +41,7 @@ module _ (request : Request) (bytes : List ℕ) (long : length bytes ≡ request
   are_received (block ∷ blocks) [] all = absurd all
   are_received (block ∷ blocks) (None ∷ received) all =
       block_is_received block blocks (received_at request bytes blocks received) (is_about request block) refl (are_received blocks received all)
-  are_received (block ∷ blocks) (Some had ∷ received) all = (all.0, all.1, are_received blocks received all.2)
+  are_received (block ∷ blocks) (Some had ∷ received) all = (all.0, are_received blocks received all.1)
 
   -- ---- the pull
 
@@ -78,7 +78,7 @@ module _ (request : Request) (bytes : List ℕ) (long : length bytes ≡ request
 
 -- ---- the session
 
-one_fewer : (b : Bool) (request : Request) (rest more : List Request) → length rest ≤ length more → length (if b then rest else request ∷ rest) ≤ length (request ∷ more)
+one_fewer : (b : Bool) (request : Request) (rest more : List Request) → length rest ≤ length more → length (if b then more else request ∷ rest) ≤ length (request ∷ more)
 one_fewer true request rest more few = omega arith
 one_fewer false request rest more few = omega arith
 
@@ -101,7 +101,7 @@ module _ (config : Config) (device other : Device) (sight : Sight) (session : Se
   answered_keeps response request (inl (has, made)) =
       let answered : Peer = with_session old other (record session { outstanding = without response.id session.outstanding }) in
       took config device sight (with_received request response.bytes (get answered.replicas request.folder) answered) acted
-      (with_received_is_sound request response.bytes has.1 has.2 config device answered (get answered.replicas request.folder)
+      (with_received_is_sound request response.bytes has.1 config device answered (get answered.replicas request.folder)
       (sound_with_session config device other old (record session { outstanding = without response.id session.outstanding }) sound (answered_is_sound other old session response.id one)) refl)
       made.0
   answered_keeps response request (inr (wrong, made)) =
@@ -109,6 +109,9 @@ module _ (config : Config) (device other : Device) (sight : Sight) (session : Se
       (sound_with_session config device other old (record session { outstanding = without response.id session.outstanding }) sound (answered_is_sound other old session response.id one))
       made.0
 
+  asked_keeps : (response : Response) (asked : Option Request) → AskedRow other session response asked old acted answer → SoundActed config device sight acted
+  asked_keeps response None made = took config device sight old acted sound made.0
+  asked_keeps response (Some request) made = answered_keeps response request made
+
   pub response_keeps : (response : Response) → ResponseRow other session response old acted answer → SoundActed config device sight acted
-  response_keeps response (inl (some, (request, outstanding, row))) = answered_keeps response request row
-  response_keeps response (inr (none, made)) = took config device sight old acted sound made.0
+  response_keeps response made = asked_keeps response (asked_for response.id session.outstanding) made

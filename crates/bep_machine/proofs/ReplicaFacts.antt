@@ -12,7 +12,7 @@ use Rattle.bep_record.specs.declared.entry.Entry.{Entry}
 use Rattle.bep_record.specs.declared.node.NodeParts.{NodeParts}
 use Rattle.bep_index.specs.Index.{numbered}
 use Rattle.bep_model.specs.Tables.{Device, FileName}
-use Rattle.bep_machine.specs.Replica.{Replica, Pull, own_at, node_at, pull_at, viewed_at, with_record, with_node, with_pull, without_pull}
+use Rattle.bep_machine.specs.Replica.{Replica, Pull, own_at, node_at, pull_at, viewed_at, target_at, with_record, with_node, with_pull, without_pull}
 
 pub same_name_or_not : (one other : FileName) → (one ≡ other) ⊎ (one ≢ other)
 same_name_or_not one other =
@@ -38,18 +38,6 @@ module _ {V : Type 0} (m : ByName V) (name : FileName) where
 
 module _ (replica : Replica) (name : FileName) where
   -- all else stays
-  pub with_node_index : (node : Option NodeParts) → (with_node replica name node).index ≡ replica.index
-  with_node_index None = refl
-  with_node_index (Some node) = refl
-
-  pub with_node_views : (node : Option NodeParts) → (with_node replica name node).views ≡ replica.views
-  with_node_views None = refl
-  with_node_views (Some node) = refl
-
-  pub with_node_pulls : (node : Option NodeParts) → (with_node replica name node).pulls ≡ replica.pulls
-  with_node_pulls None = refl
-  with_node_pulls (Some node) = refl
-
   pub with_node_own : (node : Option NodeParts) (other : FileName) → own_at (with_node replica name node) other ≡ own_at replica other
   with_node_own None other = refl
   with_node_own (Some node) other = refl
@@ -107,3 +95,26 @@ without_pull_found replica name other found is =
 pub target_says : (pull : Option Pull) (entry : Entry) → option_map (λ pull. pull.target) pull ≡ Some entry → (found : Pull) × (pull ≡ Some found) × (found.target ≡ entry)
 target_says None entry is = absurd (cc)
 target_says (Some pull) entry is = (pull, refl, cc)
+
+pub target_at_pull : (replica : Replica) (name : FileName) (pull : Pull) → pull_at replica name ≡ Some pull → target_at replica name ≡ Some pull.target
+target_at_pull replica name pull is = ap (λ (o : Option Pull). option_map (λ pull. pull.target) o) is
+
+-- ---- the node and the record that the end of a pull leaves
+
+abbrev pub ended : Replica → FileName → Option NodeParts → Entry → Replica
+ended start name after entry = without_pull (with_record (with_node start name after) entry) name
+
+module _ (start : Replica) (name : FileName) (after : Option NodeParts) (entry : Entry) (named : entry.name ≡ name) where
+  pub own_here : own_at (ended start name after entry) name ≡ Some (numbered entry ((with_node start name after).index.sequence + 1))
+  own_here =
+      subst (λ (n : FileName). own_at (ended start name after entry) n ≡ Some (numbered entry ((with_node start name after).index.sequence + 1))) named
+      (with_record_here (with_node start name after) entry)
+
+  pub own_apart : (other : FileName) → other ≢ name → own_at (ended start name after entry) other ≡ own_at start other
+  own_apart other apart = with_record_apart (with_node start name after) entry other (λ same. apart (same ∙ named)) ∙ with_node_own start name after other
+
+  pub target_before_end : (other : FileName) (target : Entry) → target_at (ended start name after entry) other ≡ Some target → target_at start other ≡ Some target
+  target_before_end other target is =
+      let found = target_says (pull_at (ended start name after entry) other) target is in
+      let before = sym (with_node_pull start name after other) ∙ without_pull_found (with_record (with_node start name after) entry) name other found.0 found.1 in
+      target_at_pull start other found.0 before ∙ ap (λ (e : Entry). Some e) found.2

@@ -1,5 +1,5 @@
 -- What holds after every quiet run from a settled cluster.
-use Rattle.std.proofs.Common.{◌≡◌, ◌⊎◌, ℕ, List, [], ◌∷◌, Contains, Option, Some, None, IsSome, refl, sym, ap, subst, ◌∙◌, ⊎_elim, Bool, true, false, if◌then◌else◌, nat_lt}
+use Rattle.std.proofs.Common.{◌≡◌, ℕ, List, [], ◌∷◌, Option, Some, None, IsSome, refl, sym, ap, subst, ◌∙◌, ⊎_elim, Bool, true, false, if◌then◌else◌, nat_lt}
 use Rattle.std.specs.FinMap.{get}
 use Rattle.bep_record.specs.declared.entry.Entry.{Entry}
 use Rattle.bep_record.specs.declared.node.NodeParts.{NodeParts}
@@ -20,7 +20,7 @@ use Rattle.bep_machine.specs.Pull.{StartPullRow, FinishRow}
 use Rattle.bep_machine.specs.Exchange.{BeginRow, DeliverRow, AnnounceRow, AskRow}
 use Rattle.bep_machine.specs.Steps.{ConnectRow, LoseRow, IsStep, StepRow, AtReplica, AtLink, OverLink, Event, IsRun, IsQuiet, AreQuiet}
 use Rattle.bep_machine.specs.Said.{looked_up, tables_of_cluster}
-use Rattle.bep_machine.specs.Sound.{IsSound, IsSoundPeer}
+use Rattle.bep_machine.specs.Sound.{IsSound}
 use Rattle.bep_machine.specs.Laws.{IsSoundStep, StepsKeepSound, QuietStepsKeepCalm, QuietStepsKeepRecords, SettledStaysPut, SettledStaysSettled}
 
 -- ---- files that are kept

@@ -42,7 +42,7 @@ received_within [] (one ∷ more) are = absurd are
 received_within (block ∷ blocks) [] are = absurd are
 received_within (block ∷ blocks) (None ∷ received) are = let later = received_within blocks received are in omega arith
 received_within (block ∷ blocks) (Some bytes ∷ received) are =
-    let later = received_within blocks received are.2 in
+    let later = received_within blocks received are.1 in
     let both = length-append bytes (bytes_of received) in
     let here = are.0 in
     omega arith

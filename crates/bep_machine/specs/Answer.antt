@@ -19,13 +19,11 @@ abbrev pub becomes : {S : Type 0} → S → Answer → Row S
 becomes made given new answer = (new ≡ made) × (answer ≡ given)
 
 infix 5 when◌then◌else◌
-
 -- where the condition holds the first row decides, else the second
 abbrev pub when◌then◌else◌ : {S : Type 0} → Type 0 → Row S → Row S → Row S
 when◌then◌else◌ condition one other new answer = (condition × one new answer) ⊎ ((¬ condition) × other new answer)
 
 infixr 5 ◌answers◌when◌else◌
-
 -- where the condition holds the state stays, and this is the answer; else the rest of the row decides
 abbrev pub ◌answers◌when◌else◌ : {S : Type 0} → S → Answer → Type 0 → Row S → Row S
 ◌answers◌when◌else◌ old given condition rest = when◌then◌else◌ condition (becomes old given) rest

@@ -1,11 +1,9 @@
 -- A cluster: which devices share which folders, what each device has, and what is on its way between them (BEP v1).
-use Rattle.std.specs.Prelude.{◌≡◌, ℕ, ◌==◌, ◌&&◌, ◌||◌, Bool, List, [], ◌∷◌, nat_lt, Contains, if◌then◌else◌}
-use Rattle.std.specs.FinMap.{empty}
+use Rattle.std.specs.Prelude.{◌==◌, ◌&&◌, ◌||◌, List, nat_lt, if◌then◌else◌}
 use Rattle.bep_record.specs.declared.folder_kind.FolderKind.{FolderKind}
-use Rattle.bep_model.specs.Tables.{Device, Folder, FileName}
-use Rattle.bep_machine.specs.Link.{Link, lost, end_of, sight_of, Sight, Deed, after_deed}
-use Rattle.bep_machine.specs.Replica.{Replica}
-use Rattle.bep_machine.specs.Peer.{Peer, with_replica}
+use Rattle.bep_model.specs.Tables.{Device, Folder}
+use Rattle.bep_machine.specs.Link.{Link, lost}
+use Rattle.bep_machine.specs.Peer.{Peer}
 
 -- what no step changes: the devices, the folders that they share, each in which kind, and which pairs have a link, the
 -- smaller device first

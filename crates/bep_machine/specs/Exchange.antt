@@ -1,6 +1,6 @@
 -- The steps of a device over a link: begin a session, take a message, announce records, ask for a block
 -- (BEP v1, 'Cluster Config', 'Index', 'Index Update', 'Request', 'Response'; limits are this project's profile).
-use Rattle.std.specs.Prelude.{◌≡◌, ◌≢◌, ◌⊎◌, ◌+◌, ◌<◌, ◌≤◌, ◌==◌, ◌&&◌, not, nat_le, ℕ, Bool, true, false, List, [], ◌∷◌, ◌++◌, length, take, drop, ⊤, Option, Some, None, IsSome, IsTrue, Contains, if◌then◌else◌}
+use Rattle.std.specs.Prelude.{◌≡◌, ◌≢◌, ◌⊎◌, ◌+◌, ◌<◌, ◌≤◌, ◌==◌, ◌&&◌, nat_le, ℕ, Bool, true, false, List, [], ◌∷◌, ◌++◌, length, take, drop, ⊤, Option, Some, None, IsSome, IsTrue, Contains, if◌then◌else◌}
 use Rattle.std.specs.List.{list_any}
 use Rattle.std.specs.Ordering.{nat_cmp, is_eq}
 use Rattle.std.specs.Cmp.Lexicographic.{slice_cmp}
@@ -30,10 +30,10 @@ use Rattle.bep_machine.specs.declared.message.Code.{Code}
 use Rattle.bep_machine.specs.declared.message.Code.TheVariants.{NoError, Generic, NoSuchFile, InvalidFile}
 use Rattle.bep_machine.specs.declared.moved.Moved.TheVariants.{Changed, LinkLost}
 use Rattle.bep_machine.specs.declared.refusal.Refusal.TheVariants.{IndexFull, LinkDown, LinkFull, NotBegun, NothingToDo}
-use Rattle.bep_machine.specs.Answer.{Answer, Done, Refused, Row, becomes, when◌then◌else◌, ◌answers◌when◌else◌}
-use Rattle.bep_machine.specs.Replica.{ByDevice, Pull, Replica, own_at, node_at, pull_at, view_of, viewed_at, HasContentOf, with_view, with_pull}
+use Rattle.bep_machine.specs.Answer.{Done, Refused, Row, becomes, when◌then◌else◌, ◌answers◌when◌else◌}
+use Rattle.bep_machine.specs.Replica.{Pull, Replica, own_at, node_at, pull_at, view_of, viewed_at, HasContentOf, with_view, with_pull}
 use Rattle.bep_machine.specs.Local.{Fails}
-use Rattle.bep_machine.specs.Link.{Sight, Deed, taking, sending, losing}
+use Rattle.bep_machine.specs.Link.{Sight, taking, sending, losing}
 use Rattle.bep_machine.specs.Peer.{Session, Peer, Acted, idle, new_session, with_replica, with_session, is_shared_with, config_for}
 
 -- ---- sessions
@@ -179,13 +179,14 @@ same_bytes one other = is_eq (slice_cmp nat_cmp one other)
 abbrev pub is_about : Request → Block → Bool
 is_about request block = (request.offset == block.offset) && ((request.size == block.size) && same_bytes request.hash block.hash)
 
--- the requests that are left, and the one that was answered
+-- the request of this number, and the requests without it
+abbrev pub asked_for : ℕ → List Request → Option Request
+asked_for id [] = None
+asked_for id (one ∷ more) = if one.id == id then Some one else asked_for id more
+
 abbrev pub without : ℕ → List Request → List Request
 without id [] = []
-without id (one ∷ more) = if one.id == id then without id more else one ∷ without id more
-
-abbrev pub IsOutstanding : Session → ℕ → Request → Type 0
-IsOutstanding session id request = Contains session.outstanding request × (request.id ≡ id)
+without id (one ∷ more) = if one.id == id then more else one ∷ without id more
 
 -- the bytes are the ones that were asked for
 abbrev pub HasBytes : Response → Request → Type 0
@@ -217,11 +218,12 @@ AnsweredRow other session response request old =
     else becomes (taken_by answered) (Done Changed)
 
 -- a response to no outstanding request is ignored
+abbrev pub AskedRow : Device → Session → Response → Option Request → Peer → Row Acted
+AskedRow other session response None old = becomes (taken_by old) (Done Changed)
+AskedRow other session response (Some request) old = AnsweredRow other session response request old
+
 abbrev pub ResponseRow : Device → Session → Response → Peer → Row Acted
-ResponseRow other session response old =
-    when ((request : Request) × IsOutstanding session response.id request)
-    then (λ new answer. (request : Request) × IsOutstanding session response.id request × AnsweredRow other session response request old new answer)
-    else becomes (taken_by old) (Done Changed)
+ResponseRow other session response old = AskedRow other session response (asked_for response.id session.outstanding) old
 
 -- what each message does
 abbrev pub MessageRow : Device → Option ℕ → Bool → Session → Message → Peer → Row Acted

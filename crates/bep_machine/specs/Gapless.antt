@@ -1,5 +1,5 @@
 -- No gap in what a device knows of another's index (BEP v1, 'Index' and 'Index Update').
-use Rattle.std.specs.Prelude.{◌≡◌, ◌≤◌, ℕ, false, Some, Contains}
+use Rattle.std.specs.Prelude.{◌≡◌, ◌≤◌, false, Some, Contains}
 use Rattle.std.specs.FinMap.{empty, get}
 use Rattle.bep_record.specs.declared.entry.Entry.{Entry}
 use Rattle.bep_index.specs.Listing.{Listing}

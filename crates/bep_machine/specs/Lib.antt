@@ -11,3 +11,4 @@ pub mod Said
 pub mod Sound
 pub mod Gapless
 pub mod Laws
+pub mod Effects

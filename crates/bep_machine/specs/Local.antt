@@ -1,13 +1,13 @@
 -- The steps of one device in one folder that look at its own files: editing, scanning, override and revert
 -- (this project's profile, over Syncthing, 'Folder Types').
-use Rattle.std.specs.Prelude.{◌≡◌, ◌≢◌, ◌⊎◌, ℕ, ◌+◌, ◌<◌, ◌==◌, ◌&&◌, Bool, true, false, max, List, [], length, Option, Some, None, IsSome, if◌then◌else◌}
+use Rattle.std.specs.Prelude.{◌≡◌, ◌≢◌, ℕ, ◌+◌, ◌<◌, ◌==◌, ◌&&◌, true, false, max, List, [], length, Option, Some, None, IsSome, if◌then◌else◌}
 use Rattle.bep_record.specs.Block.{base_block_size}
 use Rattle.bep_record.specs.declared.entry.Entry.{Entry}
 use Rattle.bep_record.specs.declared.kind.Kind.{Kind}
 use Rattle.bep_record.specs.declared.kind.Kind.TheVariants.{File, Directory, Symlink}
 use Rattle.bep_record.specs.declared.node.NodeParts.{NodeParts}
 use Rattle.bep_record.specs.declared.folder_kind.FolderKind.{FolderKind}
-use Rattle.bep_record.specs.declared.folder_kind.FolderKind.TheVariants.{SendReceive, SendOnly, ReceiveOnly}
+use Rattle.bep_record.specs.declared.folder_kind.FolderKind.TheVariants.{SendOnly, ReceiveOnly}
 use Rattle.bep_record.specs.declared.block.Block.{Block}
 use Rattle.bep_record.specs.Content.{content_of}
 use Rattle.bep_record.specs.Node.{IsClean}
@@ -15,7 +15,7 @@ use Rattle.bep_record.specs.Vector.{counter_of, greatest_counter, most_counters,
 use Rattle.bep_blocks.specs.Plain.{plain_blocks}
 use Rattle.bep_index.specs.Index.{IsSequenceFull, IsIndexFull}
 use Rattle.bep_model.specs.Tables.{Device, FileName}
-use Rattle.bep_machine.specs.Answer.{Answer, Done, Refused, Row, becomes, ◌answers◌when◌else◌}
+use Rattle.bep_machine.specs.Answer.{Done, Refused, Row, becomes, ◌answers◌when◌else◌}
 use Rattle.bep_machine.specs.declared.moved.Moved.TheVariants.{Changed, Unchanged}
 use Rattle.bep_machine.specs.declared.refusal.Refusal.TheVariants.{CounterFull, TooManyCounters, SequenceFull, IndexFull, StoreFault, Unscanned, KindForbids, NothingToDo}
 use Rattle.bep_machine.specs.Replica.{Replica, own_at, node_at, version_of, Chooses, with_record, with_node}

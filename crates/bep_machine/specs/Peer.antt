@@ -1,13 +1,13 @@
 -- A device with its folders and sessions (BEP v1, 'Cluster Config'; sessions and epochs are this project's profile).
-use Rattle.std.specs.Prelude.{◌≡◌, ◌+◌, ℕ, Bool, true, false, ◌==◌, List, [], ◌∷◌, Option, Some, None, if◌then◌else◌}
+use Rattle.std.specs.Prelude.{ℕ, Bool, false, ◌==◌, List, [], ◌∷◌, if◌then◌else◌}
 use Rattle.std.specs.List.{flat_map, list_any}
-use Rattle.std.specs.FinMap.{empty, entries, get, insert}
+use Rattle.std.specs.FinMap.{empty, entries, insert}
 use Rattle.bep_map.specs.NameMap.{ByName}
 use Rattle.bep_index.specs.declared.send.Plan.{Plan}
-use Rattle.bep_model.specs.Tables.{Device, Folder, FileName}
+use Rattle.bep_model.specs.Tables.{Device, Folder}
 use Rattle.bep_machine.specs.declared.message.Announced.{Announced}
 use Rattle.bep_machine.specs.declared.message.Request.{Request}
-use Rattle.bep_machine.specs.Replica.{ByDevice, Replica, view_of, without_pull}
+use Rattle.bep_machine.specs.Replica.{ByDevice, Replica, view_of}
 use Rattle.bep_machine.specs.Link.{Deed, nothing_done}
 
 -- a device's session with another one, over one connection of their link

@@ -1,5 +1,5 @@
 -- Pulling a record that another device has: begin, and the end (this project's profile).
-use Rattle.std.specs.Prelude.{◌≡◌, ◌≢◌, ◌⊎◌, ℕ, ◌<◌, ◌≤◌, Bool, true, false, List, [], ◌∷◌, map, length, Option, Some, None, IsSome, Contains, unwrap_or, if◌then◌else◌}
+use Rattle.std.specs.Prelude.{◌≡◌, ◌≢◌, ◌⊎◌, ℕ, ◌<◌, ◌≤◌, false, List, [], map, length, Option, Some, None, Contains, unwrap_or, if◌then◌else◌}
 use Rattle.std.specs.List.{concat}
 use Rattle.std.specs.FinMap.{len}
 use Rattle.bep_record.specs.declared.entry.Entry.{Entry}
@@ -12,12 +12,12 @@ use Rattle.bep_record.specs.Conflict.{conflict_name_of}
 use Rattle.bep_record.specs.Entry.{SameEntry}
 use Rattle.bep_record.specs.Name.{max_name_len}
 use Rattle.bep_record.specs.Node.{IsClean}
-use Rattle.bep_record.specs.Vector.{most_counters, IsVersion, IsAtMost, AreConcurrent, IsMerge, ids_in_either}
+use Rattle.bep_record.specs.Vector.{most_counters, IsVersion, AreConcurrent, IsMerge, ids_in_either}
 use Rattle.bep_index.specs.Index.{IsSequenceFull, IsIndexFull}
 use Rattle.bep_choice.specs.Need.{IsNeeded, NeedsBeside}
 use Rattle.bep_store.specs.Store.{at_time}
 use Rattle.bep_model.specs.Tables.{Device, FileName}
-use Rattle.bep_machine.specs.Answer.{Answer, Done, Refused, OutOfMemory, Row, becomes, when◌then◌else◌, ◌answers◌when◌else◌}
+use Rattle.bep_machine.specs.Answer.{Done, Refused, OutOfMemory, Row, becomes, when◌then◌else◌, ◌answers◌when◌else◌}
 use Rattle.bep_machine.specs.declared.moved.Moved.TheVariants.{Changed, Dropped}
 use Rattle.bep_machine.specs.declared.refusal.Refusal.TheVariants.{TooManyCounters, NameBad, SequenceFull, IndexFull, StoreFault, Unscanned, NotNeeded, BlocksMissing, CopyExists, PullsFull, KindForbids}
 use Rattle.bep_machine.specs.Replica.{Pull, Replica, own_at, node_at, pull_at, version_of, HasContentOf, Chooses, Wants, with_record, with_node, with_pull, without_pull}

@@ -1,6 +1,6 @@
 -- One folder at one device: its own index, its views of the others' indexes, its pulls and its store
 -- (BEP v1, 'Index'; 'Folder Types'; pulls and stores are this project's profile).
-use Rattle.std.specs.Prelude.{◌≡◌, ◌⊎◌, ℕ, List, [], ◌∷◌, ◌++◌, Option, Some, None, unwrap_or, option_map, true, false, map}
+use Rattle.std.specs.Prelude.{◌≡◌, ℕ, List, [], ◌∷◌, ◌++◌, Option, Some, None, unwrap_or, option_map}
 use Rattle.std.specs.Ordering.{nat_cmp}
 use Rattle.std.specs.FinMap.{FinMap, get, insert, remove}
 use Rattle.bep_map.specs.NameMap.{ByName}
@@ -13,7 +13,7 @@ use Rattle.bep_index.specs.Index.{after_put}
 use Rattle.bep_index.specs.View.{cleared}
 use Rattle.bep_choice.specs.Choice.{Candidate, IsChoice}
 use Rattle.bep_choice.specs.Need.{IsNeeded}
-use Rattle.bep_model.specs.Tables.{Device, Folder, FileName}
+use Rattle.bep_model.specs.Tables.{Device, FileName}
 use Rattle.bep_model.specs.Winner.{beside}
 
 -- a finite map keyed by device
@@ -29,7 +29,7 @@ pub record Pull : Type 0 where
 pub record Replica : Type 0 where
   -- what the device does with the folder
   pub kind : FolderKind
-  -- the other devices that share it, numbers rising
+  -- the other devices that share it
   pub others : List Device
   -- the device's own index
   pub index : Listing

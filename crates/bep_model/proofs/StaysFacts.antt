@@ -49,20 +49,26 @@ own_has : (own : Option Entry) (content : Content) → OwnIsCalm own content →
 own_has None content calm = calm
 own_has (Some own) content calm = calm.1
 
+-- who shared a folder still does
+still : (t later : Tables) → SameShares t later → (device : Device) (folder : Folder) → Shares t device folder → Shares later device folder
+still t later shares device folder sharing =
+    (sharing.0, subst (λ (s : List (Device × FolderKind)). Contains s (device, sharing.0)) (shares folder) sharing.1)
+
 pub calm_stays_lem : OneChoice → CalmStays
 calm_stays_lem unique t later rows settled shares calm kept =
     let due = λ (row : Row) (member : Contains rows row). ap content_due (content_at_row unique t rows settled.certificate row member) in
     record {
       kept = kept;
       store = λ row device member sharing.
-          (calm device row.folder row.entry.name sharing).store ∙ due row member;
+          (calm device row.folder row.entry.name (still t later shares device row.folder sharing)).store ∙ due row member;
       own = λ row device member sharing.
-          subst (OwnHas (later.own device row.folder row.entry.name)) (due row member) (own_has _ _ (calm device row.folder row.entry.name sharing).own);
+          subst (OwnHas (later.own device row.folder row.entry.name)) (due row member)
+          (own_has _ _ (calm device row.folder row.entry.name (still t later shares device row.folder sharing)).own);
       unlisted = λ device folder name sharing no_row.
           ⊎_elim
           (λ some. absurd (no_row (some.row, some.member, some.key)))
           (λ none.
-          let at = calm device folder name sharing in
+          let at = calm device folder name (still t later shares device folder sharing) in
           (nothing_held _ (at.store ∙ ap content_due none.content), (at.unlisted none.content).own))
           (content_or_none rows folder name);
     }

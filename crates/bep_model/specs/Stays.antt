@@ -16,11 +16,11 @@ OwnHas (Some own) content = content_of own ≡ content
 -- and own record; a name without a row has neither node nor record.
 pub record Stays (before : Tables) (rows : List Row) (after : Tables) : Type 0 where
   pub kept : Kept before after
-  pub store : (row : Row) (device : Device) → Contains rows row → Shares after device row.folder →
+  pub store : (row : Row) (device : Device) → Contains rows row → Shares before device row.folder →
       content_of_node (after.node device row.folder row.entry.name) ≡ content_of row.entry
-  pub own : (row : Row) (device : Device) → Contains rows row → Shares after device row.folder →
+  pub own : (row : Row) (device : Device) → Contains rows row → Shares before device row.folder →
       OwnHas (after.own device row.folder row.entry.name) (content_of row.entry)
-  pub unlisted : (device : Device) (folder : Folder) (name : FileName) → Shares after device folder → (¬ HasRow rows folder name) →
+  pub unlisted : (device : Device) (folder : Folder) (name : FileName) → Shares before device folder → (¬ HasRow rows folder name) →
       (after.node device folder name ≡ None) × (after.own device folder name ≡ None)
 
 -- a device that has a record of a name has one afterwards

@@ -1,3 +1,4 @@
+//! What follows from the definitions alone. Each function does nothing; its contract is the law.
 ghost use Rattle.bep_model.specs.Laws.{RowsRiseInOrder, NumbersAreWithin, NumbersDiffer, WinnerIsUnique, SettledIsFaultless, VerdictIsUnique, VerdictExists, SettledIsListOfWinners, ListOfWinnersIsUnique, CertificateIsUnique, WinnersAreSettledIfAny, WinnersLeaveNoneOut, FirstWithoutIsUnique, WinnersOrFirstWithout, SettledIsCalm, CalmStays, CalmIsSettledAgain};
 
 use bep_choice::laws::{choice_exists, choice_is_unique};

@@ -1,3 +1,4 @@
+//! Version vectors, their order, merges and bumps.
 ghost use Rattle.std.specs.Prelude.{◌≡◌, ℕ, ◌+◌, ◌<◌, ◌≤◌, ◌↔◌, ◌⊎◌, ◌==◌, if◌then◌else◌, List, [], length, IsTrue, SomeIff, OnOk, OnErr, IfErr, IsErrOf, nat_lt, count_by};
 ghost use Rattle.arrayvec.specs.ArrayVec.{array_vec_len};
 ghost use Rattle.bep_record.specs.Vector.{counter_of, greatest_counter, most_counters, IsVersion, IsAtMost, IsBelow, IsOrder, IsMerge, IsBump, ChangesOnly, ids_in_either};

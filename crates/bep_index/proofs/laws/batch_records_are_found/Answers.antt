@@ -1,4 +1,5 @@
-use Rattle.bep_index.proofs.MadeFacts.{found_in_all, is_in_all, kept_in_all, among_is_contained}
+use Rattle.bep_index.proofs.MadeFacts.{found_in_all, is_in_all, kept_in_all}
+use Rattle.bep_index.proofs.RecordsFacts.{among_is_contained}
 use Rattle.bep_index.proofs.laws.batch_records_are_found.Goals as goal
 
 pub returns : goal.returns
