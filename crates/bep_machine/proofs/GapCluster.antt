@@ -1,6 +1,5 @@
 -- Every step of a cluster keeps each folder in step between each two devices.
-use Rattle.std.proofs.Common.{◌≡◌, ◌≢◌, ◌⊎◌, ◌≤◌, ◌+◌, ℕ, Bool, true, false, List, [], Option, Some, None, IsSome, Contains, if◌then◌else◌, refl, sym, ap, subst, ◌∙◌, inl, inr, ⊎_elim, arith, nat_lt, unwrap_or}
-use Rattle.std.specs.Bool.{⊤}
+use Rattle.std.proofs.Common.{◌≡◌, ◌≢◌, ◌⊎◌, ◌+◌, ℕ, Bool, true, false, List, [], Option, Some, None, IsSome, Contains, refl, sym, ap, subst, ◌∙◌, inl, inr, ⊎_elim, arith, unwrap_or}
 use Rattle.std.proofs.lemmas.Bool.{cases_eq}
 use Rattle.std.specs.FinMap.{get}
 use Rattle.bep_index.specs.declared.send.Plan.{Plan}
@@ -11,13 +10,13 @@ use Rattle.bep_record.specs.declared.entry.Entry.{Entry}
 use Rattle.bep_model.specs.Tables.{Device, Folder}
 use Rattle.bep_machine.specs.declared.message.Message.{Message}
 use Rattle.bep_machine.specs.Replica.{ByDevice, Replica, view_of}
-use Rattle.bep_machine.specs.Link.{End, Lower, Upper, Link, Deed, end_of, queue_to, queue_from, connected, after_deed}
+use Rattle.bep_machine.specs.Link.{End, Lower, Upper, Link, end_of, queue_to, queue_from, connected, after_deed}
 use Rattle.bep_machine.specs.Peer.{Session, Peer, Acted}
 use Rattle.bep_machine.specs.Cluster.{Cluster, link_between, with_link_between, with_peer}
 use Rattle.bep_machine.specs.Sound.{IsSound}
 use Rattle.bep_machine.proofs.GapFacts.{KeepsUp, keeps_up_after_put}
 use Rattle.bep_machine.proofs.GapMoves.{in_step_after_put, in_step_anew}
-use Rattle.bep_machine.proofs.GapPair.{cursor_at, cursor_of_another, IsBetween, between_in_step, up_after, queue_after, back_after, KeepsFolder, OfBoth, IsOfEpoch, KeepsExchange}
+use Rattle.bep_machine.proofs.GapPair.{cursor_at, cursor_of_another, IsBetween, between_in_step, OfBoth, IsOfEpoch, KeepsExchange}
 use Rattle.bep_machine.proofs.GapRows.{IsGrown}
 use Rattle.bep_machine.proofs.GapLinks.{IsPair, IsPairFrom, seen_from_here, seen_from_there, link_swap, pair_after_deed, pair_from_after_deed, same_epoch, between_here, between_apart, same_peers, same_config, peer_here, peer_apart}
 

@@ -1,6 +1,6 @@
 -- What a receiver has of an index, while the index goes on growing: views, and batches on their way to them.
 use Rattle.std.proofs.Common.{◌≡◌, ◌≢◌, ◌⊎◌, ◌≤◌, ◌<◌, ◌+◌, ℕ, List, [], ◌∷◌, Option, Some, None, true, nat_lt, refl, sym, ap, subst, ◌∙◌, inl, inr, ⊎_elim, arith}
-use Rattle.std.specs.FinMap.{empty, get, insert}
+use Rattle.std.specs.FinMap.{empty, get}
 use Rattle.std.specs.Ordering.{nat_cmp, is_eq}
 use Rattle.std.specs.Cmp.{Equal-is}
 use Rattle.std.specs.Cmp.Lexicographic.{slice_cmp}
@@ -10,11 +10,11 @@ use Rattle.std.proofs.lemmas.Bool.Decides.{nat_tests}
 use Rattle.std.proofs.lemmas.Map.Lookups.{exact_bytes}
 use Rattle.bep_facts.specs.Maps.{nothing_in_empty, get-insert_here, get-insert_apart, found_after_insert}
 use Rattle.bep_record.specs.declared.entry.Entry.{Entry}
-use Rattle.bep_index.specs.Listing.{Listing, IsRecord}
+use Rattle.bep_index.specs.Listing.{Listing}
 use Rattle.bep_index.specs.Index.{IsIndex, after_put, numbered}
 use Rattle.bep_index.specs.Batch.{Rises, HasNo, NamesDiffer, last_sequence, with_all}
-use Rattle.bep_index.specs.After.{IsAmong, AreRecords, IsRun, IsAfter}
-use Rattle.bep_index.specs.View.{IsView, replaced, amended}
+use Rattle.bep_index.specs.After.{IsAmong, AreRecords, IsAfter}
+use Rattle.bep_index.specs.View.{replaced, amended}
 use Rattle.bep_index.specs.Laws.{FoundIsOfBatchOrBefore, BatchIsFound, OthersAreKept}
 use Rattle.bep_model.specs.Tables.{FileName}
 use Rattle.bep_machine.specs.Gapless.{HasNoGap}

@@ -1,12 +1,11 @@
 -- The link between two devices, whichever of them is named first, after one of them acted or a link changed.
-use Rattle.std.proofs.Common.{◌≡◌, ◌≢◌, ◌⊎◌, ◌==◌, ◌&&◌, Bool, true, false, nat_lt, List, if◌then◌else◌, refl, sym, ap, ◌∙◌, arith, eqb-true}
+use Rattle.std.proofs.Common.{◌≡◌, ◌≢◌, ◌==◌, ◌&&◌, Bool, true, false, nat_lt, if◌then◌else◌, refl, arith, eqb-true}
 use Rattle.std.proofs.lemmas.Bool.{ltb-true, ltb-false}
 use Rattle.std.proofs.lemmas.Bool.Decides.{nat_tests}
-use Rattle.std.specs.Prelude.{Option, Some, None}
+use Rattle.std.specs.Prelude.{Option}
 use Rattle.bep_index.specs.Listing.{Listing}
 use Rattle.bep_model.specs.Tables.{Device, Folder}
-use Rattle.bep_machine.specs.declared.message.Message.{Message}
-use Rattle.bep_machine.specs.Link.{End, Lower, Upper, Link, Deed, end_of, queue_to, queue_from, lost, after_deed}
+use Rattle.bep_machine.specs.Link.{End, Lower, Upper, Link, Deed, end_of, queue_to, queue_from, after_deed}
 use Rattle.bep_machine.specs.Peer.{Session, Peer}
 use Rattle.bep_machine.specs.Cluster.{Cluster, link_between, with_link, with_link_between, with_peer}
 use Rattle.bep_machine.proofs.GapPair.{IsBetween, cursor_at, up_after, queue_after, back_after}

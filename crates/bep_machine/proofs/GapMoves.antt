@@ -2,7 +2,6 @@
 use Rattle.std.proofs.Common.{◌≡◌, ◌≢◌, ◌⊎◌, ◌≤◌, ◌==◌, ◌&&◌, nat_le, ℕ, Bool, true, false, if◌then◌else◌, List, [], ◌∷◌, ◌++◌, Option, Some, None, refl, sym, ap, subst, ◌∙◌, inl, inr, ⊎_elim, arith}
 use Rattle.std.proofs.lemmas.Bool.{cases_Bool}
 use Rattle.std.proofs.lemmas.Bool.Decides.{nat_tests}
-use Rattle.std.specs.FinMap.{get}
 use Rattle.std.specs.Ordering.{nat_cmp}
 use Rattle.std.specs.Cmp.Lexicographic.{slice_cmp}
 use Rattle.std.proofs.lemmas.Option.{same_Some}
@@ -12,16 +11,16 @@ use Rattle.bep_index.specs.declared.send.Plan.{Plan}
 use Rattle.bep_index.specs.declared.send.Plan.TheVariants.{Full, Above}
 use Rattle.bep_index.specs.Listing.{Listing}
 use Rattle.bep_index.specs.Index.{IsIndex, after_put}
-use Rattle.bep_index.specs.Batch.{NamesDiffer, last_sequence}
+use Rattle.bep_index.specs.Batch.{last_sequence}
 use Rattle.bep_index.specs.View.{cleared, replaced, amended}
 use Rattle.bep_index.specs.Laws.{FoundIsOfBatchOrBefore, BatchIsFound, OthersAreKept}
-use Rattle.bep_model.specs.Tables.{Folder, FileName}
+use Rattle.bep_model.specs.Tables.{Folder}
 use Rattle.bep_machine.specs.declared.message.Message.{Message}
 use Rattle.bep_machine.specs.declared.message.Message.TheVariants as messages
 use Rattle.bep_machine.specs.declared.message.Announced.{Announced}
-use Rattle.bep_machine.specs.Exchange.{same_bytes, known_under, cursor_after}
+use Rattle.bep_machine.specs.Exchange.{cursor_after}
 use Rattle.bep_machine.proofs.GapFacts.{KeepsUp, IsSent, keeps_up_after_put, keeps_up_when_amended, keeps_up_when_replaced}
-use Rattle.bep_machine.proofs.GapFlow.{Part, Whole, Further, Other, part_of, AfterPart, Flows, NoneFlows, flows_with_other, flows_with_further, flows_with_whole, none_with_other, none_flows_through, flows_after_put, EachSays, ConfigSays, ConfigsSay, SaysId, SaysPoint, configs_say_with, start_of, IsFlow, IsInStep}
+use Rattle.bep_machine.proofs.GapFlow.{Part, Whole, Further, Other, part_of, AfterPart, Flows, flows_with_other, flows_with_further, flows_with_whole, none_with_other, none_flows_through, flows_after_put, EachSays, ConfigSays, ConfigsSay, SaysId, SaysPoint, configs_say_with, start_of, IsFlow, IsInStep}
 
 -- ---- where a view stands
 

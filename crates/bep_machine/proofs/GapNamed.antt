@@ -1,7 +1,5 @@
 -- What a ClusterConfig that names each folder once does to the replica and to the cursor of one folder.
-use Rattle.std.proofs.Common.{◌≡◌, ◌≢◌, ◌⊎◌, ◌==◌, ℕ, Bool, true, false, if◌then◌else◌, List, [], ◌∷◌, Option, Some, None, Contains, refl, sym, ap, subst, ◌∙◌, inl, inr, ⊎_elim}
-use Rattle.std.specs.Ordering.{nat_cmp}
-use Rattle.std.specs.Cmp.{Equal-is}
+use Rattle.std.proofs.Common.{◌≡◌, ◌≢◌, List, [], ◌∷◌, Option, Some, None, Contains, refl, sym, ap, subst, ◌∙◌, ⊎_elim}
 use Rattle.std.specs.Cmp.Lexicographic.{nat_list_cmp_total}
 use Rattle.std.proofs.lemmas.Map.Lookups.{exact_bytes}
 use Rattle.std.specs.FinMap.{get, insert}
@@ -12,7 +10,7 @@ use Rattle.bep_index.specs.declared.send.Plan.{Plan}
 use Rattle.bep_model.specs.Tables.{Device, Folder}
 use Rattle.bep_machine.specs.declared.message.Announced.{Announced}
 use Rattle.bep_machine.specs.Replica.{Replica, view_of, with_view}
-use Rattle.bep_machine.specs.Exchange.{same_bytes, NamesNot, NamesOnce, known_under, cursor_after, renewed, all_renewed, with_cursor, cursors_for}
+use Rattle.bep_machine.specs.Exchange.{NamesNot, NamesOnce, known_under, cursor_after, renewed, all_renewed, with_cursor, cursors_for}
 use Rattle.bep_machine.proofs.ReplicaFacts.{same_name_or_not}
 use Rattle.bep_machine.proofs.GapFlow.{EachSays}
 

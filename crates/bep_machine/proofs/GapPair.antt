@@ -1,7 +1,6 @@
 -- What an action of one device over a link keeps of each folder that it exchanges with the other one.
-use Rattle.std.proofs.Common.{◌≡◌, ◌≢◌, ◌⊎◌, ◌≤◌, ◌==◌, ℕ, Bool, true, false, if◌then◌else◌, List, [], ◌∷◌, ◌++◌, Option, Some, None, IsSome, refl, sym, ap, subst, ◌∙◌, inl, inr, ⊎_elim, arith}
+use Rattle.std.proofs.Common.{◌≡◌, ◌≢◌, ◌≤◌, ◌==◌, ℕ, Bool, true, false, if◌then◌else◌, List, [], Option, Some, None, IsSome, refl, sym, ap, subst, ◌∙◌, inl, inr, arith}
 use Rattle.std.specs.Bool.{⊤}
-use Rattle.std.proofs.lemmas.Bool.{cases_Bool}
 use Rattle.std.proofs.lemmas.Bool.Decides.{nat_tests}
 use Rattle.std.specs.FinMap.{get}
 use Rattle.bep_index.specs.declared.send.Plan.{Plan}
@@ -11,9 +10,9 @@ use Rattle.bep_model.specs.Tables.{Device, Folder}
 use Rattle.bep_machine.specs.declared.message.Message.{Message}
 use Rattle.bep_machine.specs.Answer.{Answer, Row}
 use Rattle.bep_machine.specs.Replica.{Replica, view_of}
-use Rattle.bep_machine.specs.Link.{Sight, Deed, nothing_done, losing, first_of_queue, after_taking, after_sending}
+use Rattle.bep_machine.specs.Link.{Deed, losing, first_of_queue, after_taking, after_sending}
 use Rattle.bep_machine.specs.Peer.{Session, Peer, Acted, idle}
-use Rattle.bep_machine.specs.Exchange.{SessionRow, LosingRow}
+use Rattle.bep_machine.specs.Exchange.{SessionRow}
 use Rattle.bep_machine.proofs.GapFacts.{KeepsUp}
 use Rattle.bep_machine.proofs.GapFlow.{IsInStep}
 

@@ -1,5 +1,5 @@
 -- What a step of one replica does to its index and its views: no view changes, and at most one record is put.
-use Rattle.std.proofs.Common.{◌≡◌, ◌⊎◌, ◌∙◌, ℕ, [], Option, Some, None, refl, ap, inl, inr, ⊎_elim}
+use Rattle.std.proofs.Common.{◌≡◌, ◌⊎◌, ℕ, [], Option, Some, None, refl, ap, inl, inr, ⊎_elim}
 use Rattle.bep_record.specs.declared.entry.Entry.{Entry}
 use Rattle.bep_record.specs.declared.node.NodeParts.{NodeParts}
 use Rattle.bep_record.specs.declared.folder_kind.FolderKind.{FolderKind}

@@ -1,5 +1,5 @@
 -- No view has a gap in any cluster that a run reaches from a fresh one.
-use Rattle.std.proofs.Common.{◌≡◌, ◌≢◌, ◌≤◌, ℕ, Bool, true, false, nat_lt, nat_le, List, [], ◌∷◌, Option, Some, None, Contains, if◌then◌else◌, refl, sym, ap, subst, ◌∙◌, arith}
+use Rattle.std.proofs.Common.{◌≡◌, ◌≤◌, Bool, true, false, nat_lt, nat_le, List, [], ◌∷◌, Option, Some, None, if◌then◌else◌, refl, sym, ap, subst, ◌∙◌, arith}
 use Rattle.std.proofs.lemmas.Bool.Decides.{nat_tests}
 use Rattle.std.proofs.lemmas.Option.{none-some}
 use Rattle.std.specs.Ordering.{nat_cmp}
@@ -9,16 +9,14 @@ use Rattle.bep_index.specs.Listing.{Listing}
 use Rattle.bep_index.specs.Index.{IsIndex}
 use Rattle.bep_index.specs.Laws.{up_to, HoldsUpTo, FoundIsOfBatchOrBefore, BatchIsFound, OthersAreKept}
 use Rattle.bep_index.specs.Laws as index_laws
-use Rattle.bep_model.specs.Tables.{Device, Folder, FileName}
-use Rattle.bep_machine.specs.Replica.{Replica}
-use Rattle.bep_machine.specs.Link.{end_of}
+use Rattle.bep_model.specs.Tables.{Device}
 use Rattle.bep_machine.specs.Cluster.{Cluster, link_between}
 use Rattle.bep_machine.specs.Steps.{Event, IsRun}
 use Rattle.bep_machine.specs.Sound.{IsSound}
 use Rattle.bep_machine.specs.Gapless.{HasNoGap, IsGapless, IsFresh}
 use Rattle.bep_machine.specs.Laws.{AreSound, StepsKeepSound, RunsAreGapless, SamePointSameIndex}
 use Rattle.bep_machine.proofs.GapPair.{IsOfEpoch}
-use Rattle.bep_machine.proofs.GapCluster.{IsExchanging, Exchanges}
+use Rattle.bep_machine.proofs.GapCluster.{IsExchanging}
 use Rattle.bep_machine.proofs.GapSteps.{step_exchanging}
 
 -- ---- where nothing was exchanged yet

@@ -1,6 +1,5 @@
 -- Devices that begin a session, announce records or ask for a block keep in step.
-use Rattle.std.proofs.Common.{◌≡◌, ◌≢◌, ◌⊎◌, ℕ, Bool, true, false, if◌then◌else◌, List, [], ◌∷◌, ◌++◌, ◌+◌, Option, Some, None, IsSome, Contains, refl, sym, ap, subst, ◌∙◌, inl, inr, ⊎_elim, arith}
-use Rattle.std.specs.Bool.{⊤}
+use Rattle.std.proofs.Common.{◌≡◌, ◌≢◌, ℕ, Bool, true, false, if◌then◌else◌, List, [], ◌∷◌, ◌++◌, ◌+◌, Option, Some, None, IsSome, Contains, refl, sym, ap, subst, ◌∙◌, inl, inr, ⊎_elim, arith}
 use Rattle.std.specs.List.{flat_map}
 use Rattle.std.specs.Ordering.{nat_cmp, is_eq}
 use Rattle.std.specs.Cmp.{nat_cmp_total, Equal-is}
@@ -9,7 +8,7 @@ use Rattle.std.proofs.lemmas.Bool.{cases_Bool}
 use Rattle.std.proofs.lemmas.Cmp.{tied_itself}
 use Rattle.std.proofs.lemmas.Map.Lookups.{exact_bytes}
 use Rattle.std.proofs.lemmas.Option.{same_Some}
-use Rattle.std.specs.FinMap.{empty, entries, get, insert, get-empty, nat_cmp-IsAntisymmetric}
+use Rattle.std.specs.FinMap.{entries, get, insert, get-empty, nat_cmp-IsAntisymmetric}
 use Rattle.bep_facts.specs.Maps.{get-insert_here, get-insert_apart}
 use Rattle.bep_facts.specs.Members.{Contains-first, Contains-more}
 use Rattle.bep_record.specs.declared.entry.Entry.{Entry}
@@ -32,7 +31,7 @@ use Rattle.bep_machine.specs.Exchange.{HasSession, ReplicaRow, BeginRow, same_by
 use Rattle.bep_machine.proofs.ReplicaFacts.{same_name_or_not}
 use Rattle.bep_machine.proofs.GapEntries.{entry_is_found}
 use Rattle.bep_machine.proofs.GapFacts.{sent_when_announced}
-use Rattle.bep_machine.proofs.GapFlow.{Part, Whole, Further, Other, part_of, EachSays, ConfigSays, SaysId, SaysPoint, IsInStep}
+use Rattle.bep_machine.proofs.GapFlow.{Whole, Further, Other, part_of, EachSays, ConfigSays, SaysId, SaysPoint, IsInStep}
 use Rattle.bep_machine.proofs.GapMoves.{in_step_sending_other, in_step_sending_whole, in_step_sending_further, in_step_more_back, in_step_named}
 use Rattle.bep_machine.proofs.GapPair.{cursor_at, cursor_in_session, cursor_of_another, OfBoth, of_same, IsOfEpoch, KeepsFolder, KeepsExchange, idle_keeps, session_keeps, in_session_keeps, steps_keep_folder, is_up}
 

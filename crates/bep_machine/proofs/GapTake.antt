@@ -1,5 +1,5 @@
 -- A device that takes a message keeps in step.
-use Rattle.std.proofs.Common.{◌≡◌, ◌≢◌, ◌⊎◌, ◌==◌, ℕ, Bool, true, false, if◌then◌else◌, List, [], ◌∷◌, ◌++◌, Option, Some, None, IsSome, Contains, refl, sym, ap, subst, ◌∙◌, inl, inr, ⊎_elim, arith, unwrap_or}
+use Rattle.std.proofs.Common.{◌≡◌, ◌≢◌, ◌==◌, ℕ, Bool, true, false, if◌then◌else◌, List, [], ◌∷◌, Option, Some, None, IsSome, Contains, refl, sym, ap, subst, ◌∙◌, inl, inr, ⊎_elim, arith, unwrap_or}
 use Rattle.std.proofs.lemmas.Bool.Decides.{nat_tests}
 use Rattle.std.specs.Ordering.{nat_cmp}
 use Rattle.std.specs.Cmp.{nat_cmp_total}
@@ -8,7 +8,6 @@ use Rattle.std.specs.FinMap.{empty, get, insert, get-empty, nat_cmp-IsAntisymmet
 use Rattle.bep_facts.specs.Maps.{get-insert_here, get-insert_apart}
 use Rattle.bep_facts.specs.Members.{not_in_none, Contains-cons_cases}
 use Rattle.bep_map.specs.NameMap.{ByName}
-use Rattle.bep_record.specs.declared.entry.Entry.{Entry}
 use Rattle.bep_index.specs.declared.send.Plan.{Plan}
 use Rattle.bep_index.specs.Listing.{Listing}
 use Rattle.bep_index.specs.Index.{IsIndex}
@@ -22,11 +21,11 @@ use Rattle.bep_machine.specs.declared.message.Request.{Request}
 use Rattle.bep_machine.specs.declared.message.Response.{Response}
 use Rattle.bep_machine.specs.Answer.{Answer}
 use Rattle.bep_machine.specs.Replica.{Replica, Pull, view_of, pull_at, with_view}
-use Rattle.bep_machine.specs.Link.{Deed, first_of_queue, taking, losing}
+use Rattle.bep_machine.specs.Link.{first_of_queue, taking, losing}
 use Rattle.bep_machine.specs.Peer.{Session, Peer, Acted, with_session, with_replica}
-use Rattle.bep_machine.specs.Exchange.{ReplicaRow, IsGoodConfig, SharesWith, NamesShared, known_under, cursor_after, all_renewed, cursors_for, configured_by, IsNamed, ViewRow, RequestRow, asked_for, AnsweredRow, AskedRow, ResponseRow, MessageRow, WaitingRow, DeliverRow, taken_by, with_block, with_received, without}
+use Rattle.bep_machine.specs.Exchange.{IsGoodConfig, SharesWith, NamesShared, known_under, cursor_after, all_renewed, cursors_for, configured_by, ViewRow, RequestRow, asked_for, AnsweredRow, AskedRow, ResponseRow, MessageRow, WaitingRow, DeliverRow, taken_by, with_block, with_received, without}
 use Rattle.bep_machine.proofs.ReplicaFacts.{same_name_or_not, insert_here, insert_apart}
-use Rattle.bep_machine.proofs.GapFlow.{Part, Whole, Further, Other, part_of, EachSays, ConfigSays, SaysId, SaysPoint, IsInStep}
+use Rattle.bep_machine.proofs.GapFlow.{Whole, Further, Other, part_of, EachSays, ConfigSays, SaysId, SaysPoint, IsInStep}
 use Rattle.bep_machine.proofs.GapMoves.{same_id_or_not, in_step_sending_other, in_step_with_cursor, in_step_less_back, in_step_more_back, in_step_taking_other, in_step_cleared, in_step_named, in_step_taking_whole, in_step_taking_further}
 use Rattle.bep_machine.proofs.GapNamed.{Naming, Unnamed, NamedBy, naming, named_says, renewed_unnamed, cursors_unnamed}
 use Rattle.bep_machine.proofs.GapPair.{OfBoth, of_same, KeepsFolder, KeepsExchange, idle_keeps, losing_keeps, session_keeps, in_session_keeps, steps_keep_folder}
