@@ -300,9 +300,9 @@ loose_exchanging old new sound step exchanging = record {
         let theirs = before_of IsGrown (get (old.peer other).replicas folder) (get (new.peer other).replicas folder) (step.replicas other folder) others is_others in
         let pair = exchanging.between device other member member_too apart folder mine.0 theirs.0 mine.1 theirs.1 in
         let moved = moved_pair folder (end_of device other) (link_between old device other) (link_between new device other) theirs.0.index (view_of mine.0 other)
-            (get (old.peer device).sessions other) (get (old.peer other).sessions device) (get (new.peer device).sessions other) (get (new.peer other).sessions device)
-            (exchanging.epochs device other member apart)
-            (subst (λ (l : Link). IsOfEpoch l.epoch (get (old.peer other).sessions device)) (link_swap old device other apart) (exchanging.epochs other device member_too (λ same. apart (sym same))))
-            (step.links device other apart) pair in
+        (get (old.peer device).sessions other) (get (old.peer other).sessions device) (get (new.peer device).sessions other) (get (new.peer other).sessions device)
+        (exchanging.epochs device other member apart)
+        (subst (λ (l : Link). IsOfEpoch l.epoch (get (old.peer other).sessions device)) (link_swap old device other apart) (exchanging.epochs other device member_too (λ same. apart (sym same))))
+        (step.links device other apart) pair in
         subst (λ (views : ByDevice Listing). IsPair folder (end_of device other) (link_between new device other) others.index (unwrap_or (get views other) (cleared 0)) (get (new.peer other).sessions device) (get (new.peer device).sessions other)) (sym mine.2.views)
         (grown_between folder _ theirs.0.index (view_of mine.0 other) _ _ _ _ others.index (index_of old sound other member_too folder theirs.0 theirs.1) theirs.2.index moved)

@@ -1,10 +1,9 @@
 -- What a receiver has of an index, while the index goes on growing: views, and batches on their way to them.
-use Rattle.std.proofs.Common.{◌≡◌, ◌≢◌, ◌⊎◌, ◌≤◌, ◌<◌, ◌+◌, ℕ, List, [], ◌∷◌, Option, Some, None, true, nat_lt, refl, sym, ap, subst, ◌∙◌, inl, inr, ⊎_elim, arith}
+use Rattle.std.proofs.Common.{◌≡◌, ◌⊎◌, ◌≤◌, ◌<◌, ◌+◌, ℕ, List, [], ◌∷◌, Option, Some, None, nat_lt, refl, sym, ap, subst, ◌∙◌, inl, inr, ⊎_elim, arith}
 use Rattle.std.specs.FinMap.{empty, get}
-use Rattle.std.specs.Ordering.{nat_cmp, is_eq}
-use Rattle.std.specs.Cmp.{Equal-is}
+use Rattle.std.specs.Ordering.{nat_cmp}
 use Rattle.std.specs.Cmp.Lexicographic.{slice_cmp}
-use Rattle.std.proofs.lemmas.Cmp.{nat_list_cmp_total, tied_itself}
+use Rattle.std.proofs.lemmas.Cmp.{nat_list_cmp_total}
 use Rattle.std.proofs.lemmas.Bool.{cases_Bool}
 use Rattle.std.proofs.lemmas.Bool.Decides.{nat_tests}
 use Rattle.std.proofs.lemmas.Map.Lookups.{exact_bytes}
@@ -18,6 +17,7 @@ use Rattle.bep_index.specs.View.{replaced, amended}
 use Rattle.bep_index.specs.Laws.{FoundIsOfBatchOrBefore, BatchIsFound, OthersAreKept}
 use Rattle.bep_model.specs.Tables.{FileName}
 use Rattle.bep_machine.specs.Gapless.{HasNoGap}
+use Rattle.bep_machine.proofs.ReplicaFacts.{same_name_or_not}
 
 -- a view without a gap, which isn't ahead of the index
 pub record KeepsUp (index view : Listing) : Type 0 where
@@ -32,14 +32,6 @@ pub record IsSent (index : Listing) (low : ℕ) (batch : List Entry) : Type 0 wh
   pub rises : Rises low batch
   pub differ : NamesDiffer batch
   pub behind : last_sequence low batch ≤ index.sequence
-
--- two names are the same, or they aren't
-same_name : (name other : FileName) → (name ≡ other) ⊎ (name ≢ other)
-same_name name other =
-    ⊎_elim
-    (λ tied. inl (exact_bytes name other ((Equal-is _).0 tied)))
-    (λ apart. inr (λ same. let e : is_eq (slice_cmp nat_cmp name other) ≡ true = ap is_eq (sym (ap (slice_cmp nat_cmp name) same) ∙ tied_itself nat_list_cmp_total name) in cc))
-    (cases_Bool (is_eq (slice_cmp nat_cmp name other)))
 
 -- ---- the index grows
 
@@ -61,7 +53,7 @@ not_older_after_put index put is_index name now there =
       omega (arith, (is_index.numbered name now there).2),
     ))
     (λ apart. (now, get-insert_apart nat_list_cmp_total exact_bytes index.records put.name (numbered put (index.sequence + 1)) name apart ∙ there, omega arith))
-    (same_name name put.name)
+    (same_name_or_not name put.name)
 
 pub keeps_up_after_put : (index view : Listing) (put : Entry) → IsIndex index → KeepsUp index view → KeepsUp (after_put index put) view
 keeps_up_after_put index view put is_index keeps = record {
@@ -171,11 +163,11 @@ named_or_not name (first ∷ more) =
     (λ later. inl (later.0, inr later.1, later.2))
     (λ none. inr (apart, none))
     (named_or_not name more))
-    (same_name first.name name)
+    (same_name_or_not first.name name)
 
 module _ (found : FoundIsOfBatchOrBefore) (taken : BatchIsFound) (others : OthersAreKept) where
-  pub keeps_up_when_amended : (index view : Listing) (batch : List Entry) → IsIndex index → NamesDiffer batch → KeepsUp index view → IsSent index view.sequence batch → KeepsUp index (amended view batch)
-  keeps_up_when_amended index view batch is_index differ keeps sent = record {
+  pub keeps_up_when_amended : (index view : Listing) (batch : List Entry) → IsIndex index → KeepsUp index view → IsSent index view.sequence batch → KeepsUp index (amended view batch)
+  keeps_up_when_amended index view batch is_index keeps sent = record {
     no_gap = record { held = held; named = named };
     behind = sent.behind;
   }
@@ -185,7 +177,7 @@ module _ (found : FoundIsOfBatchOrBefore) (taken : BatchIsFound) (others : Other
           ⊎_elim
           (λ new.
           let among = sent.whole name entry there new small in
-          subst (λ (n : FileName). get (with_all view.records batch) n ≡ Some entry) (is_index.numbered name entry there).0 (taken view.records batch entry differ among))
+          subst (λ (n : FileName). get (with_all view.records batch) n ≡ Some entry) (is_index.numbered name entry there).0 (taken view.records batch entry sent.differ among))
           (λ old.
           ⊎_elim
           (λ one.
@@ -206,8 +198,8 @@ module _ (found : FoundIsOfBatchOrBefore) (taken : BatchIsFound) (others : Other
           (found view.records batch name entry seen)
 
   -- an Index takes the place of all that was known: as an update of nothing
-  pub keeps_up_when_replaced : (index view : Listing) (batch : List Entry) → IsIndex index → NamesDiffer batch → IsSent index 0 batch → KeepsUp index (replaced view batch)
-  keeps_up_when_replaced index view batch is_index differ sent = record {
+  pub keeps_up_when_replaced : (index view : Listing) (batch : List Entry) → IsIndex index → IsSent index 0 batch → KeepsUp index (replaced view batch)
+  keeps_up_when_replaced index view batch is_index sent = record {
     no_gap = record { held = held; named = named };
     behind = sent.behind;
   }
@@ -216,7 +208,7 @@ module _ (found : FoundIsOfBatchOrBefore) (taken : BatchIsFound) (others : Other
       held name entry there small =
           let numbers = is_index.numbered name entry there in
           let among = sent.whole name entry there numbers.1 small in
-          subst (λ (n : FileName). get (with_all empty batch) n ≡ Some entry) numbers.0 (taken empty batch entry differ among)
+          subst (λ (n : FileName). get (with_all empty batch) n ≡ Some entry) numbers.0 (taken empty batch entry sent.differ among)
 
       named : (name : FileName) (entry : Entry) → get (with_all empty batch) name ≡ Some entry → (present : Entry) × (get index.records name ≡ Some present) × (entry.sequence ≤ present.sequence)
       named name entry seen =

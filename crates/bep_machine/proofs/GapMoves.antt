@@ -133,21 +133,22 @@ in_step_more_back folder index view cursor Named queue back message says step = 
   named = step.named;
 }
 
+-- the flow of a queue without its first message, which isn't of the folder's index
+rest_of_flow : (folder : Folder) (index : Listing) (start : Option ℕ) (first : Message) (queue : List Message) (cursor : Option Plan) → part_of folder first ≡ Other → IsFlow folder index start (first ∷ queue) cursor → IsFlow folder index start queue cursor
+rest_of_flow folder index start first queue None other flows = flows.1
+rest_of_flow folder index start first queue (Some Full) other flows = flows.1
+rest_of_flow folder index start first queue (Some (Above end)) other flows =
+    (subst (λ (part : Part). AfterPart index part start (λ next. Flows folder index next queue end)) other flows.0, flows.1)
+
 -- it takes what isn't of the folder's index, and keeps its view
 pub in_step_taking_other : (folder : Folder) (index view : Listing) (cursor : Option Plan) (Named : Type 0) (first : Message) (queue back : List Message) → part_of folder first ≡ Other → IsInStep folder index view cursor Named (first ∷ queue) back → IsInStep folder index view cursor Named queue back
 in_step_taking_other folder index view cursor Named first queue back other step = record {
   keeps_up = step.keeps_up;
-  flow = flow cursor step.flow;
+  flow = rest_of_flow folder index (start_of index view) first queue cursor other step.flow;
   ids = step.ids.1;
   points = step.points;
   named = step.named;
 }
-  where
-    flow : (cursor : Option Plan) → IsFlow folder index (start_of index view) (first ∷ queue) cursor → IsFlow folder index (start_of index view) queue cursor
-    flow None flows = flows.1
-    flow (Some Full) flows = flows.1
-    flow (Some (Above end)) flows =
-        (subst (λ (part : Part). AfterPart index part (start_of index view) (λ next. Flows folder index next queue end)) other flows.0, flows.1)
 
 -- its view of another index is cleared, and takes the id of this one
 nothing_known : (index view : Listing) → view.id ≢ index.id → IsIndex index → KeepsUp index (cleared index.id)
@@ -184,13 +185,6 @@ told_nowhere folder index view other apart (first ∷ more) all = (by_message fi
     by_message (messages.IndexUpdate named batch) says = tt
     by_message (messages.Request request) says = tt
     by_message (messages.Response response) says = tt
-
--- the flow of a queue without its first message, which isn't of the folder's index
-rest_of_flow : (folder : Folder) (index : Listing) (start : Option ℕ) (first : Message) (queue : List Message) (cursor : Option Plan) → part_of folder first ≡ Other → IsFlow folder index start (first ∷ queue) cursor → IsFlow folder index start queue cursor
-rest_of_flow folder index start first queue None other flows = flows.1
-rest_of_flow folder index start first queue (Some Full) other flows = flows.1
-rest_of_flow folder index start first queue (Some (Above end)) other flows =
-    (subst (λ (part : Part). AfterPart index part start (λ next. Flows folder index next queue end)) other flows.0, flows.1)
 
 flow_from_nowhere : (folder : Folder) (index : Listing) (start : Option ℕ) (queue : List Message) (cursor : Option Plan) → IsFlow folder index None queue cursor → IsFlow folder index start queue cursor
 flow_from_nowhere folder index start queue None flows = flows
@@ -255,7 +249,7 @@ module _ (found : FoundIsOfBatchOrBefore) (taken : BatchIsFound) (others : Other
       let same = step.named named in
       let comes = whole_taken folder index first queue batch (start_of index view) cursor whole step.flow in
       record {
-        keeps_up = λ _. keeps_up_when_replaced found taken others index view batch is_index comes.0.differ comes.0;
+        keeps_up = λ _. keeps_up_when_replaced found taken others index view batch is_index comes.0;
         flow = subst (λ (start : Option ℕ). IsFlow folder index start queue cursor) (sym (same_id index (replaced view batch) same)) comes.1;
         ids = step.ids.1;
         points = λ none. absurd (comes.2 none);
@@ -267,9 +261,9 @@ module _ (found : FoundIsOfBatchOrBefore) (taken : BatchIsFound) (others : Other
   in_step_taking_further folder index view cursor Named first queue back batch further named is_index step =
       let same = step.named named in
       let comes = further_taken folder index first queue batch view.sequence cursor further
-          (subst (λ (start : Option ℕ). IsFlow folder index start (first ∷ queue) cursor) (same_id index view same) step.flow) in
+      (subst (λ (start : Option ℕ). IsFlow folder index start (first ∷ queue) cursor) (same_id index view same) step.flow) in
       record {
-        keeps_up = λ _. keeps_up_when_amended found taken others index view batch is_index comes.0.differ (step.keeps_up same) comes.0;
+        keeps_up = λ _. keeps_up_when_amended found taken others index view batch is_index (step.keeps_up same) comes.0;
         flow = subst (λ (start : Option ℕ). IsFlow folder index start queue cursor) (sym (same_id index (amended view batch) same)) comes.1;
         ids = step.ids.1;
         points = λ none. absurd (comes.2 none);

@@ -57,6 +57,7 @@ module _ (other : Device) (folder : Folder) (Says : Announced → Type 0) where
     where
       more : List Announced
       more = flat_map (λ (one : Folder × Replica). if is_shared_with other one.1 then announced other one.0 one.1 ∷ [] else []) es
+
       by_test : (b : Bool) → EachSays folder Says more → EachSays folder Says ((if b then announced other first.0 first.1 ∷ [] else []) ++ more)
       by_test true rest = ((λ here. says first.0 first.1 (Contains-first first es) here), rest)
       by_test false rest = rest
@@ -86,8 +87,10 @@ module _ (other : Device) (up : Bool) (epoch : ℕ) (queue back : List Message) 
     where
       deed : Deed
       deed = sending (messages.ClusterConfig (config_for other old))
+
       here : get (insert old.sessions other (new_session epoch)) other ≡ Some (new_session epoch)
       here = get-insert_here nat_cmp_total nat_cmp-IsAntisymmetric old.sessions other (new_session epoch)
+
       each : (folder : Folder) (replica : Replica) → get old.replicas folder ≡ Some replica → KeepsFolder folder other up queue back deed None None replica replica
       each folder replica found =
           steps_keep_folder folder other up queue back false (Some (messages.ClusterConfig (config_for other old))) None None replica replica up_now refl (λ third apart. refl)
@@ -186,6 +189,7 @@ module _ (other : Device) (up : Bool) (epoch : ℕ) (queue back : List Message) 
         where
           later : Plan
           later = Above (last_sequence (sent_up_to cursor) batch)
+
           each : (in_folder : Folder) (found : Replica) → get old.replicas in_folder ≡ Some found → KeepsFolder in_folder other up queue back (sending (index_message cursor folder batch)) (get session.cursors in_folder) (get (insert session.cursors folder later) in_folder) found found
           each in_folder found there =
               ⊎_elim

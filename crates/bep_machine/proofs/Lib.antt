@@ -1,8 +1,5 @@
 mod CalmParts
 mod RunFacts
-mod GapFacts
-mod GapFlow
-mod GapMoves
 mod CalmRows
 mod ReplicaFacts
 mod ChoiceFacts
@@ -54,6 +51,9 @@ mod DeliverKept
 mod ClusterKept
 mod PlacesKept
 mod StepsKept
+mod GapFacts
+mod GapFlow
+mod GapMoves
 mod GapPair
 mod GapEntries
 mod GapSend
