@@ -57,3 +57,16 @@ mod HalfSteps
 mod ActedEnds
 mod Replays
 mod StepHalves
+mod GapFacts
+mod GapFlow
+mod GapMoves
+mod GapPair
+mod GapEntries
+mod GapSend
+mod GapNamed
+mod GapTake
+mod GapRows
+mod GapLinks
+mod GapCluster
+mod GapSteps
+mod GapRun
