@@ -51,3 +51,4 @@ mod DeliverKept
 mod ClusterKept
 mod PlacesKept
 mod StepsKept
+mod KeptFiles

@@ -12,3 +12,4 @@ pub mod Sound
 pub mod Gapless
 pub mod Laws
 pub mod Effects
+pub mod Files

@@ -5,6 +5,7 @@
 
 mod calm;
 mod effects;
+mod files;
 mod headline;
 mod limits;
 mod message;
@@ -17,6 +18,7 @@ pub use calm::{quiet_steps_keep_calm, quiet_steps_keep_records};
 pub use effects::{
     finish_adopts, override_wins, revert_takes_back, scan_records, start_pull_begins,
 };
+pub use files::{finish_keeps_files, revert_keeps_files};
 pub use headline::{settled_stays_put, settled_stays_settled};
 pub use limits::{MAX_EPOCH, MAX_OUTSTANDING, MAX_REQUEST_ID};
 pub use message::{Announced, Code, Message, Request, Response};
