@@ -70,3 +70,4 @@ mod GapLinks
 mod GapCluster
 mod GapSteps
 mod GapRun
+mod KeptFiles

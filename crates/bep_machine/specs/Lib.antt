@@ -14,3 +14,4 @@ pub mod Laws
 pub mod Effects
 pub mod Halves
 pub mod HalfLaws
+pub mod Files
