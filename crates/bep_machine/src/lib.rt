@@ -5,15 +5,9 @@
 
 mod calm;
 mod effects;
-<<<<<<< HEAD
-<<<<<<< HEAD
-mod halves;
-=======
-mod gapless;
->>>>>>> w-gap
-=======
 mod files;
->>>>>>> w-edits
+mod gapless;
+mod halves;
 mod headline;
 mod limits;
 mod message;
@@ -26,15 +20,9 @@ pub use calm::{quiet_steps_keep_calm, quiet_steps_keep_records};
 pub use effects::{
     finish_adopts, override_wins, revert_takes_back, scan_records, start_pull_begins,
 };
-<<<<<<< HEAD
-<<<<<<< HEAD
-pub use halves::{halves_make_the_step, replays_run, run_replays, step_has_halves};
-=======
-pub use gapless::{runs_are_gapless, same_point_same_index};
->>>>>>> w-gap
-=======
 pub use files::{finish_keeps_files, revert_keeps_files};
->>>>>>> w-edits
+pub use gapless::{runs_are_gapless, same_point_same_index};
+pub use halves::{halves_make_the_step, replays_run, run_replays, step_has_halves};
 pub use headline::{settled_stays_put, settled_stays_settled};
 pub use limits::{MAX_EPOCH, MAX_OUTSTANDING, MAX_REQUEST_ID};
 pub use message::{Announced, Code, Message, Request, Response};
