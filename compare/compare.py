@@ -1,5 +1,6 @@
 #!/usr/bin/env python3
-"""Compares the program's answers with those of a second reading (reading.py), on the examples and on random documents.
+"""Compares the program's answers with those of a second reading (reading.py), on the examples, on links with as many
+messages as they may have and one more, and on random documents.
 
     compare/compare.py [COUNT [SEED]]
 
@@ -183,6 +184,17 @@ class Documents:
         return made[:self.random.randrange(len(made))] if self.happens(0.02) else made
 
 
+def full_links():
+    """Documents with so many messages on their way to one end of a link, the most and one more."""
+    share = {"kind": "send-receive", "index_id": 1, "max": 0}
+    folder = {"folder": "docs", "devices": [share | {"device": device} for device in (1, 2)]}
+    message = {"folder": "docs", "full": True, "records": []}
+    for side in ("to_a", "to_b"):
+        for count in (1024, 1025):
+            link = {"a": 1, "b": 2, "up": True, "epoch": 1, side: [message] * count}
+            yield json.dumps({"version": 1, "cut": {"folders": [folder], "links": [link]}, "certificate": []}).encode()
+
+
 def is_number(value):
     return isinstance(value, int) and not isinstance(value, bool)
 
@@ -205,14 +217,15 @@ def main():
     documents = Documents(int(sys.argv[2]) if len(sys.argv) > 2 else 1)
     kinds = Counter()
     examples = sorted((TOP / "examples").glob("*.json"))
-    for document in [path.read_bytes() for path in examples] + [documents.bytes() for _ in range(count)]:
+    fixed = list(full_links())
+    for document in [path.read_bytes() for path in examples] + fixed + [documents.bytes() for _ in range(count)]:
         wanted = reading.answer(document)
         if not is_same(document, wanted):
             sys.exit(1)
         kinds[kind_of(wanted[0])] += 1
     for kind, number in kinds.most_common():
         print(f"{number:7} {kind}")
-    print(f"{len(examples)} examples and {count} random documents: the same answers")
+    print(f"{len(examples)} examples, {len(fixed)} fixed and {count} random documents: the same answers")
 
 
 main()

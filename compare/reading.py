@@ -205,10 +205,14 @@ def message(value):
     return {"folder": folder_name(value["folder"]), "records": records(value["records"], 1000)}
 
 
+def messages(values):
+    return [message(value) for value in at_most(values, 1024)]
+
+
 def link(value):
     return {"a": within(value["a"], 1, U64), "b": within(value["b"], 1, U64), "up": value["up"],
-            "epoch": within(value["epoch"], 0, I63), "to_a": [message(item) for item in value.get("to_a", [])],
-            "to_b": [message(item) for item in value.get("to_b", [])]}
+            "epoch": within(value["epoch"], 0, I63), "to_a": messages(value.get("to_a", [])),
+            "to_b": messages(value.get("to_b", []))}
 
 
 def cut_and_rows(value):

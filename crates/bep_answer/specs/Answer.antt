@@ -7,9 +7,10 @@ use Rattle.bep_document.specs.Reading.{Reading, Read, Refused}
 use Rattle.bep_model.specs.declared.row.Row.{Row}
 use Rattle.bep_model.specs.Settled.{IsSettled}
 use Rattle.bep_model.specs.Verdict as verdicts
+use Rattle.bep_machine.specs.Laws.{StaysPut, StaysSettled}
 use Rattle.bep_cut.specs.declared.cut.CutParts.{CutParts}
 use Rattle.bep_cut.specs.Cut.{tables_of}
-use Rattle.bep_cut.specs.Written.{check_of}
+use Rattle.bep_cut.specs.document.Written.{check_of}
 use Rattle.bep_report.specs.declared.error.ReportError.{ReportError}
 use Rattle.bep_report.specs.declared.error.ReportError.TheVariants.{Memory}
 use Rattle.bep_report.specs.declared.error.ReportError.TheVariants as faults
@@ -65,7 +66,8 @@ IsCutShort unread left held now Memory = Keeps held now
 IsCutShort unread left held now faults.Read = Keeps held now
 IsCutShort unread left held now faults.Write = IsBegun unread left held now
 
--- the bytes that were read say a cut and a certificate, and these are settled
+-- the bytes that were read say a cut and a certificate, and these are settled: so they stay, after every list of further
+-- steps without local edits
 pub record SaysSettled (unread left : Option (List ℕ)) : Type 0 where
   pub bytes : List ℕ
   pub read : IsRead unread left bytes
@@ -73,3 +75,5 @@ pub record SaysSettled (unread left : Option (List ℕ)) : Type 0 where
   pub rows : List Row
   pub says : check_of bytes ≡ Read (cut, rows)
   pub settled : IsSettled (tables_of cut) rows
+  pub stays_put : StaysPut (tables_of cut) rows
+  pub stays_settled : StaysSettled (tables_of cut) rows

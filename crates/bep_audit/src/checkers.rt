@@ -3,6 +3,7 @@ ghost use Rattle.std.specs.Prelude.{◌≡◌, ◌↔◌, IfOk, IsOk};
 ghost use Rattle.bep_model.specs.Calm.{IsCalm, contents_of};
 ghost use Rattle.bep_model.specs.Settled.{IsSettled};
 ghost use Rattle.bep_model.specs.Verdict.{IsVerdict};
+ghost use Rattle.bep_machine.specs.Laws.{StaysPut, StaysSettled};
 ghost use Rattle.bep_cut.specs.Cut.{tables_of};
 ghost use Rattle.bep_audit.specs.declared.verdict.Verdict.TheVariants.{Settled};
 ghost use Rattle.bep_audit.specs.Shown.{verdict_shown};
@@ -10,6 +11,7 @@ ghost use Rattle.bep_audit.specs.Shown.{verdict_shown};
 use crate::failing::first_failing;
 use crate::{Certificate, Verdict};
 use bep_cut::Cut;
+use bep_machine::{settled_stays_put, settled_stays_settled};
 use bep_model::{
     Reason, reasons_are_numbered, rows_rise_in_order, settled_is_calm, settled_is_faultless,
 };
@@ -35,13 +37,21 @@ pub const REASONS: [Reason; 12] = [
 ///
 /// Takes no memory, and believes no recorded hash of a store. Each reason is looked for by itself, in the order of the
 /// reasons.
+///
+/// Where it answers `Settled`, what the cluster holds stays put: after every list of further steps without local edits,
+/// from every sound cluster with the cut's tables, each folder holds byte for byte what it held, each name has its certified
+/// content, and the cluster is settled again, for the winners that it has then.
 pub fn check_plain<'a>(cut: &'a Cut, certificate: &'a Certificate) -> Verdict<'a>
     ensures verdict { IsVerdict (tables_of cut.now) certificate.now (verdict_shown result) }
     ensures settled { (result ≡ Settled) ↔ IsSettled (tables_of cut.now) certificate.now }
     ensures calm { result ≡ Settled → IsCalm (tables_of cut.now) (contents_of certificate.now) }
+    ensures stays_put { result ≡ Settled → StaysPut (tables_of cut.now) certificate.now }
+    ensures stays_settled { result ≡ Settled → StaysSettled (tables_of cut.now) certificate.now }
 {
     settled_is_faultless();
     settled_is_calm();
+    settled_stays_put();
+    settled_stays_settled();
     reasons_are_numbered();
     rows_rise_in_order();
     for reason in REASONS {
@@ -62,6 +72,8 @@ pub fn check<'a>(
     ensures verdict { IfOk result (λ verdict. IsVerdict (tables_of cut.now) certificate.now (verdict_shown verdict)) }
     ensures settled { IfOk result (λ verdict. (verdict ≡ Settled) ↔ IsSettled (tables_of cut.now) certificate.now) }
     ensures calm { IfOk result (λ verdict. verdict ≡ Settled → IsCalm (tables_of cut.now) (contents_of certificate.now)) }
+    ensures stays_put { IfOk result (λ verdict. verdict ≡ Settled → StaysPut (tables_of cut.now) certificate.now) }
+    ensures stays_settled { IfOk result (λ verdict. verdict ≡ Settled → StaysSettled (tables_of cut.now) certificate.now) }
 {
     Ok(check_plain(cut, certificate))
 }

@@ -1,3 +1,4 @@
+//! Why something of this crate is refused.
 ghost use Rattle.std.specs.Prelude.{◌≡◌};
 ghost use Rattle.bep_blocks.specs.BlocksError.{number_of};
 ghost use Rattle.bep_blocks.specs.declared.error.BlocksError.TheVariants.{Memory};

@@ -1,3 +1,4 @@
+//! Blocks that are told by their hashes alone.
 ghost use Rattle.std.specs.Prelude.{◌≡◌, ◌*◌, ◌<◌, ◌≤◌, ◌^◌, ◌↔◌, map, length, IfOk, IfSome, IsSome};
 ghost use Rattle.bep_record.specs.Block.{CutWhole, block_count, cut_at};
 

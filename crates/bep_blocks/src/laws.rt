@@ -1,3 +1,4 @@
+//! What follows from the definitions of block lists. Each function does nothing; its contract is the law.
 ghost use Rattle.bep_blocks.specs.Laws.{HashesTellBlocks, NothingHasItsHash, NothingIsOneBlock, OnlyPlainMatches, PlainIsCutWhole, PlainMatches};
 
 /// What holds of plain block lists: a law, which does nothing when it runs.

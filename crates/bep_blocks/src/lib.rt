@@ -1,4 +1,9 @@
 //! Block lists of files: a file's bytes cut into pieces, each with its place, its size and its SHA-256.
+//!
+//! ```rust
+//! let list = blocks(alloc, bytes, BlockSize::base())?;
+//! let same = matches(bytes, list.as_slice()); // true
+//! ```
 #![tactic(auto)]
 
 mod error;

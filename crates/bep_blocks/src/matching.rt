@@ -1,3 +1,4 @@
+//! Whether blocks match bytes.
 ghost use Rattle.std.specs.Prelude.{◌≡◌, ◌↔◌, ◌<◌, ◌≤◌, ◌^◌, [], ◌∷◌, length, IsTrue};
 ghost use Rattle.bep_blocks.specs.Matching.{BeginsRest, Matches, MatchesRest};
 ghost use Rattle.bep_blocks.specs.Plain.{block_of};

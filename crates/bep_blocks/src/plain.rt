@@ -1,3 +1,4 @@
+//! The block list of bytes, made piece by piece.
 ghost use Rattle.std.specs.Prelude.{◌≡◌, ◌≢◌, ◌*◌, ◌+◌, ◌<◌, ◌≤◌, ◌↔◌, ◌^◌, length, IfOk, IfErr, IsErrOf};
 ghost use Rattle.bep_record.specs.Block.{block_count};
 ghost use Rattle.bep_blocks.specs.Plain.{block_of, hash_of, piece_at, plain_block, plain_blocks};

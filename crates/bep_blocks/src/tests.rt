@@ -1,3 +1,4 @@
+//! Block lists of small files, with hashes from outside.
 use super::*;
 use bep_record::{Block, BlockSize, Items};
 use std::alloc::Global;

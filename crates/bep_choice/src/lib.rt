@@ -2,6 +2,13 @@
 //!
 //! `choose` gives the place of the choice among the candidates, and `needed` says whether the choice is wanted. Neither
 //! takes memory. `laws` has what holds of each choice.
+//!
+//! ```rust
+//! let is_wanted = match choose(me, candidates) {
+//!     Some(place) => needed(FolderKind::SendReceive, own, candidates[place].1),
+//!     None => false,
+//! };
+//! ```
 #![tactic(auto)]
 
 mod choice;

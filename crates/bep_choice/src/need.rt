@@ -1,3 +1,4 @@
+//! Whether a device needs the record that it holds for the best.
 ghost use Rattle.std.specs.Prelude.{◌↔◌, IsTrue};
 ghost use Rattle.std.specs.Option.{option_copied};
 ghost use Rattle.bep_choice.specs.Need.{IsNeeded, NeedsBeside};

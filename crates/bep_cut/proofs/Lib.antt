@@ -4,10 +4,3 @@ mod Values
 mod Added
 mod Known
 mod Finite
-mod SortingFacts
-mod WrittenFacts
-mod LinkFacts
-mod CutWritten
-mod AsWrittenFacts
-mod AsWrittenViews
-mod AsWrittenLinks

@@ -19,7 +19,7 @@ use Rattle.bep_cut.specs.declared.share.PeerView.{PeerView}
 use Rattle.bep_cut.specs.declared.share.SharedFolder.{SharedFolder}
 use Rattle.bep_cut.specs.declared.link.LinkState.{LinkState}
 use Rattle.bep_cut.specs.declared.cut.CutParts.{CutParts}
-use Rattle.bep_record.specs.declared.limits.TheConstants.{MAX_FOLDERS, MAX_DEVICES, MAX_PULLS}
+use Rattle.bep_record.specs.declared.limits.TheConstants.{MAX_FOLDERS, MAX_DEVICES, MAX_PULLS, MAX_MESSAGES}
 
 -- the index that a device has of a folder
 abbrev pub index_of : Share → Listing
@@ -35,14 +35,19 @@ devices_of = map (λ share. share.device)
 
 -- the device shares one of the folders
 abbrev pub HasDevice : List SharedFolder → Device → Type 0
-HasDevice folders device = (held : SharedFolder) × Contains folders held × Contains (devices_of held.shares) device
+HasDevice folders device = (shared : SharedFolder) × Contains folders shared × Contains (devices_of shared.shares) device
+
+-- something is known of another's index: the view isn't at point (0, 0), where it would be empty
+abbrev pub HasPoint : PeerView → Type 0
+HasPoint view = ¬ ((view.index_id ≡ 0) × (view.max_sequence ≡ 0))
 
 -- a device's views are of other devices that share the folder, one of each, devices rising; what they know is of an
--- index
+-- index, and empty views don't stand
 pub record AreViews (devices : List Device) (device : Device) (views : List PeerView) : Type 0 where
   pub rise : IsStrictlyIncreasing (map (λ view. view.of) views)
   pub others : All (λ view. (view.of ≢ device) × Contains devices view.of) views
   pub indexes : All (λ view. IsIndex (known_of view)) views
+  pub known : All HasPoint views
 
 -- each pull stands at its name, and none is invalid
 abbrev pub AreNamed : ByName Entry → Type 0
@@ -62,11 +67,11 @@ pub record AreShares (shares : List Share) : Type 0 where
 
 -- whether this is the folder of the name
 abbrev pub is_folder : Folder → SharedFolder → Bool
-is_folder folder held = is_eq (slice_cmp nat_cmp held.folder folder)
+is_folder folder shared = is_eq (slice_cmp nat_cmp shared.folder folder)
 
 -- what the devices have that share a folder
 abbrev pub shares_of : Folder → List SharedFolder → List Share
-shares_of folder folders = unwrap_or (option_map (λ held. held.shares) (find (is_folder folder) folders)) []
+shares_of folder folders = unwrap_or (option_map (λ shared. shared.shares) (find (is_folder folder) folders)) []
 
 -- a message of a folder that both devices share
 pub record IsFlight (folders : List SharedFolder) (a b : Device) (flight : Flight) : Type 0 where
@@ -74,13 +79,16 @@ pub record IsFlight (folders : List SharedFolder) (a b : Device) (flight : Fligh
   pub shared_by_a : Contains (devices_of (shares_of flight.folder folders)) a
   pub shared_by_b : Contains (devices_of (shares_of flight.folder folders)) b
 
--- a link joins two devices of the cluster, the smaller one first; nothing is on its way while it is down
+-- a link joins two devices of the cluster, the smaller one first; at most 1024 messages are on their way to either, and
+-- none while it is down
 pub record IsLink (folders : List SharedFolder) (link : LinkState) : Type 0 where
   pub ends : link.a < link.b
   pub a_device : HasDevice folders link.a
   pub b_device : HasDevice folders link.b
   pub epoch : link.epoch ≤ MAX_SEQUENCE
   pub quiet : link.up ≡ false → (link.to_a ≡ []) × (link.to_b ≡ [])
+  pub few_to_a : length link.to_a ≤ MAX_MESSAGES
+  pub few_to_b : length link.to_b ≤ MAX_MESSAGES
   pub to_a : All (IsFlight folders link.a link.b) link.to_a
   pub to_b : All (IsFlight folders link.a link.b) link.to_b
 
@@ -93,8 +101,8 @@ ends_cmp = then_cmp (on (λ ends. ends.0) nat_cmp) (on (λ ends. ends.1) nat_cmp
 
 -- what holds of every cut
 pub record IsCut (cut : CutParts) : Type 0 where
-  pub rise : IsStrictlySortedBy (slice_cmp nat_cmp) (map (λ held. held.folder) cut.folders)
-  pub shares : All (λ held. AreShares held.shares) cut.folders
+  pub rise : IsStrictlySortedBy (slice_cmp nat_cmp) (map (λ shared. shared.folder) cut.folders)
+  pub shares : All (λ shared. AreShares shared.shares) cut.folders
   pub few_folders : length cut.folders ≤ MAX_FOLDERS
   pub few_devices : (devices : List Device) → IsStrictlyIncreasing devices → All (HasDevice cut.folders) devices → length devices ≤ MAX_DEVICES
   pub links_rise : IsStrictlySortedBy ends_cmp (map ends_of cut.links)

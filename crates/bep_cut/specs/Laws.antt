@@ -17,13 +17,13 @@ use Rattle.bep_cut.specs.Names.{known_names}
 -- each folder's shares are found by its name
 abbrev pub FolderIsFound : Type 0
 FolderIsFound =
-    (cut : CutParts) (held : SharedFolder) → IsCut cut → Contains cut.folders held → shares_of held.folder cut.folders ≡ held.shares
+    (cut : CutParts) (shared : SharedFolder) → IsCut cut → Contains cut.folders shared → shares_of shared.folder cut.folders ≡ shared.shares
 
 -- what shares a folder is a device of one of the cut's folders, which has that name
 abbrev pub ShareHasFolder : Type 0
 ShareHasFolder =
     (cut : CutParts) (folder : Folder) (share : Share) → Contains (shares_of folder cut.folders) share →
-    (held : SharedFolder) × Contains cut.folders held × (held.folder ≡ folder)
+    (shared : SharedFolder) × Contains cut.folders shared × (shared.folder ≡ folder)
 
 -- the devices that share a folder are those of its shares
 abbrev pub SharingIsSaid : Type 0

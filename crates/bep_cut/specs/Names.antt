@@ -50,7 +50,7 @@ known_names cut folder = fold (with_link folder) (fold with_share empty (shares_
 
 -- the known names of a folder of the cut, rising, and those of several of its folders
 abbrev pub names_of : CutParts → SharedFolder → List (Folder × FileName)
-names_of cut held = map (λ name. (held.folder, name)) (keys (known_names cut held.folder))
+names_of cut shared = map (λ name. (shared.folder, name)) (keys (known_names cut shared.folder))
 
 abbrev pub all_names : CutParts → List SharedFolder → List (Folder × FileName)
 all_names cut = flat_map (names_of cut)

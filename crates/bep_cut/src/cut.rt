@@ -1,3 +1,4 @@
+//! A cut, its folders and its links.
 ghost use Rattle.std.specs.Prelude.{◌≡◌};
 ghost use Rattle.std.specs.Option.{option_copied};
 ghost use Rattle.std.specs.List.{find};
@@ -20,7 +21,8 @@ pub struct CutParts {
 /// holds, what it knows of the others' indexes and what it pulls; and which records are on their way over which link.
 ///
 /// At most 16 folders and 16 devices; folders, devices and links rise; each device's records, and each view's, are those
-/// of an index; views and messages are of devices that share the folder; nothing is on its way over a link that is down.
+/// of an index; views and messages are of devices that share the folder, and no view is empty; at most 1024 messages are
+/// on their way to either end of a link, and none over a link that is down.
 #[derive(Drop)]
 pub struct Cut {
     parts: CutParts,
@@ -29,12 +31,12 @@ pub struct Cut {
 impl Model for Cut {
     ghost use Rattle.bep_cut.specs.declared.cut.CutParts.{CutParts};
     ghost use Rattle.bep_cut.specs.Cut.{IsCut};
-    ghost use Rattle.bep_cut.specs.contracts.share.SharedFolder as held;
+    ghost use Rattle.bep_cut.specs.contracts.share.SharedFolder as shared;
     ghost use Rattle.std.specs.Coded.{codes};
 
     ghost Value = { CutParts };
 
-    ghost coded = { Prim.hlevel (codes, held.the_row.coded) };
+    ghost coded = { Prim.hlevel (codes, shared.the_row.coded) };
 
     ghost view = { λ cut. cut.parts };
 
@@ -72,7 +74,7 @@ impl Cut {
         ensures a_cut { IsCut self.now }
     {
         match folder_of(self.parts.folders.as_slice(), folder) {
-            Some(held) => held.shares.as_slice(),
+            Some(shared) => shared.shares.as_slice(),
             None => &[],
         }
     }
@@ -81,5 +83,7 @@ impl Cut {
 fn folder_of<'a>(folders: &'a [SharedFolder], folder: &FolderName) -> Option<&'a SharedFolder>
     ensures { option_copied result ≡ find (is_folder folder.now) folders.now }
 {
-    folders.iter().find(|held| held.folder.cmp(folder).is_eq())
+    folders
+        .iter()
+        .find(|shared| shared.folder.cmp(folder).is_eq())
 }

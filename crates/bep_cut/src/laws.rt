@@ -1,7 +1,5 @@
+//! What the tables and the known names of a cut are, as laws.
 ghost use Rattle.bep_cut.specs.Laws.{FolderIsFound, ShareHasFolder, SharingIsSaid, OwnIsSaid, NodeIsSaid, ViewedIsSaid, TargetIsSaid, FlyingIsSaid, ReceiverShares, NamesAreKnown, CutIsFinite};
-ghost use Rattle.bep_cut.specs.AsWritten.{SharingIsAsWritten, OwnIsAsWritten, NodeIsAsWritten, ViewedIsAsWritten, TargetIsAsWritten, FlyingIsAsWritten, UnlinkedIsQuiet};
-
-use bep_index::records_make_an_index;
 
 /// The tables of a cut are what its folders and devices have.
 pub fn cut_says()
@@ -22,17 +20,3 @@ pub fn names_are_known()
     ensures known { NamesAreKnown }
     ensures finite { CutIsFinite }
 {}
-
-/// The cut that a document without faults writes down says what the document lists: who shares what, each device's own
-/// records and nodes, what it knows of others and pulls, and what is on its way over each link; nothing else is on its way.
-pub fn cut_is_as_written()
-    ensures sharing { SharingIsAsWritten }
-    ensures own { OwnIsAsWritten }
-    ensures node { NodeIsAsWritten }
-    ensures viewed { ViewedIsAsWritten }
-    ensures target { TargetIsAsWritten }
-    ensures flying { FlyingIsAsWritten }
-    ensures unlinked { UnlinkedIsQuiet }
-{
-    records_make_an_index();
-}

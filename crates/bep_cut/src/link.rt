@@ -1,3 +1,4 @@
+//! A link at the moment of a cut.
 use bep_model::Flight;
 use bep_record::{DeviceId, Items};
 

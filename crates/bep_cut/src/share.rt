@@ -1,3 +1,4 @@
+//! What a device has of a folder at the moment of a cut.
 use bep_index::IndexId;
 use bep_map::NameMap;
 use bep_record::{DeviceId, FolderKind, FolderName, Items, Node, Record};

@@ -1,233 +1,156 @@
 // Documents whose folders, devices, views and links are out of order; what they say was read off by hand, by
 // docs/DOCUMENTS.md.
 use crate::*;
-use bep_record::{FolderKind, FolderName, Kind, Name, RecordError};
+use bep_map::NameMap;
+use bep_record::FolderKind;
 use std::alloc::{AllocError, Global};
 use std::test::Fail;
 
-const DOCUMENT: &str = "{\"version\":1,\"cut\":{\"folders\":[
-{\"folder\":\"music\",\"devices\":[]},
-{\"folder\":\"docs\",\"devices\":[
-{\"device\":7,\"kind\":\"send-only\",\"index_id\":17,\"max\":9,
-\"own\":[
-{\"name\":\"b\",\"type\":1,\"modified_s\":5,\"modified_by\":7,\"version\":[[7,1]],\"sequence\":9},
-{\"name\":\"a\",\"type\":0,\"modified_s\":-5,\"modified_by\":7,\"version\":[[7,2]],\"sequence\":2,\"deleted\":true}]},
-{\"device\":2,\"kind\":\"receive-only\",\"index_id\":12,\"max\":0,
-\"store\":[
-{\"name\":\"d\",\"type\":4,\"modified_s\":5,\"target\":\"b\"},
-{\"name\":\"c\",\"type\":0,\"modified_s\":5,\"text\":\"abc\"}]}]}]},
-\"certificate\":[
-{\"folder\":\"music\",\"device\":9,\"record\":
-{\"name\":\"z\",\"type\":1,\"modified_s\":0,\"modified_by\":1,\"version\":[],\"sequence\":0}},
-{\"folder\":\"docs\",\"device\":7,\"record\":
-{\"name\":\"b\",\"type\":1,\"modified_s\":5,\"modified_by\":7,\"version\":[[7,1]],\"sequence\":9}}]}";
-
-const LINKED: &str = "{\"version\":1,\"cut\":{\"folders\":[
-{\"folder\":\"docs\",\"devices\":[
-{\"device\":2,\"kind\":\"send-receive\",\"index_id\":12,\"max\":0,\"own\":[],\"store\":[],
-\"views\":[
-{\"of\":7,\"index_id\":17,\"max\":9,\"records\":[
-{\"name\":\"a\",\"type\":0,\"modified_s\":-5,\"modified_by\":7,\"version\":[[7,2]],\"sequence\":9,
-\"size\":3,\"modified_ns\":8,\"deleted\":false,\"invalid\":false,\"block_size\":131072,
-\"blocks\":[\"ba7816bf8f01cfea414140de5dae2223b00361a396177a9cb410ff61f20015ad\"],\"target\":\"\"},
-{\"name\":\"b\",\"type\":4,\"modified_s\":5,\"modified_by\":7,\"version\":[[7,1]],\"sequence\":4,\"target\":\"a\"}]},
-{\"of\":5,\"index_id\":0,\"max\":0,\"records\":[]}],
-\"pulls\":[
-{\"name\":\"b\",\"type\":4,\"modified_s\":5,\"modified_by\":7,\"version\":[[7,1]],\"sequence\":4,\"target\":\"a\"}]},
-{\"device\":5,\"kind\":\"send-receive\",\"index_id\":15,\"max\":0},
-{\"device\":7,\"kind\":\"send-receive\",\"index_id\":17,\"max\":10}]}],
-\"links\":[
-{\"a\":2,\"b\":7,\"up\":true,\"epoch\":3,
-\"to_a\":[{\"folder\":\"docs\",\"full\":false,\"records\":[
-{\"name\":\"c\",\"type\":1,\"modified_s\":5,\"modified_by\":7,\"version\":[[7,3]],\"sequence\":10}]}],
-\"to_b\":[
-{\"folder\":\"docs\",\"full\":true,\"records\":[
-{\"name\":\"e\",\"type\":1,\"modified_s\":5,\"modified_by\":2,\"version\":[[2,1]],\"sequence\":1},
-{\"name\":\"d\",\"type\":1,\"modified_s\":5,\"modified_by\":2,\"version\":[[2,2]],\"sequence\":2}]},
-{\"folder\":\"docs\",\"full\":false,\"records\":[]}]},
-{\"a\":2,\"b\":5,\"up\":false,\"epoch\":0,\"to_a\":[],\"to_b\":[]}]},
-\"certificate\":[]}";
-
-fn folder(alloc: Global, name: &str) -> Result<FolderName, RecordError> {
-    FolderName::read(alloc, name.as_bytes())
+// Two folders, the devices of one of them, and two rows.
+fn of_folders(alloc: Global) -> Result<(Cut, Vec<Row>), DocError> {
+    let text = r#"{"version":1,"cut":{"folders":[
+        {"folder":"music","devices":[]},
+        {"folder":"docs","devices":[
+        {"device":7,"kind":"send-only","index_id":17,"max":9,"own":[
+        {"name":"b","type":1,"modified_s":5,"modified_by":7,"version":[[7,1]],"sequence":9},
+        {"name":"a","type":0,"modified_s":-5,"modified_by":7,"version":[[7,2]],"sequence":2,"deleted":true}]},
+        {"device":2,"kind":"receive-only","index_id":12,"max":0,"store":[
+        {"name":"d","type":4,"modified_s":5,"target":"b"},
+        {"name":"c","type":0,"modified_s":5,"text":"abc"}]}]}]},
+        "certificate":[
+        {"folder":"music","device":9,"record":
+        {"name":"z","type":1,"modified_s":0,"modified_by":1,"version":[],"sequence":0}},
+        {"folder":"docs","device":7,"record":
+        {"name":"b","type":1,"modified_s":5,"modified_by":7,"version":[[7,1]],"sequence":9}}]}"#;
+    read_check(alloc, text.as_bytes())
 }
 
-fn name(alloc: Global, name: &str) -> Result<Name, RecordError> {
-    Name::read(alloc, name.as_bytes())
+// Three devices of a folder, what two of them know and pull, and two links.
+fn of_links(alloc: Global) -> Result<(Cut, Vec<Row>), DocError> {
+    let text = r#"{"version":1,"cut":{"folders":[{"folder":"docs","devices":[
+        {"device":2,"kind":"send-receive","index_id":12,"max":0,
+        "views":[
+        {"of":7,"index_id":17,"max":9,"records":[
+        {"name":"a","type":0,"modified_s":-5,"modified_by":7,"version":[[7,2]],"sequence":9,
+        "size":3,"modified_ns":8,
+        "blocks":["ba7816bf8f01cfea414140de5dae2223b00361a396177a9cb410ff61f20015ad"]},
+        {"name":"b","type":4,"modified_s":5,"modified_by":7,"version":[[7,1]],"sequence":4,"target":"a"}]},
+        {"of":5,"index_id":15,"max":0,"records":[]}],
+        "pulls":[
+        {"name":"b","type":4,"modified_s":5,"modified_by":7,"version":[[7,1]],"sequence":4,"target":"a"}]},
+        {"device":5,"kind":"send-receive","index_id":15,"max":0,
+        "views":[{"of":2,"index_id":0,"max":0,"records":[]}]},
+        {"device":7,"kind":"send-receive","index_id":17,"max":10}]}],
+        "links":[
+        {"a":2,"b":7,"up":true,"epoch":3,
+        "to_a":[{"folder":"docs","full":false,"records":[
+        {"name":"c","type":1,"modified_s":5,"modified_by":7,"version":[[7,3]],"sequence":10}]}],
+        "to_b":[{"folder":"docs","full":true,"records":[
+        {"name":"e","type":1,"modified_s":5,"modified_by":2,"version":[[2,1]],"sequence":1},
+        {"name":"d","type":1,"modified_s":5,"modified_by":2,"version":[[2,2]],"sequence":2}]},
+        {"folder":"docs","full":false,"records":[]}]},
+        {"a":2,"b":5,"up":false,"epoch":0}]},
+        "certificate":[]}"#;
+    read_check(alloc, text.as_bytes())
 }
 
-#[test]
-fn folders_and_devices_are_put_in_order(rt: HostRuntime) -> Result<(), Fail> {
-    let alloc = rt.alloc();
-    let (cut, rows) = read_check(alloc, DOCUMENT.as_bytes())?;
-    let mut folders = cut.folders().iter().map(|held| held.folder.as_str());
-    assert_eq!(rt; folders.next(), Some("docs"));
-    assert_eq!(rt; folders.next(), Some("music"));
-    assert_eq!(rt; folders.next(), None);
-    let shares = cut.shares(&folder(alloc, "docs")?);
-    let mut devices = shares.iter().map(|share| share.device.number());
-    assert_eq!(rt; devices.next(), Some(2));
-    assert_eq!(rt; devices.next(), Some(7));
-    assert_eq!(rt; devices.next(), None);
-    assert!(rt; cut.shares(&folder(alloc, "music")?).is_empty());
-    assert!(rt; cut.shares(&folder(alloc, "photos")?).is_empty());
-    // Rows stay as they stand.
-    let mut rows = rows.iter().map(|row| row.folder.as_str());
-    assert_eq!(rt; rows.next(), Some("music"));
-    assert_eq!(rt; rows.next(), Some("docs"));
-    assert_eq!(rt; rows.next(), None);
+fn push_number(text: &mut String, alloc: Global, number: u64) -> Result<(), AllocError> {
+    let number = format!(in alloc; " {number}")?;
+    text.push_str(number.as_str())
+}
+
+fn push_names<V>(text: &mut String, head: &str, names: &NameMap<V>) -> Result<(), AllocError> {
+    text.push_str(head)?;
+    for (name, _value) in names.iter() {
+        text.push_str(" ")?;
+        text.push_str(name.as_str())?;
+    }
     Ok(())
 }
 
-#[test]
-fn a_share_has_what_the_document_lists(rt: HostRuntime) -> Result<(), Fail> {
-    let alloc = rt.alloc();
-    let (cut, _rows) = read_check(alloc, DOCUMENT.as_bytes())?;
-    let docs = folder(alloc, "docs")?;
-    let [two, seven] = cut.shares(&docs) else {
-        assert!(rt; false, "two devices share the folder");
-        return Ok(());
-    };
-    assert!(rt; two.kind == FolderKind::ReceiveOnly && seven.kind == FolderKind::SendOnly);
-    assert_eq!(rt; seven.index_id.number(), 17);
-    assert_eq!(rt; seven.max_sequence, 9);
-    assert!(rt; two.own.len() == 0 && seven.store.len() == 0);
-    let own = seven.own.get(&name(alloc, "a")?);
-    assert!(rt; own.is_some_and(|own| own.entry().deleted && own.entry().sequence == 2));
-    let held = two.store.get(&name(alloc, "c")?);
-    assert!(rt; held.is_some_and(|node| node.parts().bytes.as_slice() == b"abc".as_slice()));
-    Ok(())
+fn word_of(kind: FolderKind) -> &'static str {
+    match kind {
+        FolderKind::SendReceive => "send-receive",
+        FolderKind::SendOnly => "send-only",
+        FolderKind::ReceiveOnly => "receive-only",
+    }
 }
 
-// The known names of the folder, one after the other.
-fn known(alloc: Global, cut: &Cut, place: usize) -> Result<String, AllocError> {
+// A device with its kind and the point of its index, and the names of what it has.
+fn push_share(text: &mut String, alloc: Global, share: &Share) -> Result<(), AllocError> {
+    push_number(text, alloc, share.device.number())?;
+    text.push_str(" ")?;
+    text.push_str(word_of(share.kind))?;
+    push_number(text, alloc, share.index_id.number())?;
+    push_number(text, alloc, share.max_sequence)?;
+    push_names(text, " own", &share.own)?;
+    push_names(text, " store", &share.store)?;
+    for view in share.views.as_slice() {
+        text.push_str(" view")?;
+        push_number(text, alloc, view.of.number())?;
+        push_number(text, alloc, view.index_id)?;
+        push_number(text, alloc, view.max_sequence)?;
+        push_names(text, "", &view.records)?;
+    }
+    push_names(text, " pulls", &share.pulls)?;
+    text.push_str(";")
+}
+
+// Each folder with its devices.
+fn told_of_folders(alloc: Global, cut: &Cut) -> Result<String, AllocError> {
     let mut text = String::new(alloc);
-    if let Some(held) = cut.folders().get(place) {
-        for (name, _known) in cut.known_names(alloc, &held.folder)?.iter() {
-            text.push_str(name.as_str())?;
+    for shared in cut.folders() {
+        text.push_str(shared.folder.as_str())?;
+        text.push_str(":")?;
+        for share in shared.shares.as_slice() {
+            push_share(&mut text, alloc, share)?;
         }
     }
     Ok(text)
 }
 
+// Each row's folder and name.
+fn told_of_rows(alloc: Global, rows: &[Row]) -> Result<String, AllocError> {
+    let mut text = String::new(alloc);
+    for row in rows {
+        text.push_str(row.folder.as_str())?;
+        text.push_str(" ")?;
+        text.push_str(row.entry.entry().name.as_str())?;
+        text.push_str(";")?;
+    }
+    Ok(text)
+}
+
 #[test]
-fn own_records_and_stores_know_names(rt: HostRuntime) -> Result<(), Fail> {
-    let (cut, _rows) = read_check(rt.alloc(), DOCUMENT.as_bytes())?;
-    assert_eq!(rt; known(rt.alloc(), &cut, 0)?.as_str(), "abcd");
-    assert_eq!(rt; known(rt.alloc(), &cut, 1)?.as_str(), "");
+fn folders_and_devices_are_put_in_order(rt: HostRuntime) -> Result<(), Fail> {
+    let alloc = rt.alloc();
+    let (cut, rows) = of_folders(alloc)?;
+    assert_eq!(rt;
+        told_of_folders(alloc, &cut)?.as_str(),
+        "docs: 2 receive-only 12 0 own store c d pulls; 7 send-only 17 9 own a b store pulls;music:"
+    );
+    // Rows stay as they stand.
+    assert_eq!(rt;
+        told_of_rows(alloc, rows.as_slice())?.as_str(),
+        "music z;docs b;"
+    );
     Ok(())
 }
 
 #[test]
 fn views_are_put_in_order(rt: HostRuntime) -> Result<(), Fail> {
     let alloc = rt.alloc();
-    let (cut, _rows) = read_check(alloc, LINKED.as_bytes())?;
-    let [two, _five, seven] = cut.shares(&folder(alloc, "docs")?) else {
-        assert!(rt; false, "three devices share the folder");
-        return Ok(());
-    };
-    assert_eq!(rt; (seven.views.as_slice().len(), seven.pulls.len()), (0, 0));
-    let [of_five, of_seven] = two.views.as_slice() else {
-        assert!(rt; false, "the smallest device has two views");
-        return Ok(());
-    };
-    assert_eq!(rt; point_of(of_five), (5, 0, 0, 0));
-    assert_eq!(rt; point_of(of_seven), (7, 17, 9, 2));
-    Ok(())
-}
-
-// Whose index a view is of, at which point, and how many names it has.
-fn point_of(view: &PeerView) -> (u64, u64, u64, usize) {
-    (
-        view.of.number(),
-        view.index_id,
-        view.max_sequence,
-        view.records.len(),
-    )
-}
-
-#[test]
-fn records_of_views_are_whole(rt: HostRuntime) -> Result<(), Fail> {
-    let alloc = rt.alloc();
-    let (cut, _rows) = read_check(alloc, LINKED.as_bytes())?;
-    let [two, ..] = cut.shares(&folder(alloc, "docs")?) else {
-        assert!(rt; false, "devices share the folder");
-        return Ok(());
-    };
-    let view = two.views.as_slice().last();
-    let name = name(alloc, "a")?;
-    let Some(file) = view.and_then(|view| view.records.get(&name)) else {
-        assert!(rt; false, "the file is viewed");
-        return Ok(());
-    };
-    let file = file.entry();
-    assert!(rt; file.kind == Kind::File);
+    let (cut, _rows) = of_links(alloc)?;
+    // The empty view that device 5 has of device 2 says as much as none.
     assert_eq!(rt;
-        (file.size, file.block_size, file.deleted, file.invalid),
-        (3, 131072, false, false)
-    );
-    assert_eq!(rt;
-        (file.modified_s, file.modified_ns, file.modified_by.number()),
-        (-5, 8, 7)
-    );
-    assert_eq!(rt;
-        (file.version.counters(), file.sequence),
-        ([(7, 2)].as_slice(), 9)
-    );
-    let block = file.blocks.as_slice().first();
-    assert!(rt; block.is_some_and(|block| block.offset == 0 && block.size == 3));
-    Ok(())
-}
-
-#[test]
-fn pulls_stand_at_their_names(rt: HostRuntime) -> Result<(), Fail> {
-    let alloc = rt.alloc();
-    let (cut, _rows) = read_check(alloc, LINKED.as_bytes())?;
-    let [two, ..] = cut.shares(&folder(alloc, "docs")?) else {
-        assert!(rt; false, "devices share the folder");
-        return Ok(());
-    };
-    assert_eq!(rt; two.pulls.len(), 1);
-    let Some(link) = two.pulls.get(&name(alloc, "b")?) else {
-        assert!(rt; false, "the link is pulled");
-        return Ok(());
-    };
-    assert_eq!(rt;
-        (link.entry().target.as_str(), link.entry().sequence),
-        ("a", 4)
-    );
-    Ok(())
-}
-
-#[test]
-fn messages_stay_in_their_order(rt: HostRuntime) -> Result<(), Fail> {
-    let (cut, _rows) = read_check(rt.alloc(), LINKED.as_bytes())?;
-    let [down, up] = cut.links() else {
-        assert!(rt; false, "there are two links");
-        return Ok(());
-    };
-    assert_eq!(rt;
-        (down.a.number(), down.b.number(), down.up, down.epoch),
-        (2, 5, false, 0)
-    );
-    assert_eq!(rt;
-        (up.a.number(), up.b.number(), up.up, up.epoch),
-        (2, 7, true, 3)
-    );
-    assert_eq!(rt;
-        told(rt.alloc(), up.to_a.as_slice())?.as_str(),
-        "update docs c;"
-    );
-    assert_eq!(rt;
-        told(rt.alloc(), up.to_b.as_slice())?.as_str(),
-        "index docs e d;update docs;"
+        told_of_folders(alloc, &cut)?.as_str(),
+        "docs: 2 send-receive 12 0 own store view 5 15 0 view 7 17 9 a b pulls b; 5 send-receive 15 0 own store pulls; 7 send-receive 17 10 own store pulls;"
     );
     Ok(())
 }
 
 // What each message is, its folder, and the names of its records.
-fn told(alloc: Global, flights: &[Flight]) -> Result<String, AllocError> {
-    let mut text = String::new(alloc);
+fn push_flights(text: &mut String, flights: &[Flight]) -> Result<(), AllocError> {
     for flight in flights {
         text.push_str(if flight.full { "index " } else { "update " })?;
         text.push_str(flight.folder.as_str())?;
@@ -237,13 +160,55 @@ fn told(alloc: Global, flights: &[Flight]) -> Result<String, AllocError> {
         }
         text.push_str(";")?;
     }
+    Ok(())
+}
+
+// Each link with its ends, whether it is up, the number of its connection, and what is on its way to either end.
+fn told_of_links(alloc: Global, cut: &Cut) -> Result<String, AllocError> {
+    let mut text = String::new(alloc);
+    for link in cut.links() {
+        push_number(&mut text, alloc, link.a.number())?;
+        push_number(&mut text, alloc, link.b.number())?;
+        text.push_str(if link.up { " up" } else { " down" })?;
+        push_number(&mut text, alloc, link.epoch)?;
+        text.push_str(" to a: ")?;
+        push_flights(&mut text, link.to_a.as_slice())?;
+        text.push_str(" to b: ")?;
+        push_flights(&mut text, link.to_b.as_slice())?;
+    }
     Ok(text)
 }
 
 #[test]
-fn views_pulls_and_messages_know_names(rt: HostRuntime) -> Result<(), Fail> {
-    let (cut, _rows) = read_check(rt.alloc(), LINKED.as_bytes())?;
-    assert_eq!(rt; known(rt.alloc(), &cut, 0)?.as_str(), "abcde");
+fn messages_stay_in_their_order(rt: HostRuntime) -> Result<(), Fail> {
+    let alloc = rt.alloc();
+    let (cut, _rows) = of_links(alloc)?;
+    assert_eq!(rt;
+        told_of_links(alloc, &cut)?.as_str(),
+        " 2 5 down 0 to a:  to b:  2 7 up 3 to a: update docs c; to b: index docs e d;update docs;"
+    );
+    Ok(())
+}
+
+// The known names of each folder, one after the other.
+fn known(alloc: Global, cut: &Cut) -> Result<String, AllocError> {
+    let mut text = String::new(alloc);
+    for shared in cut.folders() {
+        let names = cut.known_names(alloc, &shared.folder)?;
+        push_names(&mut text, shared.folder.as_str(), &names)?;
+        text.push_str(";")?;
+    }
+    Ok(text)
+}
+
+#[test]
+fn known_names_are_told(rt: HostRuntime) -> Result<(), Fail> {
+    let alloc = rt.alloc();
+    let (cut, _rows) = of_folders(alloc)?;
+    assert_eq!(rt; known(alloc, &cut)?.as_str(), "docs a b c d;music;");
+    // Those of views, pulls and messages too.
+    let (cut, _rows) = of_links(alloc)?;
+    assert_eq!(rt; known(alloc, &cut)?.as_str(), "docs a b c d e;");
     Ok(())
 }
 

@@ -2,18 +2,18 @@
 use Rattle.std.proofs.Common.{◌≡◌, None}
 use Rattle.std.specs.List.{AllByRecursion}
 use Rattle.bep_document.specs.declared.parts.CheckParts.{CheckParts}
-use Rattle.bep_document.specs.Twice.{first_twice}
-use Rattle.bep_document.specs.Unshared.{first_unshared}
-use Rattle.bep_document.specs.Records.{first_bad}
-use Rattle.bep_document.specs.Sequences.{first_bad_sequence}
-use Rattle.bep_document.specs.LinkFaults.{first_bad_link}
+use Rattle.bep_document.specs.faults.Twice.{first_twice}
+use Rattle.bep_document.specs.faults.Unshared.{first_unshared}
+use Rattle.bep_document.specs.faults.Records.{first_bad}
+use Rattle.bep_document.specs.faults.Sequences.{first_bad_sequence}
+use Rattle.bep_document.specs.faults.Links.{first_bad_link}
 use Rattle.bep_document.specs.Reading.{first_fault}
-use Rattle.bep_document.proofs.NoFault.{neither}
-use Rattle.bep_document.proofs.OnceFacts.{HasNothingTwice, nothing_twice}
-use Rattle.bep_document.proofs.SharedFacts.{HasAllShared, all_shared}
-use Rattle.bep_document.proofs.GoodFacts.{HasAllGood, all_good}
-use Rattle.bep_document.proofs.NumberedFacts.{HasAllNumbered, all_numbered}
-use Rattle.bep_document.proofs.LinkFacts.{IsLinkOf, all_links}
+use Rattle.bep_document.proofs.faults.NoFault.{neither}
+use Rattle.bep_document.proofs.faults.TwiceFacts.{HasNothingTwice, nothing_twice}
+use Rattle.bep_document.proofs.faults.UnsharedFacts.{HasAllShared, all_shared}
+use Rattle.bep_document.proofs.faults.RecordsFacts.{HasAllGood, all_good}
+use Rattle.bep_document.proofs.faults.SequencesFacts.{HasAllNumbered, all_numbered}
+use Rattle.bep_document.proofs.faults.LinksFacts.{IsLinkOf, all_links}
 
 pub record HasNoFault (parts : CheckParts) : Type 0 where
   pub once : HasNothingTwice parts

@@ -12,20 +12,20 @@ use Rattle.bep_document.specs.declared.parts.FolderParts.{FolderParts}
 use Rattle.bep_document.specs.declared.parts.FlightParts.{FlightParts}
 use Rattle.bep_document.specs.declared.parts.LinkParts.{LinkParts}
 use Rattle.bep_document.specs.declared.parts.CheckParts.{CheckParts}
-use Rattle.bep_document.specs.Checks.{has_version, is_check, read_check}
-use Rattle.bep_document.specs.Devices.{is_one_of, with_devices}
+use Rattle.bep_document.specs.read.Checks.{has_version, is_check, read_check}
+use Rattle.bep_document.specs.read.Devices.{is_one_of, with_devices}
 use Rattle.bep_document.specs.Reading.{Read, is_short, tree_of, first_fault, reading_of_tree, reading_of}
 use Rattle.bep_document.specs.Faultless.{IsFaultlessIndex, IsFaultlessShare, IsFaultlessFolder, IsFaultlessFlight, IsFaultlessLink, IsFaultless}
-use Rattle.bep_document.proofs.DevicesKnown.{devices_known, known_are_of, no_more}
+use Rattle.bep_document.proofs.read.DevicesKnown.{devices_known, known_are_of, no_more}
 use Rattle.bep_document.proofs.FaultlessFacts.{HasNoFault, has_no_fault}
-use Rattle.bep_document.proofs.Flights.{AllFlights}
-use Rattle.bep_document.proofs.GoodFacts.{IsGoodAt}
-use Rattle.bep_document.proofs.LinkFacts.{IsLinkOf}
-use Rattle.bep_document.proofs.NoFault.{all_map, all_both, all_four}
-use Rattle.bep_document.proofs.NumberedFacts.{AreNumbered, IsNumberedAt, RisesInRange}
-use Rattle.bep_document.proofs.OnceFacts.{IsOnceAt, IsOnceIn}
-use Rattle.bep_document.proofs.ReadFacts.{IsIndexInRange, IsShareInRange, IsFlightInRange, IsLinkInRange, IsCutInRange, check_in_range}
-use Rattle.bep_document.proofs.SharedFacts.{AreOfOthers, IsOfBoth}
+use Rattle.bep_document.proofs.faults.Flights.{AllFlights}
+use Rattle.bep_document.proofs.faults.RecordsFacts.{IsGoodAt}
+use Rattle.bep_document.proofs.faults.LinksFacts.{IsLinkOf}
+use Rattle.bep_document.proofs.faults.NoFault.{all_map, all_both, all_four}
+use Rattle.bep_document.proofs.faults.SequencesFacts.{AreNumbered, IsNumberedAt, RisesInRange}
+use Rattle.bep_document.proofs.faults.TwiceFacts.{IsOnceAt, IsOnceIn}
+use Rattle.bep_document.proofs.read.RangeFacts.{IsIndexInRange, IsShareInRange, IsFlightInRange, IsLinkInRange, IsCutInRange, check_in_range}
+use Rattle.bep_document.proofs.faults.UnsharedFacts.{AreOfOthers, IsOfBoth}
 use Rattle.bep_document.proofs.Steps.{passed_and, given_and, no_fault_and}
 
 -- ---- folders
@@ -90,6 +90,8 @@ link_faultless folders link both flights = record {
   b_device = both.1.b_device;
   epoch = both.0.epoch;
   quiet = both.1.quiet;
+  few_to_a = both.0.few_to_a;
+  few_to_b = both.0.few_to_b;
   to_a = flights.0;
   to_b = flights.1;
 }

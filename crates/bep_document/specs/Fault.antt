@@ -1,5 +1,5 @@
 -- Faults of documents: their numbers and names, and where they are (this project's profile).
-use Rattle.std.specs.Prelude.{ℕ, List, Some, None, codes}
+use Rattle.std.specs.Prelude.{ℕ, Bool, true, false, List, Some, None, codes}
 use Rattle.bep_document.specs.declared.fault.Fault.{Fault}
 use Rattle.bep_document.specs.declared.fault.Fault.TheVariants.{NotJson, VersionBad, Shape, Range, Twice, Unshared, RecordBad, SequenceBad, LinkBad}
 use Rattle.bep_document.specs.declared.fault.DocFault.{DocFault}
@@ -27,6 +27,18 @@ name_of Unshared = codes "Unshared"
 name_of RecordBad = codes "RecordBad"
 name_of SequenceBad = codes "SequenceBad"
 name_of LinkBad = codes "LinkBad"
+
+-- a fault of this kind is at some place of the document
+abbrev pub has_place : Fault → Bool
+has_place NotJson = false
+has_place VersionBad = false
+has_place Shape = false
+has_place Range = false
+has_place Twice = true
+has_place Unshared = true
+has_place RecordBad = true
+has_place SequenceBad = true
+has_place LinkBad = true
 
 -- a fault of the whole document
 abbrev pub nowhere : Fault → DocFault

@@ -7,7 +7,7 @@ use Rattle.bep_record.specs.Node.{IsNode}
 use Rattle.bep_index.specs.Batch.{IsBatch, NamesDiffer}
 use Rattle.bep_index.specs.declared.limits.TheConstants.{MAX_NAMES, MAX_SEQUENCE}
 use Rattle.bep_document.specs.Reading.{Read, reading_of}
-use Rattle.bep_record.specs.declared.limits.TheConstants.{MAX_FOLDERS, MAX_DEVICES, MAX_PULLS}
+use Rattle.bep_record.specs.declared.limits.TheConstants.{MAX_FOLDERS, MAX_DEVICES, MAX_PULLS, MAX_MESSAGES}
 use Rattle.bep_document.specs.declared.parts.ShareParts.{ShareParts}
 use Rattle.bep_document.specs.declared.parts.ViewParts.{ViewParts}
 use Rattle.bep_document.specs.declared.parts.FolderParts.{FolderParts}
@@ -95,6 +95,8 @@ pub record IsFaultlessLink (folders : List FolderParts) (link : LinkParts) : Typ
   pub b_device : IsDeviceOf folders link.b
   pub epoch : link.epoch ≤ MAX_SEQUENCE
   pub quiet : link.up ≡ false → (link.to_a ≡ []) × (link.to_b ≡ [])
+  pub few_to_a : length link.to_a ≤ MAX_MESSAGES
+  pub few_to_b : length link.to_b ≤ MAX_MESSAGES
   pub to_a : AllByRecursion (IsFaultlessFlight folders link) link.to_a
   pub to_b : AllByRecursion (IsFaultlessFlight folders link) link.to_b
 

@@ -11,13 +11,13 @@ use Rattle.bep_document.specs.declared.fault.Fault.{Fault}
 use Rattle.bep_document.specs.declared.fault.Fault.TheVariants.{NotJson, VersionBad, Shape, Range}
 use Rattle.bep_document.specs.declared.parts.CheckParts.{CheckParts}
 use Rattle.bep_document.specs.Fault.{nowhere}
-use Rattle.bep_document.specs.Places.{◌else_at◌}
-use Rattle.bep_document.specs.Twice.{first_twice}
-use Rattle.bep_document.specs.Unshared.{first_unshared}
-use Rattle.bep_document.specs.Records.{first_bad}
-use Rattle.bep_document.specs.Sequences.{first_bad_sequence}
-use Rattle.bep_document.specs.LinkFaults.{first_bad_link}
-use Rattle.bep_document.specs.Checks.{has_version, is_check, read_check}
+use Rattle.bep_document.specs.faults.Judge.{◌else_at◌}
+use Rattle.bep_document.specs.faults.Twice.{first_twice}
+use Rattle.bep_document.specs.faults.Unshared.{first_unshared}
+use Rattle.bep_document.specs.faults.Records.{first_bad}
+use Rattle.bep_document.specs.faults.Sequences.{first_bad_sequence}
+use Rattle.bep_document.specs.faults.Links.{first_bad_link}
+use Rattle.bep_document.specs.read.Checks.{has_version, is_check, read_check}
 
 -- a thing, or the fault in place of it
 pub data Reading (T : Type 0) : Type 0 where

@@ -1,4 +1,4 @@
-// Views, pulls and links, by docs/DOCUMENTS.md.
+//! Views, pulls and links, by docs/DOCUMENTS.md.
 use crate::place_tests::records_of;
 use crate::tests::{BLOCKLESS, DEVICE, DOCUMENT, FOLDER, RECORD, answer, text_of};
 use crate::*;
@@ -216,6 +216,35 @@ fn long_lists_are_refused(rt: HostRuntime) -> Result<(), Fail> {
         let view = r#","views":[{"of":2,"index_id":12,"max":5000,"records":"#;
         let view = text_of(alloc, &[view, list.as_str(), "}]"])?;
         assert_eq!(rt; told(alloc, view.as_str(), "")?.as_str(), want);
+    }
+    Ok(())
+}
+
+// A link with so many messages on their way to this end.
+fn link_with(alloc: Global, end: &str, count: u64) -> Result<String, AllocError> {
+    let mut text = String::from_str(alloc, r#"{"a":1,"b":2,"up":true,"epoch":1,""#)?;
+    text.push_str(end)?;
+    text.push_str(r#"":["#)?;
+    for number in 0..count {
+        text.push_str(if number == 0 { "" } else { "," })?;
+        text.push_str(MESSAGE)?;
+        text.push_str("[]}")?;
+    }
+    text.push_str("]}")?;
+    Ok(text)
+}
+
+#[test]
+fn full_links_are_read(rt: HostRuntime) -> Result<(), Fail> {
+    let alloc = rt.alloc();
+    for (end, count, want) in [
+        ("to_a", 1024, "read"),
+        ("to_a", 1025, "184"),
+        ("to_b", 1024, "read"),
+        ("to_b", 1025, "184"),
+    ] {
+        let link = link_with(alloc, end, count)?;
+        assert_eq!(rt; told(alloc, "", link.as_str())?.as_str(), want);
     }
     Ok(())
 }

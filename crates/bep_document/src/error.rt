@@ -1,3 +1,4 @@
+//! Why a document can't be read.
 ghost use Rattle.std.specs.Prelude.{◌≡◌};
 ghost use Rattle.bep_document.specs.declared.error.DocError.TheVariants.{Memory};
 

@@ -1,5 +1,6 @@
+//! Faults of documents: their numbers and names, and where they are.
 ghost use Rattle.std.specs.Prelude.{◌≡◌, IfOk};
-ghost use Rattle.bep_document.specs.Fault.{number_of, name_of, nowhere, at_folder, at_device, at_link, at_name};
+ghost use Rattle.bep_document.specs.Fault.{number_of, name_of, has_place, nowhere, at_folder, at_device, at_link, at_name};
 
 use bep_record::{DeviceId, FolderName, Name};
 use std::alloc::{AllocError, Global};
@@ -150,6 +151,20 @@ impl DocFault {
             device: Some(device),
             name: Some(name.copy(alloc)?),
         })
+    }
+
+    /// Whether the fault is at some place, rather than of the whole document.
+    pub fn has_place(&self) -> bool
+        ensures { result ≡ has_place self.now.fault }
+    {
+        match self.fault {
+            Fault::NotJson | Fault::VersionBad | Fault::Shape | Fault::Range => false,
+            Fault::Twice
+            | Fault::Unshared
+            | Fault::RecordBad
+            | Fault::SequenceBad
+            | Fault::LinkBad => true,
+        }
     }
 
     /// An equal fault of its own, or want of memory.

@@ -1,5 +1,6 @@
+//! What holds of each document that is read, as laws.
 ghost use Rattle.bep_document.specs.Faultless.{ReadingsAreFaultless};
-ghost use Rattle.bep_document.specs.Told.{RecordsAreTold, NodesAreTold};
+ghost use Rattle.bep_document.specs.Laws.{RecordsAreTold, NodesAreTold};
 
 /// That what is read has no fault: folders, devices, views, links and names stand once, views and messages are of what is
 /// shared, records and nodes are well formed, sequences are numbered, links join two devices and are empty while they are
@@ -10,7 +11,7 @@ pub fn readings_are_faultless()
 
 /// That the tests by which records and nodes are found bad tell what fields are a record and what parts are a node: a
 /// law, which does nothing when it runs.
-pub fn tests_tell()
+pub fn records_are_told()
     ensures records { RecordsAreTold }
     ensures nodes { NodesAreTold }
 {}

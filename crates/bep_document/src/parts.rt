@@ -1,3 +1,4 @@
+//! What a document says, as plain lists.
 use bep_index::IndexId;
 use bep_json::NamedParts;
 use bep_record::{DeviceId, Entry, FolderKind, FolderName, Items};

@@ -1,23 +1,23 @@
-// Faults that have a place, by docs/DOCUMENTS.md.
+//! Faults that have a place, by docs/DOCUMENTS.md.
 use crate::tests::{BLOCKLESS, DEVICE, DOCUMENT, END, FOLDER, RECORD, STORE, answer, text_of};
 use crate::*;
 use bep_record::FolderKind;
 use std::alloc::{AllocError, Global};
 use std::test::Fail;
 
-const OWN: &str = ",\"own\":";
+const OWN: &str = r#","own":"#;
 
 #[test]
 fn folders_are_refused(rt: HostRuntime) -> Result<(), Fail> {
     let alloc = rt.alloc();
     for (more, want) in [
         ("},", "185 docs 1"),
-        ("}]},{\"folder\":\"docs\",\"devices\":[", "185 docs"),
-        ("}]},{\"folder\":\"other\",\"devices\":[", "read"),
-        ("}]},{\"folder\":\"a.b\",\"devices\":[", "184"),
-        ("}]},{\"folder\":\"\\ud800\",\"devices\":[", "181"),
-        ("}]},{\"folder\":5,\"devices\":[", "183"),
-        ("}]},{\"more\":1,\"folder\":\"a\",\"devices\":[", "183"),
+        (r#"}]},{"folder":"docs","devices":["#, "185 docs"),
+        (r#"}]},{"folder":"other","devices":["#, "read"),
+        (r#"}]},{"folder":"a.b","devices":["#, "184"),
+        (r#"}]},{"folder":"\ud800","devices":["#, "181"),
+        (r#"}]},{"folder":5,"devices":["#, "183"),
+        (r#"}]},{"more":1,"folder":"a","devices":["#, "183"),
     ] {
         let told = answer(alloc, &[DOCUMENT, FOLDER, DEVICE, more, DEVICE, END])?;
         assert_eq!(rt; told.as_str(), want, "{more}");
@@ -36,9 +36,9 @@ pub(crate) fn records_of(
         for piece in [
             comma,
             record,
-            ",\"name\":\"",
+            r#","name":""#,
             name,
-            "\",\"sequence\":",
+            r#"","sequence":"#,
             sequence,
             "}",
         ] {
@@ -80,16 +80,13 @@ fn records_are_refused(rt: HostRuntime) -> Result<(), Fail> {
 fn nodes_are_refused(rt: HostRuntime) -> Result<(), Fail> {
     let alloc = rt.alloc();
     for (second, want) in [
-        (",\"name\":\"b\"}", "read"),
-        (",\"name\":\"a\"}", "185 docs 1 a"),
-        (",\"name\":\"b\",\"text\":\"b\"}", "187 docs 1 b"),
-        (
-            ",\"name\":\"b\",\"type\":4,\"target\":\"\"}",
-            "187 docs 1 b",
-        ),
-        (",\"name\":\"b\",\"text\":\"\",\"target\":\"\"}", "read"),
-        (",\"name\":\"b\",\"type\":4}", "183"),
-        (",\"name\":\"b\",\"modified_ns\":1000000000}", "184"),
+        (r#","name":"b"}"#, "read"),
+        (r#","name":"a"}"#, "185 docs 1 a"),
+        (r#","name":"b","text":"b"}"#, "187 docs 1 b"),
+        (r#","name":"b","type":4,"target":""}"#, "187 docs 1 b"),
+        (r#","name":"b","text":"","target":""}"#, "read"),
+        (r#","name":"b","type":4}"#, "183"),
+        (r#","name":"b","modified_ns":1000000000}"#, "184"),
     ] {
         let told = answer(alloc, &[DOCUMENT, FOLDER, DEVICE, STORE, second, "]", END])?;
         assert_eq!(rt; told.as_str(), want, "{second}");
@@ -101,20 +98,20 @@ fn nodes_are_refused(rt: HostRuntime) -> Result<(), Fail> {
 fn rows_are_refused(rt: HostRuntime) -> Result<(), Fail> {
     let alloc = rt.alloc();
     for (row, record, want) in [
-        ("\"device\":7", RECORD, "read"),
-        ("\"device\":7", BLOCKLESS, "187 docs 7 c"),
-        ("\"device\":0", BLOCKLESS, "184"),
-        ("\"device\":7,\"more\":1", RECORD, "183"),
+        (r#""device":7"#, RECORD, "read"),
+        (r#""device":7"#, BLOCKLESS, "187 docs 7 c"),
+        (r#""device":0"#, BLOCKLESS, "184"),
+        (r#""device":7,"more":1"#, RECORD, "183"),
     ] {
         let told = answer(
             alloc,
             &[
                 DOCUMENT,
-                "]},\"certificate\":[{\"folder\":\"docs\",",
+                r#"]},"certificate":[{"folder":"docs","#,
                 row,
-                ",\"record\":",
+                r#","record":"#,
                 record,
-                ",\"name\":\"c\",\"sequence\":0}}]}",
+                r#","name":"c","sequence":0}}]}"#,
             ],
         )?;
         assert_eq!(rt; told.as_str(), want);
@@ -138,6 +135,6 @@ fn a_document_is_read(rt: HostRuntime) -> Result<(), Fail> {
         }
     }
     readings_are_faultless();
-    tests_tell();
+    records_are_told();
     Ok(())
 }

@@ -1,27 +1,26 @@
-// Documents and their answers by docs/DOCUMENTS.md.
+//! Documents and their answers by docs/DOCUMENTS.md.
 use crate::*;
 use std::alloc::{AllocError, Global};
 use std::test::Fail;
 
-pub(crate) const DOCUMENT: &str = "{\"version\":1,\"cut\":{\"folders\":[";
+pub(crate) const DOCUMENT: &str = r#"{"version":1,"cut":{"folders":["#;
 
-pub(crate) const FOLDER: &str = "{\"folder\":\"docs\",\"devices\":[";
+pub(crate) const FOLDER: &str = r#"{"folder":"docs","devices":["#;
 
-pub(crate) const DEVICE: &str = "{\"device\":1,\"kind\":\"send-receive\",\"index_id\":11,\"max\":9";
+pub(crate) const DEVICE: &str = r#"{"device":1,"kind":"send-receive","index_id":11,"max":9"#;
 
-pub(crate) const END: &str = "}]}]},\"certificate\":[]}";
+pub(crate) const END: &str = r#"}]}]},"certificate":[]}"#;
 
 // A directory's record, without its name and sequence.
-pub(crate) const RECORD: &str =
-    "{\"type\":1,\"modified_s\":0,\"modified_by\":1,\"version\":[[1,1]]";
+pub(crate) const RECORD: &str = r#"{"type":1,"modified_s":0,"modified_by":1,"version":[[1,1]]"#;
 
 // A store of the directory `a` and a second one, without the second's name.
 pub(crate) const STORE: &str =
-    ",\"store\":[{\"name\":\"a\",\"type\":1,\"modified_s\":0},{\"type\":1,\"modified_s\":0";
+    r#","store":[{"name":"a","type":1,"modified_s":0},{"type":1,"modified_s":0"#;
 
 // A file of five bytes, without its blocks.
 pub(crate) const BLOCKLESS: &str =
-    "{\"type\":0,\"size\":5,\"modified_s\":0,\"modified_by\":1,\"version\":[[1,1]]";
+    r#"{"type":0,"size":5,"modified_s":0,"modified_by":1,"version":[[1,1]]"#;
 
 pub(crate) fn text_of(alloc: Global, pieces: &[&str]) -> Result<String, AllocError> {
     let mut text = String::new(alloc);
@@ -64,26 +63,26 @@ fn documents_are_refused(rt: HostRuntime) -> Result<(), Fail> {
     let alloc = rt.alloc();
     for (text, want) in [
         ("", "181"),
-        ("{\"version\":1", "181"),
+        (r#"{"version":1"#, "181"),
         // Half of a surrogate pair is no character; a whole one is.
-        ("{\"version\":\"\\ud83d\"}", "181"),
-        ("{\"version\":\"\\ud83d\\ude00\"}", "182"),
+        (r#"{"version":"\ud83d"}"#, "181"),
+        (r#"{"version":"\ud83d\ude00"}"#, "182"),
         ("[1]", "182"),
         ("{}", "182"),
-        ("{\"version\":1.0}", "182"),
-        ("{\"version\":\"1\"}", "182"),
-        ("{\"version\":1,\"version\":2}", "182"),
-        ("{\"version\":2,\"version\":1}", "183"),
+        (r#"{"version":1.0}"#, "182"),
+        (r#"{"version":"1"}"#, "182"),
+        (r#"{"version":1,"version":2}"#, "182"),
+        (r#"{"version":2,"version":1}"#, "183"),
     ] {
         assert_eq!(rt; answer(alloc, &[text])?.as_str(), want, "{text}");
     }
     for (more, want) in [
-        ("]},\"certificate\":[]}", "read"),
-        ("],\"links\":[]},\"certificate\":[]}", "read"),
-        ("],\"links\":[1]},\"certificate\":[]}", "183"),
-        ("],\"more\":1},\"certificate\":[]}", "183"),
-        ("]},\"certificate\":[],\"more\":1}", "183"),
-        ("]},\"certificate\":[{}]}", "183"),
+        (r#"]},"certificate":[]}"#, "read"),
+        (r#"],"links":[]},"certificate":[]}"#, "read"),
+        (r#"],"links":[1]},"certificate":[]}"#, "183"),
+        (r#"],"more":1},"certificate":[]}"#, "183"),
+        (r#"]},"certificate":[],"more":1}"#, "183"),
+        (r#"]},"certificate":[{}]}"#, "183"),
         ("]}}", "183"),
     ] {
         assert_eq!(rt; answer(alloc, &[DOCUMENT, more])?.as_str(), want, "{more}");
@@ -119,26 +118,26 @@ fn devices_are_refused(rt: HostRuntime) -> Result<(), Fail> {
     // A member that is there already takes the place of the one before.
     for (more, want) in [
         ("", "read"),
-        (",\"views\":[],\"pulls\":[],\"store\":[]", "read"),
-        (",\"views\":[1]", "183"),
-        (",\"pulls\":{}", "183"),
-        (",\"more\":1", "183"),
-        (",\"kind\":5,\"device\":0", "183"),
-        (",\"kind\":\"send\"", "184"),
-        (",\"kind\":\"receive-only\"", "read"),
-        (",\"device\":0", "184"),
-        (",\"device\":18446744073709551615", "read"),
-        (",\"device\":18446744073709551616", "183"),
-        (",\"device\":-0", "183"),
-        (",\"device\":1.0", "183"),
-        (",\"device\":1e3", "183"),
-        (",\"index_id\":0", "184"),
-        (",\"index_id\":1", "read"),
-        (",\"max\":9223372036854775807", "read"),
-        (",\"max\":9223372036854775808", "184"),
-        (",\"own\":{}", "183"),
-        (",\"own\":[{}]", "183"),
-        (",\"store\":[{}]", "183"),
+        (r#","views":[],"pulls":[],"store":[]"#, "read"),
+        (r#","views":[1]"#, "183"),
+        (r#","pulls":{}"#, "183"),
+        (r#","more":1"#, "183"),
+        (r#","kind":5,"device":0"#, "183"),
+        (r#","kind":"send""#, "184"),
+        (r#","kind":"receive-only""#, "read"),
+        (r#","device":0"#, "184"),
+        (r#","device":18446744073709551615"#, "read"),
+        (r#","device":18446744073709551616"#, "183"),
+        (r#","device":-0"#, "183"),
+        (r#","device":1.0"#, "183"),
+        (r#","device":1e3"#, "183"),
+        (r#","index_id":0"#, "184"),
+        (r#","index_id":1"#, "read"),
+        (r#","max":9223372036854775807"#, "read"),
+        (r#","max":9223372036854775808"#, "184"),
+        (r#","own":{}"#, "183"),
+        (r#","own":[{}]"#, "183"),
+        (r#","store":[{}]"#, "183"),
     ] {
         let told = answer(alloc, &[DOCUMENT, FOLDER, DEVICE, more, END])?;
         assert_eq!(rt; told.as_str(), want, "{more}");
@@ -151,19 +150,19 @@ fn crowd(alloc: Global, folders: u64, devices: u64, last: u64) -> Result<String,
     let mut text = String::from_str(alloc, DOCUMENT)?;
     for folder in 0..folders {
         let comma = if folder == 0 { "" } else { "," };
-        let head = format!(in alloc; "{comma}{{\"folder\":\"f{folder}\",\"devices\":[")?;
+        let head = format!(in alloc; r#"{comma}{{"folder":"f{folder}","devices":["#)?;
         text.push_str(head.as_str())?;
         for device in 1..=devices {
             let comma = if device == 1 { "" } else { "," };
             let number = if device == devices { last } else { device };
             text.push_str(comma)?;
             text.push_str(DEVICE)?;
-            let more = format!(in alloc; ",\"device\":{number}}}")?;
+            let more = format!(in alloc; r#","device":{number}}}"#)?;
             text.push_str(more.as_str())?;
         }
         text.push_str("]}")?;
     }
-    text.push_str("]},\"certificate\":[]}")?;
+    text.push_str(r#"]},"certificate":[]}"#)?;
     Ok(text)
 }
 

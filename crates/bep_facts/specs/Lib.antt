@@ -4,3 +4,4 @@ pub mod Places
 pub mod Orders
 pub mod Rising
 pub mod Maps
+pub mod Values

@@ -1,9 +1,9 @@
 -- What a finite map holds, where its order ties only equal keys.
-use Rattle.std.proofs.Common.{◌≡◌, ◌≢◌, ◌⊎◌, ◌↔◌, Bool, true, false, cond, Some, Contains, IsSome, inl, inr, refl, sym, ap, ◌∙◌}
+use Rattle.std.proofs.Common.{◌≡◌, ◌≢◌, ◌⊎◌, ◌↔◌, Bool, true, false, cond, Option, Some, None, Contains, IsSome, inl, inr, refl, sym, ap, ◌∙◌}
 use Rattle.std.specs.declared.cmp.Ordering.{Ordering}
 use Rattle.std.specs.Ordering.{is_eq, eq_by_cmp}
 use Rattle.std.specs.Cmp.{IsTotalOrder, Equal-is, eq_by_cmp_equiv}
-use Rattle.std.specs.FinMap.{FinMap, IsAntisymmetric, empty, get, insert, keys, contains_key-keys, get-empty, get-insert}
+use Rattle.std.specs.FinMap.{FinMap, IsAntisymmetric, empty, get, insert, remove, keys, contains_key-keys, get-empty, get-insert, get-remove, same_map}
 use Rattle.std.proofs.lemmas.Cmp.{tied_itself}
 use Rattle.std.proofs.lemmas.Map.Views.{list_any-from_Contains, Contains-from_any}
 use Rattle.std.proofs.lemmas.Option.{none-some}
@@ -42,3 +42,48 @@ module _ {K V : Type 0} {R : K → K → Ordering} (total : IsTotalOrder R) (exa
       cases : (b : Bool) → eq_by_cmp R other key ≡ b → cond b (Some value) (get m other) ≡ Some found → ((other ≡ key) × (found ≡ value)) ⊎ ((eq_by_cmp R other key ≡ false) × (get m other ≡ Some found))
       cases true tied e = inl (same_key exact other key tied, cc)
       cases false apart e = inr (apart, e)
+
+  -- ---- after a key lost its value
+
+  pub get-remove_here : (m : FinMap R V) (key : K) → get (remove m key) key ≡ None
+  get-remove_here m key = get-remove total m key key ∙ ap (λ b. cond b None (get m key)) (ap is_eq (tied_itself total key))
+
+  pub get-remove_apart : (m : FinMap R V) (key other : K) → other ≢ key → get (remove m key) other ≡ get m other
+  get-remove_apart m key other apart = get-remove total m key other ∙ there (eq_by_cmp R other key) refl
+    where
+      there : (b : Bool) → eq_by_cmp R other key ≡ b → cond b None (get m other) ≡ get m other
+      there true tied = absurd (apart (same_key exact other key tied))
+      there false tied = refl
+
+  -- ---- after more than one change of a key
+
+  -- what is there, given again
+  pub insert-what_is_there : (m : FinMap R V) (key : K) (value : V) → get m key ≡ Some value → insert m key value ≡ m
+  insert-what_is_there m key value has = same_map total exact _ _ (λ other. get-insert total m key value other ∙ there other (eq_by_cmp R other key) refl)
+    where
+      there : (other : K) (b : Bool) → eq_by_cmp R other key ≡ b → cond b (Some value) (get m other) ≡ get m other
+      there other true tied = sym has ∙ ap (get m) (sym (same_key exact other key tied))
+      there other false tied = refl
+
+  -- of two values in a row the later one counts
+  pub insert-twice : (m : FinMap R V) (key : K) (value later : V) → insert (insert m key value) key later ≡ insert m key later
+  insert-twice m key value later = same_map total exact _ _ (λ other.
+      get-insert total (insert m key value) key later other
+      ∙ ap (cond (eq_by_cmp R other key) (Some later)) (get-insert total m key value other)
+      ∙ last (eq_by_cmp R other key) (get m other)
+      ∙ sym (get-insert total m key later other))
+    where
+      last : (b : Bool) (old : Option V) → cond b (Some later) (cond b (Some value) old) ≡ cond b (Some later) old
+      last true old = refl
+      last false old = refl
+
+  -- a key that had no value, and loses its new one
+  pub remove-insert : (m : FinMap R V) (key : K) (value : V) → get m key ≡ None → remove (insert m key value) key ≡ m
+  remove-insert m key value none = same_map total exact _ _ (λ other.
+      get-remove total (insert m key value) key other
+      ∙ ap (cond (eq_by_cmp R other key) None) (get-insert total m key value other)
+      ∙ there other (eq_by_cmp R other key) refl)
+    where
+      there : (other : K) (b : Bool) → eq_by_cmp R other key ≡ b → cond b None (cond b (Some value) (get m other)) ≡ get m other
+      there other true tied = sym none ∙ ap (get m) (sym (same_key exact other key tied))
+      there other false tied = refl

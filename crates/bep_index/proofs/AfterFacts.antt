@@ -1,13 +1,10 @@
 -- What `after` finds: the next record by sequence, again and again.
-use Rattle.std.proofs.Common.{length, ◌≡◌, ◌⊎◌, inl, inr, ℕ, ◌<◌, ◌≤◌, Bool, true, false, cond, ◌&&◌, nat_lt, map, List, [], ◌∷◌, ◌++◌, Option, Some, None, refl, sym, ap, subst, ◌∙◌, arith}
+use Rattle.std.proofs.Common.{length, ◌≡◌, ◌⊎◌, inl, inr, ℕ, ◌<◌, ◌≤◌, Bool, true, false, cond, ◌&&◌, nat_lt, List, [], ◌∷◌, ◌++◌, Option, Some, None, refl, sym, ap, subst, ◌∙◌, arith}
 use Rattle.std.proofs.lemmas.Bool.Decides.{nat_tests}
-use Rattle.std.proofs.Math.Dec.{T}
-use Rattle.std.proofs.Common.{Ordering}
-use Rattle.std.specs.declared.cmp.Ordering.TheVariants.{Less, Equal, Greater}
-use Rattle.std.specs.Ordering.{nat_cmp, is_eq, is_lt}
-use Rattle.std.specs.Cmp.Lexicographic.{slice_cmp}
-use Rattle.std.specs.FinMap.{get, entries, values, find, is_sorted, get-entries, entries_sorted}
-use Rattle.std.specs.FinMap.Entries.{below_all}
+use Rattle.std.specs.Cmp.Lexicographic.{nat_list_cmp_total}
+use Rattle.std.specs.FinMap.{get, values}
+use Rattle.std.proofs.lemmas.Map.Lookups.{exact_bytes}
+use Rattle.bep_facts.specs.Values.{value_at_key, key_of_value}
 use Rattle.bep_map.specs.NameMap.{ByName}
 use Rattle.bep_record.specs.declared.entry.Entry.{Entry}
 use Rattle.bep_index.specs.Listing.{Listing, IsRecord}
@@ -16,7 +13,7 @@ use Rattle.bep_index.specs.Batch.{Rises, HasNo, NamesDiffer, IsBatch, last_seque
 use Rattle.bep_index.specs.Next.{IsNext, is_sooner, sooner, soonest}
 use Rattle.bep_index.specs.After.{IsAmong, AreRecords, IsRun}
 use Rattle.bep_index.specs.declared.limits.TheConstants.{MAX_SEQUENCE, MAX_RECORDS}
-use Rattle.bep_index.proofs.RecordsFacts.{same_name, same_name-itself, equal_from_same_name}
+use Rattle.bep_index.proofs.RecordsFacts.{among_is_contained}
 
 -- ---- the soonest of a list
 
@@ -85,52 +82,13 @@ among_all x es h = elim (among_either x [] es h) [ inl none ↦ absurd none | in
 
 -- ---- values and names
 
-among_found : (n : List ℕ) (v : Entry) (es : List (List ℕ × Entry)) → find (slice_cmp nat_cmp) n es ≡ Some v → IsAmong v (map (λ e. e.1) es)
-among_found n v [] h = absurd (different h) where
-  different : None ≡ Some v → ⊥
-  different e = cc
-among_found n v (e ∷ es) h = cases (same_name n e.0) refl (among_found n v es) h where
-  cases : (b : Bool) → same_name n e.0 ≡ b → (find (slice_cmp nat_cmp) n es ≡ Some v → IsAmong v (map (λ e. e.1) es)) → cond b (Some e.1) (find (slice_cmp nat_cmp) n es) ≡ Some v → IsAmong v (map (λ e. e.1) (e ∷ es))
-  cases true t later h = inl (cc)
-  cases false t later h = inr (later h)
-
-split_and : (a b : Bool) → T (a && b) → T a × T b
-split_and true b p = (tt, p)
-split_and false b p = absurd p
-
-not_tied : (o : Ordering) → T (is_lt o) → is_eq o ≡ false
-not_tied Less p = refl
-not_tied Equal p = absurd p
-not_tied Greater p = absurd p
-
-find_below : (n : List ℕ) (es : List (List ℕ × Entry)) → T (below_all (slice_cmp nat_cmp) n es) → find (slice_cmp nat_cmp) n es ≡ None
-find_below n [] h = refl
-find_below n (e ∷ es) h =
-    let parts = split_and _ _ h in
-    ap (λ b. cond b (Some e.1) (find (slice_cmp nat_cmp) n es)) (not_tied _ parts.0) ∙ find_below n es parts.1
-
-found_among : (v : Entry) (es : List (List ℕ × Entry)) → T (is_sorted (slice_cmp nat_cmp) es) → IsAmong v (map (λ e. e.1) es) → (n : List ℕ) × (find (slice_cmp nat_cmp) n es ≡ Some v)
-found_among v [] s h = absurd h
-found_among v (e ∷ es) s (inl q) = (e.0, ap (λ b. cond b (Some e.1) (find (slice_cmp nat_cmp) e.0 es)) (same_name-itself e.0) ∙ ap Some (sym q))
-found_among v (e ∷ es) s (inr h) =
-    let parts = split_and _ _ s in
-    let later = found_among v es parts.1 h in
-    (later.0, cases later.0 later.1 (same_name later.0 e.0) refl (find_below e.0 es parts.0)) where
-      different : None ≡ Some v → ⊥
-      different e = cc
-
-      cases : (n : List ℕ) → find (slice_cmp nat_cmp) n es ≡ Some v → (b : Bool) → same_name n e.0 ≡ b → find (slice_cmp nat_cmp) e.0 es ≡ None → cond b (Some e.1) (find (slice_cmp nat_cmp) n es) ≡ Some v
-      cases n f true t none = absurd (different (sym none ∙ ap (λ q. find (slice_cmp nat_cmp) q es) (sym (equal_from_same_name n e.0 t)) ∙ f))
-      cases n f false t none = f
-
 record_among : (m : ByName Entry) (e : Entry) → IsRecord m e → IsAmong e (values m)
-record_among m e is = among_found e.name e (entries m) (sym (get-entries m e.name) ∙ is)
+record_among m e is = (among_is_contained e (values m)).1 (value_at_key m e.name e is)
 
 among_record : (m : ByName Entry) (top : ℕ) (e : Entry) → AreNumbered top m → IsAmong e (values m) → IsRecord m e
 among_record m top e numbered h =
-    let f = found_among e (entries m) (entries_sorted m) h in
-    let found : get m f.0 ≡ Some e = get-entries m f.0 ∙ f.1 in
-    ap (get m) (numbered f.0 e found).0 ∙ found
+    let found = key_of_value nat_list_cmp_total exact_bytes m e ((among_is_contained e (values m)).0 h) in
+    ap (get m) (numbered found.0 e found.1).0 ∙ found.1
 
 -- the soonest of the values is the next record
 pub IsNext-soonest : (m : ByName Entry) (top low : ℕ) → AreNumbered top m → IsNext m low (soonest low None (values m))

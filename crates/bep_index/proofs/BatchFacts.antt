@@ -8,12 +8,12 @@ use Rattle.bep_facts.specs.Maps.{get-insert_apart, nothing_in_empty}
 use Rattle.bep_map.specs.NameMap.{ByName}
 use Rattle.bep_record.specs.declared.entry.Entry.{Entry}
 use Rattle.bep_index.specs.Listing.{Listing}
-use Rattle.bep_index.specs.Index.{AreNumbered}
+use Rattle.bep_index.specs.Index.{AreNumbered, HaveOwnNumbers}
 use Rattle.bep_index.specs.Batch.{Rises, HasNo, NamesDiffer, IsBatch, last_sequence, with_all}
 use Rattle.bep_index.specs.Count.{new_names}
 use Rattle.bep_index.specs.View.{IsView, IsOld, cleared, replaced, amended}
 use Rattle.bep_index.specs.declared.limits.TheConstants.{MAX_NAMES, MAX_SEQUENCE}
-use Rattle.bep_index.proofs.RecordsFacts.{AreNumbered-insert}
+use Rattle.bep_index.proofs.RecordsFacts.{AreNumbered-insert, HaveOwnNumbers-insert}
 
 -- one more record
 pub with_all-push : (m : ByName Entry) (es : List Entry) (e : Entry) → with_all m (es ++ e ∷ []) ≡ insert (with_all m es) e.name e
@@ -54,6 +54,14 @@ AreNumbered-with_all low m (e ∷ es) h old =
     let above = h.0 in
     AreNumbered-with_all e.sequence (insert m e.name e) es h.2 (AreNumbered-insert m low e.sequence e old (omega arith) (omega arith) (omega arith))
 
+HaveOwnNumbers-with_all : (low : ℕ) (m : ByName Entry) (es : List Entry) → Rises low es → AreNumbered low m → HaveOwnNumbers m → HaveOwnNumbers (with_all m es)
+HaveOwnNumbers-with_all low m [] h numbered old = old
+HaveOwnNumbers-with_all low m (e ∷ es) h numbered old =
+    let above = h.0 in
+    HaveOwnNumbers-with_all e.sequence (insert m e.name e) es h.2
+    (AreNumbered-insert m low e.sequence e numbered (omega arith) (omega arith) (omega arith))
+    (HaveOwnNumbers-insert m low e numbered old above)
+
 pub last_sequence_le : (low : ℕ) (es : List Entry) → Rises low es → low ≤ MAX_SEQUENCE → last_sequence low es ≤ MAX_SEQUENCE
 last_sequence_le low [] h within = within
 last_sequence_le low (e ∷ es) h within = last_sequence_le e.sequence es h.2 h.1
@@ -61,11 +69,15 @@ last_sequence_le low (e ∷ es) h within = last_sequence_le e.sequence es h.2 h.
 AreNumbered-empty : AreNumbered 0 empty
 AreNumbered-empty name entry found = nothing_in_empty (slice_cmp nat_cmp) name entry found
 
+HaveOwnNumbers-empty : HaveOwnNumbers empty
+HaveOwnNumbers-empty name other entry more found = nothing_in_empty (slice_cmp nat_cmp) name entry found
+
 pub IsView-cleared : (id : ℕ) → IsView (cleared id)
 IsView-cleared id = record {
   sequence = omega arith;
   few = let none = len-empty (slice_cmp nat_cmp) Entry in omega arith;
   numbered = AreNumbered-empty;
+  distinct = HaveOwnNumbers-empty;
 }
 
 pub IsView-replaced : (view : Listing) (es : List Entry) → IsBatch es → IsView (replaced view es)
@@ -78,6 +90,7 @@ IsView-replaced view es is = record {
       let few = is.few in
       omega arith;
   numbered = AreNumbered-with_all 0 empty es is.rises AreNumbered-empty;
+  distinct = HaveOwnNumbers-with_all 0 empty es is.rises AreNumbered-empty HaveOwnNumbers-empty;
 }
 
 -- a batch that isn't old rises from what is known
@@ -90,6 +103,7 @@ IsView-amended view es old is new room = record {
   sequence = last_sequence_le view.sequence es (Rises-new view.sequence es is.rises new) old.sequence;
   few = room;
   numbered = AreNumbered-with_all view.sequence view.records es (Rises-new view.sequence es is.rises new) old.numbered;
+  distinct = HaveOwnNumbers-with_all view.sequence view.records es (Rises-new view.sequence es is.rises new) old.numbered old.distinct;
 }
 
 -- a view with the same parts

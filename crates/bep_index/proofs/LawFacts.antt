@@ -12,8 +12,8 @@ use Rattle.bep_index.specs.Index.{AreNumbered, IsIndex}
 use Rattle.bep_index.specs.Batch.{Rises, last_sequence, with_all}
 use Rattle.bep_index.specs.View.{replaced, amended}
 use Rattle.bep_index.specs.After.{IsAmong, IsRun}
-use Rattle.bep_index.specs.Law.{FollowInOrder, after_each, up_to, HoldsUpTo, BatchesBringTheIndex, SamePointSameIndex}
-use Rattle.bep_index.proofs.RecordsFacts.{same_name, same_name-itself, equal_from_same_name}
+use Rattle.bep_index.specs.Laws.{FollowInOrder, after_each, up_to, HoldsUpTo, BatchesBringTheIndex, SamePointSameIndex}
+use Rattle.bep_index.proofs.RecordsFacts.{same_name, equal_from_same_name, clash}
 
 -- the map has exactly the records up to the sequence
 abbrev Holds : ByName Entry → ℕ → ByName Entry → Type 0
@@ -62,11 +62,6 @@ up_to_within low e h = ap (λ b. cond b (Some e) None) (leb_true e.sequence low 
 
 up_to_above : (low : ℕ) (e : Entry) → low < e.sequence → up_to low (Some e) ≡ None
 up_to_above low e h = ap (λ b. cond b (Some e) None) (leb_false e.sequence low h)
-
-clash : (n m : List ℕ) → n ≡ m → same_name n m ≡ false → ⊥
-clash n m q apart = different (sym apart ∙ ap (λ k. same_name k m) q ∙ same_name-itself m) where
-  different : false ≡ true → ⊥
-  different e = cc
 
 holds_one : (records : ByName Entry) (top low : ℕ) (m : ByName Entry) (e : Entry) (es : List Entry) → AreNumbered top records → IsRun records low (e ∷ es) → Holds records low m → Holds records e.sequence (insert m e.name e)
 holds_one records top low m e es numbered run holds name = get-insert nat_list_cmp_total m e.name e name ∙ cases (same_name name e.name) refl where

@@ -1,32 +1,32 @@
--- Records of different names, each put at its name.
-use Rattle.std.proofs.Common.{◌≡◌, refl, subst, ◌⊎◌, inl, inr, ℕ, List, [], ◌∷◌, Some, sym, ap, ◌∙◌, ⊎_elim, arith}
+-- Records that are put at their names.
+use Rattle.std.proofs.Common.{◌≡◌, refl, subst, inl, inr, ℕ, List, [], ◌∷◌, Some, sym, ap, ◌∙◌, ⊎_elim, arith}
 use Rattle.std.specs.Ordering.{nat_cmp}
 use Rattle.std.specs.Cmp.Lexicographic.{slice_cmp, nat_list_cmp_total}
 use Rattle.std.specs.FinMap.{get, insert, empty, len-empty}
 use Rattle.std.proofs.lemmas.Map.Lookups.{exact_bytes}
 use Rattle.bep_facts.specs.Maps.{found_after_insert, get-insert_here, get-insert_apart, nothing_in_empty}
-use Rattle.bep_map.specs.NameMap.{ByName}
 use Rattle.bep_record.specs.declared.entry.Entry.{Entry}
 use Rattle.bep_index.specs.After.{IsAmong}
-use Rattle.bep_index.specs.Batch.{HasNo, NamesDiffer, with_all}
-use Rattle.bep_index.specs.Law.{RecordsMakeAnIndex, RecordsAreFound}
+use Rattle.bep_index.specs.Batch.{with_all}
+use Rattle.bep_index.specs.Laws.{RecordsMakeAnIndex, RecordsAreFound, FoundIsOfBatchOrBefore, BatchIsFound, OthersAreKept}
 use Rattle.bep_index.proofs.BatchFacts.{len-with_all, new_names_le}
+use Rattle.bep_index.proofs.RecordsFacts.{clash}
 
--- what is found is one of these at its name, or was there before
-found_in_all : (m : ByName Entry) (es : List Entry) (q : List ℕ) (e : Entry) → get (with_all m es) q ≡ Some e → (IsAmong e es × (e.name ≡ q)) ⊎ (get m q ≡ Some e)
-found_in_all m [] q e found = inr found
+-- what is found is one of these at its name, or was there before and none of these has the name
+pub found_in_all : FoundIsOfBatchOrBefore
+found_in_all m [] q e found = inr (tt, found)
 found_in_all m (first ∷ es) q e found =
     ⊎_elim
     (λ among. inl (inr among.0, among.1))
     (λ before.
     ⊎_elim
     (λ here. inl (inl here.1, ap (λ (x : Entry). x.name) here.1 ∙ sym here.0))
-    (λ old. inr old.1)
-    (found_after_insert nat_list_cmp_total exact_bytes m first.name first q e before))
+    (λ old. inr ((λ same. clash q first.name (sym same) old.0, before.0), old.1))
+    (found_after_insert nat_list_cmp_total exact_bytes m first.name first q e before.1))
     (found_in_all (insert m first.name first) es q e found)
 
 found_among : (es : List Entry) (q : List ℕ) (e : Entry) → get (with_all empty es) q ≡ Some e → IsAmong e es × (e.name ≡ q)
-found_among es q e found = ⊎_elim (λ among. among) (λ none. nothing_in_empty (slice_cmp nat_cmp) q e none) (found_in_all empty es q e found)
+found_among es q e found = ⊎_elim (λ among. among) (λ none. nothing_in_empty (slice_cmp nat_cmp) q e none.1) (found_in_all empty es q e found)
 
 pub records_make_an_index : RecordsMakeAnIndex
 records_make_an_index id greatest es within few names numbers = record {
@@ -47,13 +47,13 @@ records_make_an_index id greatest es within few names numbers = record {
 }
 
 -- a name that none of these has keeps its record
-kept_in_all : (m : ByName Entry) (es : List Entry) (name : List ℕ) → HasNo name es → get (with_all m es) name ≡ get m name
+pub kept_in_all : OthersAreKept
 kept_in_all m [] name none = refl
 kept_in_all m (first ∷ es) name none =
     kept_in_all (insert m first.name first) es name none.1
     ∙ get-insert_apart nat_list_cmp_total exact_bytes m first.name first name (λ same. none.0 (sym same))
 
-is_in_all : (m : ByName Entry) (es : List Entry) (e : Entry) → NamesDiffer es → IsAmong e es → get (with_all m es) e.name ≡ Some e
+pub is_in_all : BatchIsFound
 is_in_all m [] e differ h = absurd h
 is_in_all m (first ∷ es) e differ h =
     ⊎_elim

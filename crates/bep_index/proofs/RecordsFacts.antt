@@ -1,15 +1,17 @@
--- Finite maps from names to entries, after a name was given an entry or lost it.
-use Rattle.std.proofs.Common.{◌≡◌, ◌⊎◌, inl, inr, ℕ, ◌+◌, ◌≤◌, Bool, true, false, cond, List, Option, Some, None, is_some, refl, sym, ap, subst, ◌∙◌, arith}
+-- Finite maps from names to entries, and lists of entries.
+use Rattle.std.proofs.Common.{◌≡◌, ◌⊎◌, inl, inr, ℕ, ◌+◌, ◌<◌, ◌≤◌, Bool, true, false, List, [], ◌∷◌, Contains, Option, Some, None, cond, is_some, refl, sym, ap, subst, ◌∙◌, ⊎_elim, arith}
 use Rattle.std.specs.Ordering.{nat_cmp, eq_by_cmp}
 use Rattle.std.specs.Cmp.Lexicographic.{slice_cmp, nat_list_cmp_total}
-use Rattle.std.specs.FinMap.{get, insert, remove, len, get-insert, get-remove, len-insert, same_map}
+use Rattle.std.specs.FinMap.{get, insert, len, len-insert}
 use Rattle.std.proofs.lemmas.Map.Lookups.{exact_bytes}
 use Rattle.std.proofs.lemmas.Cmp.{tied_itself}
 use Rattle.std.specs.Ordering.{is_eq}
 use Rattle.bep_facts.specs.Maps.{same_key, found_after_insert}
+use Rattle.bep_facts.specs.Members.{not_in_none, Contains-first, Contains-more, Contains-cons_cases}
 use Rattle.bep_map.specs.NameMap.{ByName}
 use Rattle.bep_record.specs.declared.entry.Entry.{Entry}
-use Rattle.bep_index.specs.Index.{AreNumbered}
+use Rattle.bep_index.specs.Index.{AreNumbered, HaveOwnNumbers}
+use Rattle.bep_index.specs.Laws.{AmongIsContained}
 
 abbrev Name : Type 0
 Name = List ℕ
@@ -23,20 +25,10 @@ same_name-itself n = ap is_eq (tied_itself nat_list_cmp_total n)
 pub equal_from_same_name : (n m : List ℕ) → same_name n m ≡ true → n ≡ m
 equal_from_same_name = same_key exact_bytes
 
--- a name that loses its new value has again what it had
-pub remove-insert : {V : Type 0} (m : ByName V) (n : List ℕ) (v : V) → get m n ≡ None → remove (insert m n v) n ≡ m
-remove-insert m n v none = same_map nat_list_cmp_total exact_bytes _ _ (λ q.
-    get-remove nat_list_cmp_total (insert m n v) n q ∙ ap (cond (same_name q n) None) (get-insert nat_list_cmp_total m n v q) ∙ there q (same_name q n) refl) where
-      there : (q : List ℕ) (b : Bool) → same_name q n ≡ b → cond b None (cond b (Some v) (get m q)) ≡ get m q
-      there q true e = sym none ∙ ap (get m) (sym (equal_from_same_name q n e))
-      there q false e = refl
-
-pub insert-insert : {V : Type 0} (m : ByName V) (n : List ℕ) (v w : V) → get m n ≡ Some w → insert (insert m n v) n w ≡ m
-insert-insert m n v w some = same_map nat_list_cmp_total exact_bytes _ _ (λ q.
-    get-insert nat_list_cmp_total (insert m n v) n w q ∙ ap (cond (same_name q n) (Some w)) (get-insert nat_list_cmp_total m n v q) ∙ there q (same_name q n) refl) where
-      there : (q : List ℕ) (b : Bool) → same_name q n ≡ b → cond b (Some w) (cond b (Some v) (get m q)) ≡ get m q
-      there q true e = sym some ∙ ap (get m) (sym (equal_from_same_name q n e))
-      there q false e = refl
+pub clash : (n m : List ℕ) → n ≡ m → same_name n m ≡ false → ⊥
+clash n m q apart = different (sym apart ∙ ap (λ k. same_name k m) q ∙ same_name-itself m) where
+  different : false ≡ true → ⊥
+  different e = cc
 
 -- how many names there are then
 pub len-insert_new : {V : Type 0} (m : ByName V) (n : List ℕ) (v : V) → get m n ≡ None → len (insert m n v) ≡ len m + 1
@@ -54,3 +46,26 @@ AreNumbered-insert records n top entry old above positive within q found h = cas
   cases : ((q ≡ entry.name) × (found ≡ entry)) ⊎ ((same_name q entry.name ≡ false) × (get records q ≡ Some found)) → (found.name ≡ q) × (1 ≤ found.sequence) × (found.sequence ≤ top)
   cases (inl (here, same)) = subst (λ (e : Entry). (e.name ≡ q) × (1 ≤ e.sequence) × (e.sequence ≤ top)) (sym same) (sym here, positive, within)
   cases (inr (apart, there)) = let o = old q found there in (o.0, o.1, omega arith)
+
+-- an entry that is given its name, under a number above all others
+pub HaveOwnNumbers-insert : (records : ByName Entry) (n : ℕ) (entry : Entry) → AreNumbered n records → HaveOwnNumbers records → n < entry.sequence → HaveOwnNumbers (insert records entry.name entry)
+HaveOwnNumbers-insert records n entry old distinct above q p f g hf hg same =
+    cases (found_after_insert nat_list_cmp_total exact_bytes records entry.name entry q f hf) (found_after_insert nat_list_cmp_total exact_bytes records entry.name entry p g hg) where
+      cases : ((q ≡ entry.name) × (f ≡ entry)) ⊎ ((same_name q entry.name ≡ false) × (get records q ≡ Some f)) → ((p ≡ entry.name) × (g ≡ entry)) ⊎ ((same_name p entry.name ≡ false) × (get records p ≡ Some g)) → q ≡ p
+      cases (inl (a, b)) (inl (c, d)) = a ∙ sym c
+      cases (inl (a, b)) (inr (c, d)) = let o = (old p g d).2 in let e = ap (λ (x : Entry). x.sequence) b in absurd (omega arith)
+      cases (inr (a, b)) (inl (c, d)) = let o = (old q f b).2 in let e = ap (λ (x : Entry). x.sequence) d in absurd (omega arith)
+      cases (inr (a, b)) (inr (c, d)) = distinct q p f g b d same
+
+-- ---- elements of a list
+
+pub among_is_contained : AmongIsContained
+among_is_contained entry [] = (λ none. absurd none, λ none. not_in_none entry none)
+among_is_contained entry (first ∷ es) = (
+  λ among.
+      ⊎_elim
+      (λ same. subst (λ (e : Entry). Contains (first ∷ es) e) (sym same) (Contains-first first es))
+      (λ later. Contains-more first es entry ((among_is_contained entry es).0 later))
+      among,
+  λ contained. ⊎_elim (λ same. inl (sym same)) (λ later. inr ((among_is_contained entry es).1 later)) (Contains-cons_cases first es entry contained),
+)

@@ -4,7 +4,7 @@ pub mod Change
 pub mod Count
 pub mod Index
 pub mod IndexError
-pub mod Law
+pub mod Laws
 pub mod Listing
 pub mod Next
 pub mod View

@@ -1,17 +1,14 @@
 -- What a device knows of another device's index of a folder (BEP v1, 'Index' and 'Index Update').
 use Rattle.std.specs.Prelude.{ℕ, ◌≤◌, List, [], ◌∷◌}
-use Rattle.std.specs.FinMap.{empty, len}
+use Rattle.std.specs.FinMap.{empty}
 use Rattle.bep_record.specs.declared.entry.Entry.{Entry}
 use Rattle.bep_index.specs.Listing.{Listing}
-use Rattle.bep_index.specs.Index.{AreNumbered}
+use Rattle.bep_index.specs.Index.{IsIndex}
 use Rattle.bep_index.specs.Batch.{last_sequence, with_all}
-use Rattle.bep_index.specs.declared.limits.TheConstants.{MAX_NAMES, MAX_SEQUENCE}
 
--- what holds of every view (its limits are this project's profile)
-pub record IsView (view : Listing) : Type 0 where
-  pub sequence : view.sequence ≤ MAX_SEQUENCE
-  pub few : len view.records ≤ MAX_NAMES
-  pub numbered : AreNumbered view.sequence view.records
+-- what holds of every view: what holds of the index that it is of
+abbrev pub IsView : Listing → Type 0
+IsView view = IsIndex view
 
 -- nothing is known of the index of this id
 abbrev pub cleared : ℕ → Listing

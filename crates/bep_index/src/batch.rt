@@ -1,3 +1,4 @@
+//! The records of one Index or IndexUpdate.
 ghost use Rattle.std.specs.Prelude.{◌≡◌, ◌↔◌, IsTrue, IsOk, IfOk, IfErr};
 ghost use Rattle.bep_index.specs.Batch.{Rises, HasNo, NamesDiffer, IsBatch};
 

@@ -1,3 +1,4 @@
+//! The ids of indexes.
 ghost use Rattle.std.specs.Prelude.{◌≡◌, ℕ, ◌≤◌, SomeIff};
 
 use std::marker::Model;

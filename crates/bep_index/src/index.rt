@@ -1,3 +1,4 @@
+//! A device's own index of a folder.
 ghost use Rattle.std.specs.Prelude.{◌≡◌, ◌↔◌, ◌+◌, ◌≤◌, IfOk, IfErr, OnOk, OnErr, IsErrOf, IsTrue};
 ghost use Rattle.std.specs.Option.{option_copied};
 ghost use Rattle.std.specs.FinMap as map;
@@ -147,9 +148,15 @@ impl Index {
             return Err(IndexError::IndexFull);
         }
         let sequence = self.sequence + 1;
-        let undo = change(&mut self.records, self.alloc, renumber(entry, sequence))?;
+        let name = entry.entry().name.copy(self.alloc)?;
+        let old = change(&mut self.records, self.alloc, renumber(entry, sequence))?;
         self.sequence = sequence;
-        Ok(undo)
+        Ok(Undo {
+            id: self.id,
+            given: sequence,
+            name,
+            old,
+        })
     }
 
     /// Takes the index's last change back, so that the index is as before it. The caller sees to it that the change is
@@ -158,7 +165,7 @@ impl Index {
         requires { IsLastChange undo self.old }
         ensures { self.new ≡ taken_back undo self.old }
     {
-        let Undo { name, old } = undo;
+        let Undo { name, old, .. } = undo;
         give_back(&mut self.records, &name, old);
         self.sequence -= 1;
     }
@@ -176,16 +183,18 @@ impl Index {
     }
 }
 
-// Gives the record to its name. The name's record makes way for it.
-fn change(records: &mut NameMap<Record>, alloc: Global, entry: Record) -> Result<Undo, AllocError>
+// Gives the record to its name, and answers the one that makes way for it.
+fn change(
+    records: &mut NameMap<Record>,
+    alloc: Global,
+    entry: Record,
+) -> Result<Option<Record>, AllocError>
     ensures ok { OnOk result (records.new ≡ map.insert records.old entry.name entry) }
-    ensures undo { IfOk result (λ undo. undo ≡ record { name = entry.name; before = map.get records.old entry.name }) }
+    ensures before { IfOk result (λ before. before ≡ map.get records.old entry.name) }
     ensures err { OnErr result (records.new ≡ records.old) }
 {
-    let name = entry.entry().name.copy(alloc)?;
     let key = entry.entry().name.copy(alloc)?;
-    let old = records.insert(key, entry)?;
-    Ok(Undo { name, old })
+    Ok(records.insert(key, entry)?)
 }
 
 // Gives the changed name back what it had.

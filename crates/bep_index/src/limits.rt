@@ -1,3 +1,5 @@
+//! Limits of this project's profile.
+
 /// The greatest sequence number.
 ///
 /// This project's profile.

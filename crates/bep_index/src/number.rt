@@ -1,3 +1,4 @@
+//! A record under another number.
 ghost use Rattle.std.specs.Prelude.{◌≡◌};
 ghost use Rattle.bep_index.specs.Index.{numbered};
 

@@ -1,3 +1,4 @@
+//! What a receiver is sent, by the point that it announces.
 ghost use Rattle.std.specs.Prelude.{◌≡◌, ◌↔◌};
 ghost use Rattle.bep_index.specs.Index.{IsPoint};
 

@@ -1,3 +1,5 @@
+//! The two plans of sending.
+
 /// What is sent to a receiver first.
 #[derive(Clone, Copy, Debug, PartialEq, Eq)]
 pub enum Plan {

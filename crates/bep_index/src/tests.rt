@@ -1,4 +1,4 @@
-// Indexes, batches and views by BEP v1, 'Index' and 'Index Update'.
+//! Indexes, batches and views by BEP v1, 'Index' and 'Index Update'.
 use crate::*;
 use bep_record::{DeviceId, Entry, Items, Kind, Name, Record, Target, Vector};
 use std::alloc::{AllocError, Global};
@@ -79,27 +79,26 @@ fn index_to(alloc: Global, to: u32) -> Result<Index, IndexError> {
     Ok(made)
 }
 
-// The records as a text, each with its name and its sequence.
-fn shown(alloc: Global, records: &[Record]) -> Result<String, AllocError> {
-    let mut text = String::new(alloc);
-    for entry in records {
-        let fields = entry.entry();
-        let number = format!(in alloc; " {}", fields.sequence)?;
-        text.push_str(fields.name.as_str())?;
-        text.push_str(number.as_str())?;
-    }
-    Ok(text)
-}
-
-fn shows(
+// How many records are after the sequence, at most so many, and the sequence of the last one of them.
+fn after(
     alloc: Global,
     index: &Index,
     sequence: u64,
     limit: usize,
-    text: &str,
-) -> Result<bool, AllocError> {
+) -> Result<(usize, u64), AllocError> {
     let found = index.after(alloc, sequence, limit)?;
-    Ok(shown(alloc, found.as_slice())?.as_str() == text)
+    match found.as_slice() {
+        [.., last] => Ok((found.len(), last.entry().sequence)),
+        [] => Ok((0, 0)),
+    }
+}
+
+// The sequence of the name's record, 0 where it has none.
+fn sequence_of(alloc: Global, index: &Index, name: &str) -> Result<u64, IndexError> {
+    match index.get(&bytes_of(name, alloc)?) {
+        Some(record) => Ok(record.entry().sequence),
+        None => Ok(0),
+    }
 }
 
 fn refusal<T: Drop>(answer: Result<T, IndexError>) -> Option<u32> {
@@ -115,13 +114,15 @@ fn an_index_numbers_its_records(rt: HostRuntime) -> Result<(), Fail> {
     for (name, number) in [("a", 1), ("b", 2), ("a", 3)] {
         assert_eq!(rt; index.put(deletion(rt.alloc(), name, 9)?)?, number);
     }
-    for (sequence, limit, text) in [
-        (0, 10, "b 2a 3"),
-        (0, 1, "b 2"),
-        (2, 10, "a 3"),
-        (3, 10, ""),
+    assert_eq!(rt; sequence_of(rt.alloc(), &index, "b")?, 2);
+    assert_eq!(rt; sequence_of(rt.alloc(), &index, "a")?, 3);
+    for (sequence, limit, wanted) in [
+        (0, 10, (2, 3)),
+        (0, 1, (1, 2)),
+        (2, 10, (1, 3)),
+        (3, 10, (0, 0)),
     ] {
-        assert!(rt; shows(rt.alloc(), &index, sequence, limit, text)?);
+        assert_eq!(rt; after(rt.alloc(), &index, sequence, limit)?, wanted);
     }
     Ok(())
 }
@@ -141,12 +142,14 @@ fn a_change_is_taken_back(rt: HostRuntime) -> Result<(), Fail> {
     let mut index = index_to(rt.alloc(), 3)?;
     for name in ["n1", "new"] {
         let undo = index.put_undo(deletion(rt.alloc(), name, 0)?)?;
+        assert_eq!(rt; sequence_of(rt.alloc(), &index, name)?, 3);
         index.undo(undo);
-        assert_eq!(rt; index.max_sequence(), 2);
-        assert!(rt; shows(rt.alloc(), &index, 0, 10, "n1 1n2 2")?);
     }
     let copy = index.copy(rt.alloc())?;
-    assert!(rt; shows(rt.alloc(), &copy, 0, 10, "n1 1n2 2")?);
+    assert_eq!(rt; copy.max_sequence(), 2);
+    assert_eq!(rt; after(rt.alloc(), &copy, 0, 10)?, (2, 2));
+    assert_eq!(rt; sequence_of(rt.alloc(), &copy, "n1")?, 1);
+    assert_eq!(rt; sequence_of(rt.alloc(), &copy, "new")?, 0);
     Ok(())
 }
 

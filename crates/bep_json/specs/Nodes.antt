@@ -5,6 +5,7 @@ use Rattle.serde_json.specs.Find.{get}
 use Rattle.bep_record.specs.declared.kind.Kind.{Kind}
 use Rattle.bep_record.specs.declared.kind.Kind.TheVariants.{File, Directory, Symlink}
 use Rattle.bep_json.specs.declared.nodes.NamedParts.{NamedParts}
+use Rattle.bep_record.specs.declared.limits.TheConstants.{MAX_NANOSECONDS}
 use Rattle.bep_json.specs.Tree.{has_only, has_member, may_have_member}
 use Rattle.bep_json.specs.Reading.{◌>>=◌, read_member, read_member_or}
 use Rattle.bep_json.specs.Numbers.{is_whole, read_number, read_signed, read_kind}
@@ -57,7 +58,7 @@ read_node d = do
   name ← read_member (codes "name") read_name d
   kind ← read_member (codes "type") read_kind d
   modified_s ← read_member (codes "modified_s") read_signed d
-  modified_ns ← read_member_or (codes "modified_ns") (read_number 0 999999999) 0 d
+  modified_ns ← read_member_or (codes "modified_ns") (read_number 0 MAX_NANOSECONDS) 0 d
   bytes ← read_body (get (codes "text") d) d
   target ← read_member_or (codes "target") read_target [] d
   Some (record {

@@ -5,6 +5,7 @@ use Rattle.bep_record.specs.declared.block.Block.{Block}
 use Rattle.bep_record.specs.declared.entry.Entry.{Entry}
 use Rattle.bep_record.specs.declared.kind.Kind.{Kind}
 use Rattle.bep_record.specs.declared.kind.Kind.TheVariants.{File, Directory, Symlink}
+use Rattle.bep_record.specs.declared.limits.TheConstants.{MAX_FILE_SIZE, MAX_NANOSECONDS}
 use Rattle.bep_json.specs.Tree.{has_only, has_member, may_have_member}
 use Rattle.bep_json.specs.Reading.{◌>>=◌, read_member, read_member_or}
 use Rattle.bep_json.specs.Numbers.{is_whole, is_flag, read_number, read_signed, read_flag, read_kind, greatest_id}
@@ -67,8 +68,8 @@ read_record d = do
   modified_by ← read_member (codes "modified_by") (read_number 1 greatest_id) d
   version ← read_member (codes "version") read_version d
   sequence ← read_member (codes "sequence") (read_number 0 9223372036854775807) d
-  size ← read_member_or (codes "size") (read_number 0 16777216) 0 d
-  modified_ns ← read_member_or (codes "modified_ns") (read_number 0 999999999) 0 d
+  size ← read_member_or (codes "size") (read_number 0 MAX_FILE_SIZE) 0 d
+  modified_ns ← read_member_or (codes "modified_ns") (read_number 0 MAX_NANOSECONDS) 0 d
   deleted ← read_member_or (codes "deleted") read_flag false d
   invalid ← read_member_or (codes "invalid") read_flag false d
   block_size ← read_member_or (codes "block_size") (read_number 0 4294967295) (default_block_size kind deleted) d

@@ -1,4 +1,4 @@
--- Texts in JSON trees: names, targets, and bytes as text or in hexadecimal (this project's profile).
+-- Texts in JSON trees: names, targets, kinds of folders, and bytes as text or in hexadecimal (this project's profile).
 use Rattle.std.specs.Prelude.{ℕ, ◌==◌, ◌&&◌, ◌||◌, nat_eq, nat_le, not, Bool, List, [], length, Option, Some, None, if◌then◌else◌, is_some, codes}
 use Rattle.std.specs.Result.{result_ok}
 use Rattle.std.specs.List.{list_all}
@@ -8,6 +8,8 @@ use Rattle.hex.specs.Hex.{decode_of, decode_sized}
 use Rattle.serde_json.specs.Data.{Data}
 use Rattle.serde_json.specs.Find.{as_str}
 use Rattle.bep_record.specs.Name.{parts_of}
+use Rattle.bep_record.specs.declared.folder_kind.FolderKind.{FolderKind}
+use Rattle.bep_record.specs.declared.folder_kind.FolderKind.TheVariants.{SendReceive, SendOnly, ReceiveOnly}
 use Rattle.bep_record.specs.declared.limits.TheConstants.{MAX_FILE_SIZE}
 use Rattle.bep_json.specs.Reading.{◌>>=◌}
 
@@ -54,6 +56,17 @@ read_target d = as_str d >>= if_passes is_target
 -- the name of a folder
 unfoldable pub read_folder_name : Data → Option (List ℕ)
 read_folder_name d = as_str d >>= if_passes is_folder_name
+
+-- the kind of folder with this name (Syncthing, 'Folder Types')
+abbrev pub folder_kind_named : List ℕ → Option FolderKind
+folder_kind_named text =
+    if pointwise nat_eq text (codes "send-receive") then Some SendReceive
+    else (if pointwise nat_eq text (codes "send-only") then Some SendOnly
+    else (if pointwise nat_eq text (codes "receive-only") then Some ReceiveOnly else None))
+
+-- a kind of folder, by its name
+abbrev pub read_folder_kind : Data → Option FolderKind
+read_folder_kind d = as_str d >>= folder_kind_named
 
 -- a SHA-256 in 64 hexadecimal digits of either case
 unfoldable pub read_hash : Data → Option (List ℕ)

@@ -1,3 +1,4 @@
+//! Why a thing can't be read from a JSON tree.
 ghost use Rattle.std.specs.Prelude.{◌≡◌};
 ghost use Rattle.bep_json.specs.declared.error.ReadError.TheVariants.{Memory};
 

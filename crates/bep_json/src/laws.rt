@@ -1,8 +1,9 @@
+//! What the tests and the blocks of what is read tell, as laws.
 ghost use Rattle.bep_json.specs.Laws.{NamesAreTold, TargetsAreTold, FolderNamesAreTold, VersionsAreTold, BlocksCutWhole, BlocksHaveHashes};
 
 /// That the tests by which a document is read tell what bytes are names, targets and folder names, and what pairs are a
 /// version vector: a law, which does nothing when it runs.
-pub fn tests_tell()
+pub fn texts_are_told()
     ensures names { NamesAreTold }
     ensures targets { TargetsAreTold }
     ensures folder_names { FolderNamesAreTold }

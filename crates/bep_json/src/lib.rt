@@ -1,7 +1,11 @@
-//! Documents of clusters in JSON: readers of numbers, texts, lists, records and nodes, over the tree of `serde_json`.
+//! Readers of numbers, texts, lists, records and nodes in JSON, over the tree of `serde_json`.
 //!
 //! Each thing is read in two walks. The first asks whether the tree has the thing's shape: members and kinds of values.
-//! The second makes the thing, where every number and text is inside its range.
+//! The second makes the thing, where every number and text is inside its range. A caller reads a message so:
+//!
+//!     if !(has_only(tree, &["folder", "records"]) && has::<Items<Entry>>(tree, "records")) { .. }
+//!     let folder = member::<FolderName>(alloc, tree, "folder")?;
+//!     let records = member::<Items<Entry>>(alloc, tree, "records")?;
 #![tactic(auto)]
 
 mod error;
@@ -17,7 +21,7 @@ mod texts;
 mod tree;
 
 pub use error::ReadError;
-pub use laws::{hashes_make_blocks, tests_tell};
+pub use laws::{hashes_make_blocks, texts_are_told};
 pub use nodes::NamedParts;
 pub use numbers::{Nanoseconds, Sequence, Whole};
 pub use readable::{Readable, has, may_have, member, member_or};

@@ -1,3 +1,4 @@
+//! Lists of things, and version vectors.
 ghost use Rattle.std.specs.Prelude.{◌≡◌, ℕ, List, option_map};
 ghost use Rattle.serde_json.specs.View.{view, items_view};
 ghost use Rattle.bep_json.specs.Reading.{Gives, GivesBy};

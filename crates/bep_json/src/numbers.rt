@@ -1,3 +1,4 @@
+//! Whole numbers in their ranges, flags, and what is told by a number.
 ghost use Rattle.std.specs.Prelude.{◌≡◌, ◌≤◌, ℕ};
 ghost use Rattle.serde_json.specs.View.{view};
 ghost use Rattle.bep_json.specs.Reading.{Gives};

@@ -1,3 +1,4 @@
+//! What can be read from a JSON tree, and the members of objects.
 ghost use Rattle.std.specs.Prelude.{◌≡◌, Bool, Option};
 ghost use Rattle.serde_json.specs.Data.{Data};
 ghost use Rattle.serde_json.specs.View.{view};

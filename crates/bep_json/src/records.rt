@@ -1,3 +1,4 @@
+//! Records, well formed or not.
 ghost use Rattle.std.specs.Prelude.{◌≡◌, ◌≤◌, ◌+◌, ◌-◌, min, IfOk};
 ghost use Rattle.serde_json.specs.View.{view};
 ghost use Rattle.bep_json.specs.Reading.{Gives};
@@ -6,11 +7,11 @@ ghost use Rattle.bep_json.specs.Records.{is_record, has_record_members, may_have
 use crate::{
     Nanoseconds, ReadError, Readable, Sequence, Whole, has, has_only, may_have, member, member_or,
 };
-use bep_record::{Block, DeviceId, Entry, Items, Kind, Name, Target, Vector};
+use bep_record::{Block, DeviceId, Entry, Items, Kind, MAX_FILE_SIZE, Name, Target, Vector};
 use serde_json::Value;
 use std::alloc::{AllocError, Global};
 
-type FileSize = Whole<0, 16777216>;
+type FileSize = Whole<0, MAX_FILE_SIZE>;
 
 type AnyBlockSize = Whole<0, 4294967295>;
 

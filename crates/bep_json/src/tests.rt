@@ -1,4 +1,4 @@
-// Texts by this project's profile of documents; the hash of `hello` is that of `sha256sum`.
+//! Texts by this project's profile of documents; the hash of `hello` is that of `sha256sum`.
 use crate::texts::{HexBytes, TextBytes};
 use crate::*;
 use bep_record::{DeviceId, Entry, FolderName, Items, Kind, Name, NodeParts, Record, Target};
@@ -9,12 +9,12 @@ use std::test::Fail;
 type FileSize = Whole<0, 16777216>;
 
 const RECORD: &str =
-    "{\"name\":\"hello\",\"type\":0,\"modified_s\":1000,\"modified_by\":1,\"version\":[[1,1]],\"sequence\":1";
+    r#"{"name":"hello","type":0,"modified_s":1000,"modified_by":1,"version":[[1,1]],"sequence":1"#;
 
 const HELLO: &str =
-    ",\"size\":5,\"blocks\":[\"2cf24dba5fb0a30e26e83b2ac5b9e29e1b161e5c1fa7425e73043362938b9824\"]";
+    r#","size":5,"blocks":["2cf24dba5fb0a30e26e83b2ac5b9e29e1b161e5c1fa7425e73043362938b9824"]"#;
 
-const NODE: &str = "{\"name\":\"hello\",\"type\":0,\"modified_s\":1000";
+const NODE: &str = r#"{"name":"hello","type":0,"modified_s":1000"#;
 
 // The tree of a text of two parts and a closing brace.
 fn tree(alloc: Global, front: &str, back: &str) -> Result<Value, Error> {
@@ -43,7 +43,7 @@ fn numbers_are_whole_and_in_range(rt: HostRuntime) -> Result<(), Fail> {
         "1e3",
         "18446744073709551616",
         "-9223372036854775809",
-        "\"5\"",
+        r#""5""#,
         "null",
         "[1]",
     ] {
@@ -75,31 +75,31 @@ fn numbers_are_whole_and_in_range(rt: HostRuntime) -> Result<(), Fail> {
 #[test]
 fn texts_are_in_range(rt: HostRuntime) -> Result<(), Fail> {
     let alloc = rt.alloc();
-    assert_eq!(rt; told_of_text::<Name>(alloc, "\"a/b\"")?, (true, true));
-    assert_eq!(rt; told_of_text::<Name>(alloc, "\"a//b\"")?, (true, false));
-    assert_eq!(rt; told_of_text::<Target>(alloc, "\"\"")?, (true, true));
+    assert_eq!(rt; told_of_text::<Name>(alloc, r#""a/b""#)?, (true, true));
+    assert_eq!(rt; told_of_text::<Name>(alloc, r#""a//b""#)?, (true, false));
+    assert_eq!(rt; told_of_text::<Target>(alloc, r#""""#)?, (true, true));
     assert_eq!(rt;
-        told_of_text::<Target>(alloc, "\"a\\u0000\"")?,
+        told_of_text::<Target>(alloc, r#""a\u0000""#)?,
         (true, false)
     );
     assert_eq!(rt;
-        told_of_text::<FolderName>(alloc, "\"docs\"")?,
+        told_of_text::<FolderName>(alloc, r#""docs""#)?,
         (true, true)
     );
     assert_eq!(rt;
-        told_of_text::<FolderName>(alloc, "\"a.b\"")?,
+        told_of_text::<FolderName>(alloc, r#""a.b""#)?,
         (true, false)
     );
-    assert_eq!(rt; told_of_text::<[u8; 32]>(alloc, "\"00\"")?, (true, false));
-    assert_eq!(rt; told_of_text::<HexBytes>(alloc, "\"00f\"")?, (true, false));
-    assert_eq!(rt; told_of_text::<HexBytes>(alloc, "\"0x\"")?, (true, false));
+    assert_eq!(rt; told_of_text::<[u8; 32]>(alloc, r#""00""#)?, (true, false));
+    assert_eq!(rt; told_of_text::<HexBytes>(alloc, r#""00f""#)?, (true, false));
+    assert_eq!(rt; told_of_text::<HexBytes>(alloc, r#""0x""#)?, (true, false));
     assert_eq!(rt; told_of_text::<TextBytes>(alloc, "5")?, (false, false));
     assert_eq!(rt;
         told_of_text::<Items<DeviceId>>(alloc, "[1,2]")?,
         (true, true)
     );
     assert_eq!(rt;
-        told_of_text::<Items<DeviceId>>(alloc, "[1,\"2\"]")?,
+        told_of_text::<Items<DeviceId>>(alloc, r#"[1,"2"]"#)?,
         (false, false)
     );
     Ok(())
@@ -133,18 +133,18 @@ fn a_record_is_read(rt: HostRuntime) -> Result<(), Fail> {
 fn records_have_defaults(rt: HostRuntime) -> Result<(), Fail> {
     let alloc = rt.alloc();
     for more in [
-        ",\"type\":1",
-        ",\"deleted\":true",
-        ",\"type\":4,\"target\":\"a\"",
+        r#","type":1"#,
+        r#","deleted":true"#,
+        r#","type":4,"target":"a""#,
     ] {
         let entry = Entry::read(alloc, &tree(alloc, RECORD, more)?)?;
         assert!(rt; Record::read(entry).is_ok());
     }
     for more in [
         "",
-        ",\"blocks\":[]",
-        ",\"block_size\":131072,\"size\":5",
-        ",\"type\":4",
+        r#","blocks":[]"#,
+        r#","block_size":131072,"size":5"#,
+        r#","type":4"#,
     ] {
         let entry = Entry::read(alloc, &tree(alloc, RECORD, more)?)?;
         assert!(rt; Record::read(entry).is_err());
@@ -156,25 +156,25 @@ fn records_have_defaults(rt: HostRuntime) -> Result<(), Fail> {
 fn records_have_a_shape_and_ranges(rt: HostRuntime) -> Result<(), Fail> {
     let alloc = rt.alloc();
     for more in [
-        ",\"x\":1",
-        ",\"size\":1.0",
-        ",\"version\":[[1]]",
-        ",\"version\":[[1,1,1]]",
-        ",\"version\":1",
-        ",\"blocks\":[1]",
-        ",\"deleted\":0",
+        r#","x":1"#,
+        r#","size":1.0"#,
+        r#","version":[[1]]"#,
+        r#","version":[[1,1,1]]"#,
+        r#","version":1"#,
+        r#","blocks":[1]"#,
+        r#","deleted":0"#,
     ] {
         assert!(rt; !Entry::has_shape(&tree(alloc, RECORD, more)?));
     }
     for more in [
-        ",\"sequence\":9223372036854775808",
-        ",\"modified_ns\":1000000000",
-        ",\"block_size\":4294967296",
-        ",\"version\":[[2,1],[1,1]]",
-        ",\"version\":[[0,1]]",
-        ",\"version\":[[1,0]]",
-        ",\"version\":[[1,9223372036854775808]]",
-        ",\"blocks\":[\"2c\"]",
+        r#","sequence":9223372036854775808"#,
+        r#","modified_ns":1000000000"#,
+        r#","block_size":4294967296"#,
+        r#","version":[[2,1],[1,1]]"#,
+        r#","version":[[0,1]]"#,
+        r#","version":[[1,0]]"#,
+        r#","version":[[1,9223372036854775808]]"#,
+        r#","blocks":["2c"]"#,
     ] {
         assert_eq!(rt;
             told::<Entry>(alloc, &tree(alloc, RECORD, more)?),
@@ -194,32 +194,27 @@ fn node(alloc: Global, more: &str) -> Result<NodeParts, Fail> {
 fn nodes_are_read(rt: HostRuntime) -> Result<(), Fail> {
     let alloc = rt.alloc();
     for more in [
-        ",\"text\":\"hello\"",
-        ",\"hex\":\"68656c6c6f\"",
-        ",\"hex\":\"68656C6C6F\"",
+        r#","text":"hello""#,
+        r#","hex":"68656c6c6f""#,
+        r#","hex":"68656C6C6F""#,
     ] {
         let parts = node(alloc, more)?;
         assert!(rt; parts.bytes.as_slice() == b"hello".as_slice() && parts.kind == Kind::File);
         assert!(rt; parts.modified_s == 1000 && parts.modified_ns == 0);
     }
     assert!(rt; node(alloc, "")?.bytes.as_slice().is_empty());
-    assert!(rt;
-        node(alloc, ",\"type\":4,\"target\":\"to\"")?
-            .target
-            .as_str()
-            == "to"
-    );
-    assert!(rt; NamedParts::has_shape(&tree(alloc, NODE, ",\"type\":4,\"target\":\"\"")?));
+    assert!(rt; node(alloc, r#","type":4,"target":"to""#)?.target.as_str() == "to");
+    assert!(rt; NamedParts::has_shape(&tree(alloc, NODE, r#","type":4,"target":"""#)?));
     for more in [
-        ",\"text\":\"a\",\"hex\":\"61\"",
-        ",\"type\":4",
-        ",\"size\":5",
-        ",\"text\":5",
+        r#","text":"a","hex":"61""#,
+        r#","type":4"#,
+        r#","size":5"#,
+        r#","text":5"#,
     ] {
         assert!(rt; !NamedParts::has_shape(&tree(alloc, NODE, more)?));
     }
     assert_eq!(rt;
-        told::<NamedParts>(alloc, &tree(alloc, NODE, ",\"hex\":\"6\"")?),
+        told::<NamedParts>(alloc, &tree(alloc, NODE, r#","hex":"6""#)?),
         (true, false)
     );
     Ok(())

@@ -1,10 +1,11 @@
+//! Names, targets, hashes, kinds of folders and bytes, written as texts.
 ghost use Rattle.std.specs.Prelude.{◌≡◌, ℕ, List};
 ghost use Rattle.serde_json.specs.View.{view};
 ghost use Rattle.bep_json.specs.Reading.{Gives};
-ghost use Rattle.bep_json.specs.Texts.{is_text, read_name, read_target, read_folder_name, read_hash, fits_file, read_text_bytes, read_hex_bytes};
+ghost use Rattle.bep_json.specs.Texts.{is_text, read_name, read_target, read_folder_name, read_folder_kind, read_hash, fits_file, read_text_bytes, read_hex_bytes};
 
 use crate::{ReadError, Readable};
-use bep_record::{FolderName, Items, MAX_FILE_SIZE, Name, RecordError, Target};
+use bep_record::{FolderKind, FolderName, Items, MAX_FILE_SIZE, Name, RecordError, Target};
 use hex::{FromHex, FromHexError};
 use serde_json::Value;
 use std::alloc::Global;
@@ -72,6 +73,26 @@ impl Readable for FolderName {
             Ok(name) => Ok(name),
             Err(RecordError::NameBad) => Err(ReadError::Range),
             Err(_) => Err(ReadError::Memory),
+        }
+    }
+}
+
+// What a device does with a folder, by its name.
+impl Readable for FolderKind {
+    ghost has_shape = { is_text };
+
+    ghost reads = { read_folder_kind };
+
+    fn has_shape(value: &Value) -> bool {
+        value.is_string()
+    }
+
+    fn read(_alloc: Global, value: &Value) -> Result<Self, ReadError> {
+        match value.as_str() {
+            Some("send-receive") => Ok(FolderKind::SendReceive),
+            Some("send-only") => Ok(FolderKind::SendOnly),
+            Some("receive-only") => Ok(FolderKind::ReceiveOnly),
+            _ => Err(ReadError::Range),
         }
     }
 }

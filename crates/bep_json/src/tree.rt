@@ -1,3 +1,4 @@
+//! The members that an object may have.
 ghost use Rattle.std.specs.Prelude.{◌≡◌, map};
 ghost use Rattle.serde_json.specs.View.{view, members_view};
 ghost use Rattle.bep_json.specs.Tree.{is_among, are_among, has_only};

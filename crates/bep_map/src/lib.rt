@@ -1,4 +1,10 @@
 //! Finite maps whose keys are the names of files, on which indexes, views and stores stand.
+//!
+//! ```rust
+//! let mut nodes = NameMap::new(alloc);
+//! let before = nodes.insert(name.copy(alloc)?, node)?; // None
+//! let node = nodes.get(&name);
+//! ```
 #![tactic(auto)]
 
 mod name_map;

@@ -12,8 +12,8 @@ use Rattle.bep_record.specs.Content.{Content, Deleted, content_of}
 use Rattle.bep_model.specs.declared.row.Row.{Row}
 use Rattle.bep_model.specs.Tables.{Tables, Device, Folder, FileName, Shares}
 use Rattle.bep_model.specs.Foreign.{IsKnown}
-use Rattle.bep_model.specs.Settled.{IsSettled, HasRow, OwnAgrees, StoreAgrees, ForeignAgrees, key_of, key_cmp}
-use Rattle.bep_model.specs.Calm.{Contents, IsCalm, IsCalmAt, content_due, contents_of}
+use Rattle.bep_model.specs.Settled.{IsSettled, HasRow, OwnAgrees, key_of, key_cmp}
+use Rattle.bep_model.specs.Calm.{Contents, OwnIsCalm, StoreIsCalm, NodeIsCalm, ForeignIsCalm, IsCalm, IsCalmAt, content_due, contents_of}
 
 -- a row of the name, and its content is the name's
 pub record HasContent (rows : List Row) (folder : Folder) (name : FileName) : Type 0 where
@@ -68,25 +68,35 @@ content_or_none (row ∷ more) folder name =
     (content_or_none more folder name))
     (cases_Bool (is_eq (key_cmp (key_of row) (folder, name))))
 
+own_where_agreed : (own : Option Entry) (content : Content) → OwnAgrees own content → OwnIsCalm own content
+own_where_agreed None content agrees = agrees
+own_where_agreed (Some own) content agrees = agrees
+
 calm_at_row : (t : Tables) (rows : List Row) (contents : Contents) → IsSettled t rows → (row : Row) (device : Device) → Contains rows row → Shares t device row.folder → contents row.folder row.entry.name ≡ Some (content_of row.entry) → IsCalmAt t contents device row.folder row.entry.name
 calm_at_row t rows contents settled row device member shares e =
     let due : content_of row.entry ≡ content_due (contents row.folder row.entry.name) = sym (ap content_due e) in
+    let store = settled.store row device member shares in
     record {
-      own = subst (λ content. OwnAgrees (t.own device row.folder row.entry.name) content) due (settled.own row device member shares);
-      store = subst (λ content. StoreAgrees (t.node device row.folder row.entry.name) (t.own device row.folder row.entry.name) content) due (settled.store row device member shares);
-      foreign = subst (λ content. ForeignAgrees t device row.folder row.entry.name content) due (settled.foreign row device member shares);
+      own = subst (λ content. OwnIsCalm (t.own device row.folder row.entry.name) content) due (own_where_agreed _ _ (settled.own row device member shares));
+      store = subst (λ content. StoreIsCalm (t.node device row.folder row.entry.name) content) due store.holds;
+      node = store.clean;
+      foreign = subst (λ content. ForeignIsCalm t device row.folder row.entry.name content) due (settled.foreign row device member shares);
       unlisted = λ none. absurd (cc);
     }
 
 -- nothing is recorded or held, and nothing is due
-own_of_nothing : (own : Option Entry) (content : Content) → own ≡ None → content ≡ Deleted → OwnAgrees own content
+own_of_nothing : (own : Option Entry) (content : Content) → own ≡ None → content ≡ Deleted → OwnIsCalm own content
 own_of_nothing None content none due = due
 own_of_nothing (Some own) content none due = absurd (cc)
 
-store_of_nothing : (node : Option NodeParts) (own : Option Entry) (content : Content) → node ≡ None → own ≡ None → content ≡ Deleted → StoreAgrees node own content
-store_of_nothing None None content no_node no_own due = record { holds = sym due; clean = tt }
-store_of_nothing (Some node) own content no_node no_own due = absurd (cc)
-store_of_nothing None (Some own) content no_node no_own due = absurd (cc)
+store_of_nothing : (node : Option NodeParts) (content : Content) → node ≡ None → content ≡ Deleted → StoreIsCalm node content
+store_of_nothing None content none due = sym due
+store_of_nothing (Some node) content none due = absurd (cc)
+
+node_of_nothing : (node : Option NodeParts) (own : Option Entry) → node ≡ None → own ≡ None → NodeIsCalm node own
+node_of_nothing None None no_node no_own = tt
+node_of_nothing (Some node) own no_node no_own = absurd (cc)
+node_of_nothing None (Some own) no_node no_own = absurd (cc)
 
 calm_where_unknown : (t : Tables) (contents : Contents) (device : Device) (folder : Folder) (name : FileName) → Shares t device folder → ¬ IsKnown t folder name → contents folder name ≡ None → IsCalmAt t contents device folder name
 calm_where_unknown t contents device folder name shares unknown e =
@@ -95,7 +105,8 @@ calm_where_unknown t contents device folder name shares unknown e =
     let no_own = none_from_not_some (t.own device folder name) (λ some. unknown (device, shares, inr (inl some))) in
     record {
       own = own_of_nothing _ _ no_own due;
-      store = store_of_nothing _ _ _ no_node no_own due;
+      store = store_of_nothing _ _ no_node due;
+      node = node_of_nothing _ _ no_node no_own;
       foreign = λ entry is_foreign. absurd (unknown (device, shares, inr (inr (entry, is_foreign))));
       unlisted = λ _. record { own = no_own; foreign = λ entry is_foreign. unknown (device, shares, inr (inr (entry, is_foreign))) };
     }

@@ -8,3 +8,5 @@ pub mod CutDecided
 pub mod FirstFault
 pub mod VerdictFound
 pub mod WithoutFacts
+pub mod StaysFacts
+mod TwoDevices

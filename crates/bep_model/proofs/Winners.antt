@@ -20,7 +20,7 @@ OneChoice = (chooser : ℕ) (candidates : List Candidate) (one other : Candidate
 
 -- ---- one winner
 
-beside_says : (device : Device) (own : Option Entry) (one : Candidate) → Contains (beside device own) one → (device ≡ one.0) × (own ≡ Some one.1)
+pub beside_says : (device : Device) (own : Option Entry) (one : Candidate) → Contains (beside device own) one → (device ≡ one.0) × (own ≡ Some one.1)
 beside_says device None one h = absurd (not_in_none one h)
 beside_says device (Some entry) one h =
     let same = Contains-one (device, entry) one h in
@@ -125,7 +125,7 @@ same_rows (row ∷ more) (other ∷ others) rise other_rise has back same =
     (λ one two h k. same one two (Contains-more row more one h) (Contains-more other others two k)) in
     λ i. first i ∷ rest i
 
-same_row : OneChoice → (t : Tables) (one other : Row) → key_of one ≡ key_of other → IsWinner t one.folder one.entry.name (one.device, one.entry) → IsWinner t other.folder other.entry.name (other.device, other.entry) → one ≡ other
+pub same_row : OneChoice → (t : Tables) (one other : Row) → key_of one ≡ key_of other → IsWinner t one.folder one.entry.name (one.device, one.entry) → IsWinner t other.folder other.entry.name (other.device, other.entry) → one ≡ other
 same_row unique t one other key wins other_wins =
     let there = subst (λ (k : Folder × FileName). IsWinner t k.0 k.1 (one.device, one.entry)) key wins in
     let same = same_winner unique t other.folder other.entry.name (one.device, one.entry) (other.device, other.entry) there other_wins in

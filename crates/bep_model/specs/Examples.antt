@@ -68,12 +68,16 @@ link_node byte second = record { kind = Symlink; bytes = []; target = byte ∷ [
 abbrev pub file_node : ℕ → NodeParts
 file_node second = record (link_node 0 second) { kind = File; target = [] }
 
+-- this record at the name, and none at another
+abbrev pub at_the_name : Option Entry → Folder → FileName → Option Entry
+at_the_name entry folder name = if is_eq (key_cmp (folder, name) (folder_f, name_a)) then entry else None
+
 -- devices 1 and 2 share all folders, 2 in this kind; each has this record of the name, or none; nothing is stored, seen,
 -- pulled or on its way
 abbrev pub two_devices : FolderKind → Option Entry → Option Entry → Tables
 two_devices kind one two = record {
   sharing = λ folder. (1, SendReceive) ∷ (2, kind) ∷ [];
-  own = λ device folder name. if is_eq (key_cmp (folder, name) (folder_f, name_a)) then (if device == 1 then one else two) else None;
+  own = λ device folder name. at_the_name (if device == 1 then one else two) folder name;
   node = λ device folder name. None;
   viewed = λ device other folder name. None;
   target = λ device folder name. None;
@@ -96,6 +100,24 @@ crossed_links = two_devices SendReceive (Some (link 2 99 by_two)) (Some (link 1 
 abbrev pub old_link_flies : Option Entry → Tables
 old_link_flies two = record (two_devices SendReceive (Some (deletion twice_by_one)) two) {
   flying = λ sender receiver. record { folder = folder_f; full = false; records = link 1 98 by_one ∷ [] } ∷ [];
+}
+
+-- both devices have the empty file, and hold one that was changed at this second
+abbrev pub files_of : ℕ → Tables
+files_of second = record (two_devices SendReceive (Some (empty_file by_one)) (Some (empty_file by_one))) {
+  node = λ device folder name. Some (file_node second);
+}
+
+-- both devices have the second version of a deletion, and each sees this record in the other's index
+abbrev pub deletion_viewing : Entry → Tables
+deletion_viewing entry = record (two_devices SendReceive (Some (deletion twice_by_one)) (Some (deletion twice_by_one))) {
+  viewed = λ device other folder name. at_the_name (Some entry) folder name;
+}
+
+-- the same, and each pulls this record
+abbrev pub deletion_pulling : Entry → Tables
+deletion_pulling entry = record (two_devices SendReceive (Some (deletion twice_by_one)) (Some (deletion twice_by_one))) {
+  target = λ device folder name. at_the_name (Some entry) folder name;
 }
 
 -- the row of the name

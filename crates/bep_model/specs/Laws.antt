@@ -7,10 +7,11 @@ use Rattle.bep_model.specs.Tables.{Tables, Folder, FileName}
 use Rattle.bep_model.specs.Foreign.{IsFinite}
 use Rattle.bep_model.specs.Winner.{IsWinner}
 use Rattle.bep_model.specs.Settled.{Rise, IsListOfWinners, IsSettled}
+use Rattle.bep_model.specs.Stays.{Stays, KeepsRecords, SameShares, RecordsAreNamed, SameContents}
 use Rattle.bep_model.specs.WithoutWinner.{IsWithoutWinner, IsFirstWithoutWinner, OwnRecordsAreNamed}
 use Rattle.bep_model.specs.Reasons.{Place, Asks, first_disordered}
 use Rattle.bep_model.specs.Verdict.{Verdict, number_of, IsVerdict}
-use Rattle.bep_model.specs.Calm.{IsCalm, contents_of}
+use Rattle.bep_model.specs.Calm.{IsCalm, contents_of, Kept}
 
 -- settled is that no reason fails anywhere
 abbrev pub SettledIsFaultless : Type 0
@@ -74,3 +75,13 @@ WinnersOrFirstWithout =
 -- what is settled is calm for the contents of its rows
 abbrev pub SettledIsCalm : Type 0
 SettledIsCalm = (t : Tables) (rows : List Row) → IsSettled t rows → IsCalm t (contents_of rows)
+
+-- a later cut that is calm for a settled cut's contents, and whose stores are kept, is as the certificate says
+abbrev pub CalmStays : Type 0
+CalmStays = (t later : Tables) (rows : List Row) → IsSettled t rows → SameShares t later → IsCalm later (contents_of rows) → Kept t later → Stays t rows later
+
+-- and it is settled, for its own winners, where no record went away
+abbrev pub CalmIsSettledAgain : Type 0
+CalmIsSettledAgain =
+    (t later : Tables) (rows : List Row) → IsSettled t rows → SameShares t later → KeepsRecords t later → RecordsAreNamed later → IsCalm later (contents_of rows) →
+    (others : List Row) × IsSettled later others × SameContents rows others

@@ -6,5 +6,6 @@ pub mod WithoutWinner
 pub mod Reasons
 pub mod Verdict
 pub mod Calm
+pub mod Stays
 pub mod Examples
 pub mod Laws

@@ -1,3 +1,4 @@
+//! Messages on their way.
 use bep_record::{FolderName, Items, Record};
 
 /// An Index or an Index Update that is on its way from a device to another: records of one folder.

@@ -1,4 +1,5 @@
-ghost use Rattle.bep_model.specs.Laws.{RowsRiseInOrder, NumbersAreWithin, NumbersDiffer, WinnerIsUnique, SettledIsFaultless, VerdictIsUnique, VerdictExists, SettledIsListOfWinners, ListOfWinnersIsUnique, CertificateIsUnique, WinnersAreSettledIfAny, WinnersLeaveNoneOut, FirstWithoutIsUnique, WinnersOrFirstWithout, SettledIsCalm};
+//! What follows from the definitions alone. Each function does nothing; its contract is the law.
+ghost use Rattle.bep_model.specs.Laws.{RowsRiseInOrder, NumbersAreWithin, NumbersDiffer, WinnerIsUnique, SettledIsFaultless, VerdictIsUnique, VerdictExists, SettledIsListOfWinners, ListOfWinnersIsUnique, CertificateIsUnique, WinnersAreSettledIfAny, WinnersLeaveNoneOut, FirstWithoutIsUnique, WinnersOrFirstWithout, SettledIsCalm, CalmStays, CalmIsSettledAgain};
 
 use bep_choice::laws::{choice_exists, choice_is_unique};
 
@@ -64,3 +65,18 @@ pub fn winners_or_first_without()
 pub fn settled_is_calm()
     ensures { SettledIsCalm }
 {}
+
+/// A later cut that is calm for a settled cut's contents, and whose stores are kept, is as the certificate says.
+pub fn calm_stays()
+    ensures { CalmStays }
+{
+    choice_is_unique();
+}
+
+/// Such a cut is settled for its own winners, whose names and contents are the certificate's, where no record went away.
+pub fn calm_is_settled_again()
+    ensures { CalmIsSettledAgain }
+{
+    choice_exists();
+    choice_is_unique();
+}

@@ -1,3 +1,5 @@
+//! Why a cut isn't settled.
+
 /// Why a cut isn't settled, in the order in which reasons are told.
 #[derive(Clone, Copy, Debug, PartialEq, Eq)]
 pub enum Reason {

@@ -1,3 +1,4 @@
+//! The rows of certificates.
 ghost use Rattle.std.specs.Prelude.{◌≡◌, IfOk};
 
 use bep_record::{DeviceId, FolderName, Record};

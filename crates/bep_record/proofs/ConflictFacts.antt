@@ -16,7 +16,7 @@ use Rattle.std.proofs.lemmas.List.Splits.{slice_split_none}
 use Rattle.std.proofs.lemmas.List.Sums.{prefix_len_passes, prefix_len_stops, suffix_len-le-length, AllPass-from_list_all}
 use Rattle.std.proofs.lemmas.Str.{IsCharBoundary-end, IsCharBoundary-before_ascii}
 use Rattle.std.proofs.lemmas.Str.Parse.{digit_from_value}
-use Rattle.bep_record.specs.Name.{IsName, IsPart, parts_of, slash}
+use Rattle.bep_record.specs.Name.{IsName, IsPart, parts_of, slash, max_name_len}
 use Rattle.bep_record.specs.Conflict.{dot, len_after_last, stem_len, hex_digits, conflict_mark, conflict_name_of}
 
 -- ---- digits
@@ -181,7 +181,7 @@ parts_with_end (x ∷ xs) zs ys slashless long u a =
 
 -- ---- a conflict name is a name, if it isn't too long
 
-pub IsName-conflict_name : (name : List ℕ) (z : ℤ) (n : ℕ) → IsName name → mag z < 2 ^ 63 → length (conflict_name_of name z n) ≤ 1024 → IsUtf8 (conflict_name_of name z n) → IsName (conflict_name_of name z n)
+pub IsName-conflict_name : (name : List ℕ) (z : ℤ) (n : ℕ) → IsName name → mag z < 2 ^ 63 → length (conflict_name_of name z n) ≤ max_name_len → IsUtf8 (conflict_name_of name z n) → IsName (conflict_name_of name z n)
 IsName-conflict_name name z n named small fits utf8 =
     let k : ℕ = stem_len name in
     let end : List ℕ = conflict_mark z n ++ drop k name in

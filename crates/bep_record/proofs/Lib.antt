@@ -1,4 +1,6 @@
 mod Cuts
+mod LengthFacts
+mod MergeFacts
 pub mod VectorFacts
 pub mod ConflictFacts
 mod FolderFacts

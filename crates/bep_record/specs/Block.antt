@@ -2,10 +2,11 @@
 use Rattle.std.specs.Prelude.{◌≡◌, ℕ, ◌+◌, ◌-◌, ◌*◌, ◌/◌, min, List, map}
 use Rattle.std.specs.List.{range_with_len}
 use Rattle.bep_record.specs.declared.block.Block.{Block}
+use Rattle.bep_record.specs.declared.limits.TheConstants.{BASE_BLOCK_SIZE}
 
 -- the bytes in each block of a file but the last
 abbrev pub base_block_size : ℕ
-base_block_size = 131072
+base_block_size = BASE_BLOCK_SIZE
 
 -- how many blocks a file of this length has; an empty file has one
 abbrev pub block_count : ℕ → ℕ → ℕ

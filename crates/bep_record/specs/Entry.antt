@@ -26,6 +26,8 @@ HasBody false File entry = HasBlocks entry × (entry.target ≡ [])
 HasBody false Directory entry = HasNoBlocks entry × (entry.target ≡ [])
 HasBody false Symlink entry = HasNoBlocks entry × (entry.target ≢ [])
 
+-- A record is well formed. What its fields' types keep isn't said again: a good name, a device other than 0, a version
+-- whose ids rise, hashes of 32 bytes, and numbers within their widths.
 pub record IsWellFormed (entry : Entry) : Type 0 where
   pub nanoseconds : entry.modified_ns ≤ MAX_NANOSECONDS
   pub no_permissions : IsTrue entry.no_permissions

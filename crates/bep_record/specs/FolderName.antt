@@ -1,5 +1,6 @@
 -- What bytes are the name of a folder (BEP v1, 'Folder', field 'id'; the limits are this project's profile).
 use Rattle.std.specs.Prelude.{◌≡◌, ◌⊎◌, ℕ, ◌≤◌, List, All, length}
+use Rattle.bep_record.specs.declared.limits.TheConstants.{MAX_FOLDER_NAME_LEN}
 
 -- an ASCII digit, a letter, `-` or `_`
 abbrev pub IsFolderByte : ℕ → Type 0
@@ -7,5 +8,5 @@ IsFolderByte b = ((48 ≤ b) × (b ≤ 57)) ⊎ (((65 ≤ b) × (b ≤ 90)) ⊎ 
 
 pub record IsFolderName (bytes : List ℕ) : Type 0 where
   pub not_empty : 1 ≤ length bytes
-  pub not_long : length bytes ≤ 64
+  pub not_long : length bytes ≤ MAX_FOLDER_NAME_LEN
   pub plain : All IsFolderByte bytes

@@ -2,6 +2,7 @@ pub mod Block
 pub mod Content
 pub mod Entry
 pub mod FolderName
+pub mod Laws
 pub mod Name
 pub mod Node
 pub mod RecordError

@@ -2,10 +2,11 @@
 use Rattle.std.specs.Prelude.{◌≢◌, ◌==◌, ◌≤◌, ℕ, List, [], All, codes, length}
 use Rattle.std.specs.List.{slice_split}
 use Rattle.bep_record.specs.Text.{IsPlainText}
+use Rattle.bep_record.specs.declared.limits.TheConstants.{MAX_NAME_LEN}
 
 -- the most bytes that a name has
 abbrev pub max_name_len : ℕ
-max_name_len = 1024
+max_name_len = MAX_NAME_LEN
 
 -- the byte `/`, which divides a name into its parts
 abbrev pub slash : ℕ

@@ -1,6 +1,8 @@
+//! Blocks, and how they cut a file.
 ghost use Rattle.std.specs.Prelude.{◌≡◌, ◌↔◌, ◌+◌, ◌*◌, ◌-◌, ◌<◌, ◌^◌, min, IsTrue};
 ghost use Rattle.bep_record.specs.Block.{base_block_size, CutWhole, cut_at, block_count};
 
+use crate::limits::BASE_BLOCK_SIZE;
 use std::marker::Model;
 
 /// One block of a file: where its bytes are, and their SHA-256.
@@ -42,7 +44,9 @@ impl BlockSize {
     pub fn base() -> Self
         ensures { result ≡ base_block_size }
     {
-        BlockSize { bytes: 131072 }
+        BlockSize {
+            bytes: BASE_BLOCK_SIZE,
+        }
     }
 
     /// The size in bytes.

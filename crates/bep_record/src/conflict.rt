@@ -1,3 +1,4 @@
+//! The name under which the file of a losing record is kept.
 ghost use Rattle.std.specs.Prelude.{◌≡◌, ◌⊎◌, ◌↔◌, ◌≤◌, ◌<◌, ◌++◌, length, take, drop, unsigned_abs, IfOk, IfErr, IsErrOf, OnOk};
 ghost use Rattle.std.specs.Char.{digit_char};
 ghost use Rattle.std.specs.Fmt.{decimal, signed_decimal};
@@ -8,7 +9,8 @@ ghost use Rattle.bep_record.specs.Conflict.{conflict_mark, conflict_name_of, ext
 
 use crate::device::DeviceId;
 use crate::error::RecordError;
-use crate::name::{MAX_LEN, Name};
+use crate::limits::MAX_NAME_LEN;
+use crate::name::Name;
 use crate::record::Record;
 use std::alloc::{AllocError, Global};
 
@@ -143,7 +145,7 @@ fn conflicted(
 {
     let (stem, extension) = split_name(name.as_str());
     let len = name.as_str().len() + signed_len(modified_s) + FIXED_LEN;
-    if len > MAX_LEN {
+    if len > MAX_NAME_LEN {
         return Err(RecordError::NameBad);
     }
     let text = conflict_text(alloc, stem, modified_s, modified_by, extension)?;

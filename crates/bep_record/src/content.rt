@@ -1,3 +1,4 @@
+//! What a record says is there, lent from it.
 ghost use Rattle.std.specs.Prelude.{◌≡◌};
 ghost use Rattle.bep_record.specs.Content.{content_lent};
 
@@ -5,7 +6,8 @@ use crate::{Block, Target};
 
 /// What a name is, apart from its times and its history, lent from a record.
 ///
-/// BEP v1, 'FileInfo'; two records of equal content differ in no byte and no target.
+/// BEP v1, 'FileInfo'. Files of equal content have equal block lists, and so equal hashes of their bytes; that bytes of
+/// equal hashes are equal is said nowhere.
 #[derive(Clone, Copy, Debug)]
 pub enum Content<'a> {
     /// Nothing is there.

@@ -1,3 +1,4 @@
+//! Devices, by their short ids.
 ghost use Rattle.std.specs.Prelude.{◌≡◌, ℕ, ◌<◌, ◌≤◌, ◌^◌, SomeIff};
 
 use std::marker::Model;

@@ -1,3 +1,4 @@
+//! Copies of what holds memory, and of lists of it.
 ghost use Rattle.std.specs.Prelude.{◌≡◌, IfOk};
 
 use crate::{Items, Node, Record};

@@ -1,3 +1,4 @@
+//! The fields of a record, and whether they are well formed.
 ghost use Rattle.std.specs.Prelude.{◌≡◌, ◌↔◌, [], ◌∷◌, map, IsTrue, IfOk};
 ghost use Rattle.bep_record.specs.Entry.{HasNoBlocks, HasBlocks, HasBody, IsWellFormed, SameEntry};
 

@@ -1,3 +1,4 @@
+//! Why something of this crate is refused.
 ghost use Rattle.std.specs.Prelude.{◌≡◌};
 ghost use Rattle.bep_record.specs.RecordError.{number_of};
 ghost use Rattle.bep_record.specs.declared.error.RecordError.TheVariants.{Memory};

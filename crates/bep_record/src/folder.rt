@@ -1,6 +1,8 @@
+//! The names of folders.
 ghost use Rattle.std.specs.Prelude.{◌≡◌, ◌⊎◌, ◌≤◌, ◌↔◌, ℕ, List, All, IsTrue, IfOk, IfErr, IsErrOf, OnOk, Some, length};
 ghost use Rattle.bep_record.specs.FolderName.{IsFolderByte, IsFolderName};
 
+use crate::limits::MAX_FOLDER_NAME_LEN;
 use crate::{Name, RecordError};
 use std::alloc::{AllocError, Global};
 use std::fmt;
@@ -91,5 +93,7 @@ fn is_folder_byte(byte: u8) -> bool
 fn is_folder_name(bytes: &[u8]) -> bool
     ensures { IsTrue result ↔ IsFolderName bytes.now }
 {
-    !bytes.is_empty() && bytes.len() <= 64 && bytes.iter().all(|byte| is_folder_byte(*byte))
+    !bytes.is_empty()
+        && bytes.len() <= MAX_FOLDER_NAME_LEN
+        && bytes.iter().all(|byte| is_folder_byte(*byte))
 }

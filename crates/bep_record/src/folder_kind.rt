@@ -1,3 +1,5 @@
+//! The kinds of folders.
+
 /// What a device does with a folder: send and take changes, only send its own, or only take those of others.
 ///
 /// Syncthing, 'Folder Types'.

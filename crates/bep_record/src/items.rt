@@ -1,3 +1,4 @@
+//! Lists in memory.
 ghost use Rattle.std.specs.Prelude.{◌≡◌, IfOk};
 
 use std::alloc::{AllocError, Global};

@@ -1,3 +1,5 @@
+//! The kinds of names.
+
 /// What a name is in a folder.
 ///
 /// BEP v1, 'FileInfo', field 'type'; the deprecated kinds of symlink are left out.

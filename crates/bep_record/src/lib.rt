@@ -1,5 +1,13 @@
 //! Records of the Block Exchange Protocol: devices, version vectors, names, block lists, nodes, and the file
 //! information that devices exchange about each name.
+//!
+//! ```rust
+//! // What a device that changed the name puts into its index, in place of its own record.
+//! let mut entry = own.into_entry();
+//! entry.version.bump(device)?;
+//! entry.deleted = true;
+//! let deletion = Record::read(entry); // Err gives the fields back: those of a deletion have no blocks
+//! ```
 #![tactic(auto)]
 
 mod block;
@@ -14,6 +22,7 @@ mod folder;
 mod folder_kind;
 mod items;
 mod kind;
+mod laws;
 mod limits;
 mod name;
 mod node;
@@ -35,8 +44,10 @@ pub use folder::FolderName;
 pub use folder_kind::FolderKind;
 pub use items::Items;
 pub use kind::Kind;
+pub use laws::{bump_exists, cut_is_of_one_length, merge_exists};
 pub use limits::{
-    HASH_OF_NOTHING, MAX_DEVICES, MAX_FILE_SIZE, MAX_FOLDERS, MAX_MESSAGES, MAX_NANOSECONDS, MAX_PULLS,
+    BASE_BLOCK_SIZE, HASH_OF_NOTHING, MAX_DEVICES, MAX_FILE_SIZE, MAX_FOLDER_NAME_LEN, MAX_FOLDERS,
+    MAX_MESSAGES, MAX_NAME_LEN, MAX_NANOSECONDS, MAX_PULLS, MAX_TARGET_LEN,
 };
 pub use name::Name;
 pub use node::{Node, NodeParts};

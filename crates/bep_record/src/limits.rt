@@ -1,8 +1,32 @@
-/// The most bytes that a file may have (this project's profile).
+//! Limits of this project's profile, and constants of its definitions.
+
+/// The most bytes that a file may have.
+///
+/// This project's profile.
 pub const MAX_FILE_SIZE: u64 = 16777216;
+
+/// The number of bytes in each block of a file but the last.
+///
+/// BEP v1, 'FileInfo', field 'block_size'; this project's profile has one size so far.
+pub const BASE_BLOCK_SIZE: u32 = 131072;
 
 /// The most nanoseconds that a time may have beside its whole seconds.
 pub const MAX_NANOSECONDS: u32 = 999999999;
+
+/// The most bytes that the name of a file may have.
+///
+/// This project's profile.
+pub const MAX_NAME_LEN: usize = 1024;
+
+/// The most bytes that the target of a symlink may have.
+///
+/// This project's profile.
+pub const MAX_TARGET_LEN: usize = 1024;
+
+/// The most bytes that the name of a folder may have.
+///
+/// This project's profile.
+pub const MAX_FOLDER_NAME_LEN: usize = 64;
 
 /// The SHA-256 of no bytes (FIPS 180-4), which an empty file's one block has.
 pub const HASH_OF_NOTHING: [u8; 32] = [

@@ -1,3 +1,4 @@
+//! What a store holds at a name.
 ghost use Rattle.std.specs.Prelude.{◌≡◌, ◌<◌, ◌≤◌, ◌↔◌, [], length, IsTrue, IsOk, IsErrOf, IfOk};
 ghost use Rattle.bep_record.specs.Node.{FitsKind, IsNode};
 

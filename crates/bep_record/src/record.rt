@@ -1,3 +1,4 @@
+//! Records that are well formed.
 ghost use Rattle.std.specs.Prelude.{◌≡◌, ◌↔◌, IsTrue, IsOk, IfOk, IfErr};
 ghost use Rattle.bep_record.specs.Content.{content_of, content_lent};
 ghost use Rattle.bep_record.specs.Entry.{IsWellFormed};

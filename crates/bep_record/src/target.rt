@@ -1,3 +1,4 @@
+//! Where symlinks point.
 ghost use Rattle.std.specs.Prelude.{◌≡◌, ◌⊎◌, ◌↔◌, ℕ, List, [], IfOk, IfErr, IsErrOf, OnOk, MatchOption, nat_eq};
 ghost use Rattle.std.specs.Cmp.Lexicographic.{pointwise, nat_list_eq_equiv};
 ghost use Rattle.std.specs.Cmp.{partial_equiv_from_equiv};
@@ -5,13 +6,11 @@ ghost use Rattle.std.specs.String.{string_bytes};
 ghost use Rattle.bep_record.specs.Target.{IsTarget};
 
 use crate::error::RecordError;
+use crate::limits::MAX_TARGET_LEN;
 use crate::text::plain_text;
 use std::alloc::{AllocError, Global};
 use std::fmt;
 use std::marker::Model;
-
-// The most bytes that a target has.
-const MAX_LEN: usize = 1024;
 
 /// Where a symlink points: at most 1024 bytes of UTF-8 without NUL. What is no symlink has the empty target.
 ///
@@ -33,7 +32,7 @@ impl Model for Target {
 fn target_text(bytes: &[u8]) -> Option<&str>
     ensures { MatchOption result (¬ IsTarget bytes.now) (λ text. (text.now ≡ bytes.now) × IsTarget bytes.now) }
 {
-    if bytes.len() > MAX_LEN {
+    if bytes.len() > MAX_TARGET_LEN {
         return None;
     }
     plain_text(bytes)
@@ -116,32 +115,25 @@ impl fmt::Debug for Target {
 mod tests {
     use super::*;
 
-    // Why the bytes are refused; `None` where they are read as they are.
-    fn refusal(alloc: Global, bytes: &[u8]) -> Option<RecordError> {
-        match Target::read(alloc, bytes) {
-            Ok(target) if target.as_bytes() == bytes => None,
-            Ok(_) => Some(RecordError::Memory),
-            Err(error) => Some(error),
-        }
+    fn is_target(alloc: Global, bytes: &[u8]) -> bool {
+        Target::read(alloc, bytes).is_ok()
     }
 
     #[test]
     fn reads_targets_alone(rt: HostRuntime) {
         // By this profile's limits.
         for target in ["", "notes.txt", "../a//b/."] {
-            assert_eq!(rt; refusal(rt.alloc(), target.as_bytes()), None, "{target}");
+            assert!(rt; is_target(rt.alloc(), target.as_bytes()), "{target}");
         }
-        assert_eq!(rt; refusal(rt.alloc(), b"a\0b"), Some(RecordError::NodeBad));
-        assert_eq!(rt; refusal(rt.alloc(), &[0xff]), Some(RecordError::NodeBad));
+        assert!(rt; !is_target(rt.alloc(), b"a\0b"));
+        assert!(rt; !is_target(rt.alloc(), &[0xff]));
         // A surrogate's three bytes are no UTF-8.
-        assert_eq!(rt;
-            refusal(rt.alloc(), &[0xed, 0xa0, 0x80]),
-            Some(RecordError::NodeBad)
-        );
+        assert!(rt; !is_target(rt.alloc(), &[0xed, 0xa0, 0x80]));
 
         let bytes = [b't'; 1025];
-        assert_eq!(rt; refusal(rt.alloc(), &bytes[..1024]), None);
-        assert_eq!(rt; refusal(rt.alloc(), &bytes), Some(RecordError::NodeBad));
+        assert!(rt; is_target(rt.alloc(), &bytes[..1024]));
+        assert!(rt; !is_target(rt.alloc(), &bytes));
+        assert!(rt; Target::read(rt.alloc(), &bytes).err() == Some(RecordError::NodeBad));
     }
 
     #[test]

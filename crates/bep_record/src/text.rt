@@ -1,3 +1,4 @@
+//! What names and targets have in common: UTF-8 without NUL.
 ghost use Rattle.std.specs.Prelude.{◌≡◌, ◌≢◌, ◌↔◌, All, IsTrue, MatchOption};
 ghost use Rattle.bep_record.specs.Text.{IsPlainText};
 

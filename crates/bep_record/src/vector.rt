@@ -1,3 +1,4 @@
+//! Version vectors, their order, merges and bumps.
 ghost use Rattle.std.specs.Prelude.{◌≡◌, ℕ, ◌+◌, ◌<◌, ◌≤◌, ◌↔◌, ◌⊎◌, ◌==◌, if◌then◌else◌, List, [], length, IsTrue, SomeIff, OnOk, OnErr, IfErr, IsErrOf, nat_lt, count_by};
 ghost use Rattle.arrayvec.specs.ArrayVec.{array_vec_len};
 ghost use Rattle.bep_record.specs.Vector.{counter_of, greatest_counter, most_counters, IsVersion, IsAtMost, IsBelow, IsOrder, IsMerge, IsBump, ChangesOnly, ids_in_either};
@@ -197,9 +198,10 @@ impl Vector {
         ensures least { (u v w x : List (ℕ × ℕ)) → IsMerge u v w → IsAtMost u x → IsAtMost v x → IsAtMost w x }
     {}
 
-    /// What is strictly below a vector is strictly below each merge of it.
+    /// What is strictly below one of two vectors is strictly below each merge of them.
     pub fn merge_keeps_above()
-        ensures { (u v x w : List (ℕ × ℕ)) → IsBelow u v → IsMerge v x w → IsBelow u w }
+        ensures first { (u v x w : List (ℕ × ℕ)) → IsBelow u v → IsMerge v x w → IsBelow u w }
+        ensures second { (u v x w : List (ℕ × ℕ)) → IsBelow u x → IsMerge v x w → IsBelow u w }
     {}
 
     /// A bump leads strictly above.

@@ -1,3 +1,4 @@
+//! Why a store fails.
 ghost use Rattle.std.specs.Prelude.{◌≡◌};
 ghost use Rattle.bep_store.specs.StoreError.{number_of};
 ghost use Rattle.bep_store.specs.declared.error.StoreError.TheVariants.{Fault, Memory};

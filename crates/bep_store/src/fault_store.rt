@@ -1,3 +1,4 @@
+//! A store that fails one of its calls.
 ghost use Rattle.std.specs.Prelude.{◌≡◌, ◌<◌, false, IfOk, IsErr, IsErrOf, IsTrue, OnErr, OnOk};
 ghost use Rattle.std.specs.FinMap as map;
 ghost use Rattle.bep_store.specs.FaultStore.{is_due, after_call, all_faults, CountsCall};

@@ -1,4 +1,10 @@
 //! Stores, in which a device keeps the files of a folder, seen as maps from names to nodes that may fail.
+//!
+//! ```rust
+//! let mut store = FaultStore::new(MemStore::new(alloc), 2);
+//! store.write(&name, &node)?;
+//! let failed = store.remove(&name); // Err, since the second call fails, and the node is still there
+//! ```
 #![tactic(auto)]
 
 mod error;

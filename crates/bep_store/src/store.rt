@@ -1,3 +1,4 @@
+//! What every store promises.
 ghost use Rattle.std.specs.Prelude.{◌≡◌, ◌<◌, ℕ, min, IfOk, OnOk, OnErr};
 ghost use Rattle.std.specs.FinMap as map;
 ghost use Rattle.bep_map.specs.NameMap.{ByName};

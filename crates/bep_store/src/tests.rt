@@ -1,4 +1,4 @@
-// Stores as maps that may fail. What each call leaves is written out by hand, by the rules of a store.
+//! Stores as maps that may fail. What each call leaves is written out by hand, by the rules of a store.
 use crate::*;
 use bep_map::NameMap;
 use bep_record::{Items, Kind, Name, Node, NodeParts, Target};

@@ -53,3 +53,21 @@ pub returns-clause-calm : goal.returns-clause-calm
 returns-clause-calm c = λ _.
     c.settled_is_calm.ensures (tables_of c.args.cut.now) c.args.certificate.now
     (settled_at_last (tables_of c.args.cut.now) c.args.certificate.now c.settled_is_faultless.ensures c.reasons_are_numbered.ensures.within c.loop-reason.reason-index c.loop-reason-test.false c.loop-reason.invariant)
+
+pub returns-in-Some-clause-stays_put : goal.returns-in-Some-clause-stays_put
+returns-in-Some-clause-stays_put c =
+    calm_of_none (tables_of c.args.cut.now) c.args.certificate.now c.at.result (reason_at c.loop-reason.reason-index) (place_shown c.in-Some.spot) c.at.ensures
+
+pub returns-in-Some-clause-stays_settled : goal.returns-in-Some-clause-stays_settled
+returns-in-Some-clause-stays_settled c =
+    calm_of_none (tables_of c.args.cut.now) c.args.certificate.now c.at.result (reason_at c.loop-reason.reason-index) (place_shown c.in-Some.spot) c.at.ensures
+
+pub returns-clause-stays_put : goal.returns-clause-stays_put
+returns-clause-stays_put c = λ _.
+    c.settled_stays_put.ensures (tables_of c.args.cut.now) c.args.certificate.now
+    (settled_at_last (tables_of c.args.cut.now) c.args.certificate.now c.settled_is_faultless.ensures c.reasons_are_numbered.ensures.within c.loop-reason.reason-index c.loop-reason-test.false c.loop-reason.invariant)
+
+pub returns-clause-stays_settled : goal.returns-clause-stays_settled
+returns-clause-stays_settled c = λ _.
+    c.settled_stays_settled.ensures (tables_of c.args.cut.now) c.args.certificate.now
+    (settled_at_last (tables_of c.args.cut.now) c.args.certificate.now c.settled_is_faultless.ensures c.reasons_are_numbered.ensures.within c.loop-reason.reason-index c.loop-reason-test.false c.loop-reason.invariant)

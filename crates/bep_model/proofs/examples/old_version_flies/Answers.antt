@@ -1,20 +1,17 @@
-use Rattle.std.proofs.Common.{◌≡◌, false, List, [], ◌∷◌, Contains, Some, None, refl, sym, subst, inr, arith}
+use Rattle.std.proofs.Common.{◌≡◌, false, [], ◌∷◌, Contains, Some, None, refl, sym, subst, inr, arith}
 use Rattle.std.proofs.lemmas.Bool.Decides.{nat_tests}
-use Rattle.bep_facts.specs.Members.{Contains-first, Contains-more, Contains-one}
+use Rattle.bep_facts.specs.Members.{Contains-first, Contains-one}
 use Rattle.bep_record.specs.declared.entry.Entry.{Entry}
 use Rattle.bep_record.specs.Content.{Deleted, content_of}
-use Rattle.bep_record.specs.declared.folder_kind.FolderKind.{FolderKind}
 use Rattle.bep_record.specs.declared.folder_kind.FolderKind.TheVariants.{SendReceive}
 use Rattle.bep_model.specs.declared.row.Row.{Row}
-use Rattle.bep_model.specs.Tables.{Tables, Device}
+use Rattle.bep_model.specs.Tables.{Tables}
 use Rattle.bep_model.specs.declared.flight.Flight.{Flight}
 use Rattle.bep_model.specs.Foreign.{IsFlying}
 use Rattle.bep_model.specs.Reasons.{AsksHarmless}
 use Rattle.bep_model.specs.Examples.{folder_f, name_a, by_one, twice_by_one, deletion, link, old_link_flies, row_of}
+use Rattle.bep_model.proofs.TwoDevices.{one_shares, two_shares}
 use Rattle.bep_model.proofs.examples.old_version_flies.Goals as goal
-
-abbrev both : List (Device × FolderKind)
-both = (1, SendReceive) ∷ (2, SendReceive) ∷ []
 
 abbrev row : Row
 row = row_of 1 (deletion twice_by_one)
@@ -37,16 +34,14 @@ returns-clause-to_a_device_with_the_deletion c = λ other member key shares entr
 
 pub returns-clause-to_a_device_without_a_record : goal.returns-clause-to_a_device_without_a_record
 returns-clause-to_a_device_without_a_record c = λ asks.
-    let shares_one : Contains both (1, SendReceive) = Contains-first (1, SendReceive) ((2, SendReceive) ∷ []) in
-    let shares_two : Contains both (2, SendReceive) = Contains-more (1, SendReceive) ((2, SendReceive) ∷ []) (2, SendReceive) (Contains-first (2, SendReceive) []) in
     let flying : IsFlying (old_link_flies None) 2 folder_f name_a (link 1 98 by_one) = record {
       sender = 1;
-      shares = (SendReceive, shares_one);
+      shares = (SendReceive, one_shares SendReceive);
       flight = flight;
       sent = Contains-first flight [];
       same_folder = refl;
       carried = Contains-first (link 1 98 by_one) [];
       same_name = refl;
     } in
-    let harmless : content_of (link 1 98 by_one) ≡ Deleted = asks row (Contains-first row []) refl (SendReceive, shares_two) (link 1 98 by_one) flying refl in
+    let harmless : content_of (link 1 98 by_one) ≡ Deleted = asks row (Contains-first row []) refl (SendReceive, two_shares SendReceive) (link 1 98 by_one) flying refl in
     cc

@@ -1,7 +1,9 @@
 use Rattle.std.proofs.Common.{List, [], ◌∷◌, refl, sym, subst, ⊎_elim, arith}
-use Rattle.bep_facts.specs.Members.{Contains-first, Contains-more, Contains-pair_cases}
+use Rattle.bep_facts.specs.Members.{Contains-first, Contains-more, Contains-one, Contains-pair_cases}
 use Rattle.bep_choice.specs.Choice.{Candidate, IsLeft, IsDominated, IsNotBehind}
-use Rattle.bep_model.specs.Examples.{link, by_one, by_two}
+use Rattle.bep_model.specs.declared.row.Row.{Row}
+use Rattle.bep_model.specs.Winner.{IsWinner}
+use Rattle.bep_model.specs.Examples.{folder_f, name_a, link, by_one, by_two, crossed_links, row_of}
 use Rattle.bep_model.proofs.examples.tie_goes_to_the_smaller_author.Goals as goal
 
 abbrev one : Candidate
@@ -33,8 +35,8 @@ two_is_left = record {
       (Contains-pair_cases one two other member);
 }
 
-pub returns-clause-smaller : goal.returns-clause-smaller
-returns-clause-smaller c = record {
+smaller_wins : IsWinner crossed_links folder_f name_a two
+smaller_wins = record {
   left = two_is_left;
   first = λ other left.
       ⊎_elim
@@ -43,5 +45,18 @@ returns-clause-smaller c = record {
       (Contains-pair_cases one two other left.valid.0);
 }
 
+larger_loses : ¬ IsWinner crossed_links folder_f name_a one
+larger_loses choice = choice.first two two_is_left refl
+
+pub returns-clause-smaller : goal.returns-clause-smaller
+returns-clause-smaller c = smaller_wins
+
 pub returns-clause-larger : goal.returns-clause-larger
-returns-clause-larger c = λ choice. choice.first two two_is_left refl
+returns-clause-larger c = larger_loses
+
+pub returns-clause-row_of_the_smaller : goal.returns-clause-row_of_the_smaller
+returns-clause-row_of_the_smaller c = λ other member key.
+    subst (λ (row : Row). IsWinner crossed_links folder_f name_a (row.device, row.entry)) (Contains-one (row_of 2 two.1) other member) smaller_wins
+
+pub returns-clause-row_of_the_larger : goal.returns-clause-row_of_the_larger
+returns-clause-row_of_the_larger c = λ asks. larger_loses (asks (row_of 1 one.1) (Contains-first _ []) refl)

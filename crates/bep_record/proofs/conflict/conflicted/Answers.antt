@@ -9,8 +9,8 @@ use Rattle.bep_record.specs.Conflict.{conflict_name_of}
 use Rattle.bep_record.proofs.ConflictFacts.{length_conflict_name, IsName-conflict_name}
 use Rattle.bep_record.proofs.conflict.conflicted.Goals as goal
 
-pub returns-then-len-gt-MAX_LEN-clause-bad : goal.returns-then-len-gt-MAX_LEN-clause-bad
-returns-then-len-gt-MAX_LEN-clause-bad c =
+pub returns-then-len-gt-MAX_NAME_LEN-clause-bad : goal.returns-then-len-gt-MAX_NAME_LEN-clause-bad
+returns-then-len-gt-MAX_NAME_LEN-clause-bad c =
     let whole = length_conflict_name c.args.name.now c.args.modified_s c.args.modified_by in
     let name : length c.as_str-2.result.now ≡ length c.args.name.now = search rules in
     let time : c.signed_len.result ≡ length (signed_decimal c.args.modified_s) = search rules in

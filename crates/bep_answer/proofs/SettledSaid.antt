@@ -1,0 +1,37 @@
+-- An answer that says settled is of a cut and rows that are settled, and so stay.
+use Rattle.std.proofs.Common.{◌≡◌, ℕ, List, refl}
+use Rattle.bep_document.specs.Reading.{Reading, Read, Refused}
+use Rattle.bep_model.specs.declared.row.Row.{Row}
+use Rattle.bep_model.specs.Settled.{IsSettled}
+use Rattle.bep_model.specs.Verdict as verdicts
+use Rattle.bep_machine.specs.Laws.{StaysPut, StaysSettled, SettledStaysPut, SettledStaysSettled}
+use Rattle.bep_cut.specs.declared.cut.CutParts.{CutParts}
+use Rattle.bep_cut.specs.Cut.{tables_of}
+use Rattle.bep_answer.specs.declared.outcome.Outcome.{Outcome}
+use Rattle.bep_answer.specs.declared.outcome.Outcome.TheVariants as outcomes
+use Rattle.bep_answer.specs.Answer.{IsAnswer, outcome_of}
+
+settled_verdict : (cut : CutParts) (rows : List Row) (verdict : verdicts.Verdict) → verdicts.IsVerdict (tables_of cut) rows verdict → outcomes.Settled ≡ outcome_of verdict → IsSettled (tables_of cut) rows
+settled_verdict cut rows verdicts.Settled judged told = judged
+settled_verdict cut rows (verdicts.Not reason folder name device) judged told = absurd (cc)
+
+pub record SettledReading (reading : Reading (CutParts × List Row)) : Type 0 where
+  pub cut : CutParts
+  pub rows : List Row
+  pub says : reading ≡ Read (cut, rows)
+  pub settled : IsSettled (tables_of cut) rows
+  pub stays_put : StaysPut (tables_of cut) rows
+  pub stays_settled : StaysSettled (tables_of cut) rows
+
+pub settled_reading : SettledStaysPut → SettledStaysSettled → (reading : Reading (CutParts × List Row)) (outcome : Outcome) (text : List ℕ) → IsAnswer reading outcome text → outcome ≡ outcomes.Settled → SettledReading reading
+settled_reading put again (Read check) outcome text answer is =
+    let settled = settled_verdict check.0 check.1 answer.verdict answer.judged (cc) in
+    record {
+      cut = check.0;
+      rows = check.1;
+      says = refl;
+      settled = settled;
+      stays_put = put (tables_of check.0) check.1 settled;
+      stays_settled = again (tables_of check.0) check.1 settled;
+    }
+settled_reading put again (Refused fault) outcome text answer is = let e = answer.0 in absurd (cc)

@@ -1,0 +1,9 @@
+-- What a document without faults writes down is a cut, which says what the document lists.
+mod Kept
+mod SortingFacts
+mod WrittenFacts
+mod LinksWritten
+mod CutWritten
+mod AsWrittenFacts
+mod AsWrittenViews
+mod AsWrittenLinks

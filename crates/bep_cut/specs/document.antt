@@ -1,0 +1,4 @@
+-- The cut that a document writes down.
+pub mod Sorting
+pub mod Written
+pub mod AsWritten

@@ -1,0 +1,10 @@
+//! The cut and the certificate that a check document writes down.
+
+mod laws;
+mod reading;
+mod records;
+mod sorting;
+mod written;
+
+pub use laws::cut_is_as_written;
+pub use reading::read_check;

@@ -1,5 +1,0 @@
-use Rattle.bep_document.proofs.RecordTests.{well_formed_decides, node_decides}
-use Rattle.bep_document.proofs.laws.tests_tell.Goals as goal
-
-pub returns : goal.returns
-returns c = record { records = well_formed_decides; nodes = node_decides }

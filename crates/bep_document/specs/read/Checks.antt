@@ -1,0 +1,66 @@
+-- Check documents as JSON trees (this project's profile).
+use Rattle.std.specs.Prelude.{ℕ, ◌==◌, ◌&&◌, option_map, option_and_then, unwrap_or, false, Bool, List, [], ◌∷◌, Option, Some, None, if◌then◌else◌, codes}
+use Rattle.serde_json.specs.Data.{Data}
+use Rattle.serde_json.specs.Find.{as_number, as_u64}
+use Rattle.bep_json.specs.Tree.{has_only, has_member, may_have_member}
+use Rattle.bep_json.specs.Reading.{◌>>=◌, read_member, read_member_or}
+use Rattle.bep_json.specs.Numbers.{is_whole}
+use Rattle.bep_json.specs.Lists.{is_list, read_list}
+use Rattle.bep_document.specs.read.Few.{read_few}
+use Rattle.bep_document.specs.read.Devices.{has_few_devices}
+use Rattle.bep_document.specs.read.Folders.{is_folder, read_folder, is_row, read_row}
+use Rattle.bep_document.specs.read.Links.{is_link, read_link}
+use Rattle.bep_record.specs.declared.limits.TheConstants.{MAX_FOLDERS}
+use Rattle.bep_document.specs.declared.parts.FolderParts.{FolderParts}
+use Rattle.bep_document.specs.declared.parts.LinkParts.{LinkParts}
+use Rattle.bep_document.specs.declared.parts.CheckParts.{CheckParts}
+
+-- the members of a cut
+abbrev pub cut_members : List (List ℕ)
+cut_members = codes "folders" ∷ codes "links" ∷ []
+
+-- a cut: each member of its kind, and no others
+unfoldable pub is_cut : Data → Bool
+is_cut d =
+    has_only cut_members d
+    && (has_member (codes "folders") (is_list is_folder) d
+    && may_have_member (codes "links") (is_list is_link) d)
+
+-- the folders, if not too many different devices share them
+abbrev pub if_few_devices : List FolderParts → Option (List FolderParts)
+if_few_devices folders = if has_few_devices folders then Some folders else None
+
+-- the folders and the links of a cut
+unfoldable pub read_cut : Data → Option (List FolderParts × List LinkParts)
+read_cut d = do
+  folders ← read_member (codes "folders") (read_few MAX_FOLDERS read_folder) d
+  few ← if_few_devices folders
+  links ← read_member_or (codes "links") (read_list read_link) [] d
+  Some (few, links)
+
+-- the whole number 1
+abbrev pub is_one : Data → Bool
+is_one d = unwrap_or (option_map (λ n. n == 1) (option_and_then as_u64 (as_number d))) false
+
+-- that is the document's version
+abbrev pub has_version : Data → Bool
+has_version d = has_member (codes "version") is_one d
+
+-- the members of a check document
+abbrev pub check_members : List (List ℕ)
+check_members = codes "version" ∷ codes "cut" ∷ codes "certificate" ∷ []
+
+-- a check document: each member of its kind, and no others
+unfoldable pub is_check : Data → Bool
+is_check d =
+    has_only check_members d
+    && (has_member (codes "version") is_whole d
+    && (has_member (codes "cut") is_cut d
+    && has_member (codes "certificate") (is_list is_row) d))
+
+-- the folders, the links and the rows
+unfoldable pub read_check : Data → Option CheckParts
+read_check d = do
+  cut ← read_member (codes "cut") read_cut d
+  certificate ← read_member (codes "certificate") (read_list read_row) d
+  Some (record { folders = cut.0; links = cut.1; certificate = certificate })

@@ -1,0 +1,50 @@
+-- Folders of a cut and rows of a certificate in JSON trees (this project's profile).
+use Rattle.std.specs.Prelude.{ℕ, ◌&&◌, Bool, List, [], ◌∷◌, Option, Some, codes}
+use Rattle.serde_json.specs.Data.{Data}
+use Rattle.bep_json.specs.Tree.{has_only, has_member}
+use Rattle.bep_json.specs.Reading.{◌>>=◌, read_member}
+use Rattle.bep_json.specs.Numbers.{is_whole, read_number, greatest_id}
+use Rattle.bep_json.specs.Texts.{is_text, read_folder_name}
+use Rattle.bep_json.specs.Lists.{is_list, read_list}
+use Rattle.bep_json.specs.Records.{is_record, read_record}
+use Rattle.bep_document.specs.read.Shares.{is_share, read_share}
+use Rattle.bep_document.specs.declared.parts.FolderParts.{FolderParts}
+use Rattle.bep_document.specs.declared.parts.RowParts.{RowParts}
+
+-- the members of a folder
+abbrev pub folder_members : List (List ℕ)
+folder_members = codes "folder" ∷ codes "devices" ∷ []
+
+-- a folder: each member of its kind, and no others
+unfoldable pub is_folder : Data → Bool
+is_folder d =
+    has_only folder_members d
+    && (has_member (codes "folder") is_text d
+    && has_member (codes "devices") (is_list is_share) d)
+
+-- the folder, with the devices that share it
+unfoldable pub read_folder : Data → Option FolderParts
+read_folder d = do
+  folder ← read_member (codes "folder") read_folder_name d
+  devices ← read_member (codes "devices") (read_list read_share) d
+  Some (record { folder = folder; devices = devices })
+
+-- the members of a row
+abbrev pub row_members : List (List ℕ)
+row_members = codes "folder" ∷ codes "device" ∷ codes "record" ∷ []
+
+-- a row: each member of its kind, and no others
+unfoldable pub is_row : Data → Bool
+is_row d =
+    has_only row_members d
+    && (has_member (codes "folder") is_text d
+    && (has_member (codes "device") is_whole d
+    && has_member (codes "record") is_record d))
+
+-- the row
+unfoldable pub read_row : Data → Option RowParts
+read_row d = do
+  folder ← read_member (codes "folder") read_folder_name d
+  device ← read_member (codes "device") (read_number 1 greatest_id) d
+  entry ← read_member (codes "record") read_record d
+  Some (record { folder = folder; device = device; entry = entry })

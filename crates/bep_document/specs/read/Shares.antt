@@ -1,0 +1,63 @@
+-- What documents say of a device that shares a folder (this project's profile).
+use Rattle.std.specs.Prelude.{ℕ, nat_eq, ◌&&◌, Bool, List, [], ◌∷◌, Option, Some, None, if◌then◌else◌, codes}
+use Rattle.serde_json.specs.Data.{Data}
+use Rattle.bep_index.specs.declared.limits.TheConstants.{MAX_NAMES, MAX_SEQUENCE}
+use Rattle.bep_json.specs.Tree.{has_only, has_member, may_have_member}
+use Rattle.bep_json.specs.Reading.{◌>>=◌, read_member, read_member_or}
+use Rattle.bep_json.specs.Numbers.{is_whole, read_number, greatest_id}
+use Rattle.bep_json.specs.Texts.{is_text, read_folder_kind}
+use Rattle.bep_json.specs.Lists.{is_list, read_list}
+use Rattle.bep_json.specs.Records.{is_record, read_record}
+use Rattle.bep_json.specs.Nodes.{is_node, read_node}
+use Rattle.bep_document.specs.read.Few.{read_few}
+use Rattle.bep_document.specs.read.Views.{is_view, read_view}
+use Rattle.bep_record.specs.declared.limits.TheConstants.{MAX_PULLS}
+use Rattle.bep_document.specs.declared.parts.ShareParts.{ShareParts}
+
+-- the members that a device of a folder may have
+abbrev pub share_members : List (List ℕ)
+share_members =
+    codes "device" ∷ codes "kind" ∷ codes "index_id" ∷ codes "max" ∷ codes "own" ∷ codes "store" ∷ codes "views" ∷
+    codes "pulls" ∷ []
+
+-- the members that it must have
+unfoldable pub has_share_members : Data → Bool
+has_share_members d =
+    has_member (codes "device") is_whole d
+    && (has_member (codes "kind") is_text d
+    && (has_member (codes "index_id") is_whole d
+    && has_member (codes "max") is_whole d))
+
+-- the members that have a default
+unfoldable pub may_have_share_members : Data → Bool
+may_have_share_members d =
+    may_have_member (codes "own") (is_list is_record) d
+    && (may_have_member (codes "store") (is_list is_node) d
+    && (may_have_member (codes "views") (is_list is_view) d
+    && may_have_member (codes "pulls") (is_list is_record) d))
+
+-- a device of a folder: each member of its kind, and no others
+unfoldable pub is_share : Data → Bool
+is_share d = has_only share_members d && (has_share_members d && may_have_share_members d)
+
+-- the device, with its records and nodes, its views and what it pulls
+unfoldable pub read_share : Data → Option ShareParts
+read_share d = do
+  device ← read_member (codes "device") (read_number 1 greatest_id) d
+  kind ← read_member (codes "kind") read_folder_kind d
+  index_id ← read_member (codes "index_id") (read_number 1 greatest_id) d
+  max ← read_member (codes "max") (read_number 0 MAX_SEQUENCE) d
+  own ← read_member_or (codes "own") (read_few MAX_NAMES read_record) [] d
+  store ← read_member_or (codes "store") (read_list read_node) [] d
+  views ← read_member_or (codes "views") (read_list read_view) [] d
+  pulls ← read_member_or (codes "pulls") (read_few MAX_PULLS read_record) [] d
+  Some (record {
+    device = device;
+    kind = kind;
+    index_id = index_id;
+    max = max;
+    own = own;
+    store = store;
+    views = views;
+    pulls = pulls;
+  })

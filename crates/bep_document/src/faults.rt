@@ -1,0 +1,43 @@
+//! The faults of a document that have a place: a search for each kind, one after the other.
+ghost use Rattle.std.specs.Prelude.{◌≡◌, IfOk};
+ghost use Rattle.bep_document.specs.Reading.{first_fault};
+
+mod holder;
+mod judge;
+mod links;
+mod records;
+mod sequences;
+mod twice;
+mod unshared;
+mod walks;
+
+use crate::{CheckParts, DocFault};
+use links::first_bad_link;
+use records::first_bad;
+use sequences::first_bad_sequence;
+use std::alloc::{AllocError, Global};
+use twice::first_twice;
+use unshared::first_unshared;
+
+// The first fault that has a place, or want of memory.
+#[tactic(auto, unfolding(crate::specs::Reading::first_fault))]
+pub(crate) fn fault_of(alloc: Global, parts: &CheckParts) -> Result<Option<DocFault>, AllocError>
+    ensures { IfOk result (λ found. found ≡ first_fault parts.now) }
+{
+    match first_twice(alloc, parts)? {
+        Some(fault) => return Ok(Some(fault)),
+        None => {}
+    }
+    match first_unshared(alloc, parts)? {
+        Some(fault) => return Ok(Some(fault)),
+        None => {}
+    }
+    match first_bad(alloc, parts)? {
+        Some(fault) => return Ok(Some(fault)),
+        None => {}
+    }
+    match first_bad_sequence(alloc, parts)? {
+        Some(fault) => Ok(Some(fault)),
+        None => first_bad_link(alloc, parts),
+    }
+}

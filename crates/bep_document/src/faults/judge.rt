@@ -1,0 +1,85 @@
+//! Looking for the first fault in lists that stand in one another, and for what is there already by a set of keys.
+ghost use Rattle.std.specs.Prelude.{◌≡◌, IfOk, Bool, List, Option, []};
+ghost use Rattle.bep_document.specs.declared.fault.DocFault.{DocFault};
+ghost use Rattle.bep_document.specs.faults.Judge.{first_in, by_key};
+
+use crate::DocFault;
+use std::alloc::{AllocError, Global};
+use std::collections::BTreeSet;
+
+/// A judge of the items of a list, which looks for one kind of fault.
+pub(crate) trait Judge<T> {
+    /// The first fault at an item, given the items before it.
+    ghost fault_at: { Self → List T → T → Option DocFault };
+
+    /// The first fault at the item, given the items before it, or want of memory.
+    fn fault_at(
+        &self,
+        alloc: Global,
+        earlier: &[T],
+        item: &T,
+    ) -> Result<Option<DocFault>, AllocError>
+        ensures { IfOk result (λ found. found ≡ fault_at self.now earlier.now item.now) };
+}
+
+// The first fault among the items, or want of memory.
+#[tactic(auto, using(crate::proofs::faults::JudgeFacts::first_in_next))]
+pub(crate) fn first_fault<T, J: Judge<T>>(
+    alloc: Global,
+    judge: &J,
+    items: &[T],
+) -> Result<Option<DocFault>, AllocError>
+    ensures { IfOk result (λ found. found ≡ first_in (J.fault_at judge.now) [] items.now) }
+{
+    for (i, item) in items.iter().enumerate() {
+        match judge.fault_at(alloc, &items[..i], item)? {
+            Some(fault) => return Ok(Some(fault)),
+            None => {}
+        }
+    }
+    Ok(None)
+}
+
+/// A judge of items that have a key each, and for whom it counts whether an earlier item has that key.
+pub(crate) trait JudgeKeyed<T> {
+    /// What tells the items apart.
+    type Key: Ord + Drop;
+
+    /// The key of an item.
+    ghost key_of: { T → Self.Key };
+
+    /// The first fault at an item, given whether an earlier one has its key.
+    ghost fault_at: { Self → Bool → T → Option DocFault };
+
+    /// The key of the item, or want of memory.
+    fn key_of(&self, alloc: Global, item: &T) -> Result<Self::Key, AllocError>
+        ensures { IfOk result (λ key. key ≡ key_of item.now) };
+
+    /// The first fault at the item, given whether an earlier one has its key, or want of memory.
+    fn fault_at(
+        &self,
+        alloc: Global,
+        is_again: bool,
+        item: &T,
+    ) -> Result<Option<DocFault>, AllocError>
+        ensures { IfOk result (λ found. found ≡ fault_at self.now is_again item.now) };
+}
+
+// The first fault among the items, or want of memory.
+pub(crate) fn first_keyed<T, J: JudgeKeyed<T>>(
+    alloc: Global,
+    judge: &J,
+    items: &[T],
+) -> Result<Option<DocFault>, AllocError>
+    ensures { IfOk result (λ found. found ≡ first_in (by_key J.Key.eq J.key_of (J.fault_at judge.now)) [] items.now) }
+{
+    let mut seen = BTreeSet::new(alloc);
+    for item in items {
+        let is_new = seen.insert(judge.key_of(alloc, item)?)?;
+        match judge.fault_at(alloc, !is_new, item)? {
+            Some(fault) => return Ok(Some(fault)),
+            None => {}
+        }
+    }
+    Ok(None)
+}

@@ -1,0 +1,193 @@
+//! Walks through a cut: the devices of each folder, and what is on its way over each link.
+ghost use Rattle.std.specs.Prelude.{◌≡◌, ℕ, IfOk, List, Option, []};
+ghost use Rattle.bep_document.specs.declared.fault.DocFault.{DocFault};
+ghost use Rattle.bep_document.specs.declared.parts.ShareParts.{ShareParts};
+ghost use Rattle.bep_document.specs.declared.parts.FolderParts.{FolderParts};
+ghost use Rattle.bep_document.specs.declared.parts.FlightParts.{FlightParts};
+ghost use Rattle.bep_document.specs.declared.parts.LinkParts.{LinkParts};
+ghost use Rattle.bep_document.specs.faults.Judge.{◌else_at◌, first_in};
+ghost use Rattle.bep_document.specs.faults.Walks.{at_shares, on_link};
+
+use crate::faults::judge::{Judge, first_fault};
+use crate::{CheckParts, DocFault, FlightParts, FolderParts, LinkParts, ShareParts};
+use bep_record::DeviceId;
+use std::alloc::{AllocError, Global};
+
+/// A judge of the devices of a folder, which looks for one kind of fault.
+pub(crate) trait JudgeShares {
+    /// The first fault at a device of the folder, given the devices before it.
+    ghost fault_at_share: { Self → FolderParts → List ShareParts → ShareParts → Option DocFault };
+
+    /// The first fault at a device of the folder, given the devices before it, or want of memory.
+    fn fault_at_share(
+        &self,
+        alloc: Global,
+        folder: &FolderParts,
+        earlier: &[ShareParts],
+        share: &ShareParts,
+    ) -> Result<Option<DocFault>, AllocError>
+        ensures { IfOk result (λ found. found ≡ fault_at_share self.now folder.now earlier.now share.now) };
+}
+
+/// A judge of the messages that are on their way over a link, which looks for one kind of fault.
+pub(crate) trait JudgeFlights {
+    /// The first fault in a message to the device, given those that arrive before it.
+    ghost fault_in_flight: { Self → LinkParts → ℕ → List FlightParts → FlightParts → Option DocFault };
+
+    /// The first fault in a message to the device, given those that arrive before it, or want of memory.
+    fn fault_in_flight(
+        &self,
+        alloc: Global,
+        link: &LinkParts,
+        receiver: DeviceId,
+        earlier: &[FlightParts],
+        flight: &FlightParts,
+    ) -> Result<Option<DocFault>, AllocError>
+        ensures { IfOk result (λ found. found ≡ fault_in_flight self.now link.now receiver earlier.now flight.now) };
+}
+
+// The devices of a folder, before a judge.
+#[derive(Drop)]
+struct SharesOf<'a, J> {
+    judge: &'a J,
+    folder: &'a FolderParts,
+}
+
+impl<'a, J: JudgeShares> Judge<ShareParts> for SharesOf<'a, J> {
+    ghost fault_at = { λ shares. J.fault_at_share shares.judge.now shares.folder.now };
+
+    fn fault_at(
+        &self,
+        alloc: Global,
+        earlier: &[ShareParts],
+        item: &ShareParts,
+    ) -> Result<Option<DocFault>, AllocError> {
+        self.judge.fault_at_share(alloc, self.folder, earlier, item)
+    }
+}
+
+// The first fault at the devices of the folder, or want of memory.
+pub(crate) fn first_at_shares<J: JudgeShares>(
+    alloc: Global,
+    judge: &J,
+    folder: &FolderParts,
+) -> Result<Option<DocFault>, AllocError>
+    ensures { IfOk result (λ found. found ≡ at_shares (J.fault_at_share judge.now) [] folder.now) }
+{
+    first_fault(
+        alloc,
+        &SharesOf { judge, folder },
+        folder.devices.as_slice(),
+    )
+}
+
+// What is on its way over a link to one of its ends, before a judge.
+#[derive(Drop)]
+struct FlightsTo<'a, J> {
+    judge: &'a J,
+    link: &'a LinkParts,
+    receiver: DeviceId,
+}
+
+impl<'a, J: JudgeFlights> Judge<FlightParts> for FlightsTo<'a, J> {
+    ghost fault_at = { λ flights. J.fault_in_flight flights.judge.now flights.link.now flights.receiver };
+
+    fn fault_at(
+        &self,
+        alloc: Global,
+        earlier: &[FlightParts],
+        item: &FlightParts,
+    ) -> Result<Option<DocFault>, AllocError> {
+        self.judge
+            .fault_in_flight(alloc, self.link, self.receiver, earlier, item)
+    }
+}
+
+// The first fault in what is on its way to the device, or want of memory.
+fn first_to<J: JudgeFlights>(
+    alloc: Global,
+    judge: &J,
+    link: &LinkParts,
+    receiver: DeviceId,
+    flights: &[FlightParts],
+) -> Result<Option<DocFault>, AllocError>
+    ensures { IfOk result (λ found. found ≡ first_in (J.fault_in_flight judge.now link.now receiver) [] flights.now) }
+{
+    first_fault(
+        alloc,
+        &FlightsTo {
+            judge,
+            link,
+            receiver,
+        },
+        flights,
+    )
+}
+
+// The first fault in what is on its way over the link, to its first device and then to the other, or want of memory.
+pub(crate) fn first_on_link<J: JudgeFlights>(
+    alloc: Global,
+    judge: &J,
+    link: &LinkParts,
+) -> Result<Option<DocFault>, AllocError>
+    ensures { IfOk result (λ found. found ≡ on_link (J.fault_in_flight judge.now) [] link.now) }
+{
+    match first_to(alloc, judge, link, link.a, link.to_a.as_slice())? {
+        Some(fault) => Ok(Some(fault)),
+        None => first_to(alloc, judge, link, link.b, link.to_b.as_slice()),
+    }
+}
+
+// Each folder, before a judge of its devices.
+#[derive(Drop)]
+struct FoldersBy<'a, J> {
+    judge: &'a J,
+}
+
+impl<'a, J: JudgeShares> Judge<FolderParts> for FoldersBy<'a, J> {
+    ghost fault_at = { λ folders. at_shares (J.fault_at_share folders.judge.now) };
+
+    fn fault_at(
+        &self,
+        alloc: Global,
+        _earlier: &[FolderParts],
+        item: &FolderParts,
+    ) -> Result<Option<DocFault>, AllocError> {
+        first_at_shares(alloc, self.judge, item)
+    }
+}
+
+// Each link, before a judge of what is on its way.
+#[derive(Drop)]
+struct LinksBy<'a, J> {
+    judge: &'a J,
+}
+
+impl<'a, J: JudgeFlights> Judge<LinkParts> for LinksBy<'a, J> {
+    ghost fault_at = { λ links. on_link (J.fault_in_flight links.judge.now) };
+
+    fn fault_at(
+        &self,
+        alloc: Global,
+        _earlier: &[LinkParts],
+        item: &LinkParts,
+    ) -> Result<Option<DocFault>, AllocError> {
+        first_on_link(alloc, self.judge, item)
+    }
+}
+
+// The first fault in the folders, or else on the links, or want of memory.
+pub(crate) fn first_in_cut<J: JudgeShares + JudgeFlights>(
+    alloc: Global,
+    judge: &J,
+    parts: &CheckParts,
+) -> Result<Option<DocFault>, AllocError>
+    ensures { IfOk result (λ found. found ≡ (
+        first_in (at_shares (J.fault_at_share judge.now)) [] parts.now.folders
+        else_at first_in (on_link (J.fault_in_flight judge.now)) [] parts.now.links)) }
+{
+    match first_fault(alloc, &FoldersBy { judge }, parts.folders.as_slice())? {
+        Some(fault) => Ok(Some(fault)),
+        None => first_fault(alloc, &LinksBy { judge }, parts.links.as_slice()),
+    }
+}

@@ -1,0 +1,110 @@
+//! A cut, and the whole document.
+ghost use Rattle.std.specs.Prelude.{◌≡◌, List};
+ghost use Rattle.serde_json.specs.View.{view};
+ghost use Rattle.bep_document.specs.read.Checks.{is_cut, read_cut, is_one, has_version, is_check, read_check};
+
+use crate::read::devices::has_few_devices;
+use crate::read::few::Few;
+use crate::{CheckParts, FolderParts, LinkParts, RowParts};
+use bep_json::{ReadError, Readable, Whole, has, has_only, may_have, member, member_or};
+use bep_record::{Items, MAX_FOLDERS};
+use serde_json::Value;
+use std::alloc::Global;
+use std::marker::Model;
+
+// The folders and the links of a cut.
+#[derive(Debug, Drop)]
+struct CutLists {
+    folders: Items<FolderParts>,
+    links: Items<LinkParts>,
+}
+
+impl Model for CutLists {
+    ghost use Rattle.std.specs.Prelude.{List};
+    ghost use Rattle.bep_document.specs.declared.parts.FolderParts.{FolderParts};
+    ghost use Rattle.bep_document.specs.declared.parts.LinkParts.{LinkParts};
+
+    ghost Value = { List FolderParts × List LinkParts };
+
+    ghost view = { λ cut. (cut.folders, cut.links) };
+}
+
+impl CutLists {
+    // The cut and the rows together.
+    fn with_rows(self, certificate: Items<RowParts>) -> CheckParts
+        ensures { result ≡ record { folders = self.0; links = self.1; certificate = certificate } }
+    {
+        CheckParts {
+            folders: self.folders,
+            links: self.links,
+            certificate,
+        }
+    }
+}
+
+impl Readable for CutLists {
+    ghost has_shape = { is_cut };
+
+    ghost reads = { read_cut };
+
+    #[tactic(auto, unfolding(crate::specs::read::Checks::is_cut))]
+    fn has_shape(value: &Value) -> bool {
+        has_only(value, &["folders", "links"])
+            && has::<Items<FolderParts>>(value, "folders")
+            && may_have::<Items<LinkParts>>(value, "links")
+    }
+
+    #[tactic(auto, unfolding(crate::specs::read::Checks::read_cut))]
+    fn read(alloc: Global, value: &Value) -> Result<Self, ReadError> {
+        let folders = member::<Few<FolderParts, MAX_FOLDERS>>(
+            alloc, value, "folders",
+        )?.into_items();
+        if !has_few_devices(alloc, folders.as_slice())? {
+            return Err(ReadError::Range);
+        }
+        let none = Items::new(Vec::new(alloc));
+        let links = member_or::<Items<LinkParts>>(alloc, value, "links", none)?;
+        Ok(CutLists { folders, links })
+    }
+}
+
+// Whether the version of the document is the whole number 1.
+pub(crate) fn has_version(value: &Value) -> bool
+    ensures { result ≡ has_version (view value.now) }
+{
+    match value.get("version") {
+        Some(version) => is_one(version),
+        None => false,
+    }
+}
+
+fn is_one(value: &Value) -> bool
+    ensures { result ≡ is_one (view value.now) }
+{
+    match value.as_u64() {
+        Some(number) => number == 1,
+        None => false,
+    }
+}
+
+// A check document.
+impl Readable for CheckParts {
+    ghost has_shape = { is_check };
+
+    ghost reads = { read_check };
+
+    #[tactic(auto, unfolding(crate::specs::read::Checks::is_check))]
+    fn has_shape(value: &Value) -> bool {
+        has_only(value, &["version", "cut", "certificate"])
+            && has::<Whole<1, 1>>(value, "version")
+            && has::<CutLists>(value, "cut")
+            && has::<Items<RowParts>>(value, "certificate")
+    }
+
+    #[tactic(auto, unfolding(crate::specs::read::Checks::read_check))]
+    fn read(alloc: Global, value: &Value) -> Result<Self, ReadError> {
+        let cut = member::<CutLists>(alloc, value, "cut")?;
+        let certificate = member::<Items<RowParts>>(alloc, value, "certificate")?;
+        Ok(cut.with_rows(certificate))
+    }
+}

@@ -1,0 +1,58 @@
+//! Folders of a cut, and rows of a certificate.
+ghost use Rattle.std.specs.Prelude.{◌≡◌, List};
+ghost use Rattle.serde_json.specs.View.{view};
+ghost use Rattle.bep_document.specs.read.Folders.{is_folder, read_folder, is_row, read_row};
+
+use crate::{FolderParts, RowParts, ShareParts};
+use bep_json::{ReadError, Readable, has, has_only, member};
+use bep_record::{DeviceId, Entry, FolderName, Items};
+use serde_json::Value;
+use std::alloc::Global;
+
+// A folder with the devices that share it.
+impl Readable for FolderParts {
+    ghost has_shape = { is_folder };
+
+    ghost reads = { read_folder };
+
+    #[tactic(auto, unfolding(crate::specs::read::Folders::is_folder))]
+    fn has_shape(value: &Value) -> bool {
+        has_only(value, &["folder", "devices"])
+            && has::<FolderName>(value, "folder")
+            && has::<Items<ShareParts>>(value, "devices")
+    }
+
+    #[tactic(auto, unfolding(crate::specs::read::Folders::read_folder))]
+    fn read(alloc: Global, value: &Value) -> Result<Self, ReadError> {
+        let folder = member::<FolderName>(alloc, value, "folder")?;
+        let devices = member::<Items<ShareParts>>(alloc, value, "devices")?;
+        Ok(FolderParts { folder, devices })
+    }
+}
+
+// A row of a certificate.
+impl Readable for RowParts {
+    ghost has_shape = { is_row };
+
+    ghost reads = { read_row };
+
+    #[tactic(auto, unfolding(crate::specs::read::Folders::is_row))]
+    fn has_shape(value: &Value) -> bool {
+        has_only(value, &["folder", "device", "record"])
+            && has::<FolderName>(value, "folder")
+            && has::<DeviceId>(value, "device")
+            && has::<Entry>(value, "record")
+    }
+
+    #[tactic(auto, unfolding(crate::specs::read::Folders::read_row))]
+    fn read(alloc: Global, value: &Value) -> Result<Self, ReadError> {
+        let folder = member::<FolderName>(alloc, value, "folder")?;
+        let device = member::<DeviceId>(alloc, value, "device")?;
+        let entry = member::<Entry>(alloc, value, "record")?;
+        Ok(RowParts {
+            folder,
+            device,
+            entry,
+        })
+    }
+}

@@ -1,0 +1,82 @@
+//! The reading of a document: from its bytes to what it says, or to its fault.
+ghost use Rattle.std.specs.Prelude.{◌≡◌};
+ghost use Rattle.serde_json.specs.View.{view};
+ghost use Rattle.bep_document.specs.Reading.{Answers, AnswersBy, given, tree_of, unless, first_fault, reading_of_tree, reading_of};
+ghost use Rattle.bep_document.specs.Fault.{nowhere};
+ghost use Rattle.bep_document.specs.declared.fault.Fault.TheVariants.{NotJson};
+
+use crate::faults::fault_of;
+use crate::read::has_version;
+use crate::{CheckParts, DocError, DocFault, Fault};
+use bep_json::{ReadError, Readable};
+use serde_json::Value;
+use serde_json::error::Category;
+use std::alloc::Global;
+
+/// The most bytes of a document.
+///
+/// This project's profile.
+pub const MAX_BYTES: usize = 67108864;
+
+/// What the bytes of a check document say, or the fault for which it is refused: the one with the smallest number that
+/// applies, at its first place. `Memory` may come in place of any answer.
+#[tactic(auto, unfolding(crate::specs::Reading::reading_of))]
+pub fn read_parts(alloc: Global, bytes: &[u8]) -> Result<CheckParts, DocError>
+    ensures { Answers result (reading_of bytes.now) }
+{
+    if bytes.len() > MAX_BYTES {
+        return Err(refused(Fault::Range));
+    }
+    match tree_of(alloc, bytes) {
+        Ok(tree) => parts_of(alloc, &tree),
+        Err(error) => Err(error),
+    }
+}
+
+// The error of a fault of the whole document.
+fn refused(fault: Fault) -> DocError
+    ensures { result ≡ DocError.Refused (nowhere fault) }
+{
+    DocError::Refused(DocFault::nowhere(fault))
+}
+
+// The tree of the bytes.
+fn tree_of(alloc: Global, bytes: &[u8]) -> Result<Value, DocError>
+    ensures { AnswersBy view result (given NotJson (tree_of bytes.now)) }
+{
+    match Value::from_slice(alloc, bytes) {
+        Ok(tree) => Ok(tree),
+        Err(error) => match error.classify() {
+            Category::Memory => Err(DocError::Memory),
+            _ => Err(refused(Fault::NotJson)),
+        },
+    }
+}
+
+// What the tree of a document says.
+#[tactic(auto, unfolding(crate::specs::Reading::reading_of_tree))]
+fn parts_of(alloc: Global, tree: &Value) -> Result<CheckParts, DocError>
+    ensures { Answers result (reading_of_tree (view tree.now)) }
+{
+    if !has_version(tree) {
+        return Err(refused(Fault::VersionBad));
+    }
+    if !CheckParts::has_shape(tree) {
+        return Err(refused(Fault::Shape));
+    }
+    match CheckParts::read(alloc, tree) {
+        Ok(parts) => judged(alloc, parts),
+        Err(ReadError::Range) => Err(refused(Fault::Range)),
+        Err(ReadError::Memory) => Err(DocError::Memory),
+    }
+}
+
+// The parts, if they have no fault.
+fn judged(alloc: Global, parts: CheckParts) -> Result<CheckParts, DocError>
+    ensures { Answers result (unless (first_fault parts) parts) }
+{
+    match fault_of(alloc, &parts)? {
+        Some(fault) => Err(DocError::Refused(fault)),
+        None => Ok(parts),
+    }
+}

@@ -1,0 +1,22 @@
+//! A change of an index, and the way back from it.
+use crate::IndexId;
+use bep_record::{Name, Record};
+use std::marker::Model;
+
+/// How the last change of an index is taken back. It fits only the index that was changed, and only until that index
+/// gives another number.
+#[derive(Debug, Drop)]
+pub struct Undo {
+    pub(crate) id: IndexId,
+    pub(crate) given: u64,
+    pub(crate) name: Name,
+    pub(crate) old: Option<Record>,
+}
+
+impl Model for Undo {
+    ghost use Rattle.bep_index.specs.Change.{Change};
+
+    ghost Value = { Change };
+
+    ghost view = { λ undo. record { id = undo.id; sequence = undo.given; name = undo.name; before = undo.old } };
+}

@@ -1,0 +1,86 @@
+-- What a device writes when it ends a pull is clean against the target: the bytes that were received are as many as the
+-- record says.
+use Rattle.std.proofs.Common.{◌≡◌, ◌∙◌, ◌+◌, ◌-◌, ◌*◌, ℕ, zero, suc, min, Bool, true, false, cond, List, [], ◌∷◌, length, length-append, map, Contains, Option, Some, None, unwrap_or, refl, ap, arith}
+use Rattle.std.specs.List.{concat, range_with_len}
+use Rattle.bep_facts.specs.Members.{Contains-first, Contains-more}
+use Rattle.bep_record.specs.declared.block.Block.{Block}
+use Rattle.bep_record.specs.declared.kind.Kind.{Kind}
+use Rattle.bep_record.specs.declared.kind.Kind.TheVariants as kinds
+use Rattle.bep_record.specs.declared.node.NodeParts.{NodeParts}
+use Rattle.bep_record.specs.Block.{base_block_size, block_count, cut_at, CutWhole}
+use Rattle.bep_record.specs.Node.{IsClean, LooksSame}
+use Rattle.bep_model.specs.Tables.{FileName}
+use Rattle.bep_machine.specs.Replica.{Pull}
+use Rattle.bep_machine.specs.Pull.{IsFile, IsMissingBlocks, written}
+use Rattle.bep_machine.specs.Sound.{IsSoundPull, AreReceived}
+use Rattle.bep_machine.proofs.ContentFacts.{has_blocks}
+
+-- the sizes of cuts, one after the other
+sizes : List (ℕ × ℕ) → ℕ
+sizes [] = 0
+sizes (cut ∷ cuts) = cut.1 + sizes cuts
+
+-- the bytes that were received
+abbrev bytes_of : List (Option (List ℕ)) → List ℕ
+bytes_of received = concat (map (λ bytes. unwrap_or bytes []) received)
+
+-- so many cuts from place k on cover so many whole blocks, or all that is left of the file there
+cuts_cover : (size len k n : ℕ) → sizes (map (λ j. cut_at size len j) (range_with_len k n)) ≡ min (n * size) (len - k * size)
+unfolding sizes
+cuts_cover size len k zero = omega arith
+cuts_cover size len k (suc n) =
+    let later = cuts_cover size len (k + 1) n in
+    omega arith
+
+-- all cuts cover the file
+cuts_are_whole : (len : ℕ) → sizes (map (λ j. cut_at base_block_size len j) (range_with_len 0 (block_count base_block_size len))) ≡ len
+cuts_are_whole len =
+    let covered = cuts_cover base_block_size len 0 (block_count base_block_size len) in
+    omega arith
+
+-- where no block is missing, the bytes are as many as the blocks have
+received_whole : (blocks : List Block) (received : List (Option (List ℕ))) → AreReceived blocks received → ¬ Contains received None →
+    length (bytes_of received) ≡ sizes (map (λ (b : Block). (b.offset, b.size)) blocks)
+unfolding sizes
+received_whole [] [] are none_missing = refl
+received_whole [] (one ∷ more) are none_missing = absurd are
+received_whole (block ∷ blocks) [] are none_missing = absurd are
+received_whole (block ∷ blocks) (None ∷ received) are none_missing = absurd (none_missing (Contains-first None received))
+received_whole (block ∷ blocks) (Some bytes ∷ received) are none_missing =
+    let later = received_whole blocks received are.1 (λ missing. none_missing (Contains-more (Some bytes) received None missing)) in
+    let both = length-append bytes (bytes_of received) in
+    let here = are.0 in
+    omega arith
+
+file_whole : (len : ℕ) (blocks : List Block) (received : List (Option (List ℕ))) → CutWhole base_block_size len blocks → AreReceived blocks received → ¬ Contains received None →
+    length (bytes_of received) ≡ len
+file_whole len blocks received whole are none_missing = received_whole blocks received are none_missing ∙ ap sizes whole ∙ cuts_are_whole len
+
+-- the node that is written of a target that isn't deleted
+abbrev node_of : Pull → NodeParts
+node_of pull = record {
+  kind = pull.target.kind;
+  bytes = bytes_of pull.received;
+  target = pull.target.target;
+  modified_s = pull.target.modified_s;
+  modified_ns = pull.target.modified_ns;
+}
+
+looks_written : (kind : Kind) (pull : Pull) → (kind ≡ kinds.File → length (bytes_of pull.received) ≡ pull.target.size) → LooksSame kind (node_of pull) pull.target
+looks_written kinds.File pull whole = (whole refl, refl, refl)
+looks_written kinds.Directory pull whole = tt
+looks_written kinds.Symlink pull whole = refl
+
+pub written_is_clean : (name : FileName) (pull : Pull) → IsSoundPull name pull → ¬ (IsFile pull.target × IsMissingBlocks pull) → IsClean (written pull) (Some pull.target)
+written_is_clean name pull sound received = cases pull.target.deleted refl
+  where
+    cases : (deleted : Bool) → pull.target.deleted ≡ deleted → IsClean (cond deleted None (Some (node_of pull))) (Some pull.target)
+    cases true deleted = deleted
+    cases false there = (
+      there,
+      refl,
+      looks_written pull.target.kind pull
+          (λ file.
+          file_whole pull.target.size pull.target.blocks pull.received (has_blocks pull.target sound.good.formed there file).blocks sound.received
+          (λ missing. received ((there, file), missing))),
+    )

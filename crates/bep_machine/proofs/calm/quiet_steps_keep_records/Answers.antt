@@ -1,0 +1,5 @@
+use Rattle.bep_machine.proofs.CalmStep.{quiet_steps_keep_records_lem}
+use Rattle.bep_machine.proofs.calm.quiet_steps_keep_records.Goals as goal
+
+pub returns : goal.returns
+returns c = quiet_steps_keep_records_lem c.batch_records_are_found.ensures.found c.batch_records_are_found.ensures.among

@@ -1,0 +1,6 @@
+use Rattle.bep_machine.proofs.RunFacts.{settled_stays_settled_lem}
+use Rattle.bep_machine.proofs.headline.settled_stays_settled.Goals as goal
+
+pub returns : goal.returns
+returns c =
+    settled_stays_settled_lem c.steps_keep_sound.ensures c.quiet_steps_keep_calm.ensures c.quiet_steps_keep_records.ensures c.settled_is_calm.ensures c.calm_is_settled_again.ensures

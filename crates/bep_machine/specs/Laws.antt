@@ -1,0 +1,79 @@
+-- What follows from the definitions, for every cluster and every list of steps; the functions of src/ have these as
+-- contracts.
+use Rattle.std.specs.Prelude.{◌≡◌, ℕ, ⊤, List, [], ◌∷◌, Option}
+use Rattle.bep_record.specs.Node.{IsNode}
+use Rattle.bep_index.specs.Listing.{Listing}
+use Rattle.bep_index.specs.Index.{IsIndex}
+use Rattle.bep_index.specs.View.{IsView}
+use Rattle.bep_model.specs.declared.row.Row.{Row}
+use Rattle.bep_model.specs.Tables.{Tables}
+use Rattle.bep_model.specs.Settled.{IsSettled}
+use Rattle.bep_model.specs.Calm.{Contents, IsCalm, Kept}
+use Rattle.bep_model.specs.Stays.{Stays, KeepsRecords, SameContents}
+use Rattle.bep_machine.specs.declared.step.Step.{Step}
+use Rattle.bep_machine.specs.declared.step.Step.TheVariants.{Edit}
+use Rattle.bep_machine.specs.Answer.{Answer}
+use Rattle.bep_machine.specs.Cluster.{Cluster}
+use Rattle.bep_machine.specs.Steps.{IsStep, Event, IsRun, IsQuiet, AreQuiet}
+use Rattle.bep_machine.specs.Said.{tables_of_cluster}
+use Rattle.bep_machine.specs.Sound.{IsSound}
+use Rattle.bep_machine.specs.Gapless.{HasNoGap, IsGapless, IsFresh}
+
+-- what a user puts into a folder is a node
+abbrev pub IsSoundStep : Step → Type 0
+IsSoundStep (Edit device folder name node) = IsNode node
+IsSoundStep step = ⊤
+
+abbrev pub AreSound : List Event → Type 0
+AreSound [] = ⊤
+AreSound (event ∷ more) = IsSoundStep event.step × AreSound more
+
+-- ---- one step
+
+-- no step breaks what holds of every cluster
+abbrev pub StepsKeepSound : Type 0
+StepsKeepSound = (step : Step) (failed : Option ℕ) (old new : Cluster) (answer : Answer) →
+    IsSoundStep step → IsSound old → IsStep step failed old new answer → IsSound new
+
+-- a quiet step keeps calm, and each store byte for byte
+abbrev pub QuietStepsKeepCalm : Type 0
+QuietStepsKeepCalm = (contents : Contents) (step : Step) (failed : Option ℕ) (old new : Cluster) (answer : Answer) →
+    IsQuiet step → IsSound old → IsCalm (tables_of_cluster old) contents → IsStep step failed old new answer →
+    IsCalm (tables_of_cluster new) contents × Kept (tables_of_cluster old) (tables_of_cluster new)
+
+-- a quiet step takes no own record away
+abbrev pub QuietStepsKeepRecords : Type 0
+QuietStepsKeepRecords = (step : Step) (failed : Option ℕ) (old new : Cluster) (answer : Answer) →
+    IsQuiet step → IsSound old → IsStep step failed old new answer →
+    KeepsRecords (tables_of_cluster old) (tables_of_cluster new)
+
+-- no view has a gap, in every cluster that a run reaches from one in which nothing was exchanged yet
+abbrev pub RunsAreGapless : Type 0
+RunsAreGapless = (cluster later : Cluster) (events : List Event) →
+    IsSound cluster → IsFresh cluster → AreSound events → IsRun cluster events later → IsGapless later
+
+-- a view without a gap, at the point of the index, is the index
+abbrev pub SamePointSameIndex : Type 0
+SamePointSameIndex = (index view : Listing) →
+    IsIndex index → IsView view → HasNoGap index view → view.id ≡ index.id → view.sequence ≡ index.sequence → view ≡ index
+
+-- ---- the headline
+
+-- After every quiet run from a cluster with these tables, in any interleaving and with any failing calls of the stores:
+-- each store holds byte for byte what it held, and each row's name has its certified content.
+abbrev pub StaysPut : Tables → List Row → Type 0
+StaysPut tables rows = (cluster later : Cluster) (events : List Event) →
+    IsSound cluster → tables_of_cluster cluster ≡ tables → IsRun cluster events later → AreQuiet events →
+    Stays tables rows (tables_of_cluster later)
+
+-- And the later cluster is settled for its own winners, whose names and contents are those of the rows.
+abbrev pub StaysSettled : Tables → List Row → Type 0
+StaysSettled tables rows = (cluster later : Cluster) (events : List Event) →
+    IsSound cluster → tables_of_cluster cluster ≡ tables → IsRun cluster events later → AreQuiet events →
+    (others : List Row) × IsSettled (tables_of_cluster later) others × SameContents rows others
+
+abbrev pub SettledStaysPut : Type 0
+SettledStaysPut = (tables : Tables) (rows : List Row) → IsSettled tables rows → StaysPut tables rows
+
+abbrev pub SettledStaysSettled : Type 0
+SettledStaysSettled = (tables : Tables) (rows : List Row) → IsSettled tables rows → StaysSettled tables rows

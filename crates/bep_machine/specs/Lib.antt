@@ -1,0 +1,14 @@
+pub mod Answer
+pub mod Replica
+pub mod Local
+pub mod Pull
+pub mod Peer
+pub mod Link
+pub mod Exchange
+pub mod Cluster
+pub mod Steps
+pub mod Said
+pub mod Sound
+pub mod Gapless
+pub mod Laws
+pub mod Effects

@@ -1,0 +1,45 @@
+//! That each step of a replica does what it is for, where nothing stands in its way. Each function does nothing; its
+//! contract is the law.
+ghost use Rattle.bep_machine.specs.Effects.{ScanRaises, ScanMarks, StartPullBegins, FinishAdopts, FinishKeepsCopy, OverrideWins, RevertTakesBack};
+
+use bep_record::{Vector, bump_exists, cut_is_of_one_length, merge_exists};
+
+/// A scan of a name that isn't clean records what is there: with the device's counter raised, or, in a receive-only
+/// folder, marked local-only.
+pub fn scan_records()
+    ensures raises { ScanRaises }
+    ensures marks { ScanMarks }
+{
+    bump_exists();
+}
+
+/// The pull of a wanted record begins where there is room for one more.
+pub fn start_pull_begins()
+    ensures { StartPullBegins }
+{}
+
+/// A pull whose blocks all came ends with its target in the own index, under the merged version, and with the target's
+/// file. An own file that loses against a concurrent one is kept under the conflict name.
+pub fn finish_adopts()
+    ensures adopts { FinishAdopts }
+    ensures keeps { FinishKeepsCopy }
+{
+    merge_exists();
+    cut_is_of_one_length();
+}
+
+/// An override puts the device's own content above the record that it would choose.
+pub fn override_wins()
+    ensures { OverrideWins }
+{
+    merge_exists();
+    bump_exists();
+    Vector::merge_is_least();
+    Vector::bump_is_above();
+    Vector::below_goes_on();
+}
+
+/// A revert removes the local file, and leaves a deletion with an empty version.
+pub fn revert_takes_back()
+    ensures { RevertTakesBack }
+{}

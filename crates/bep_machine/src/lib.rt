@@ -1,0 +1,26 @@
+//! A cluster of devices that replicate folders, each of its steps, and what holds after every list of steps.
+//!
+//! Nearly all of this crate is definitions, in `specs/`, and the laws that follow from them.
+#![tactic(auto)]
+
+mod calm;
+mod effects;
+mod headline;
+mod limits;
+mod message;
+mod moved;
+mod refusal;
+mod sound;
+mod step;
+
+pub use calm::{quiet_steps_keep_calm, quiet_steps_keep_records};
+pub use effects::{
+    finish_adopts, override_wins, revert_takes_back, scan_records, start_pull_begins,
+};
+pub use headline::{settled_stays_put, settled_stays_settled};
+pub use limits::{MAX_EPOCH, MAX_OUTSTANDING, MAX_REQUEST_ID};
+pub use message::{Announced, Code, Message, Request, Response};
+pub use moved::Moved;
+pub use refusal::Refusal;
+pub use sound::steps_keep_sound;
+pub use step::Step;

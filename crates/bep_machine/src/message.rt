@@ -1,0 +1,85 @@
+//! What devices send each other over a link.
+
+use bep_index::Batch;
+use bep_record::{FolderName, Items, Name};
+
+/// What a ClusterConfig says of a folder that both ends share.
+///
+/// BEP v1, 'Cluster Config' and 'Fields (ClusterConfig)'.
+#[derive(Debug, Drop)]
+pub struct Announced {
+    /// The folder.
+    pub folder: FolderName,
+    /// The id of the sender's own index of the folder.
+    pub index_id: u64,
+    /// The greatest sequence of the sender's own index.
+    pub sequence: u64,
+    /// The id of the receiver's index, as the sender knows it; 0 before any was known.
+    pub known_id: u64,
+    /// The greatest sequence of the receiver's index that the sender has seen.
+    pub known_sequence: u64,
+}
+
+/// A request for one block of a file.
+///
+/// BEP v1, 'Request'.
+#[derive(Debug, Drop)]
+pub struct Request {
+    /// The number of the request within its session, from 1.
+    pub id: u32,
+    /// The folder.
+    pub folder: FolderName,
+    /// The file's name.
+    pub name: Name,
+    /// Where the block begins in the file, in bytes.
+    pub offset: u64,
+    /// How many bytes the block has.
+    pub size: u32,
+    /// The SHA-256 of these bytes.
+    pub hash: [u8; 32],
+}
+
+/// Whether a request was answered, or why it wasn't.
+///
+/// BEP v1, 'Response'.
+#[derive(Clone, Copy, Debug, PartialEq, Eq)]
+pub enum Code {
+    /// The bytes are in the response.
+    NoError,
+    /// The store couldn't be read.
+    Generic,
+    /// There is no such file, or it ends before the range does.
+    NoSuchFile,
+    /// The file's bytes don't have the hash that was asked for (this project's profile).
+    InvalidFile,
+}
+
+/// The answer to a request.
+///
+/// BEP v1, 'Response'.
+#[derive(Debug, Drop)]
+pub struct Response {
+    /// The number of the request.
+    pub id: u32,
+    /// Whether it was answered.
+    pub code: Code,
+    /// The block's bytes; none unless the code is `NoError`.
+    pub bytes: Items<u8>,
+}
+
+/// A message of the Block Exchange Protocol.
+///
+/// BEP v1, 'Cluster Config', 'Index', 'Index Update', 'Request', 'Response'.
+#[derive(Debug, Drop)]
+pub enum Message {
+    /// The folders that both ends share, each with the points of the sender's and of the receiver's index.
+    ClusterConfig(Items<Announced>),
+    /// Records of a folder, in place of all that was known of the sender's.
+    Index(FolderName, Batch),
+    /// Records of a folder, which add to what was known.
+    IndexUpdate(FolderName, Batch),
+    /// A request for a block.
+    Request(Request),
+    /// The answer to a request.
+    Response(Response),
+}
