@@ -6,7 +6,7 @@ use Rattle.bep_answer.proofs.check.check_text.Goals as goal
 pub returns-clause-settled : goal.returns-clause-settled
 returns-clause-settled g c = λ is.
     let said =
-        settled_reading c.settled_stays_put.ensures c.settled_stays_settled.ensures (check_of c.as_slice.result.now) c.in_ok-outcome.outcome c.in_ok-outcome.text.items c.in_ok-outcome.ensures is in
+    settled_reading c.settled_stays_put.ensures c.settled_stays_settled.ensures (check_of c.as_slice.result.now) c.in_ok-outcome.outcome c.in_ok-outcome.text.items c.in_ok-outcome.ensures is in
     record {
       bytes = c.in_ok-bytes.bytes.items;
       read = c.in_ok-bytes.ensures.read;
