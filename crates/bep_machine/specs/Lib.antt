@@ -12,3 +12,6 @@ pub mod Sound
 pub mod Gapless
 pub mod Laws
 pub mod Effects
+pub mod Halves
+pub mod HalfLaws
+pub mod Files

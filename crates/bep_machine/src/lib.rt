@@ -5,6 +5,9 @@
 
 mod calm;
 mod effects;
+mod files;
+mod gapless;
+mod halves;
 mod headline;
 mod limits;
 mod message;
@@ -17,6 +20,9 @@ pub use calm::{quiet_steps_keep_calm, quiet_steps_keep_records};
 pub use effects::{
     finish_adopts, override_wins, revert_takes_back, scan_records, start_pull_begins,
 };
+pub use files::{finish_keeps_files, revert_keeps_files};
+pub use gapless::{runs_are_gapless, same_point_same_index};
+pub use halves::{halves_make_the_step, replays_run, run_replays, step_has_halves};
 pub use headline::{settled_stays_put, settled_stays_settled};
 pub use limits::{MAX_EPOCH, MAX_OUTSTANDING, MAX_REQUEST_ID};
 pub use message::{Announced, Code, Message, Request, Response};

@@ -1,0 +1,176 @@
+-- The halves of an event, of all devices and links, are its step.
+use Rattle.std.proofs.Common.{◌≡◌, ◌⊎◌, ◌==◌, ◌&&◌, ◌||◌, ℕ, Bool, true, false, nat_lt, if◌then◌else◌, Option, Some, None, refl, sym, ap, subst, ◌∙◌, inl, inr, ⊎_elim, eqb-true}
+use Rattle.std.proofs.lemmas.Bool.{and_parts, eq-eqb}
+use Rattle.std.specs.FinMap.{get}
+use Rattle.bep_model.specs.Tables.{Device, Folder}
+use Rattle.bep_machine.specs.declared.step.Step.{Step}
+use Rattle.bep_machine.specs.declared.step.Step.TheVariants.{Edit, Remove, Scan, Override, Revert, Connect, Lose, Begin, Deliver, Announce, StartPull, Ask, Finish, Restart}
+use Rattle.bep_machine.specs.declared.moved.Moved.TheVariants.{Changed}
+use Rattle.bep_machine.specs.Answer.{Answer, Done, Row}
+use Rattle.bep_machine.specs.Replica.{Replica}
+use Rattle.bep_machine.specs.Local.{EditRow, RemoveRow, ScanRow, OverrideRow, RevertRow}
+use Rattle.bep_machine.specs.Pull.{StartPullRow, FinishRow}
+use Rattle.bep_machine.specs.Link.{Link, End, Lower, Upper, Sight, lost, sight_of, after_deed}
+use Rattle.bep_machine.specs.Peer.{Peer, Acted, with_replica}
+use Rattle.bep_machine.specs.Exchange.{BeginRow, DeliverRow, AnnounceRow, AskRow}
+use Rattle.bep_machine.specs.Cluster.{Cluster, with_link, with_link_between, with_peer, without_links}
+use Rattle.bep_machine.specs.Steps.{AtReplica, OverLink, AtLink, ConnectRow, LoseRow, RestartRow, restarted, StepRow}
+use Rattle.bep_machine.specs.Halves.{guards_of, touches_device, touches_link, Traffic, Logged, SaysNoMore, deed_told, InFolder, ByTraffic, PeerHalf, Carries, LinkHalf, OnlyIf}
+use Rattle.bep_machine.specs.HalfLaws.{IsMadeBy, HalvesMakeTheStep}
+use Rattle.bep_machine.proofs.LinkDeeds.{RowSees, begin_sees, announce_sees, ask_sees, deliver_sees}
+
+-- clusters that are the same at each device and each pair of devices
+pub same_cluster : (one other : Cluster) → one.config ≡ other.config → ((device : Device) → one.peer device ≡ other.peer device) → ((a b : Device) → one.link a b ≡ other.link a b) → one ≡ other
+same_cluster one other config peers links = λ i. record { config = config i; peer = λ device. peers device i; link = λ a b. links a b i }
+
+pub touched : {S : Type 0} {half : Type 0} (old new : S) (b : Bool) → b ≡ true → OnlyIf b half old new → half
+touched old new true is step = step
+touched old new false is step = absurd (cc)
+
+pub untouched : {S : Type 0} (half : Type 0) {old new : S} (b : Bool) → b ≡ false → OnlyIf b half old new → new ≡ old
+untouched half true is step = absurd (cc)
+untouched half false is step = step
+
+module _ (old new : Cluster) (device : Device) (Half : Device → Type 0) (peers : (one : Device) → OnlyIf (one == device) (Half one) (old.peer one) (new.peer one)) where
+  pub at_device : Half device
+  at_device = touched (old.peer device) (new.peer device) (device == device) (eq-eqb device device refl) (peers device)
+
+  -- all other devices are as they were
+  pub other_devices : (peer : Peer) → new.peer device ≡ peer → (one : Device) → new.peer one ≡ (if one == device then peer else old.peer one)
+  other_devices peer is one = cases (one == device) refl
+    where
+      cases : (b : Bool) → (one == device) ≡ b → new.peer one ≡ (if b then peer else old.peer one)
+      cases true same = ap new.peer (eqb-true one device same) ∙ is
+      cases false apart = untouched (Half one) (one == device) apart (peers one)
+
+module _ (old new : Cluster) (lower upper : Device) (Half : Device → Device → Type 0) (links : (a b : Device) → OnlyIf ((a == lower) && (b == upper)) (Half a b) (old.link a b) (new.link a b)) where
+  pub at_link : Half lower upper
+  at_link = touched (old.link lower upper) (new.link lower upper) ((lower == lower) && (upper == upper)) (λ i. eq-eqb lower lower refl i && eq-eqb upper upper refl i) (links lower upper)
+
+  -- all other links are as they were
+  pub other_links : (link : Link) → new.link lower upper ≡ link → (a b : Device) → new.link a b ≡ (if (a == lower) && (b == upper) then link else old.link a b)
+  other_links link is a b = cases ((a == lower) && (b == upper)) refl
+    where
+      cases : (t : Bool) → ((a == lower) && (b == upper)) ≡ t → new.link a b ≡ (if t then link else old.link a b)
+      cases true same =
+          let both = and_parts (a == lower) (b == upper) same in
+          (λ i. new.link (eqb-true a lower both.0 i) (eqb-true b upper both.1 i)) ∙ is
+      cases false apart = untouched (Half a b) ((a == lower) && (b == upper)) apart (links a b)
+
+module _ (old new : Cluster) (config : new.config ≡ old.config) (Says : Type 0) where
+  -- ---- a step of a device alone
+
+  in_folder : (device : Device) (folder : Folder) (row : Replica → Row Replica)
+      → ((one : Device) → OnlyIf (one == device) (Says × InFolder folder row (old.peer one) (new.peer one)) (old.peer one) (new.peer one))
+      → ((a b : Device) → new.link a b ≡ old.link a b)
+      → (answer : Answer) × AtReplica device folder row old new answer
+  in_folder device folder row peers links =
+      let half = (at_device old new device (λ one. Says × InFolder folder row (old.peer one) (new.peer one)) peers).1 in (
+        half.2,
+        (
+          half.0,
+          half.1,
+          half.3,
+          half.4,
+          same_cluster new (with_peer old device (with_replica (old.peer device) folder half.1)) config
+              (other_devices old new device (λ one. Says × InFolder folder row (old.peer one) (new.peer one)) peers (with_replica (old.peer device) folder half.1) half.6) links,
+        ),
+      )
+
+  -- ---- a step over a link
+
+  module _ (device : Device) (row : Sight → Peer → Row Acted) (sees : RowSees row) where
+    carried : (end : End) (lower upper : Device) (traffic : Option Traffic)
+        → ((one : Device) → OnlyIf (one == device) (Says × ByTraffic row traffic (old.peer one) (new.peer one)) (old.peer one) (new.peer one))
+        → ((a b : Device) → OnlyIf ((a == lower) && (b == upper)) (Says × Carries end traffic (old.link a b) (new.link a b)) (old.link a b) (new.link a b))
+        → (answer : Answer) × ((acted : Acted) × row (sight_of end (old.link lower upper)) (old.peer device) acted answer ×
+        (new ≡ with_link (with_peer old device acted.peer) lower upper (after_deed end acted.deed (old.link lower upper))))
+    carried end lower upper None peers links =
+        absurd ((at_device old new device (λ one. Says × ByTraffic row None (old.peer one) (new.peer one)) peers).1)
+    carried end lower upper (Some traffic) peers links =
+        let half = (at_device old new device (λ one. Says × ByTraffic row (Some traffic) (old.peer one) (new.peer one)) peers).1 in
+        let carries = (at_link old new lower upper (λ a b. Says × Carries end (Some traffic) (old.link a b) (new.link a b)) links).1 in
+        let acted : Acted = record { peer = new.peer device; deed = deed_told traffic.done } in (
+          Done half.0,
+          (
+            acted,
+            sees (sight_of end (old.link lower upper)) traffic (old.peer device) (new.peer device) half.0 carries.0 carries.1 carries.2 half.1,
+            same_cluster new (with_link (with_peer old device acted.peer) lower upper (after_deed end acted.deed (old.link lower upper))) config
+                (other_devices old new device (λ one. Says × ByTraffic row (Some traffic) (old.peer one) (new.peer one)) peers (new.peer device) refl)
+                (other_links old new lower upper (λ a b. Says × Carries end (Some traffic) (old.link a b) (new.link a b)) links (after_deed end acted.deed (old.link lower upper)) carries.3),
+          ),
+        )
+
+    over_link : (other : Device) (traffic : Option Traffic)
+        → ((one : Device) → OnlyIf (one == device) (Says × ByTraffic row traffic (old.peer one) (new.peer one)) (old.peer one) (new.peer one))
+        → ((a b : Device) → OnlyIf (if nat_lt device other then (a == device) && (b == other) else (a == other) && (b == device)) (Says × Carries (if nat_lt device other then Lower else Upper) traffic (old.link a b) (new.link a b)) (old.link a b) (new.link a b))
+        → (answer : Answer) × OverLink device other row old new answer
+    over_link other traffic peers = cases (nat_lt device other)
+      where
+        cases : (t : Bool)
+            → ((a b : Device) → OnlyIf (if t then (a == device) && (b == other) else (a == other) && (b == device)) (Says × Carries (if t then Lower else Upper) traffic (old.link a b) (new.link a b)) (old.link a b) (new.link a b))
+            → (answer : Answer) × ((acted : Acted) × row (sight_of (if t then Lower else Upper) (if t then old.link device other else old.link other device)) (old.peer device) acted answer ×
+            (new ≡ (if t then with_link (with_peer old device acted.peer) device other (after_deed (if t then Lower else Upper) acted.deed (if t then old.link device other else old.link other device)) else with_link (with_peer old device acted.peer) other device (after_deed (if t then Lower else Upper) acted.deed (if t then old.link device other else old.link other device)))))
+        cases true links = carried Lower device other traffic peers links
+        cases false links = carried Upper other device traffic peers links
+
+  -- ---- a step of a link
+
+  of_link : (lower upper : Device) (row : Link → Row Link)
+      → ((one : Device) → new.peer one ≡ old.peer one)
+      → ((a b : Device) → OnlyIf ((a == lower) && (b == upper)) (Says × row (old.link a b) (new.link a b) (Done Changed)) (old.link a b) (new.link a b))
+      → (answer : Answer) × AtLink lower upper row old new answer
+  of_link lower upper row peers links =
+      let half = (at_link old new lower upper (λ a b. Says × row (old.link a b) (new.link a b) (Done Changed)) links).1 in (
+        Done Changed,
+        (
+          new.link lower upper,
+          half,
+          same_cluster new (with_link old lower upper (new.link lower upper)) config peers
+              (other_links old new lower upper (λ a b. Says × row (old.link a b) (new.link a b) (Done Changed)) links (new.link lower upper) refl),
+        ),
+      )
+
+  -- ---- a device with its links
+
+  of_restart : (device : Device)
+      → ((one : Device) → OnlyIf (one == device) (Says × (new.peer one ≡ restarted (old.peer one))) (old.peer one) (new.peer one))
+      → ((a b : Device) → OnlyIf ((a == device) || (b == device)) (Says × (new.link a b ≡ lost (old.link a b))) (old.link a b) (new.link a b))
+      → (answer : Answer) × RestartRow device old new answer
+  of_restart device peers links =
+      let half = (at_device old new device (λ one. Says × (new.peer one ≡ restarted (old.peer one))) peers).1 in (
+        Done Changed,
+        (
+          same_cluster new (without_links (with_peer old device (restarted (old.peer device))) device) config
+              (other_devices old new device (λ one. Says × (new.peer one ≡ restarted (old.peer one))) peers (restarted (old.peer device)) half)
+              (λ a b. cases a b ((a == device) || (b == device)) (links a b)),
+          refl,
+        ),
+      )
+    where
+      cases : (a b : Device) (t : Bool) → OnlyIf t (Says × (new.link a b ≡ lost (old.link a b))) (old.link a b) (new.link a b) → new.link a b ≡ (if t then lost (old.link a b) else old.link a b)
+      cases a b true step = step.1
+      cases a b false step = step
+
+-- ---- every step
+
+halves_make_row : (step : Step) (failed : Option ℕ) (traffic : Option Traffic) (old new : Cluster) → IsMadeBy (record { step = step; failed = failed; traffic = traffic }) old new → (answer : Answer) × StepRow step failed old new answer
+halves_make_row (Edit device folder name node) failed traffic old new made = in_folder old new made.config (SaysNoMore (Edit device folder name node) failed traffic) device folder (EditRow name node failed) made.peers made.links
+halves_make_row (Remove device folder name) failed traffic old new made = in_folder old new made.config (SaysNoMore (Remove device folder name) failed traffic) device folder (RemoveRow name failed) made.peers made.links
+halves_make_row (Scan device folder name) failed traffic old new made = in_folder old new made.config (SaysNoMore (Scan device folder name) failed traffic) device folder (ScanRow device name failed) made.peers made.links
+halves_make_row (Override device folder name) failed traffic old new made = in_folder old new made.config (SaysNoMore (Override device folder name) failed traffic) device folder (OverrideRow device name) made.peers made.links
+halves_make_row (Revert device folder name) failed traffic old new made = in_folder old new made.config (SaysNoMore (Revert device folder name) failed traffic) device folder (RevertRow device name failed) made.peers made.links
+halves_make_row (Connect one other) failed traffic old new made = of_link old new made.config (SaysNoMore (Connect one other) failed traffic) one other ConnectRow made.peers made.links
+halves_make_row (Lose one other) failed traffic old new made = of_link old new made.config (SaysNoMore (Lose one other) failed traffic) one other LoseRow made.peers made.links
+halves_make_row (Begin device other) failed traffic old new made = over_link old new made.config (SaysNoMore (Begin device other) failed traffic) device (BeginRow other) (begin_sees other) other traffic made.peers made.links
+halves_make_row (Deliver device other) failed traffic old new made = over_link old new made.config (SaysNoMore (Deliver device other) failed traffic) device (DeliverRow other failed) (deliver_sees other failed) other traffic made.peers made.links
+halves_make_row (Announce device other folder) failed traffic old new made = over_link old new made.config (SaysNoMore (Announce device other folder) failed traffic) device (AnnounceRow other folder) (announce_sees other folder) other traffic made.peers made.links
+halves_make_row (StartPull device folder name) failed traffic old new made = in_folder old new made.config (SaysNoMore (StartPull device folder name) failed traffic) device folder (StartPullRow device name) made.peers made.links
+halves_make_row (Ask device other folder name) failed traffic old new made = over_link old new made.config (SaysNoMore (Ask device other folder name) failed traffic) device (AskRow other folder name) (ask_sees other folder name) other traffic made.peers made.links
+halves_make_row (Finish device folder name) failed traffic old new made = in_folder old new made.config (SaysNoMore (Finish device folder name) failed traffic) device folder (FinishRow device name failed) made.peers made.links
+halves_make_row (Restart device) failed traffic old new made = of_restart old new made.config (SaysNoMore (Restart device) failed traffic) device made.peers made.links
+
+pub halves_make_the_step_lem : HalvesMakeTheStep
+halves_make_the_step_lem event old new there made =
+    let row = halves_make_row event.step event.failed event.traffic old new made in
+    (row.0, inr (inr ((λ missing. missing there), row.1)))

@@ -1,0 +1,199 @@
+-- What a step does to one device and to one link, what is logged of it there, and what the events of a log make of a device
+-- or a link (this project's profile).
+use Rattle.std.specs.Prelude.{◌≡◌, ◌≢◌, ◌⊎◌, ◌==◌, ◌&&◌, ◌||◌, nat_lt, ℕ, Bool, true, false, ⊤, List, [], ◌∷◌, Option, Some, None, if◌then◌else◌}
+use Rattle.std.specs.FinMap.{get}
+use Rattle.bep_model.specs.Tables.{Device, Folder}
+use Rattle.bep_machine.specs.declared.message.Message.{Message}
+use Rattle.bep_machine.specs.declared.moved.Moved.{Moved}
+use Rattle.bep_machine.specs.declared.moved.Moved.TheVariants.{Changed}
+use Rattle.bep_machine.specs.declared.step.Step.{Step}
+use Rattle.bep_machine.specs.declared.step.Step.TheVariants.{Edit, Remove, Scan, Override, Revert, Connect, Lose, Begin, Deliver, Announce, StartPull, Ask, Finish, Restart}
+use Rattle.bep_machine.specs.Answer.{Answer, Done, Row}
+use Rattle.bep_machine.specs.Replica.{Replica}
+use Rattle.bep_machine.specs.Local.{EditRow, RemoveRow, ScanRow, OverrideRow, RevertRow}
+use Rattle.bep_machine.specs.Pull.{StartPullRow, FinishRow}
+use Rattle.bep_machine.specs.Link.{Link, End, Sight, Deed, lost, end_of, sight_of, sending, losing, after_deed}
+use Rattle.bep_machine.specs.Peer.{Peer, Acted, with_replica}
+use Rattle.bep_machine.specs.Exchange.{BeginRow, DeliverRow, AnnounceRow, AskRow}
+use Rattle.bep_machine.specs.Steps.{ConnectRow, LoseRow, restarted}
+
+-- ---- what a step touches
+
+-- the objects that are held while a step is made
+pub data Guards : Type 0 where
+  OfDevice : Device → Guards
+  -- the device, and its link with the other one
+  OfDeviceAndLink : Device → Device → Guards
+  OfLink : Device → Device → Guards
+  OfDeviceAndLinks : Device → Guards
+
+abbrev pub guards_of : Step → Guards
+guards_of (Edit device folder name node) = OfDevice device
+guards_of (Remove device folder name) = OfDevice device
+guards_of (Scan device folder name) = OfDevice device
+guards_of (Override device folder name) = OfDevice device
+guards_of (Revert device folder name) = OfDevice device
+guards_of (Connect one other) = OfLink one other
+guards_of (Lose one other) = OfLink one other
+guards_of (Begin device other) = OfDeviceAndLink device other
+guards_of (Deliver device other) = OfDeviceAndLink device other
+guards_of (Announce device other folder) = OfDeviceAndLink device other
+guards_of (StartPull device folder name) = OfDevice device
+guards_of (Ask device other folder name) = OfDeviceAndLink device other
+guards_of (Finish device folder name) = OfDevice device
+guards_of (Restart device) = OfDeviceAndLinks device
+
+-- whether the device is among them
+abbrev pub touches_device : Guards → Device → Bool
+touches_device (OfDevice device) one = one == device
+touches_device (OfDeviceAndLink device other) one = one == device
+touches_device (OfLink lower upper) one = false
+touches_device (OfDeviceAndLinks device) one = one == device
+
+-- whether the link between two devices is, the smaller first
+abbrev pub touches_link : Guards → Device → Device → Bool
+touches_link (OfDevice device) a b = false
+touches_link (OfDeviceAndLink device other) a b =
+    if nat_lt device other then (a == device) && (b == other) else (a == other) && (b == device)
+touches_link (OfLink lower upper) a b = (a == lower) && (b == upper)
+touches_link (OfDeviceAndLinks device) a b = (a == device) || (b == device)
+
+-- ---- what is logged of a step
+
+-- What an action did to the link that it was lent: it sent a message; or it took the first that was on its way, and maybe
+-- answered it, or lost the link.
+pub data Exchanged : Type 0 where
+  Sent : Message → Exchanged
+  Took : Message → Option Message → Exchanged
+  Broke : Message → Exchanged
+
+-- in which epoch of the link, and what
+pub record Traffic : Type 0 where
+  pub epoch : ℕ
+  pub done : Exchanged
+
+-- an event of a log: the step, which call of the store failed in it, and what it did over a link
+pub record Logged : Type 0 where
+  pub step : Step
+  pub failed : Option ℕ
+  pub traffic : Option Traffic
+
+-- An event says no more than its step has to say, so that equal events are equal: only a step over a link tells of
+-- traffic, and only one that calls a store tells of a call that failed.
+abbrev pub SaysNoMore : Step → Option ℕ → Option Traffic → Type 0
+SaysNoMore (Edit device folder name node) failed traffic = traffic ≡ None
+SaysNoMore (Remove device folder name) failed traffic = traffic ≡ None
+SaysNoMore (Scan device folder name) failed traffic = traffic ≡ None
+SaysNoMore (Revert device folder name) failed traffic = traffic ≡ None
+SaysNoMore (Finish device folder name) failed traffic = traffic ≡ None
+SaysNoMore (Deliver device other) failed traffic = ⊤
+SaysNoMore (Begin device other) failed traffic = failed ≡ None
+SaysNoMore (Announce device other folder) failed traffic = failed ≡ None
+SaysNoMore (Ask device other folder name) failed traffic = failed ≡ None
+SaysNoMore step failed traffic = (failed ≡ None) × (traffic ≡ None)
+
+-- what was done to the link
+abbrev pub deed_told : Exchanged → Deed
+deed_told (Sent message) = sending message
+deed_told (Took message answer) = record { takes = true; sends = answer; loses = false }
+deed_told (Broke message) = losing
+
+-- what the device saw of the link, which had room for what was sent
+abbrev pub waiting_told : Exchanged → Option Message
+waiting_told (Sent message) = None
+waiting_told (Took message answer) = Some message
+waiting_told (Broke message) = Some message
+
+abbrev pub sight_told : Traffic → Sight
+sight_told traffic = record { up = true; epoch = traffic.epoch; waiting = waiting_told traffic.done; full = false }
+
+-- ---- the half of a device
+
+abbrev pub IsDone : Answer → Type 0
+IsDone (Done moved) = ⊤
+IsDone answer = ⊥
+
+-- a replica makes a row, and it wasn't refused, or yet changed something (a pull may keep a conflict copy and end then)
+abbrev pub InFolder : Folder → (Replica → Row Replica) → Peer → Peer → Type 0
+InFolder folder row old new =
+    (before after : Replica) × (answer : Answer) × (get old.replicas folder ≡ Some before) × row before after answer ×
+    (IsDone answer ⊎ (after ≢ before)) × (new ≡ with_replica old folder after)
+
+-- the device makes a row at the sight of a link that the event tells of, and does to it what the event says
+abbrev pub ByTraffic : (Sight → Peer → Row Acted) → Option Traffic → Peer → Peer → Type 0
+ByTraffic row None old new = ⊥
+ByTraffic row (Some traffic) old new =
+    (moved : Moved) × row (sight_told traffic) old (record { peer = new; deed = deed_told traffic.done }) (Done moved)
+
+-- what the step does to the device that it names first
+abbrev pub PeerHalf : Step → Option ℕ → Option Traffic → Peer → Peer → Type 0
+PeerHalf (Edit device folder name node) failed traffic = InFolder folder (EditRow name node failed)
+PeerHalf (Remove device folder name) failed traffic = InFolder folder (RemoveRow name failed)
+PeerHalf (Scan device folder name) failed traffic = InFolder folder (ScanRow device name failed)
+PeerHalf (Override device folder name) failed traffic = InFolder folder (OverrideRow device name)
+PeerHalf (Revert device folder name) failed traffic = InFolder folder (RevertRow device name failed)
+PeerHalf (Connect one other) failed traffic = λ old new. ⊥
+PeerHalf (Lose one other) failed traffic = λ old new. ⊥
+PeerHalf (Begin device other) failed traffic = ByTraffic (BeginRow other) traffic
+PeerHalf (Deliver device other) failed traffic = ByTraffic (DeliverRow other failed) traffic
+PeerHalf (Announce device other folder) failed traffic = ByTraffic (AnnounceRow other folder) traffic
+PeerHalf (StartPull device folder name) failed traffic = InFolder folder (StartPullRow device name)
+PeerHalf (Ask device other folder name) failed traffic = ByTraffic (AskRow other folder name) traffic
+PeerHalf (Finish device folder name) failed traffic = InFolder folder (FinishRow device name failed)
+PeerHalf (Restart device) failed traffic = λ old new. new ≡ restarted old
+
+-- ---- the half of a link
+
+-- what was taken is what waited, and there is room for what is sent
+abbrev pub IsSeen : Exchanged → Sight → Type 0
+IsSeen (Sent message) sight = sight.full ≡ false
+IsSeen (Took message None) sight = sight.waiting ≡ Some message
+IsSeen (Took message (Some answer)) sight = (sight.waiting ≡ Some message) × (sight.full ≡ false)
+IsSeen (Broke message) sight = sight.waiting ≡ Some message
+
+-- the link is up in that epoch, and carries what the device at this end did
+abbrev pub Carries : End → Option Traffic → Link → Link → Type 0
+Carries end None old new = ⊥
+Carries end (Some traffic) old new =
+    (old.up ≡ true) × (old.epoch ≡ traffic.epoch) × IsSeen traffic.done (sight_of end old) ×
+    (new ≡ after_deed end (deed_told traffic.done) old)
+
+-- what the step does to a link that it touches
+abbrev pub LinkHalf : Step → Option Traffic → Link → Link → Type 0
+LinkHalf (Connect one other) traffic = λ old new. ConnectRow old new (Done Changed)
+LinkHalf (Lose one other) traffic = λ old new. LoseRow old new (Done Changed)
+LinkHalf (Begin device other) traffic = Carries (end_of device other) traffic
+LinkHalf (Deliver device other) traffic = Carries (end_of device other) traffic
+LinkHalf (Announce device other folder) traffic = Carries (end_of device other) traffic
+LinkHalf (Ask device other folder name) traffic = Carries (end_of device other) traffic
+LinkHalf (Restart device) traffic = λ old new. new ≡ lost old
+LinkHalf step traffic = λ old new. ⊥
+
+-- ---- replay
+
+-- an object that is touched makes its half, and any other stays
+abbrev pub OnlyIf : {S : Type 0} → Bool → Type 0 → S → S → Type 0
+OnlyIf true half old new = half
+OnlyIf false half old new = new ≡ old
+
+-- what an event makes of a device, and of a link
+abbrev pub PeerStep : Device → Logged → Peer → Peer → Type 0
+PeerStep device event old new =
+    OnlyIf (touches_device (guards_of event.step) device)
+    (SaysNoMore event.step event.failed event.traffic × PeerHalf event.step event.failed event.traffic old new) old new
+
+abbrev pub LinkStep : Device → Device → Logged → Link → Link → Type 0
+LinkStep lower upper event old new =
+    OnlyIf (touches_link (guards_of event.step) lower upper)
+    (SaysNoMore event.step event.failed event.traffic × LinkHalf event.step event.traffic old new) old new
+
+-- the events of a log, one after the other, lead from one state of a device to another
+abbrev pub PeerReplays : Device → Peer → List Logged → Peer → Type 0
+PeerReplays device old [] new = new ≡ old
+PeerReplays device old (event ∷ more) new = (next : Peer) × PeerStep device event old next × PeerReplays device next more new
+
+-- and of a link
+abbrev pub LinkReplays : Device → Device → Link → List Logged → Link → Type 0
+LinkReplays lower upper old [] new = new ≡ old
+LinkReplays lower upper old (event ∷ more) new =
+    (next : Link) × LinkStep lower upper event old next × LinkReplays lower upper next more new

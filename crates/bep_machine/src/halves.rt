@@ -1,0 +1,28 @@
+//! A step is what it does to each device and each link, and a run is what its events make of each. Each function does
+//! nothing; its contract is the law.
+ghost use Rattle.bep_machine.specs.HalfLaws.{HalvesMakeTheStep, StepHasHalves, RunReplays, ReplaysRun};
+
+/// Where each device and each link that an event touches makes its half, and all others stay, the event's step was made.
+pub fn halves_make_the_step()
+    ensures { HalvesMakeTheStep }
+{}
+
+/// A step that was refused, or wanted memory, changes nothing, or an event tells of it: each device and each link that
+/// this touches makes its half, and all others stay.
+pub fn step_has_halves()
+    ensures { StepHasHalves }
+{}
+
+/// Of every run there is a log that tells of all its steps that were done, and that each device and each link replays.
+pub fn run_replays()
+    ensures { RunReplays }
+{
+    step_has_halves();
+}
+
+/// Where each device and each link replays one log, the log's steps are a run.
+pub fn replays_run()
+    ensures { ReplaysRun }
+{
+    halves_make_the_step();
+}
