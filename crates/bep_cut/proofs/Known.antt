@@ -1,7 +1,10 @@
 -- The names that are known in a folder are those of its devices and of the messages on their way to them.
 use Rattle.std.proofs.Common.{◌≡◌, ◌⊎◌, false, Option, Some, None, IsSome, Contains, refl, sym, subst, ◌∙◌, inl, inr, ⊎_elim}
+use Rattle.std.specs.Cmp.Lexicographic.{nat_list_cmp_total}
 use Rattle.std.specs.FinMap.{get, values}
 use Rattle.std.proofs.lemmas.List.Elements.{All-contains}
+use Rattle.std.proofs.lemmas.Map.Lookups.{exact_bytes}
+use Rattle.bep_facts.specs.Values.{value_at_key, key_of_value}
 use Rattle.bep_record.specs.declared.entry.Entry.{Entry}
 use Rattle.bep_index.specs.Index.{IsIndex}
 use Rattle.bep_model.specs.declared.flight.Flight.{Flight}
@@ -13,7 +16,6 @@ use Rattle.bep_cut.specs.declared.link.LinkState.{LinkState}
 use Rattle.bep_cut.specs.declared.cut.CutParts.{CutParts}
 use Rattle.bep_cut.specs.Cut.{IsCut, known_of, shares_of, tables_of}
 use Rattle.bep_cut.specs.Laws.{Carries, NamesAreKnown}
-use Rattle.bep_cut.proofs.Values.{value_at_name, name_of_value}
 use Rattle.bep_cut.proofs.Added.{HasValid, HasName, HasFlown, HasFlownOver, known}
 use Rattle.bep_cut.proofs.Tables.{sharing_is_said, own_is_said, node_is_said, viewed_is_said, target_is_said, flying_is_said, receiver_shares, are_views, are_pulls}
 
@@ -32,11 +34,11 @@ named_in_view cut folder share view name entry is_cut h there found =
 viewed_at : (cut : CutParts) (folder : Folder) (name : FileName) (share : Share) (entry : Entry) → IsCut cut → Contains (shares_of folder cut.folders) share → entry.invalid ≡ false → IsViewed (tables_of cut) share.device folder name entry → HasName share name
 viewed_at cut folder name share entry is_cut h valid viewed =
     let held = (viewed_is_said cut folder name entry share is_cut h).0 viewed in
-    inl (inr (held.0, held.1, (entry, value_at_name held.0.records name entry held.2, (valid, named_in_view cut folder share held.0 name entry is_cut h held.1 held.2))))
+    inl (inr (held.0, held.1, (entry, value_at_key held.0.records name entry held.2, (valid, named_in_view cut folder share held.0 name entry is_cut h held.1 held.2))))
 
 foreign_in_view : (cut : CutParts) (folder : Folder) (name : FileName) (share : Share) (view : PeerView) → IsCut cut → Contains (shares_of folder cut.folders) share → Contains share.views view → HasValid (values view.records) name → (entry : Entry) × IsForeign (tables_of cut) share.device folder name entry
 foreign_in_view cut folder name share view is_cut h there has =
-    let at = name_of_value view.records has.0 has.1 in
+    let at = key_of_value nat_list_cmp_total exact_bytes view.records has.0 has.1 in
     let same : at.0 ≡ name = sym (named_in_view cut folder share view at.0 has.0 is_cut h there at.1) ∙ has.2.1 in
     let found : get view.records name ≡ Some has.0 = subst (λ n. get view.records n ≡ Some has.0) same at.1 in
     (has.0, record { known_by = inl ((viewed_is_said cut folder name has.0 share is_cut h).1 (view, there, found)); valid = has.2.0 })

@@ -4,6 +4,7 @@ use Rattle.std.specs.List.{list_all}
 use Rattle.std.specs.Cmp.Lexicographic.{bytes_decides}
 use Rattle.std.proofs.lemmas.Bool.Decides.{Decides-and, Decides-or, Decides-not, Decides-eqb, Decides-by_and, nat_tests}
 use Rattle.std.proofs.lemmas.Str.{IsUtf8-from_is_utf8, is_utf8-from_IsUtf8}
+use Rattle.bep_record.specs.declared.limits.TheConstants.{MAX_NAME_LEN, MAX_TARGET_LEN, MAX_FOLDER_NAME_LEN}
 use Rattle.bep_record.specs.Text.{IsPlainText}
 use Rattle.bep_record.specs.Name.{IsName, IsPart, parts_of}
 use Rattle.bep_record.specs.Target.{IsTarget}
@@ -29,7 +30,7 @@ part_decides part =
 pub name_decides : (bytes : List ℕ) → Decides (is_name bytes) (IsName bytes)
 unfolding is_name
 name_decides bytes =
-    let parts = Decides-and _ _ (Decides-and _ _ (leb_decides 1 (length bytes)) (leb_decides (length bytes) 1024)) (Decides-and _ _ (plain_text_decides bytes) (all_decides is_part IsPart part_decides (parts_of bytes))) in (
+    let parts = Decides-and _ _ (Decides-and _ _ (leb_decides 1 (length bytes)) (leb_decides (length bytes) MAX_NAME_LEN)) (Decides-and _ _ (plain_text_decides bytes) (all_decides is_part IsPart part_decides (parts_of bytes))) in (
       λ e. let all = parts.0 e in record { not_empty = all.0.0; not_long = all.0.1; text = all.1.0; parts = all.1.1 },
       λ h. parts.1 ((h.not_empty, h.not_long), (h.text, h.parts)),
     )
@@ -37,7 +38,7 @@ name_decides bytes =
 pub target_decides : (bytes : List ℕ) → Decides (is_target bytes) (IsTarget bytes)
 unfolding is_target
 target_decides bytes =
-    let parts = Decides-and _ _ (leb_decides (length bytes) 1024) (plain_text_decides bytes) in
+    let parts = Decides-and _ _ (leb_decides (length bytes) MAX_TARGET_LEN) (plain_text_decides bytes) in
     (λ e. let all = parts.0 e in record { not_long = all.0; text = all.1 }, λ h. parts.1 (h.not_long, h.text))
 
 between_decides : (low high b : ℕ) → Decides (leb low b && leb b high) ((low ≤ b) × (b ≤ high))
@@ -50,7 +51,7 @@ folder_byte_decides b =
 pub folder_name_decides : (bytes : List ℕ) → Decides (is_folder_name bytes) (IsFolderName bytes)
 unfolding is_folder_name
 folder_name_decides bytes =
-    let parts = Decides-and _ _ (Decides-and _ _ (leb_decides 1 (length bytes)) (leb_decides (length bytes) 64)) (all_decides is_folder_byte IsFolderByte folder_byte_decides bytes) in (
+    let parts = Decides-and _ _ (Decides-and _ _ (leb_decides 1 (length bytes)) (leb_decides (length bytes) MAX_FOLDER_NAME_LEN)) (all_decides is_folder_byte IsFolderByte folder_byte_decides bytes) in (
       λ e. let all = parts.0 e in record { not_empty = all.0.0; not_long = all.0.1; plain = all.1 },
       λ h. parts.1 ((h.not_empty, h.not_long), h.plain),
     )

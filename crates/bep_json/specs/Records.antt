@@ -1,6 +1,7 @@
 -- Records in JSON trees (BEP v1, 'FileInfo'; members and defaults are this project's profile).
 use Rattle.std.specs.Prelude.{ℕ, ◌+◌, ◌-◌, ◌&&◌, min, Bool, true, false, List, [], ◌∷◌, Option, Some, codes}
 use Rattle.serde_json.specs.Data.{Data}
+use Rattle.bep_record.specs.Block.{base_block_size}
 use Rattle.bep_record.specs.declared.block.Block.{Block}
 use Rattle.bep_record.specs.declared.entry.Entry.{Entry}
 use Rattle.bep_record.specs.declared.kind.Kind.{Kind}
@@ -46,7 +47,7 @@ is_record d = has_only record_members d && (has_record_members d && may_have_rec
 
 -- the block size of a record that doesn't say one: that of a file that isn't deleted
 abbrev pub default_block_size : Kind → Bool → ℕ
-default_block_size File false = 131072
+default_block_size File false = base_block_size
 default_block_size File true = 0
 default_block_size Directory deleted = 0
 default_block_size Symlink deleted = 0
@@ -56,8 +57,8 @@ default_block_size Symlink deleted = 0
 abbrev pub blocks_from : ℕ → ℕ → List (List ℕ) → List Block
 blocks_from size offset [] = []
 blocks_from size offset (hash ∷ more) =
-    record { offset = offset; size = min 131072 (size - offset); hash = hash }
-    ∷ blocks_from size (offset + min 131072 (size - offset)) more
+    record { offset = offset; size = min base_block_size (size - offset); hash = hash }
+    ∷ blocks_from size (offset + min base_block_size (size - offset)) more
 
 -- the record, well formed or not
 unfoldable pub read_record : Data → Option Entry

@@ -10,7 +10,7 @@ use Rattle.serde_json.specs.Find.{as_str}
 use Rattle.bep_record.specs.Name.{parts_of}
 use Rattle.bep_record.specs.declared.folder_kind.FolderKind.{FolderKind}
 use Rattle.bep_record.specs.declared.folder_kind.FolderKind.TheVariants.{SendReceive, SendOnly, ReceiveOnly}
-use Rattle.bep_record.specs.declared.limits.TheConstants.{MAX_FILE_SIZE}
+use Rattle.bep_record.specs.declared.limits.TheConstants.{MAX_FILE_SIZE, MAX_NAME_LEN, MAX_TARGET_LEN, MAX_FOLDER_NAME_LEN}
 use Rattle.bep_json.specs.Reading.{◌>>=◌}
 
 -- a text
@@ -31,11 +31,11 @@ is_part part = not (pointwise nat_eq part []) && (not (pointwise nat_eq part (co
 
 -- what bytes are a name, as a test
 unfoldable pub is_name : List ℕ → Bool
-is_name bytes = (nat_le 1 (length bytes) && nat_le (length bytes) 1024) && (is_plain_text bytes && list_all is_part (parts_of bytes))
+is_name bytes = (nat_le 1 (length bytes) && nat_le (length bytes) MAX_NAME_LEN) && (is_plain_text bytes && list_all is_part (parts_of bytes))
 
 -- what bytes are a symlink's target, as a test
 unfoldable pub is_target : List ℕ → Bool
-is_target bytes = nat_le (length bytes) 1024 && is_plain_text bytes
+is_target bytes = nat_le (length bytes) MAX_TARGET_LEN && is_plain_text bytes
 
 -- an ASCII letter or digit, `-` or `_`
 abbrev pub is_folder_byte : ℕ → Bool
@@ -43,7 +43,7 @@ is_folder_byte b = (nat_le 48 b && nat_le b 57) || ((nat_le 65 b && nat_le b 90)
 
 -- what bytes are a folder's name, as a test
 unfoldable pub is_folder_name : List ℕ → Bool
-is_folder_name bytes = (nat_le 1 (length bytes) && nat_le (length bytes) 64) && list_all is_folder_byte bytes
+is_folder_name bytes = (nat_le 1 (length bytes) && nat_le (length bytes) MAX_FOLDER_NAME_LEN) && list_all is_folder_byte bytes
 
 -- the name of a file
 unfoldable pub read_name : Data → Option (List ℕ)

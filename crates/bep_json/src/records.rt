@@ -1,13 +1,16 @@
 //! Records, well formed or not.
 ghost use Rattle.std.specs.Prelude.{◌≡◌, ◌≤◌, ◌+◌, ◌-◌, min, IfOk};
 ghost use Rattle.serde_json.specs.View.{view};
+ghost use Rattle.bep_record.specs.Block.{base_block_size};
 ghost use Rattle.bep_json.specs.Reading.{Gives};
 ghost use Rattle.bep_json.specs.Records.{is_record, has_record_members, may_have_record_members, read_record, blocks_from, default_block_size};
 
 use crate::{
     Nanoseconds, ReadError, Readable, Sequence, Whole, has, has_only, may_have, member, member_or,
 };
-use bep_record::{Block, DeviceId, Entry, Items, Kind, MAX_FILE_SIZE, Name, Target, Vector};
+use bep_record::{
+    BASE_BLOCK_SIZE, Block, DeviceId, Entry, Items, Kind, MAX_FILE_SIZE, Name, Target, Vector,
+};
 use serde_json::Value;
 use std::alloc::{AllocError, Global};
 
@@ -110,7 +113,7 @@ fn default_block_size(kind: Kind, deleted: bool) -> AnyBlockSize
     ensures { result ≡ default_block_size kind deleted }
 {
     match (kind, deleted) {
-        (Kind::File, false) => Whole::new(131072),
+        (Kind::File, false) => Whole::new(u64::from(BASE_BLOCK_SIZE)),
         (Kind::File, true) => Whole::new(0),
         (Kind::Directory, _) => Whole::new(0),
         (Kind::Symlink, _) => Whole::new(0),
@@ -134,10 +137,10 @@ fn blocks_of(alloc: Global, size: u64, hashes: &[[u8; 32]]) -> Result<Items<Bloc
 // The block that begins at this offset: 131072 bytes, or as many as the file has left.
 fn block_at(offset: u64, size: u64, hash: [u8; 32]) -> Block
     requires { offset ≤ size }
-    ensures value { result ≡ record { offset = offset; size = min 131072 (size - offset); hash = hash } }
+    ensures value { result ≡ record { offset = offset; size = min base_block_size (size - offset); hash = hash } }
     ensures within { result.offset + result.size ≤ size }
 {
-    let len = (size - offset).min(131072);
+    let len = (size - offset).min(u64::from(BASE_BLOCK_SIZE));
     Block {
         offset,
         size: len as u32,
