@@ -1,5 +1,5 @@
 -- A step over a link that isn't done does nothing to the device and to the link.
-use Rattle.std.proofs.Common.{◌≡◌, ◌⊎◌, ℕ, Bool, Option, Some, None, refl, inl, inr, ⊎_elim}
+use Rattle.std.proofs.Common.{ℕ, Bool, Option, Some, None, inl, inr}
 use Rattle.std.specs.FinMap.{get}
 use Rattle.bep_index.specs.declared.send.Plan.{Plan}
 use Rattle.bep_model.specs.Tables.{Device, Folder, FileName}
@@ -9,7 +9,7 @@ use Rattle.bep_machine.specs.Answer.{Answer, Row}
 use Rattle.bep_machine.specs.Replica.{Replica}
 use Rattle.bep_machine.specs.Link.{Sight}
 use Rattle.bep_machine.specs.Peer.{Session, Peer, Acted, idle}
-use Rattle.bep_machine.specs.Exchange.{SessionRow, BeginRow, MessageRow, WaitingRow, DeliverRow, SendingRow, CursorRow, AnnounceRow, AskingRow, AskRow}
+use Rattle.bep_machine.specs.Exchange.{SessionRow, BeginRow, MessageRow, WaitingRow, DeliverRow, CursorRow, AnnounceRow, AskingRow, AskRow}
 use Rattle.bep_machine.proofs.RowEnds.{Stays, stays_at, stays_done, stays_or}
 
 -- what isn't done leaves the device idle

@@ -1,19 +1,17 @@
 -- What a device does over a link where it is done: what an event tells of it is all that it depends on.
-use Rattle.std.proofs.Common.{◌≡◌, ◌⊎◌, ◌∷◌, [], ℕ, Bool, true, false, List, Option, Some, None, refl, sym, ap, subst, ◌∙◌, inl, inr, ⊎_elim}
+use Rattle.std.proofs.Common.{◌≡◌, ◌⊎◌, ℕ, Bool, true, false, Option, Some, None, refl, sym, ap, subst, ◌∙◌, inl, inr}
 use Rattle.std.specs.FinMap.{get}
-use Rattle.bep_record.specs.declared.entry.Entry.{Entry}
 use Rattle.bep_index.specs.declared.send.Plan.{Plan}
 use Rattle.bep_model.specs.Tables.{Device, Folder, FileName}
 use Rattle.bep_machine.specs.declared.message.Message.{Message}
 use Rattle.bep_machine.specs.declared.message.Message.TheVariants as messages
 use Rattle.bep_machine.specs.declared.message.Response.{Response}
-use Rattle.bep_machine.specs.declared.message.Request.{Request}
 use Rattle.bep_machine.specs.declared.moved.Moved.{Moved}
-use Rattle.bep_machine.specs.Answer.{Answer, Done, Refused, OutOfMemory, Row, becomes}
+use Rattle.bep_machine.specs.Answer.{Answer, Done, Refused, Row, becomes}
 use Rattle.bep_machine.specs.Replica.{Replica}
-use Rattle.bep_machine.specs.Link.{Sight, Deed, sending, taking, losing}
-use Rattle.bep_machine.specs.Peer.{Session, Peer, Acted, idle, config_for}
-use Rattle.bep_machine.specs.Exchange.{SessionRow, BeginRow, LosingRow, ViewRow, RequestRow, AnsweredRow, ResponseRow, MessageRow, WaitingRow, DeliverRow, index_message, SendingRow, CursorRow, AnnounceRow, AskingRow, AskRow, request_for}
+use Rattle.bep_machine.specs.Link.{Sight, sending, taking, losing}
+use Rattle.bep_machine.specs.Peer.{Session, Peer, Acted, config_for}
+use Rattle.bep_machine.specs.Exchange.{SessionRow, BeginRow, LosingRow, MessageRow, WaitingRow, DeliverRow, index_message, SendingRow, CursorRow, AnnounceRow, AskingRow, AskRow, request_for}
 use Rattle.bep_machine.specs.Halves.{Exchanged, Sent, Took, Broke, Traffic, deed_told, waiting_told, sight_told, IsSeen}
 
 -- a row that is done was not refused

@@ -1,6 +1,6 @@
 -- A step is what it does to each device and each link, and a run is what its events make of each; the functions of
 -- src/halves.rt have these as contracts.
-use Rattle.std.specs.Prelude.{◌≡◌, ◌⊎◌, ℕ, ⊤, List, [], ◌∷◌, Option}
+use Rattle.std.specs.Prelude.{◌≡◌, ◌≢◌, ◌⊎◌, ℕ, ⊤, List, [], ◌∷◌, Option}
 use Rattle.bep_model.specs.Tables.{Device}
 use Rattle.bep_machine.specs.declared.step.Step.{Step}
 use Rattle.bep_machine.specs.Answer.{Answer}
@@ -16,15 +16,16 @@ pub record IsMadeBy (event : Logged) (old new : Cluster) : Type 0 where
   pub peers : (device : Device) → PeerStep device event (old.peer device) (new.peer device)
   pub links : (lower upper : Device) → LinkStep lower upper event (old.link lower upper) (new.link lower upper)
 
--- where all that a step names is there, its halves make the step
+-- where all that a step names is there, its halves make the step; it was done, or yet changed something
 abbrev pub HalvesMakeTheStep : Type 0
 HalvesMakeTheStep = (event : Logged) (old new : Cluster) → IsThere old.config event.step → IsMadeBy event old new →
-    (answer : Answer) × IsStep event.step event.failed old new answer
+    (answer : Answer) × IsStep event.step event.failed old new answer × (IsDone answer ⊎ (new ≢ old))
 
--- a step that isn't done changes nothing, or an event tells of it, whose halves it makes
+-- A step that isn't done changes nothing, or else an event tells of it: all that it names is there, and each device and
+-- each link makes its half.
 abbrev pub StepHasHalves : Type 0
 StepHasHalves = (step : Step) (failed : Option ℕ) (old new : Cluster) (answer : Answer) → IsStep step failed old new answer →
-    ((¬ IsDone answer) × (new ≡ old)) ⊎ ((event : Logged) × (event.step ≡ step) × IsMadeBy event old new)
+    ((¬ IsDone answer) × (new ≡ old)) ⊎ ((event : Logged) × (event.step ≡ step) × IsThere old.config step × IsMadeBy event old new)
 
 -- ---- runs
 
@@ -42,20 +43,21 @@ IsLogOf (event ∷ events) [] = (¬ IsDone event.answer) × IsLogOf events []
 IsLogOf (event ∷ events) (one ∷ logged) =
     ((¬ IsDone event.answer) × IsLogOf events (one ∷ logged)) ⊎ ((one.step ≡ event.step) × IsLogOf events logged)
 
+-- all that the steps of a log name is there
+abbrev pub AreThere : Config → List Logged → Type 0
+AreThere config [] = ⊤
+AreThere config (one ∷ logged) = IsThere config one.step × AreThere config logged
+
 -- of every run there is a log that each device and each link replays
 abbrev pub RunReplays : Type 0
 RunReplays = (old new : Cluster) (events : List Event) → IsRun old events new →
-    (logged : List Logged) × IsLogOf events logged × IsReplayed logged old new
+    (logged : List Logged) × IsLogOf events logged × AreThere old.config logged × IsReplayed logged old new
 
 -- the steps of the run are those of the log
 abbrev pub HasStepsOf : List Logged → List Event → Type 0
 HasStepsOf [] [] = ⊤
 HasStepsOf (one ∷ logged) (event ∷ events) = (event.step ≡ one.step) × (event.failed ≡ one.failed) × HasStepsOf logged events
 HasStepsOf _ _ = ⊥
-
-abbrev pub AreThere : Config → List Logged → Type 0
-AreThere config [] = ⊤
-AreThere config (one ∷ logged) = IsThere config one.step × AreThere config logged
 
 -- where each device and each link replays one log, its steps are a run
 abbrev pub ReplaysRun : Type 0
