@@ -56,4 +56,5 @@ mod LinkDeeds
 mod HalfSteps
 mod ActedEnds
 mod Replays
+mod OwnEvents
 mod StepHalves

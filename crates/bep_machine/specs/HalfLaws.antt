@@ -1,12 +1,14 @@
 -- A step is what it does to each device and each link, and a run is what its events make of each; the functions of
 -- src/halves.rt have these as contracts.
-use Rattle.std.specs.Prelude.{◌≡◌, ◌≢◌, ◌⊎◌, ℕ, ⊤, List, [], ◌∷◌, Option}
+use Rattle.std.specs.Prelude.{◌≡◌, ◌≢◌, ◌⊎◌, ◌↔◌, ℕ, ⊤, List, [], ◌∷◌, Option}
 use Rattle.bep_model.specs.Tables.{Device}
 use Rattle.bep_machine.specs.declared.step.Step.{Step}
 use Rattle.bep_machine.specs.Answer.{Answer}
+use Rattle.bep_machine.specs.Link.{Link}
+use Rattle.bep_machine.specs.Peer.{Peer}
 use Rattle.bep_machine.specs.Cluster.{Config, Cluster}
 use Rattle.bep_machine.specs.Steps.{IsThere, IsStep, Event, IsRun}
-use Rattle.bep_machine.specs.Halves.{Logged, IsDone, PeerStep, LinkStep, PeerReplays, LinkReplays}
+use Rattle.bep_machine.specs.Halves.{Logged, IsDone, PeerStep, LinkStep, PeerReplays, LinkReplays, events_of_device, events_of_link}
 
 -- ---- one step
 
@@ -26,6 +28,17 @@ HalvesMakeTheStep = (event : Logged) (old new : Cluster) → IsThere old.config 
 abbrev pub StepHasHalves : Type 0
 StepHasHalves = (step : Step) (failed : Option ℕ) (old new : Cluster) (answer : Answer) → IsStep step failed old new answer →
     ((¬ IsDone answer) × (new ≡ old)) ⊎ ((event : Logged) × (event.step ≡ step) × IsThere old.config step × IsMadeBy event old new)
+
+-- ---- one object
+
+-- a device, or a link, replays a log where it replays its own events in it
+abbrev pub DevicesReplayTheirOwn : Type 0
+DevicesReplayTheirOwn = (device : Device) (old new : Peer) (logged : List Logged) →
+    PeerReplays device old logged new ↔ PeerReplays device old (events_of_device device logged) new
+
+abbrev pub LinksReplayTheirOwn : Type 0
+LinksReplayTheirOwn = (lower upper : Device) (old new : Link) (logged : List Logged) →
+    LinkReplays lower upper old logged new ↔ LinkReplays lower upper old (events_of_link lower upper logged) new
 
 -- ---- runs
 

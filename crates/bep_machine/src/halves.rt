@@ -1,6 +1,6 @@
 //! A step is what it does to each device and each link, and a run is what its events make of each. Each function does
 //! nothing; its contract is the law.
-ghost use Rattle.bep_machine.specs.HalfLaws.{HalvesMakeTheStep, StepHasHalves, RunReplays, ReplaysRun};
+ghost use Rattle.bep_machine.specs.HalfLaws.{HalvesMakeTheStep, StepHasHalves, DevicesReplayTheirOwn, LinksReplayTheirOwn, RunReplays, ReplaysRun};
 
 /// Where each device and each link that an event touches makes its half, and all others stay, the event's step was made.
 pub fn halves_make_the_step()
@@ -11,6 +11,12 @@ pub fn halves_make_the_step()
 /// this touches makes its half, and all others stay.
 pub fn step_has_halves()
     ensures { StepHasHalves }
+{}
+
+/// A device, or a link, replays a log exactly where it replays those events of it that touch it.
+pub fn own_events_replay()
+    ensures devices { DevicesReplayTheirOwn }
+    ensures links { LinksReplayTheirOwn }
 {}
 
 /// Of every run there is a log that tells of all its steps that were done, and that each device and each link replays.
