@@ -37,9 +37,9 @@ module _ (has_halves : StepHasHalves) where
       ))
       (λ half. (
         half.0 ∷ rest.0,
-        inr (half.1, rest.1),
-        (subst (λ s. IsThere old.config s) (sym half.1) half.2, subst (λ c. AreThere c rest.0) half.3.config rest.2),
-        replays_one_more half.0 rest.0 old next new half.3 rest.3,
+        inr (half.1, half.2, rest.1),
+        (subst (λ s. IsThere old.config s) (sym half.1) half.3, subst (λ c. AreThere c rest.0) half.4.config rest.2),
+        replays_one_more half.0 rest.0 old next new half.4 rest.3,
       ))
       (has_halves event.step event.failed old next event.answer step)
 

@@ -8,7 +8,7 @@ use Rattle.bep_machine.specs.Link.{Link}
 use Rattle.bep_machine.specs.Peer.{Peer}
 use Rattle.bep_machine.specs.Cluster.{Config, Cluster}
 use Rattle.bep_machine.specs.Steps.{IsThere, IsStep, Event, IsRun}
-use Rattle.bep_machine.specs.Halves.{Logged, IsDone, PeerStep, LinkStep, PeerReplays, LinkReplays, events_of_device, events_of_link}
+use Rattle.bep_machine.specs.Halves.{Logged, failed_told, IsDone, PeerStep, LinkStep, PeerReplays, LinkReplays, events_of_device, events_of_link}
 
 -- ---- one step
 
@@ -23,11 +23,12 @@ abbrev pub HalvesMakeTheStep : Type 0
 HalvesMakeTheStep = (event : Logged) (old new : Cluster) → IsThere old.config event.step → IsMadeBy event old new →
     (answer : Answer) × IsStep event.step event.failed old new answer × (IsDone answer ⊎ (new ≢ old))
 
--- A step that isn't done changes nothing, or else an event tells of it: all that it names is there, and each device and
+-- Either a step isn't done and changes nothing, or an event tells of it: all that it names is there, and each device and
 -- each link makes its half.
 abbrev pub StepHasHalves : Type 0
 StepHasHalves = (step : Step) (failed : Option ℕ) (old new : Cluster) (answer : Answer) → IsStep step failed old new answer →
-    ((¬ IsDone answer) × (new ≡ old)) ⊎ ((event : Logged) × (event.step ≡ step) × IsThere old.config step × IsMadeBy event old new)
+    ((¬ IsDone answer) × (new ≡ old)) ⊎ ((event : Logged) × (event.step ≡ step) × (event.failed ≡ failed_told step failed) × IsThere old.config step ×
+    IsMadeBy event old new)
 
 -- ---- one object
 
@@ -54,7 +55,7 @@ IsLogOf [] [] = ⊤
 IsLogOf [] (one ∷ logged) = ⊥
 IsLogOf (event ∷ events) [] = (¬ IsDone event.answer) × IsLogOf events []
 IsLogOf (event ∷ events) (one ∷ logged) =
-    ((¬ IsDone event.answer) × IsLogOf events (one ∷ logged)) ⊎ ((one.step ≡ event.step) × IsLogOf events logged)
+    ((¬ IsDone event.answer) × IsLogOf events (one ∷ logged)) ⊎ ((one.step ≡ event.step) × (one.failed ≡ failed_told event.step event.failed) × IsLogOf events logged)
 
 -- all that the steps of a log name is there
 abbrev pub AreThere : Config → List Logged → Type 0

@@ -79,6 +79,16 @@ pub record Logged : Type 0 where
   pub failed : Option ℕ
   pub traffic : Option Traffic
 
+-- the call of the store that failed, as the step's event tells it: a step that calls no store tells of none
+abbrev pub failed_told : Step → Option ℕ → Option ℕ
+failed_told (Edit device folder name node) failed = failed
+failed_told (Remove device folder name) failed = failed
+failed_told (Scan device folder name) failed = failed
+failed_told (Revert device folder name) failed = failed
+failed_told (Deliver device other) failed = failed
+failed_told (Finish device folder name) failed = failed
+failed_told step failed = None
+
 -- An event says no more than its step has to say, so that equal events are equal: only a step over a link tells of
 -- traffic, and only one that calls a store tells of a call that failed.
 abbrev pub SaysNoMore : Step → Option ℕ → Option Traffic → Type 0

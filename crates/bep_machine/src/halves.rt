@@ -7,8 +7,8 @@ pub fn halves_make_the_step()
     ensures { HalvesMakeTheStep }
 {}
 
-/// A step that was refused, or wanted memory, changes nothing, or an event tells of it: each device and each link that
-/// this touches makes its half, and all others stay.
+/// Either a step was refused or wanted memory, and changes nothing, or an event tells of it: each device and each link
+/// that the event touches makes its half, and all others stay.
 pub fn step_has_halves()
     ensures { StepHasHalves }
 {}
