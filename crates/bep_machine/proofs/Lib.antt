@@ -57,4 +57,5 @@ mod HalfSteps
 mod ActedEnds
 mod Replays
 mod OwnEvents
+mod ActionsTold
 mod StepHalves

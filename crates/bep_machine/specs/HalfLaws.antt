@@ -1,14 +1,16 @@
 -- A step is what it does to each device and each link, and a run is what its events make of each; the functions of
 -- src/halves.rt have these as contracts.
-use Rattle.std.specs.Prelude.{◌≡◌, ◌≢◌, ◌⊎◌, ◌↔◌, ℕ, ⊤, List, [], ◌∷◌, Option}
-use Rattle.bep_model.specs.Tables.{Device}
+use Rattle.std.specs.Prelude.{◌≡◌, ◌≢◌, ◌⊎◌, ◌↔◌, ℕ, ⊤, List, [], ◌∷◌, Option, Some}
+use Rattle.bep_model.specs.Tables.{Device, Folder, FileName}
 use Rattle.bep_machine.specs.declared.step.Step.{Step}
-use Rattle.bep_machine.specs.Answer.{Answer}
-use Rattle.bep_machine.specs.Link.{Link}
-use Rattle.bep_machine.specs.Peer.{Peer}
+use Rattle.bep_machine.specs.declared.moved.Moved.{Moved}
+use Rattle.bep_machine.specs.Answer.{Answer, Done, Row}
+use Rattle.bep_machine.specs.Link.{Link, End, Sight, sight_of, after_deed}
+use Rattle.bep_machine.specs.Peer.{Peer, Acted}
+use Rattle.bep_machine.specs.Exchange.{BeginRow, DeliverRow, AnnounceRow, AskRow}
 use Rattle.bep_machine.specs.Cluster.{Config, Cluster}
 use Rattle.bep_machine.specs.Steps.{IsThere, IsStep, Event, IsRun}
-use Rattle.bep_machine.specs.Halves.{Logged, failed_told, IsDone, PeerStep, LinkStep, PeerReplays, LinkReplays, events_of_device, events_of_link}
+use Rattle.bep_machine.specs.Halves.{Traffic, Logged, deed_told, ByTraffic, Carries, failed_told, IsDone, PeerStep, LinkStep, PeerReplays, LinkReplays, events_of_device, events_of_link}
 
 -- ---- one step
 
@@ -29,6 +31,26 @@ abbrev pub StepHasHalves : Type 0
 StepHasHalves = (step : Step) (failed : Option ℕ) (old new : Cluster) (answer : Answer) → IsStep step failed old new answer →
     ((¬ IsDone answer) × (new ≡ old)) ⊎ ((event : Logged) × (event.step ≡ step) × (event.failed ≡ failed_told step failed) × IsThere old.config step ×
     IsMadeBy event old new)
+
+-- ---- one action
+
+-- what a device does over a link that it is lent, where it is done: an event tells of it, whose halves both make
+abbrev pub IsToldOf : (Sight → Peer → Row Acted) → Type 0
+IsToldOf row = (end : End) (link : Link) (old : Peer) (acted : Acted) (moved : Moved) → row (sight_of end link) old acted (Done moved) →
+    (traffic : Traffic) × (acted.deed ≡ deed_told traffic.done) × ByTraffic row (Some traffic) old acted.peer ×
+    Carries end (Some traffic) link (after_deed end acted.deed link)
+
+abbrev pub BeginIsTold : Type 0
+BeginIsTold = (other : Device) → IsToldOf (BeginRow other)
+
+abbrev pub DeliverIsTold : Type 0
+DeliverIsTold = (other : Device) (failed : Option ℕ) → IsToldOf (DeliverRow other failed)
+
+abbrev pub AnnounceIsTold : Type 0
+AnnounceIsTold = (other : Device) (folder : Folder) → IsToldOf (AnnounceRow other folder)
+
+abbrev pub AskIsTold : Type 0
+AskIsTold = (other : Device) (folder : Folder) (name : FileName) → IsToldOf (AskRow other folder name)
 
 -- ---- one object
 

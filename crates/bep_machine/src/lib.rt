@@ -19,7 +19,8 @@ pub use effects::{
     finish_adopts, override_wins, revert_takes_back, scan_records, start_pull_begins,
 };
 pub use halves::{
-    halves_make_the_step, own_events_replay, replays_run, run_replays, step_has_halves,
+    actions_are_told, halves_make_the_step, own_events_replay, replays_run, run_replays,
+    step_has_halves,
 };
 pub use headline::{settled_stays_put, settled_stays_settled};
 pub use limits::{MAX_EPOCH, MAX_OUTSTANDING, MAX_REQUEST_ID};
