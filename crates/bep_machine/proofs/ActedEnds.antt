@@ -1,5 +1,5 @@
 -- A step over a link that isn't done does nothing to the device and to the link.
-use Rattle.std.proofs.Common.{◌≡◌, ◌⊎◌, ℕ, Bool, Option, Some, None, refl, inl, inr, ⊎_elim}
+use Rattle.std.proofs.Common.{ℕ, Bool, Option, Some, None, inl, inr}
 use Rattle.std.specs.FinMap.{get}
 use Rattle.bep_index.specs.declared.send.Plan.{Plan}
 use Rattle.bep_model.specs.Tables.{Device, Folder, FileName}

@@ -1,7 +1,11 @@
 -- The halves of an event, of all devices and links, are its step.
-use Rattle.std.proofs.Common.{◌≡◌, ◌⊎◌, ◌==◌, ◌&&◌, ◌||◌, ℕ, Bool, true, false, nat_lt, if◌then◌else◌, Option, Some, None, refl, sym, ap, subst, ◌∙◌, inl, inr, ⊎_elim, eqb-true}
+use Rattle.std.proofs.Common.{◌≡◌, ◌⊎◌, ◌==◌, ◌&&◌, ◌||◌, ℕ, Bool, true, false, nat_lt, if◌then◌else◌, Option, Some, None, refl, sym, ap, ◌∙◌, inl, inr, ⊎_elim, eqb-true}
 use Rattle.std.proofs.lemmas.Bool.{and_parts, eq-eqb}
+use Rattle.std.specs.Cmp.Lexicographic.{nat_list_cmp_total}
 use Rattle.std.specs.FinMap.{get}
+use Rattle.std.proofs.lemmas.Map.Lookups.{exact_bytes}
+use Rattle.std.proofs.lemmas.Option.{same_Some}
+use Rattle.bep_facts.specs.Maps.{get-insert_here}
 use Rattle.bep_model.specs.Tables.{Device, Folder}
 use Rattle.bep_machine.specs.declared.step.Step.{Step}
 use Rattle.bep_machine.specs.declared.step.Step.TheVariants.{Edit, Remove, Scan, Override, Revert, Connect, Lose, Begin, Deliver, Announce, StartPull, Ask, Finish, Restart}
@@ -13,11 +17,21 @@ use Rattle.bep_machine.specs.Pull.{StartPullRow, FinishRow}
 use Rattle.bep_machine.specs.Link.{Link, End, Lower, Upper, Sight, lost, sight_of, after_deed}
 use Rattle.bep_machine.specs.Peer.{Peer, Acted, with_replica}
 use Rattle.bep_machine.specs.Exchange.{BeginRow, DeliverRow, AnnounceRow, AskRow}
-use Rattle.bep_machine.specs.Cluster.{Cluster, with_link, with_link_between, with_peer, without_links}
+use Rattle.bep_machine.specs.Cluster.{Cluster, with_link, with_peer, without_links}
 use Rattle.bep_machine.specs.Steps.{AtReplica, OverLink, AtLink, ConnectRow, LoseRow, RestartRow, restarted, StepRow}
-use Rattle.bep_machine.specs.Halves.{guards_of, touches_device, touches_link, Traffic, Logged, SaysNoMore, deed_told, InFolder, ByTraffic, PeerHalf, Carries, LinkHalf, OnlyIf}
+use Rattle.bep_machine.specs.Halves.{Traffic, IsDone, SaysNoMore, deed_told, InFolder, ByTraffic, Carries, OnlyIf}
 use Rattle.bep_machine.specs.HalfLaws.{IsMadeBy, HalvesMakeTheStep}
 use Rattle.bep_machine.proofs.LinkDeeds.{RowSees, begin_sees, announce_sees, ask_sees, deliver_sees}
+
+-- the step was done, or yet changed something
+abbrev Happened : Cluster → Cluster → Answer → Type 0
+Happened old new answer = IsDone answer ⊎ (¬ (new ≡ old))
+
+-- a replica that is put in its own place again is the one that was there
+was_before : (peer : Peer) (folder : Folder) (before after : Replica) → get peer.replicas folder ≡ Some before → with_replica peer folder after ≡ peer → after ≡ before
+was_before peer folder before after is same =
+    let put : get (with_replica peer folder after).replicas folder ≡ Some after = get-insert_here nat_list_cmp_total exact_bytes peer.replicas folder after in
+    same_Some after before (sym put ∙ ap (λ p. get p.replicas folder) same ∙ is)
 
 -- clusters that are the same at each device and each pair of devices
 pub same_cluster : (one other : Cluster) → one.config ≡ other.config → ((device : Device) → one.peer device ≡ other.peer device) → ((a b : Device) → one.link a b ≡ other.link a b) → one ≡ other
@@ -63,7 +77,7 @@ module _ (old new : Cluster) (config : new.config ≡ old.config) (Says : Type 0
   in_folder : (device : Device) (folder : Folder) (row : Replica → Row Replica)
       → ((one : Device) → OnlyIf (one == device) (Says × InFolder folder row (old.peer one) (new.peer one)) (old.peer one) (new.peer one))
       → ((a b : Device) → new.link a b ≡ old.link a b)
-      → (answer : Answer) × AtReplica device folder row old new answer
+      → (answer : Answer) × AtReplica device folder row old new answer × Happened old new answer
   in_folder device folder row peers links =
       let half = (at_device old new device (λ one. Says × InFolder folder row (old.peer one) (new.peer one)) peers).1 in (
         half.2,
@@ -75,6 +89,7 @@ module _ (old new : Cluster) (config : new.config ≡ old.config) (Says : Type 0
           same_cluster new (with_peer old device (with_replica (old.peer device) folder half.1)) config
               (other_devices old new device (λ one. Says × InFolder folder row (old.peer one) (new.peer one)) peers (with_replica (old.peer device) folder half.1) half.6) links,
         ),
+        ⊎_elim (λ done. inl done) (λ moved. inr (λ same. moved (was_before (old.peer device) folder half.0 half.1 half.3 (sym half.6 ∙ ap (λ c. c.peer device) same)))) half.5,
       )
 
   -- ---- a step over a link
@@ -84,7 +99,7 @@ module _ (old new : Cluster) (config : new.config ≡ old.config) (Says : Type 0
         → ((one : Device) → OnlyIf (one == device) (Says × ByTraffic row traffic (old.peer one) (new.peer one)) (old.peer one) (new.peer one))
         → ((a b : Device) → OnlyIf ((a == lower) && (b == upper)) (Says × Carries end traffic (old.link a b) (new.link a b)) (old.link a b) (new.link a b))
         → (answer : Answer) × ((acted : Acted) × row (sight_of end (old.link lower upper)) (old.peer device) acted answer ×
-        (new ≡ with_link (with_peer old device acted.peer) lower upper (after_deed end acted.deed (old.link lower upper))))
+        (new ≡ with_link (with_peer old device acted.peer) lower upper (after_deed end acted.deed (old.link lower upper)))) × Happened old new answer
     carried end lower upper None peers links =
         absurd ((at_device old new device (λ one. Says × ByTraffic row None (old.peer one) (new.peer one)) peers).1)
     carried end lower upper (Some traffic) peers links =
@@ -99,18 +114,19 @@ module _ (old new : Cluster) (config : new.config ≡ old.config) (Says : Type 0
                 (other_devices old new device (λ one. Says × ByTraffic row (Some traffic) (old.peer one) (new.peer one)) peers (new.peer device) refl)
                 (other_links old new lower upper (λ a b. Says × Carries end (Some traffic) (old.link a b) (new.link a b)) links (after_deed end acted.deed (old.link lower upper)) carries.3),
           ),
+          inl tt,
         )
 
     over_link : (other : Device) (traffic : Option Traffic)
         → ((one : Device) → OnlyIf (one == device) (Says × ByTraffic row traffic (old.peer one) (new.peer one)) (old.peer one) (new.peer one))
         → ((a b : Device) → OnlyIf (if nat_lt device other then (a == device) && (b == other) else (a == other) && (b == device)) (Says × Carries (if nat_lt device other then Lower else Upper) traffic (old.link a b) (new.link a b)) (old.link a b) (new.link a b))
-        → (answer : Answer) × OverLink device other row old new answer
+        → (answer : Answer) × OverLink device other row old new answer × Happened old new answer
     over_link other traffic peers = cases (nat_lt device other)
       where
         cases : (t : Bool)
             → ((a b : Device) → OnlyIf (if t then (a == device) && (b == other) else (a == other) && (b == device)) (Says × Carries (if t then Lower else Upper) traffic (old.link a b) (new.link a b)) (old.link a b) (new.link a b))
             → (answer : Answer) × ((acted : Acted) × row (sight_of (if t then Lower else Upper) (if t then old.link device other else old.link other device)) (old.peer device) acted answer ×
-            (new ≡ (if t then with_link (with_peer old device acted.peer) device other (after_deed (if t then Lower else Upper) acted.deed (if t then old.link device other else old.link other device)) else with_link (with_peer old device acted.peer) other device (after_deed (if t then Lower else Upper) acted.deed (if t then old.link device other else old.link other device)))))
+            (new ≡ (if t then with_link (with_peer old device acted.peer) device other (after_deed (if t then Lower else Upper) acted.deed (if t then old.link device other else old.link other device)) else with_link (with_peer old device acted.peer) other device (after_deed (if t then Lower else Upper) acted.deed (if t then old.link device other else old.link other device))))) × Happened old new answer
         cases true links = carried Lower device other traffic peers links
         cases false links = carried Upper other device traffic peers links
 
@@ -119,7 +135,7 @@ module _ (old new : Cluster) (config : new.config ≡ old.config) (Says : Type 0
   of_link : (lower upper : Device) (row : Link → Row Link)
       → ((one : Device) → new.peer one ≡ old.peer one)
       → ((a b : Device) → OnlyIf ((a == lower) && (b == upper)) (Says × row (old.link a b) (new.link a b) (Done Changed)) (old.link a b) (new.link a b))
-      → (answer : Answer) × AtLink lower upper row old new answer
+      → (answer : Answer) × AtLink lower upper row old new answer × Happened old new answer
   of_link lower upper row peers links =
       let half = (at_link old new lower upper (λ a b. Says × row (old.link a b) (new.link a b) (Done Changed)) links).1 in (
         Done Changed,
@@ -129,6 +145,7 @@ module _ (old new : Cluster) (config : new.config ≡ old.config) (Says : Type 0
           same_cluster new (with_link old lower upper (new.link lower upper)) config peers
               (other_links old new lower upper (λ a b. Says × row (old.link a b) (new.link a b) (Done Changed)) links (new.link lower upper) refl),
         ),
+        inl tt,
       )
 
   -- ---- a device with its links
@@ -136,7 +153,7 @@ module _ (old new : Cluster) (config : new.config ≡ old.config) (Says : Type 0
   of_restart : (device : Device)
       → ((one : Device) → OnlyIf (one == device) (Says × (new.peer one ≡ restarted (old.peer one))) (old.peer one) (new.peer one))
       → ((a b : Device) → OnlyIf ((a == device) || (b == device)) (Says × (new.link a b ≡ lost (old.link a b))) (old.link a b) (new.link a b))
-      → (answer : Answer) × RestartRow device old new answer
+      → (answer : Answer) × RestartRow device old new answer × Happened old new answer
   of_restart device peers links =
       let half = (at_device old new device (λ one. Says × (new.peer one ≡ restarted (old.peer one))) peers).1 in (
         Done Changed,
@@ -146,6 +163,7 @@ module _ (old new : Cluster) (config : new.config ≡ old.config) (Says : Type 0
               (λ a b. cases a b ((a == device) || (b == device)) (links a b)),
           refl,
         ),
+        inl tt,
       )
     where
       cases : (a b : Device) (t : Bool) → OnlyIf t (Says × (new.link a b ≡ lost (old.link a b))) (old.link a b) (new.link a b) → new.link a b ≡ (if t then lost (old.link a b) else old.link a b)
@@ -154,7 +172,7 @@ module _ (old new : Cluster) (config : new.config ≡ old.config) (Says : Type 0
 
 -- ---- every step
 
-halves_make_row : (step : Step) (failed : Option ℕ) (traffic : Option Traffic) (old new : Cluster) → IsMadeBy (record { step = step; failed = failed; traffic = traffic }) old new → (answer : Answer) × StepRow step failed old new answer
+halves_make_row : (step : Step) (failed : Option ℕ) (traffic : Option Traffic) (old new : Cluster) → IsMadeBy (record { step = step; failed = failed; traffic = traffic }) old new → (answer : Answer) × StepRow step failed old new answer × Happened old new answer
 halves_make_row (Edit device folder name node) failed traffic old new made = in_folder old new made.config (SaysNoMore (Edit device folder name node) failed traffic) device folder (EditRow name node failed) made.peers made.links
 halves_make_row (Remove device folder name) failed traffic old new made = in_folder old new made.config (SaysNoMore (Remove device folder name) failed traffic) device folder (RemoveRow name failed) made.peers made.links
 halves_make_row (Scan device folder name) failed traffic old new made = in_folder old new made.config (SaysNoMore (Scan device folder name) failed traffic) device folder (ScanRow device name failed) made.peers made.links
@@ -173,4 +191,4 @@ halves_make_row (Restart device) failed traffic old new made = of_restart old ne
 pub halves_make_the_step_lem : HalvesMakeTheStep
 halves_make_the_step_lem event old new there made =
     let row = halves_make_row event.step event.failed event.traffic old new made in
-    (row.0, inr (inr ((λ missing. missing there), row.1)))
+    (row.0, inr (inr ((λ missing. missing there), row.1)), row.2)

@@ -56,6 +56,8 @@ mod LinkDeeds
 mod HalfSteps
 mod ActedEnds
 mod Replays
+mod OwnEvents
+mod ActionsTold
 mod StepHalves
 mod GapFacts
 mod GapFlow

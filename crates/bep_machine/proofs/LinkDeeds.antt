@@ -1,7 +1,6 @@
 -- What a device does over a link where it is done: what an event tells of it is all that it depends on.
-use Rattle.std.proofs.Common.{◌≡◌, ◌⊎◌, ◌∷◌, [], ℕ, Bool, true, false, List, Option, Some, None, refl, sym, ap, subst, ◌∙◌, inl, inr, ⊎_elim}
+use Rattle.std.proofs.Common.{◌≡◌, ◌⊎◌, ℕ, Bool, true, false, Option, Some, None, refl, sym, ap, subst, ◌∙◌, inl, inr}
 use Rattle.std.specs.FinMap.{get}
-use Rattle.bep_record.specs.declared.entry.Entry.{Entry}
 use Rattle.bep_index.specs.declared.send.Plan.{Plan}
 use Rattle.bep_model.specs.Tables.{Device, Folder, FileName}
 use Rattle.bep_machine.specs.declared.message.Message.{Message}
@@ -9,7 +8,7 @@ use Rattle.bep_machine.specs.declared.message.Message.TheVariants as messages
 use Rattle.bep_machine.specs.declared.message.Response.{Response}
 use Rattle.bep_machine.specs.declared.message.Request.{Request}
 use Rattle.bep_machine.specs.declared.moved.Moved.{Moved}
-use Rattle.bep_machine.specs.Answer.{Answer, Done, Refused, OutOfMemory, Row, becomes}
+use Rattle.bep_machine.specs.Answer.{Answer, Done, Refused, Row, becomes}
 use Rattle.bep_machine.specs.Replica.{Replica}
 use Rattle.bep_machine.specs.Link.{Sight, Deed, sending, taking, losing}
 use Rattle.bep_machine.specs.Peer.{Session, Peer, Acted, idle, config_for}

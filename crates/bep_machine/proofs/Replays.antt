@@ -1,11 +1,9 @@
 -- Of every run there is a log that all objects replay, and one log that all objects replay is of a run.
-use Rattle.std.proofs.Common.{◌≡◌, ◌⊎◌, List, [], ◌∷◌, refl, sym, ap, subst, ◌∙◌, inl, inr, ⊎_elim}
-use Rattle.bep_model.specs.Tables.{Device}
-use Rattle.bep_machine.specs.Answer.{Answer}
-use Rattle.bep_machine.specs.Cluster.{Config, Cluster}
-use Rattle.bep_machine.specs.Steps.{Event, IsRun, IsThere}
+use Rattle.std.proofs.Common.{List, [], ◌∷◌, refl, sym, subst, ◌∙◌, inl, inr, ⊎_elim}
+use Rattle.bep_machine.specs.Cluster.{Cluster}
+use Rattle.bep_machine.specs.Steps.{Event, IsThere}
 use Rattle.bep_machine.specs.Halves.{Logged, IsDone}
-use Rattle.bep_machine.specs.HalfLaws.{IsMadeBy, HalvesMakeTheStep, StepHasHalves, IsReplayed, IsLogOf, RunReplays, HasStepsOf, AreThere, ReplaysRun}
+use Rattle.bep_machine.specs.HalfLaws.{IsMadeBy, HalvesMakeTheStep, StepHasHalves, IsReplayed, IsLogOf, RunReplays, AreThere, ReplaysRun}
 use Rattle.bep_machine.proofs.HalfSteps.{same_cluster}
 
 -- no event is replayed
@@ -27,12 +25,22 @@ log_without event events (one ∷ logged) undone of_run = inl (undone, of_run)
 
 module _ (has_halves : StepHasHalves) where
   pub run_replays_lem : RunReplays
-  run_replays_lem old new [] same = ([], tt, subst (λ c. IsReplayed [] old c) (sym same) (replays_nothing old))
+  run_replays_lem old new [] same = ([], tt, tt, subst (λ c. IsReplayed [] old c) (sym same) (replays_nothing old))
   run_replays_lem old new (event ∷ events) (next, step, run) =
       let rest = run_replays_lem next new events run in
       ⊎_elim
-      (λ nothing. (rest.0, log_without event events rest.0 nothing.0 rest.1, subst (λ c. IsReplayed rest.0 c new) nothing.1 rest.2))
-      (λ half. (half.0 ∷ rest.0, inr (half.1, rest.1), replays_one_more half.0 rest.0 old next new half.2 rest.2))
+      (λ nothing. (
+        rest.0,
+        log_without event events rest.0 nothing.0 rest.1,
+        subst (λ c. AreThere c.config rest.0) nothing.1 rest.2,
+        subst (λ c. IsReplayed rest.0 c new) nothing.1 rest.3,
+      ))
+      (λ half. (
+        half.0 ∷ rest.0,
+        inr (half.1, half.2, rest.1),
+        (subst (λ s. IsThere old.config s) (sym half.1) half.3, subst (λ c. AreThere c rest.0) half.4.config rest.2),
+        replays_one_more half.0 rest.0 old next new half.4 rest.3,
+      ))
       (has_halves event.step event.failed old next event.answer step)
 
 module _ (make_step : HalvesMakeTheStep) where

@@ -1,6 +1,6 @@
 -- A step of a replica that isn't done leaves it as it was, all but the end of a pull, which may keep a conflict copy.
-use Rattle.std.proofs.Common.{◌≡◌, ◌⊎◌, ◌<◌, ◌∙◌, ℕ, Bool, true, false, cond, length, Option, Some, None, refl, sym, ap, subst, inl, inr, ⊎_elim}
-use Rattle.std.specs.FinMap.{get, insert, remove, get-remove, same_map}
+use Rattle.std.proofs.Common.{◌≡◌, ◌⊎◌, ◌∙◌, ℕ, Bool, true, false, cond, Option, Some, None, refl, sym, ap, subst, inl, inr, ⊎_elim}
+use Rattle.std.specs.FinMap.{get, remove, get-remove, same_map}
 use Rattle.std.specs.Ordering.{nat_cmp, eq_by_cmp}
 use Rattle.std.specs.Cmp.Lexicographic.{slice_cmp, nat_list_cmp_total}
 use Rattle.std.proofs.lemmas.Map.Lookups.{exact_bytes}
@@ -10,8 +10,8 @@ use Rattle.bep_record.specs.declared.entry.Entry.{Entry}
 use Rattle.bep_record.specs.declared.node.NodeParts.{NodeParts}
 use Rattle.bep_record.specs.declared.folder_kind.FolderKind.{FolderKind}
 use Rattle.bep_record.specs.declared.folder_kind.FolderKind.TheVariants.{SendReceive, SendOnly, ReceiveOnly}
-use Rattle.bep_model.specs.Tables.{Device, Folder, FileName}
-use Rattle.bep_machine.specs.Answer.{Answer, Done, Refused, OutOfMemory, Row, becomes}
+use Rattle.bep_model.specs.Tables.{Device, FileName}
+use Rattle.bep_machine.specs.Answer.{Answer, Done, Row, becomes}
 use Rattle.bep_machine.specs.Replica.{Pull, Replica, own_at, node_at, with_node}
 use Rattle.bep_machine.specs.Local.{EditRow, RemoveRow, PutRow, FoundRow, ScanRow, OverridingRow, OverrideRow, RevertedRow, RevertRow}
 use Rattle.bep_machine.specs.Pull.{ChosenRow, StartPullRow, SettlingRow, RoomRow, CopyingRow, EndingRow, FinishRow, copy_name}

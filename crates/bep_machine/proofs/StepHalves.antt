@@ -18,18 +18,19 @@ use Rattle.bep_machine.specs.Pull.{StartPullRow, FinishRow}
 use Rattle.bep_machine.specs.Link.{Link, End, Lower, Upper, Sight, lost, nothing_done, end_of, sight_of, after_deed}
 use Rattle.bep_machine.specs.Peer.{Peer, Acted, idle, with_replica}
 use Rattle.bep_machine.specs.Exchange.{BeginRow, DeliverRow, AnnounceRow, AskRow}
-use Rattle.bep_machine.specs.Cluster.{Cluster, link_between, with_link, with_link_between, with_peer, without_links}
-use Rattle.bep_machine.specs.Steps.{AtReplica, OverLink, AtLink, ConnectRow, LoseRow, RestartRow, restarted, StepRow}
-use Rattle.bep_machine.specs.Halves.{guards_of, touches_device, touches_link, Traffic, Logged, IsDone, SaysNoMore, deed_told, InFolder, ByTraffic, PeerHalf, Carries, LinkHalf, OnlyIf}
+use Rattle.bep_machine.specs.Cluster.{Cluster, link_between, with_link, with_link_between, with_peer}
+use Rattle.bep_machine.specs.Steps.{IsThere, AtReplica, OverLink, AtLink, ConnectRow, LoseRow, RestartRow, restarted, StepRow}
+use Rattle.bep_machine.specs.Halves.{Traffic, Logged, failed_told, IsDone, SaysNoMore, InFolder, ByTraffic, Carries, OnlyIf}
 use Rattle.bep_machine.specs.HalfLaws.{IsMadeBy, StepHasHalves}
 use Rattle.bep_machine.proofs.RowEnds.{Stays, StaysOrChanges, edit_stays, remove_stays, scan_stays, override_stays, revert_stays, start_pull_stays, finish_ends}
 use Rattle.bep_machine.proofs.LinkDeeds.{RowTells, begin_tells, announce_tells, ask_tells, deliver_tells}
 use Rattle.bep_machine.proofs.ActedEnds.{Rests, begin_rests, announce_rests, ask_rests, deliver_rests}
+use Rattle.bep_machine.proofs.ThereDecided.{there_decided}
 use Rattle.bep_machine.proofs.HalfSteps.{same_cluster}
 
 -- a step isn't done and changes nothing, or is of an event that all objects make
-abbrev pub HasHalves : Step → Cluster → Cluster → Answer → Type 0
-HasHalves step old new answer = ((¬ IsDone answer) × (new ≡ old)) ⊎ ((event : Logged) × (event.step ≡ step) × IsMadeBy event old new)
+abbrev pub HasHalves : Step → Option ℕ → Cluster → Cluster → Answer → Type 0
+HasHalves step failed old new answer = ((¬ IsDone answer) × (new ≡ old)) ⊎ ((event : Logged) × (event.step ≡ step) × (event.failed ≡ failed_told step failed) × IsThere old.config step × IsMadeBy event old new)
 
 done_or_not : (answer : Answer) → IsDone answer ⊎ (¬ IsDone answer)
 done_or_not (Done moved) = inl tt
@@ -238,30 +239,32 @@ either : (row : Replica → Row Replica) (answer : Answer) → ((before after : 
 either row answer stays before after made undone = inl (stays before after answer made undone)
 
 module _ (old new : Cluster) (answer : Answer) where
-  of_folder : (device : Device) (folder : Folder) (row : Replica → Row Replica) (step : Step) (failed : Option ℕ) (says : SaysNoMore step failed None)
+  of_folder : (device : Device) (folder : Folder) (row : Replica → Row Replica) (step : Step) (there : IsThere old.config step) (given failed : Option ℕ) (told : failed ≡ failed_told step given) (says : SaysNoMore step failed None)
       → (FolderMade device folder row (SaysNoMore step failed None) says old new answer new → IsMadeBy (event_of step failed None) old new)
       → ((before after : Replica) → row before after answer → StaysOrChanges before after answer)
-      → AtReplica device folder row old new answer → HasHalves step old new answer
-  of_folder device folder row step failed says made ends here =
-      ⊎_elim (λ stays. inl stays) (λ half. inr (event_of step failed None, refl, made half)) (folder_made device folder row (SaysNoMore step failed None) says old new answer ends here)
+      → AtReplica device folder row old new answer → HasHalves step given old new answer
+  of_folder device folder row step there given failed told says made ends here =
+      ⊎_elim (λ stays. inl stays) (λ half. inr (event_of step failed None, refl, told, there, made half)) (folder_made device folder row (SaysNoMore step failed None) says old new answer ends here)
 
-  over_link : (device other : Device) (row : Sight → Peer → Row Acted) (tells : RowTells row) (rests : Rests row) (step : Step) (failed : Option ℕ) (Says : Type 0) (says : Says)
+  over_link : (device other : Device) (row : Sight → Peer → Row Acted) (tells : RowTells row) (rests : Rests row) (step : Step) (there : IsThere old.config step) (given failed : Option ℕ) (told : failed ≡ failed_told step given) (Says : Type 0) (says : Says)
       → ((traffic : Option Traffic) → LinkMade device other row tells rests Says says old new answer traffic new → IsMadeBy (event_of step failed traffic) old new)
-      → OverLink device other row old new answer → HasHalves step old new answer
-  over_link device other row tells rests step failed Says says made here =
-      ⊎_elim (λ stays. inl stays) (λ half. inr (event_of step failed half.0, refl, made half.0 half.1)) (link_made device other row tells rests Says says old new answer here)
+      → OverLink device other row old new answer → HasHalves step given old new answer
+  over_link device other row tells rests step there given failed told Says says made here =
+      ⊎_elim (λ stays. inl stays) (λ half. inr (event_of step failed half.0, refl, told, there, made half.0 half.1)) (link_made device other row tells rests Says says old new answer here)
 
-  of_link : (lower upper : Device) (row : Link → Row Link) (ends : (before after : Link) (answer : Answer) → row before after answer → ((¬ IsDone answer) × (after ≡ before)) ⊎ row before after (Done Changed)) (step : Step) (says : SaysNoMore step None None)
+  of_link : (lower upper : Device) (row : Link → Row Link) (ends : (before after : Link) (answer : Answer) → row before after answer → ((¬ IsDone answer) × (after ≡ before)) ⊎ row before after (Done Changed)) (step : Step) (there : IsThere old.config step) (given : Option ℕ) (told : None ≡ failed_told step given) (says : SaysNoMore step None None)
       → (OneLinkMade lower upper row ends (SaysNoMore step None None) says old new answer new → IsMadeBy (event_of step None None) old new)
-      → AtLink lower upper row old new answer → HasHalves step old new answer
-  of_link lower upper row ends step says made here =
-      ⊎_elim (λ stays. inl stays) (λ half. inr (event_of step None None, refl, made half)) (one_link_made lower upper row ends (SaysNoMore step None None) says old new answer here)
+      → AtLink lower upper row old new answer → HasHalves step given old new answer
+  of_link lower upper row ends step there given told says made here =
+      ⊎_elim (λ stays. inl stays) (λ half. inr (event_of step None None, refl, told, there, made half)) (one_link_made lower upper row ends (SaysNoMore step None None) says old new answer here)
 
-  of_restart : (device : Device) → RestartRow device old new answer → HasHalves (Restart device) old new answer
-  of_restart device made =
+  of_restart : (device : Device) → IsThere old.config (Restart device) → (failed : Option ℕ) → RestartRow device old new answer → HasHalves (Restart device) failed old new answer
+  of_restart device there failed made =
       inr (
         event_of (Restart device) None None,
         refl,
+        refl,
+        there,
         subst (λ c. IsMadeBy (event_of (Restart device) None None) old c) (sym made.0)
             (record {
               config = refl;
@@ -274,47 +277,51 @@ module _ (old new : Cluster) (answer : Answer) where
       cases link true = ((refl, refl), refl)
       cases link false = refl
 
-  row_has_halves : (step : Step) (failed : Option ℕ) → StepRow step failed old new answer → HasHalves step old new answer
-  row_has_halves (Edit device folder name node) failed =
-      of_folder device folder (EditRow name node failed) (Edit device folder name node) failed refl
+  row_has_halves : (step : Step) → IsThere old.config step → (failed : Option ℕ) → StepRow step failed old new answer → HasHalves step failed old new answer
+  row_has_halves (Edit device folder name node) there failed =
+      of_folder device folder (EditRow name node failed) (Edit device folder name node) there failed failed refl refl
       (λ half. record { config = half.config; peers = half.peers; links = half.links }) (either (EditRow name node failed) answer (edit_stays name node failed))
-  row_has_halves (Remove device folder name) failed =
-      of_folder device folder (RemoveRow name failed) (Remove device folder name) failed refl
+  row_has_halves (Remove device folder name) there failed =
+      of_folder device folder (RemoveRow name failed) (Remove device folder name) there failed failed refl refl
       (λ half. record { config = half.config; peers = half.peers; links = half.links }) (either (RemoveRow name failed) answer (remove_stays name failed))
-  row_has_halves (Scan device folder name) failed =
-      of_folder device folder (ScanRow device name failed) (Scan device folder name) failed refl
+  row_has_halves (Scan device folder name) there failed =
+      of_folder device folder (ScanRow device name failed) (Scan device folder name) there failed failed refl refl
       (λ half. record { config = half.config; peers = half.peers; links = half.links }) (either (ScanRow device name failed) answer (scan_stays device name failed))
-  row_has_halves (Override device folder name) failed =
-      of_folder device folder (OverrideRow device name) (Override device folder name) None (refl, refl)
+  row_has_halves (Override device folder name) there failed =
+      of_folder device folder (OverrideRow device name) (Override device folder name) there failed None refl (refl, refl)
       (λ half. record { config = half.config; peers = half.peers; links = half.links }) (either (OverrideRow device name) answer (override_stays device name))
-  row_has_halves (Revert device folder name) failed =
-      of_folder device folder (RevertRow device name failed) (Revert device folder name) failed refl
+  row_has_halves (Revert device folder name) there failed =
+      of_folder device folder (RevertRow device name failed) (Revert device folder name) there failed failed refl refl
       (λ half. record { config = half.config; peers = half.peers; links = half.links }) (either (RevertRow device name failed) answer (revert_stays device name failed))
-  row_has_halves (Connect one other) failed =
-      of_link one other ConnectRow connect_ends (Connect one other) (refl, refl) (λ half. record { config = half.config; peers = half.peers; links = half.links })
-  row_has_halves (Lose one other) failed =
-      of_link one other LoseRow lose_ends (Lose one other) (refl, refl) (λ half. record { config = half.config; peers = half.peers; links = half.links })
-  row_has_halves (Begin device other) failed =
-      over_link device other (BeginRow other) (begin_tells other) (begin_rests other) (Begin device other) None (SaysNoMore (Begin device other) None None) refl
+  row_has_halves (Connect one other) there failed =
+      of_link one other ConnectRow connect_ends (Connect one other) there failed refl (refl, refl) (λ half. record { config = half.config; peers = half.peers; links = half.links })
+  row_has_halves (Lose one other) there failed =
+      of_link one other LoseRow lose_ends (Lose one other) there failed refl (refl, refl) (λ half. record { config = half.config; peers = half.peers; links = half.links })
+  row_has_halves (Begin device other) there failed =
+      over_link device other (BeginRow other) (begin_tells other) (begin_rests other) (Begin device other) there failed None refl (SaysNoMore (Begin device other) None None) refl
       (λ traffic half. record { config = half.config; peers = half.peers; links = half.links })
-  row_has_halves (Deliver device other) failed =
-      over_link device other (DeliverRow other failed) (deliver_tells other failed) (deliver_rests other failed) (Deliver device other) failed (SaysNoMore (Deliver device other) failed None) tt
+  row_has_halves (Deliver device other) there failed =
+      over_link device other (DeliverRow other failed) (deliver_tells other failed) (deliver_rests other failed) (Deliver device other) there failed failed refl (SaysNoMore (Deliver device other) failed None) tt
       (λ traffic half. record { config = half.config; peers = half.peers; links = half.links })
-  row_has_halves (Announce device other folder) failed =
-      over_link device other (AnnounceRow other folder) (announce_tells other folder) (announce_rests other folder) (Announce device other folder) None (SaysNoMore (Announce device other folder) None None) refl
+  row_has_halves (Announce device other folder) there failed =
+      over_link device other (AnnounceRow other folder) (announce_tells other folder) (announce_rests other folder) (Announce device other folder) there failed None refl (SaysNoMore (Announce device other folder) None None) refl
       (λ traffic half. record { config = half.config; peers = half.peers; links = half.links })
-  row_has_halves (StartPull device folder name) failed =
-      of_folder device folder (StartPullRow device name) (StartPull device folder name) None (refl, refl)
+  row_has_halves (StartPull device folder name) there failed =
+      of_folder device folder (StartPullRow device name) (StartPull device folder name) there failed None refl (refl, refl)
       (λ half. record { config = half.config; peers = half.peers; links = half.links }) (either (StartPullRow device name) answer (start_pull_stays device name))
-  row_has_halves (Ask device other folder name) failed =
-      over_link device other (AskRow other folder name) (ask_tells other folder name) (ask_rests other folder name) (Ask device other folder name) None (SaysNoMore (Ask device other folder name) None None) refl
+  row_has_halves (Ask device other folder name) there failed =
+      over_link device other (AskRow other folder name) (ask_tells other folder name) (ask_rests other folder name) (Ask device other folder name) there failed None refl (SaysNoMore (Ask device other folder name) None None) refl
       (λ traffic half. record { config = half.config; peers = half.peers; links = half.links })
-  row_has_halves (Finish device folder name) failed =
-      of_folder device folder (FinishRow device name failed) (Finish device folder name) failed refl
+  row_has_halves (Finish device folder name) there failed =
+      of_folder device folder (FinishRow device name failed) (Finish device folder name) there failed failed refl refl
       (λ half. record { config = half.config; peers = half.peers; links = half.links }) (λ before after. finish_ends device name failed before after answer)
-  row_has_halves (Restart device) failed = of_restart device
+  row_has_halves (Restart device) there failed = of_restart device there failed
 
 pub step_has_halves_lem : StepHasHalves
 step_has_halves_lem step failed old new answer (inl (grows, same)) = inl ((λ done. subst IsDone same.1 done), same.0)
 step_has_halves_lem step failed old new answer (inr (inl (missing, same))) = inl ((λ done. subst IsDone same.1 done), same.0)
-step_has_halves_lem step failed old new answer (inr (inr (there, row))) = row_has_halves old new answer step failed row
+step_has_halves_lem step failed old new answer (inr (inr (not_apart, row))) =
+    ⊎_elim
+    (λ there. row_has_halves old new answer step there failed row)
+    (λ apart. absurd (not_apart apart))
+    (there_decided old.config step)

@@ -1,6 +1,7 @@
 -- What a step does to one device and to one link, what is logged of it there, and what the events of a log make of a device
 -- or a link (this project's profile).
 use Rattle.std.specs.Prelude.{◌≡◌, ◌≢◌, ◌⊎◌, ◌==◌, ◌&&◌, ◌||◌, nat_lt, ℕ, Bool, true, false, ⊤, List, [], ◌∷◌, Option, Some, None, if◌then◌else◌}
+use Rattle.std.specs.List.{filter}
 use Rattle.std.specs.FinMap.{get}
 use Rattle.bep_model.specs.Tables.{Device, Folder}
 use Rattle.bep_machine.specs.declared.message.Message.{Message}
@@ -77,6 +78,16 @@ pub record Logged : Type 0 where
   pub step : Step
   pub failed : Option ℕ
   pub traffic : Option Traffic
+
+-- the call of the store that failed, as the step's event tells it: a step that calls no store tells of none
+abbrev pub failed_told : Step → Option ℕ → Option ℕ
+failed_told (Edit device folder name node) failed = failed
+failed_told (Remove device folder name) failed = failed
+failed_told (Scan device folder name) failed = failed
+failed_told (Revert device folder name) failed = failed
+failed_told (Deliver device other) failed = failed
+failed_told (Finish device folder name) failed = failed
+failed_told step failed = None
 
 -- An event says no more than its step has to say, so that equal events are equal: only a step over a link tells of
 -- traffic, and only one that calls a store tells of a call that failed.
@@ -187,13 +198,20 @@ LinkStep lower upper event old new =
     OnlyIf (touches_link (guards_of event.step) lower upper)
     (SaysNoMore event.step event.failed event.traffic × LinkHalf event.step event.traffic old new) old new
 
--- the events of a log, one after the other, lead from one state of a device to another
-abbrev pub PeerReplays : Device → Peer → List Logged → Peer → Type 0
-PeerReplays device old [] new = new ≡ old
-PeerReplays device old (event ∷ more) new = (next : Peer) × PeerStep device event old next × PeerReplays device next more new
+-- the events of a log, one after the other, lead from one state of an object to another
+abbrev pub Replays : {S : Type 0} → (Logged → S → S → Type 0) → S → List Logged → S → Type 0
+Replays step old [] new = new ≡ old
+Replays {S} step old (event ∷ more) new = (next : S) × step event old next × Replays step next more new
 
--- and of a link
+abbrev pub PeerReplays : Device → Peer → List Logged → Peer → Type 0
+PeerReplays device = Replays (PeerStep device)
+
 abbrev pub LinkReplays : Device → Device → Link → List Logged → Link → Type 0
-LinkReplays lower upper old [] new = new ≡ old
-LinkReplays lower upper old (event ∷ more) new =
-    (next : Link) × LinkStep lower upper event old next × LinkReplays lower upper next more new
+LinkReplays lower upper = Replays (LinkStep lower upper)
+
+-- those events of a log that touch a device, or a link
+abbrev pub events_of_device : Device → List Logged → List Logged
+events_of_device device logged = filter (λ event. touches_device (guards_of event.step) device) logged
+
+abbrev pub events_of_link : Device → Device → List Logged → List Logged
+events_of_link lower upper logged = filter (λ event. touches_link (guards_of event.step) lower upper) logged

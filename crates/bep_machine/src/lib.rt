@@ -22,7 +22,10 @@ pub use effects::{
 };
 pub use files::{finish_keeps_files, revert_keeps_files};
 pub use gapless::{runs_are_gapless, same_point_same_index};
-pub use halves::{halves_make_the_step, replays_run, run_replays, step_has_halves};
+pub use halves::{
+    actions_are_told, halves_make_the_step, own_events_replay, replays_run, run_replays,
+    step_has_halves,
+};
 pub use headline::{settled_stays_put, settled_stays_settled};
 pub use limits::{MAX_EPOCH, MAX_OUTSTANDING, MAX_REQUEST_ID};
 pub use message::{Announced, Code, Message, Request, Response};
