@@ -11,7 +11,7 @@ use Rattle.bep_machine.specs.Answer.{Answer, Row}
 use Rattle.bep_machine.specs.Replica.{Replica}
 use Rattle.bep_machine.specs.Link.{Sight}
 use Rattle.bep_machine.specs.Peer.{Session, Peer, Acted, idle}
-use Rattle.bep_machine.specs.Exchange.{SessionRow, BeginRow, AskedRow, asked_for, MessageRow, WaitingRow, DeliverRow, SendingRow, CursorRow, AnnounceRow, AskingRow, AskRow}
+use Rattle.bep_machine.specs.Exchange.{SessionRow, BeginRow, AskedRow, asked_for, MessageRow, WaitingRow, DeliverRow, CursorRow, AnnounceRow, AskingRow, AskRow}
 use Rattle.bep_machine.proofs.RowEnds.{Stays, stays_at, stays_done, stays_or}
 
 -- what isn't done leaves the device idle

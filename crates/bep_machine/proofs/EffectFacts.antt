@@ -1,22 +1,15 @@
 -- What a replica that holds has in its records, for the steps that make new ones.
-use Rattle.std.proofs.Common.{◌≡◌, ◌≤◌, ℕ, List, [], ◌∷◌, Option, Some, None, refl, inr, ⊎_elim, unwrap_or, arith}
+use Rattle.std.proofs.Common.{◌≡◌, ◌≤◌, ℕ, List, [], ◌∷◌, Option, Some, None, refl, inr, ⊎_elim, arith}
 use Rattle.std.proofs.lemmas.Bool.{cases_eq, cond-true, cond-false, eq-eqb, ne_eqb}
-use Rattle.std.specs.Ordering.{nat_cmp}
-use Rattle.std.specs.Cmp.Lexicographic.{slice_cmp}
-use Rattle.std.specs.FinMap.{get}
-use Rattle.bep_facts.specs.Maps.{nothing_in_empty}
 use Rattle.bep_record.specs.declared.entry.Entry.{Entry}
 use Rattle.bep_record.specs.Vector.{counter_of, greatest_counter, RisesAbove, IsVersion}
-use Rattle.bep_index.specs.Listing.{Listing}
-use Rattle.bep_index.specs.View.{cleared}
 use Rattle.bep_model.specs.Tables.{Device, FileName}
 use Rattle.bep_machine.specs.Answer.{Done}
 use Rattle.bep_machine.specs.declared.moved.Moved.TheVariants.{Changed}
-use Rattle.bep_machine.specs.Replica.{Replica, own_at, viewed_at, version_of, Chooses, with_record}
+use Rattle.bep_machine.specs.Replica.{Replica, own_at, version_of, with_record}
 use Rattle.bep_machine.specs.Local.{Fails, PutRow}
 use Rattle.bep_machine.specs.Effects.{HasRoom}
 use Rattle.bep_machine.specs.Sound.{IsGood, IsSoundReplica}
-use Rattle.bep_machine.proofs.ChoiceFacts.{chosen_is_known}
 
 -- no store call failed
 pub none_fails : (call : ℕ) → ¬ Fails call None
@@ -46,21 +39,3 @@ good_version (Some e) good = (good e refl).version
 
 pub own_version : (device : Device) (replica : Replica) (name : FileName) → IsSoundReplica device replica → IsVersion (version_of (own_at replica name))
 own_version device replica name sound = good_version (own_at replica name) (sound.own name)
-
--- ---- views
-
-good_in_view : (view : Option Listing) (name : FileName) (entry : Entry) → ((v : Listing) → view ≡ Some v → (e : Entry) → get v.records name ≡ Some e → IsGood e) → get (unwrap_or view (cleared 0)).records name ≡ Some entry → IsGood entry
-good_in_view None name entry good is = nothing_in_empty (slice_cmp nat_cmp) name entry is
-good_in_view (Some view) name entry good is = good view refl entry is
-
-pub viewed_is_good : (device : Device) (replica : Replica) (other : Device) (name : FileName) (entry : Entry) → IsSoundReplica device replica → viewed_at replica other name ≡ Some entry → IsGood entry
-viewed_is_good device replica other name entry sound is =
-    good_in_view (get replica.views other) name entry (λ view held e found. (sound.views other view held).good name e found) is
-
--- the chosen record is well formed
-pub chosen_is_good : (device : Device) (replica : Replica) (name : FileName) (chosen : Entry) → IsSoundReplica device replica → Chooses device replica name chosen → IsGood chosen
-chosen_is_good device replica name chosen sound choice =
-    ⊎_elim
-    (λ own. sound.own name chosen own)
-    (λ viewed. viewed_is_good device replica viewed.0 name chosen sound viewed.1)
-    (chosen_is_known device replica name chosen choice)

@@ -6,12 +6,11 @@ use Rattle.bep_record.specs.declared.folder_kind.FolderKind.{FolderKind}
 use Rattle.bep_record.specs.declared.folder_kind.FolderKind.TheVariants.{SendReceive, SendOnly, ReceiveOnly}
 use Rattle.bep_index.specs.Index.{after_put}
 use Rattle.bep_model.specs.Tables.{Device, FileName}
-use Rattle.bep_machine.specs.Answer.{Answer, Refused, Row, when◌then◌else◌, ◌answers◌when◌else◌}
-use Rattle.bep_machine.specs.declared.refusal.Refusal.TheVariants.{StoreFault}
+use Rattle.bep_machine.specs.Answer.{Answer, Row}
 use Rattle.bep_machine.specs.Replica.{Replica, Pull, own_at, node_at, with_record, with_node}
-use Rattle.bep_machine.specs.Local.{Fails, EditRow, RemoveRow, ScanRow, FoundRow, PutRow, OverrideRow, RevertRow, RevertedRow, deletion_of}
+use Rattle.bep_machine.specs.Local.{EditRow, RemoveRow, ScanRow, FoundRow, PutRow, OverrideRow, RevertRow, RevertedRow, deletion_of}
 use Rattle.bep_machine.specs.Pull.{StartPullRow, FinishRow, EndingRow, CopyingRow, SettlingRow, RoomRow, copy_name}
-use Rattle.bep_machine.proofs.CalmRows.{at_answers, at_becomes}
+use Rattle.bep_machine.proofs.CalmRows.{CopiedRow, at_answers, at_becomes}
 
 pub record IsGrown (old new : Replica) : Type 0 where
   pub views : new.views ≡ old.views
@@ -137,13 +136,6 @@ room_grows name own target old new answer rest grows row =
     (λ _ few.
     at_answers (IsGrown old) few (nothing_grown old)
     (λ _ counted. at_answers (IsGrown old) counted (nothing_grown old) (λ _ room. grows room)))
-
--- the copy is written, or is there
-abbrev CopiedRow : FileName → Pull → Option ℕ → Option Entry → Option NodeParts → Replica → Row Replica
-CopiedRow name pull failed own node old =
-    when node_at old (copy_name own) ≡ None
-    then (old answers Refused StoreFault when Fails 3 failed else SettlingRow name pull 4 failed own node (with_node old (copy_name own) node))
-    else SettlingRow name pull 3 failed own node old
 
 copied_grows : (name : FileName) (pull : Pull) (failed : Option ℕ) (own : Option Entry) (node : Option NodeParts) → RowGrows (CopiedRow name pull failed own node)
 copied_grows name pull failed own node old new answer row =

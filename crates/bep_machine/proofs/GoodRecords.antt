@@ -7,7 +7,7 @@ use Rattle.bep_record.specs.declared.block.Block.{Block}
 use Rattle.bep_record.specs.declared.node.NodeParts.{NodeParts}
 use Rattle.bep_record.specs.declared.limits.TheConstants.{HASH_OF_NOTHING}
 use Rattle.bep_record.specs.Block.{base_block_size, CutWhole}
-use Rattle.bep_record.specs.Entry.{HasNoBlocks, HasBlocks, HasBody, SameEntry, SameBody}
+use Rattle.bep_record.specs.Entry.{HasNoBlocks, HasBlocks, HasBody, SameBody}
 use Rattle.bep_record.specs.Node.{FitsKind, IsNode}
 use Rattle.bep_record.specs.Vector.{IsVersion, most_counters}
 use Rattle.bep_blocks.specs.Plain.{plain_blocks}
@@ -55,10 +55,6 @@ good_under entry sequence good = record {
   version = good.version;
   few = good.few;
 }
-
--- what is equal but for the sequence
-pub good_as_same : (one other : Entry) → SameEntry one other → IsGood one → IsGood other
-good_as_same one other same good = subst IsGood same (good_under one other.sequence good)
 
 -- another version, and another mark of what is valid
 pub good_as_adopted : (entry : Entry) (version : List (ℕ × ℕ)) → IsGood entry → IsVersion version → length version ≤ most_counters →

@@ -10,9 +10,9 @@ use Rattle.bep_machine.specs.declared.message.Request.{Request}
 use Rattle.bep_machine.specs.declared.moved.Moved.{Moved}
 use Rattle.bep_machine.specs.Answer.{Answer, Done, Refused, Row, becomes}
 use Rattle.bep_machine.specs.Replica.{Replica}
-use Rattle.bep_machine.specs.Link.{Sight, Deed, sending, taking, losing}
-use Rattle.bep_machine.specs.Peer.{Session, Peer, Acted, idle, config_for}
-use Rattle.bep_machine.specs.Exchange.{SessionRow, BeginRow, LosingRow, ViewRow, RequestRow, AnsweredRow, AskedRow, asked_for, ResponseRow, MessageRow, WaitingRow, DeliverRow, index_message, SendingRow, CursorRow, AnnounceRow, AskingRow, AskRow, request_for}
+use Rattle.bep_machine.specs.Link.{Sight, sending, taking, losing}
+use Rattle.bep_machine.specs.Peer.{Session, Peer, Acted, config_for}
+use Rattle.bep_machine.specs.Exchange.{SessionRow, BeginRow, LosingRow, AskedRow, asked_for, MessageRow, WaitingRow, DeliverRow, index_message, SendingRow, CursorRow, AnnounceRow, AskingRow, AskRow, request_for}
 use Rattle.bep_machine.specs.Halves.{Exchanged, Sent, Took, Broke, Traffic, deed_told, waiting_told, sight_told, IsSeen}
 
 -- a row that is done was not refused

@@ -11,7 +11,8 @@ use Rattle.bep_machine.specs.declared.moved.Moved.TheVariants.{Changed}
 use Rattle.bep_machine.specs.Replica.{own_at, version_of, with_record, with_node}
 use Rattle.bep_machine.specs.Local.{IsLocalOnly, IsMergedAndRaised, OverridingRow, RevertedRow, deletion_of, overriding}
 use Rattle.bep_machine.specs.Effects.{OverrideWins, RevertTakesBack, content_owned}
-use Rattle.bep_machine.proofs.EffectFacts.{none_fails, put_row, own_version, counter_is_bounded, chosen_is_good}
+use Rattle.bep_machine.proofs.EffectFacts.{none_fails, put_row, own_version, counter_is_bounded}
+use Rattle.bep_machine.proofs.GoodChoice.{chosen_is_good}
 use Rattle.bep_machine.proofs.ReplicaFacts.{with_record_here, remove_here}
 
 -- ---- override
@@ -48,7 +49,7 @@ module _ (merge_exists : MergeExists) (bump_exists : BumpExists)
   pub override_wins_lem : OverrideWins
   override_wins_lem device name old chosen device_is sound kind chooses overridable not_full few room =
       let own = own_at old name in
-      let raised = raised_exists device (version_of own) chosen.version device_is (own_version device old name sound) (chosen_is_good device old name chosen sound chooses).version not_full in
+      let raised = raised_exists device (version_of own) chosen.version device_is (own_version device old name sound) (chosen_is_good device old name chosen sound chooses).good.good.version not_full in
       let entry = overriding device name own chosen raised.0 in
       let IsNew : Entry → Type 0 = λ entry. (version : List (ℕ × ℕ)) × IsMergedAndRaised device (version_of own) chosen.version version × (entry ≡ overriding device name own chosen version) in
       let put = put_row name IsNew old entry room (raised.0, raised.1, refl) in

@@ -22,12 +22,9 @@ use Rattle.bep_machine.specs.Steps.{ConnectRow, LoseRow, IsStep, StepRow, AtRepl
 use Rattle.bep_machine.specs.Said.{looked_up, tables_of_cluster}
 use Rattle.bep_machine.specs.Sound.{IsSound}
 use Rattle.bep_machine.specs.Laws.{IsSoundStep, StepsKeepSound, QuietStepsKeepCalm, QuietStepsKeepRecords, SettledStaysPut, SettledStaysSettled}
+use Rattle.bep_machine.proofs.CalmScan.{same_file}
 
 -- ---- files that are kept
-
-same_file : (node : Option NodeParts) → SameFile node node
-same_file None = tt
-same_file (Some node) = (refl, refl, refl)
 
 same_file_later : (one two three : Option NodeParts) → SameFile one two → SameFile two three → SameFile one three
 same_file_later None None None first second = tt
