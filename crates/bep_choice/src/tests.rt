@@ -1,10 +1,10 @@
 // Choices and needs in this project's profile; the wanted answers were worked out by hand.
-ghost use Rattle.std.specs.Prelude.{◌≡◌, IfOk};
-
 use crate::*;
-use bep_record::{Block, DeviceId, Entry, Items, Kind, Name, Record, RecordError, Target, Vector};
+use bep_record::{
+    BASE_BLOCK_SIZE, Block, DeviceId, Entry, HASH_OF_NOTHING, Items, Kind, Name, Record, Target,
+    Vector,
+};
 use std::alloc::Global;
-use std::test::Fail;
 
 // What a test says of a record; all else is the same in each.
 #[derive(Clone, Copy)]
@@ -15,11 +15,9 @@ struct Said {
     by: u64,
     deleted: bool,
     invalid: bool,
-    // Stands for the file's content.
-    byte: u8,
 }
 
-// A file at time 5, changed by device 7.
+// An empty file at time 5, changed by device 7.
 fn file(counter: (u64, u64)) -> Said {
     Said {
         counter,
@@ -28,189 +26,134 @@ fn file(counter: (u64, u64)) -> Said {
         by: 7,
         deleted: false,
         invalid: false,
-        byte: 1,
     }
 }
 
-fn device(number: u64) -> Result<DeviceId, RecordError>
-    ensures { IfOk result (λ id. id ≡ number) }
-{
-    match DeviceId::read(number) {
-        Some(id) => Ok(id),
-        None => Err(RecordError::NodeBad),
-    }
-}
-
-fn record(alloc: Global, said: Said) -> Result<Record, RecordError> {
-    let Some(version) = Vector::read(&[said.counter]) else {
-        return Err(RecordError::NodeBad);
-    };
+fn record(alloc: Global, said: Said) -> Option<Record> {
     let mut blocks = Vec::new(alloc);
     if !said.deleted {
-        blocks.push(Block {
-            offset: 0,
-            size: 1,
-            hash: [said.byte; 32],
-        })?;
+        let hash = HASH_OF_NOTHING;
+        blocks
+            .push(Block {
+                offset: 0,
+                size: 0,
+                hash,
+            })
+            .ok()?;
     }
-    let made = Record::read(Entry {
-        name: Name::read(alloc, b"hello")?,
+    let entry = Entry {
+        name: Name::read(alloc, b"hello").ok()?,
         kind: Kind::File,
-        size: if said.deleted { 0 } else { 1 },
+        size: 0,
         modified_s: said.seconds,
         modified_ns: said.nanoseconds,
-        modified_by: device(said.by)?,
+        modified_by: DeviceId::read(said.by)?,
         deleted: said.deleted,
         invalid: said.invalid,
         no_permissions: true,
-        version,
+        version: Vector::read(&[said.counter])?,
         sequence: 1,
-        block_size: if said.deleted { 0 } else { 131072 },
+        block_size: if said.deleted { 0 } else { BASE_BLOCK_SIZE },
         blocks: Items::new(blocks),
         target: Target::empty(alloc),
-    });
-    match made {
-        Ok(record) => Ok(record),
-        Err(_) => Err(RecordError::NodeBad),
-    }
+    };
+    Record::read(entry).ok()
 }
 
 // The place of the choice at a device, over what devices 2, 3 and 4 have.
-fn choice_at(alloc: Global, me: u64, said: [Said; 3]) -> Result<Option<usize>, RecordError> {
-    let [first, second, third] = said;
-    let first = record(alloc, first)?;
-    let second = record(alloc, second)?;
-    let third = record(alloc, third)?;
+fn choice_at(alloc: Global, me: u64, said: [Said; 3]) -> Option<Option<usize>> {
+    // One list owns the records: each further owner that is alive at a `?` makes the proof much longer.
+    let mut records = Vec::new(alloc);
+    for one in said {
+        records.push(record(alloc, one)?).ok()?;
+    }
+    match records.as_slice() {
+        [first, second, third] => choice_among(me, first, second, third),
+        _ => None,
+    }
+}
+
+fn choice_among(me: u64, first: &Record, second: &Record, third: &Record) -> Option<Option<usize>> {
     let candidates = [
-        (device(2)?, &first),
-        (device(3)?, &second),
-        (device(4)?, &third),
+        (DeviceId::read(2)?, first),
+        (DeviceId::read(3)?, second),
+        (DeviceId::read(4)?, third),
     ];
-    Ok(choose(device(me)?, &candidates))
+    Some(choose(DeviceId::read(me)?, &candidates))
 }
 
 #[test]
-fn what_is_below_another_goes_before_times_are_compared(rt: HostRuntime) -> Result<(), Fail> {
-    let (mut late, mut other) = (file((7, 2)), file((2, 1)));
+fn each_mark_decides_where_those_before_it_are_equal(rt: HostRuntime) {
+    // Deletion and seconds of the first, nanoseconds of the second, `modified_by` of the third.
+    for (me, deleted, seconds, nanoseconds, by, place) in [
+        (9, false, 5, 0, 7, 0), // the smaller device
+        (3, false, 5, 0, 7, 1), // the chooser's own
+        (3, false, 5, 0, 6, 2), // the smaller `modified_by`
+        (4, false, 5, 1, 6, 1), // the later nanoseconds
+        (4, false, 6, 1, 6, 0), // the later seconds
+        (4, true, 6, 1, 6, 1), // what isn't deleted
+    ] {
+        let mut said = [file((7, 1)); 3];
+        said[0].deleted = deleted;
+        said[0].seconds = seconds;
+        said[1].nanoseconds = nanoseconds;
+        said[2].by = by;
+        assert_eq!(rt; choice_at(rt.alloc(), me, said), Some(Some(place)));
+    }
+}
+
+#[test]
+fn what_is_below_another_or_invalid_goes_before_times_are_compared(rt: HostRuntime) {
+    let (mut late, mut other, mut newer) = (file((7, 2)), file((2, 1)), file((7, 3)));
     late.seconds = 9;
     other.by = 2;
-    let place = choice_at(rt.alloc(), 9, [file((7, 3)), late, other])?;
-    assert_eq!(rt; place, Some(2));
-    Ok(())
-}
-
-#[test]
-fn each_mark_decides_where_those_before_it_are_equal(rt: HostRuntime) -> Result<(), Fail> {
-    let alloc = rt.alloc();
-    let equal = [file((7, 1)), file((7, 1)), file((7, 1))];
-    assert_eq!(rt; choice_at(alloc, 9, equal)?, Some(0), "the smaller device");
-    assert_eq!(rt; choice_at(alloc, 3, equal)?, Some(1), "the chooser's own");
-
-    let mut smaller = equal;
-    smaller[2].by = 6;
-    assert_eq!(rt;
-        choice_at(alloc, 3, smaller)?,
-        Some(2),
-        "the smaller modified_by"
-    );
-
-    let mut later = smaller;
-    later[1].nanoseconds = 1;
-    assert_eq!(rt;
-        choice_at(alloc, 4, later)?,
-        Some(1),
-        "the later nanoseconds"
-    );
-
-    let mut much_later = later;
-    much_later[0].seconds = 6;
-    assert_eq!(rt;
-        choice_at(alloc, 4, much_later)?,
-        Some(0),
-        "the later seconds"
-    );
-
-    let mut gone = much_later;
-    gone[0].deleted = true;
-    assert_eq!(rt; choice_at(alloc, 4, gone)?, Some(1), "what isn't deleted");
-    Ok(())
-}
-
-#[test]
-fn invalid_records_are_passed_over(rt: HostRuntime) -> Result<(), Fail> {
-    let alloc = rt.alloc();
-    let mut newer = file((7, 3));
     newer.invalid = true;
-    let place = choice_at(alloc, 2, [newer, file((7, 1)), file((7, 2))])?;
-    assert_eq!(rt; place, Some(2), "an invalid record drops none");
-    assert_eq!(rt; choice_at(alloc, 2, [newer, newer, newer])?, None);
-    assert_eq!(rt; choose(device(2)?, &[]), None);
-    Ok(())
+    for (me, said, place) in [
+        (9, [file((7, 3)), late, other], Some(2)),
+        (2, [newer, file((7, 1)), file((7, 2))], Some(2)),
+        (2, [newer, newer, newer], None),
+    ] {
+        assert_eq!(rt; choice_at(rt.alloc(), me, said), Some(place));
+    }
+    let of_none = DeviceId::read(2).map(|me| choose(me, &[]));
+    assert_eq!(rt; of_none, Some(None));
 }
 
-// Whether the chosen record is needed, the own record being this one, if there is one.
-fn is_needed(
-    alloc: Global,
-    kind: FolderKind,
-    own: Option<Said>,
-    chosen: Said,
-) -> Result<bool, RecordError> {
+// Whether the chosen record is needed in a folder of each kind, the own record being this one, if there is one.
+fn needs(alloc: Global, own: Option<Said>, chosen: Said) -> Option<[bool; 3]> {
     let chosen = record(alloc, chosen)?;
     match own {
-        None => Ok(needed(kind, None, &chosen)),
+        None => Some(needs_beside(None, &chosen)),
         Some(own) => {
             let own = record(alloc, own)?;
-            Ok(needed(kind, Some(&own), &chosen))
+            Some(needs_beside(Some(&own), &chosen))
         }
     }
 }
 
+fn needs_beside(own: Option<&Record>, chosen: &Record) -> [bool; 3] {
+    [
+        needed(FolderKind::SendReceive, own, chosen),
+        needed(FolderKind::SendOnly, own, chosen),
+        needed(FolderKind::ReceiveOnly, own, chosen),
+    ]
+}
+
 #[test]
-fn needs_go_by_the_folder_and_the_own_record(rt: HostRuntime) -> Result<(), Fail> {
-    let alloc = rt.alloc();
-    let kinds = [
-        FolderKind::SendReceive,
-        FolderKind::SendOnly,
-        FolderKind::ReceiveOnly,
-    ];
+fn needs_go_by_the_folder_and_the_own_record(rt: HostRuntime) {
     let (own, newer) = (file((1, 1)), file((1, 2)));
-    let (mut changed, mut gone, mut local) = (newer, newer, own);
-    changed.byte = 2;
+    let (mut gone, mut local) = (newer, own);
     gone.deleted = true;
     local.invalid = true;
-    for kind in kinds {
-        let takes = kind != FolderKind::SendOnly;
-        assert!(rt;
-            !is_needed(alloc, kind, None, gone)?,
-            "a deletion of nothing, {kind:?}"
-        );
-        assert_eq!(rt;
-            is_needed(alloc, kind, None, newer)?,
-            takes,
-            "a file that isn't here, {kind:?}"
-        );
-        assert!(rt;
-            is_needed(alloc, kind, Some(own), newer)?,
-            "the same content, {kind:?}"
-        );
-        assert_eq!(rt;
-            is_needed(alloc, kind, Some(own), changed)?,
-            takes,
-            "other content, {kind:?}"
-        );
-        assert!(rt;
-            !is_needed(alloc, kind, Some(own), own)?,
-            "an equal version, {kind:?}"
-        );
+    for (own, chosen, wanted) in [
+        (None, gone, [false, false, false]), // a deletion of nothing
+        (None, newer, [true, false, true]), // a file that isn't here
+        (Some(own), newer, [true, true, true]), // the same content
+        (Some(own), gone, [true, false, true]), // other content
+        (Some(own), own, [false, false, false]), // an equal version
+        (Some(local), gone, [false, false, false]), // other content than the local change
+        (Some(local), file((2, 1)), [true, true, true]), // what the local change made
+    ] {
+        assert_eq!(rt; needs(rt.alloc(), own, chosen), Some(wanted));
     }
-    let receive_only = FolderKind::ReceiveOnly;
-    assert!(rt;
-        !is_needed(alloc, receive_only, Some(local), changed)?,
-        "other content than the local change"
-    );
-    assert!(rt;
-        is_needed(alloc, receive_only, Some(local), file((2, 1)))?,
-        "what the local change made"
-    );
-    Ok(())
 }

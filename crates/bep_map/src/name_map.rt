@@ -129,48 +129,70 @@ impl<V: Duplicate> NameMap<V> {
 #[cfg(test)]
 mod tests {
     use super::*;
-    use bep_record::{Kind, Node, NodeParts, RecordError, Target};
-    use std::test::Fail;
 
-    fn directory(alloc: Global, modified_s: i64) -> Result<Node, RecordError> {
-        Node::read(NodeParts {
-            kind: Kind::Directory,
-            bytes: bep_record::Items::new(Vec::new(alloc)),
-            target: Target::empty(alloc),
-            modified_s,
-            modified_ns: 0,
-        })
+    #[derive(Clone, Copy, Debug, PartialEq)]
+    struct Count(u64);
+
+    impl Duplicate for Count {
+        fn duplicate(&self, _alloc: Global) -> Result<Self, AllocError> {
+            Ok(*self)
+        }
+    }
+
+    #[derive(Clone, Copy)]
+    enum Call {
+        Get,
+        Insert(u64),
+        Replace(u64),
+        Remove,
+    }
+
+    // What the call answers of the name of this one letter: the value that it has, or had.
+    fn answer(
+        alloc: Global,
+        map: &mut NameMap<Count>,
+        letter: u8,
+        call: Call,
+    ) -> Option<Option<Count>> {
+        let name = Name::read(alloc, &[letter]).ok()?;
+        match call {
+            Call::Get => Some(map.get(&name).copied()),
+            Call::Insert(count) => map.insert(name, Count(count)).ok(),
+            Call::Replace(count) => Some(map.replace(&name, Count(count)).ok()),
+            Call::Remove => Some(map.remove(&name)),
+        }
+    }
+
+    // Of a copy, from which the map's names then differ: their number, and its values.
+    fn copied(alloc: Global, map: &mut NameMap<Count>) -> Option<(usize, [Option<Count>; 3])> {
+        let copy = map.copy(alloc).ok()?;
+        answer(alloc, map, b'a', Call::Remove)?;
+        let mut values = copy.values().copied();
+        let listed = [values.next(), values.next(), values.next()];
+        Some((copy.iter().count(), listed))
     }
 
     #[test]
-    fn names_have_values(rt: HostRuntime) -> Result<(), Fail> {
+    fn names_have_values(rt: HostRuntime) {
         let alloc = rt.alloc();
-        let a = Name::read(alloc, b"a")?;
-        let b = Name::read(alloc, b"b")?;
-        let mut nodes = NameMap::new(alloc);
-        assert!(rt;
-            nodes
-                .insert(b.copy(alloc)?, directory(alloc, 2)?)?
-                .is_none()
-        );
-        assert!(rt;
-            nodes
-                .insert(a.copy(alloc)?, directory(alloc, 1)?)?
-                .is_none()
-        );
-        assert!(rt; nodes.replace(&a, directory(alloc, 3)?).is_ok());
-        assert_eq!(rt; nodes.len(), 2);
-
-        let copy = nodes.copy(alloc)?;
-        assert!(rt; nodes.remove(&b).is_some());
-        assert!(rt; nodes.replace(&b, directory(alloc, 4)?).is_err());
-        assert!(rt; nodes.contains(&a) && !nodes.contains(&b) && nodes.get(&b).is_none());
-
-        let mut times = copy.values().map(|node| node.parts().modified_s);
-        assert_eq!(rt; times.next(), Some(3));
-        assert_eq!(rt; times.next(), Some(2));
-        assert_eq!(rt; times.next(), None);
-        assert_eq!(rt; copy.iter().count(), 2);
-        Ok(())
+        let mut map = NameMap::new(alloc);
+        for (letter, call, wanted, len) in [
+            (b'b', Call::Insert(2), None, 1),
+            (b'a', Call::Insert(1), None, 2),
+            (b'a', Call::Insert(5), Some(Count(1)), 2),
+            (b'a', Call::Replace(3), Some(Count(5)), 2),
+            (b'a', Call::Get, Some(Count(3)), 2),
+            (b'c', Call::Insert(6), None, 3),
+            (b'c', Call::Remove, Some(Count(6)), 2),
+            (b'c', Call::Replace(4), None, 2),
+            (b'c', Call::Get, None, 2),
+        ] {
+            assert_eq!(rt;
+                (answer(alloc, &mut map, letter, call), map.len()),
+                (Some(wanted), len)
+            );
+        }
+        let values = [Some(Count(3)), Some(Count(2)), None];
+        assert_eq!(rt; copied(alloc, &mut map), Some((2, values)));
     }
 }

@@ -1,6 +1,6 @@
 use Rattle.std.proofs.Common.{◌≡◌, ◌<◌, ◌+◌, ℕ, [], ◌∷◌, slice_index, sym, subst, ⊎_elim, arith}
 use Rattle.std.proofs.lemmas.Bool.{cases_eq}
-use Rattle.bep_choice.proofs.tests.choice_at.Goals as goal
+use Rattle.bep_choice.proofs.tests.choice_among.Goals as goal
 
 three_rise : (a b d : ℕ) → a < b → b < d → (k : ℕ) → k + 1 < 3 → slice_index (a ∷ b ∷ d ∷ []) k < slice_index (a ∷ b ∷ d ∷ []) (k + 1)
 three_rise a b d first second k below =
@@ -11,8 +11,4 @@ three_rise a b d first second k below =
     (cases_eq k 0)
 
 pub choose-requires : goal.choose-requires
-choose-requires c =
-    let two = c.in_ok-device.ensures in
-    let three = c.in_ok-device-2.ensures in
-    let four = c.in_ok-device-3.ensures in
-    three_rise _ _ _ (omega (arith, two, three)) (omega (arith, three, four))
+choose-requires c = three_rise _ _ _ (omega arith) (omega arith)
