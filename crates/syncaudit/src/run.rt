@@ -1,7 +1,9 @@
 //! From the words of the command line to the exit status.
-ghost use Rattle.std.specs.Prelude.{◌≡◌};
+ghost use Rattle.std.specs.Prelude.{◌≡◌, [], map};
+ghost use Rattle.clap.specs.Words.{fault_of};
 ghost use Rattle.bep_answer.specs.Answer.{SaysSettled};
-ghost use Rattle.syncaudit.specs.Status.{IsEnd, usage};
+ghost use Rattle.syncaudit.specs.Mode.{program};
+ghost use Rattle.syncaudit.specs.Status.{IsEnd, IsTold, usage};
 ghost use Rattle.syncaudit.specs.Status as spec;
 
 use crate::mode::{Mode, mode_of};
@@ -9,6 +11,7 @@ use crate::status::{USAGE, status_of};
 use bep_answer::{Outcome, check_text};
 use bep_report::ReportError;
 use clap::error::ErrorKind;
+use std::convert::AsStr;
 use std::env::{self, Env};
 use std::fmt::Display;
 use std::io::{self, Read, Write};
@@ -38,13 +41,15 @@ fn words_of<P: Env + AllocGlobal>(rt: &P) -> io::Result<Vec<String>> {
     Ok(env::args(rt)?.collect(rt.alloc())?)
 }
 
-// Does what these words ask for, and answers the exit status.
-fn follow<P: AllocGlobal + Eprint, R: Read, W: Write>(
+// Does what these words ask for, and answers the exit status. Words in which nothing is at fault are followed.
+fn follow<P: AllocGlobal + Eprint, R: Read, W: Write, S: AsStr>(
     rt: &P,
     reader: &mut R,
     writer: &mut W,
-    words: &[String],
+    words: &[S],
 ) -> u8
+    ensures followed { fault_of program (map S.text words.entry.now) ≡ []
+        → IsTold (R.remaining reader.old) (R.remaining reader.new) (W.contents writer.old) (W.contents writer.new) result }
     ensures end { IsEnd (R.remaining reader.old) (R.remaining reader.new) (W.contents writer.old) (W.contents writer.new) result }
     ensures settled { result ≡ 0 → SaysSettled (R.remaining reader.old) (R.remaining reader.new) }
 {
