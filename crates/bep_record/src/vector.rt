@@ -303,15 +303,6 @@ fn put_greater(counters: &mut ArrayVec<(u64, u64), 16>, others: &[(u64, u64)])
 #[cfg(test)]
 mod tests {
     use super::*;
-    use std::test::Fail;
-
-    fn device(number: u64) -> Result<DeviceId, Fail> {
-        Ok(DeviceId::read(number).ok_or("no device has the number 0")?)
-    }
-
-    fn vector(counters: &[(u64, u64)]) -> Result<Vector, Fail> {
-        Ok(Vector::read(counters).ok_or("the counters aren't well formed")?)
-    }
 
     // The counters 1 for the ids from 1 on.
     fn ones(count: u64) -> ArrayVec<(u64, u64), 17> {
@@ -322,83 +313,94 @@ mod tests {
         counters
     }
 
-    #[test]
-    fn orders(rt: HostRuntime) -> Result<(), Fail> {
-        let one = vector(&[(1, 1)])?;
-        let two = vector(&[(1, 2)])?;
-        let other = vector(&[(1, 1), (2, 1)])?;
-        assert_eq!(rt; one.order(&one.copy()), Order::Equal);
-        assert_eq!(rt; one.order(&two), Order::Below);
-        assert_eq!(rt; two.order(&one), Order::Above);
-        assert_eq!(rt; two.order(&other), Order::Concurrent);
-        assert_eq!(rt; Vector::empty().order(&one), Order::Below);
-        assert!(rt; one.is_below(&two) && !two.is_below(&one));
-        assert!(rt; !one.is_below(&one.copy()) && !two.is_below(&other));
-        Ok(())
+    // How the first of the vectors, or a copy of it, stands to the second, and whether it is below.
+    fn compared(one: &[(u64, u64)], other: &[(u64, u64)]) -> Option<(Order, bool)> {
+        let one = Vector::read(one)?.copy();
+        let other = Vector::read(other)?;
+        Some((one.order(&other), one.is_below(&other)))
     }
 
     #[test]
-    fn merges(rt: HostRuntime) -> Result<(), Fail> {
-        let mut merged = vector(&[(1, 2)])?;
-        merged.merge(&vector(&[(1, 1), (2, 1)])?)?;
-        assert_eq!(rt; merged.counters(), [(1, 2), (2, 1)].as_slice());
-        let mut empty = Vector::empty();
-        empty.merge(&merged)?;
-        assert_eq!(rt; empty.counters(), [(1, 2), (2, 1)].as_slice());
-        Ok(())
+    fn orders(rt: HostRuntime) {
+        let orders = [
+            compared(&[(1, 1)], &[(1, 1)]),
+            compared(&[(1, 1)], &[(1, 2)]),
+            compared(&[(1, 2)], &[(1, 1)]),
+            compared(&[(1, 2)], &[(1, 1), (2, 1)]),
+            compared(&[], &[(1, 1)]),
+        ];
+        let wanted = [
+            Some((Order::Equal, false)),
+            Some((Order::Below, true)),
+            Some((Order::Above, false)),
+            Some((Order::Concurrent, false)),
+            Some((Order::Below, true)),
+        ];
+        assert_eq!(rt; orders, wanted);
     }
 
-    #[test]
-    fn bumps(rt: HostRuntime) -> Result<(), Fail> {
-        let mut version = Vector::empty();
-        version.bump(device(5)?)?;
-        version.bump(device(3)?)?;
-        version.bump(device(5)?)?;
-        assert_eq!(rt; version.counters(), [(3, 1), (5, 2)].as_slice());
-        assert_eq!(rt; version.get(device(5)?), 2);
-        assert_eq!(rt; version.get(device(4)?), 0);
-        Ok(())
+    // The first of the vectors after the second is merged into it, and why that is refused.
+    fn merged(one: &[(u64, u64)], other: &[(u64, u64)]) -> Option<(Vector, Option<RecordError>)> {
+        let mut version = Vector::read(one)?;
+        let error = version.merge(&Vector::read(other)?).err();
+        Some((version, error))
     }
 
-    #[test]
-    fn refuses_a_full_counter(rt: HostRuntime) -> Result<(), Fail> {
-        let mut version = vector(&[(1, 9223372036854775807)])?;
-        let id = device(1)?;
-        for _ in 0..2 {
-            assert_eq!(rt; version.bump(id), Err(RecordError::CounterFull));
-            assert_eq!(rt; version.counters(), [(1, 9223372036854775807)].as_slice());
+    // The vector after a change by each of these devices, and why the last is refused.
+    fn bumped(counters: &[(u64, u64)], ids: [u64; 3]) -> Option<(Vector, Option<RecordError>)> {
+        let mut version = Vector::read(counters)?;
+        let mut error = None;
+        for id in ids {
+            error = version.bump(DeviceId::read(id)?).err();
         }
-        Ok(())
+        Some((version, error))
+    }
+
+    // The vector of these counters, and why what was to change it is refused.
+    fn left(
+        counters: &[(u64, u64)],
+        error: Option<RecordError>,
+    ) -> Option<(Vector, Option<RecordError>)> {
+        Some((Vector::read(counters)?, error))
     }
 
     #[test]
-    fn refuses_a_seventeenth_counter(rt: HostRuntime) -> Result<(), Fail> {
+    fn merges_and_bumps(rt: HostRuntime) {
+        let both = left(&[(1, 2), (2, 1)], None);
+        assert_eq!(rt; merged(&[(1, 2)], &[(1, 1), (2, 1)]), both);
+        assert_eq!(rt; merged(&[], &[(1, 2), (2, 1)]), both);
+        assert_eq!(rt; bumped(&[], [5, 3, 5]), left(&[(3, 1), (5, 2)], None));
+
+        let greatest = [(1, 9223372036854775807)];
+        let full = left(&greatest, Some(RecordError::CounterFull));
+        assert_eq!(rt; bumped(&greatest, [1, 1, 1]), full);
+    }
+
+    #[test]
+    fn refuses_a_seventeenth_counter(rt: HostRuntime) {
         let sixteen = ones(16);
-        let mut version = vector(&sixteen)?;
-        assert_eq!(rt;
-            version.bump(device(17)?),
-            Err(RecordError::TooManyCounters)
-        );
-        assert_eq!(rt;
-            version.merge(&vector(&[(17, 1)])?),
-            Err(RecordError::TooManyCounters)
-        );
-        assert_eq!(rt; version.counters(), sixteen.as_slice());
-        version.merge(&vector(&[(16, 2)])?)?;
-        assert_eq!(rt; version.get(device(16)?), 2);
-        Ok(())
+        let many = left(&sixteen, Some(RecordError::TooManyCounters));
+        assert_eq!(rt; bumped(&sixteen, [17, 17, 17]), many);
+        assert_eq!(rt; merged(&sixteen, &[(17, 1)]), many);
+        let raised = bumped(&sixteen, [16, 16, 16]).map(|(version, _)| version.counters().len());
+        assert_eq!(rt; raised, Some(16));
     }
 
     #[test]
-    fn reads_only_what_is_well_formed(rt: HostRuntime) -> Result<(), Fail> {
-        assert!(rt; vector(&[])?.counters().is_empty());
-        assert!(rt; Vector::read(&[(2, 1), (1, 1)]).is_none());
-        assert!(rt; Vector::read(&[(1, 1), (1, 1)]).is_none());
-        assert!(rt; Vector::read(&[(0, 1)]).is_none());
-        assert!(rt; Vector::read(&[(1, 0)]).is_none());
-        assert!(rt; Vector::read(&[(1, 9223372036854775808)]).is_none());
-        assert!(rt; Vector::read(&ones(17)).is_none());
-        assert_eq!(rt; vector(&ones(16))?.counters().len(), 16);
-        Ok(())
+    fn reads_only_what_is_well_formed(rt: HostRuntime) {
+        let read = [
+            Vector::read(&[]).is_some(),
+            Vector::read(&[(2, 1), (1, 1)]).is_some(),
+            Vector::read(&[(1, 1), (1, 1)]).is_some(),
+            Vector::read(&[(0, 1)]).is_some(),
+            Vector::read(&[(1, 0)]).is_some(),
+            Vector::read(&[(1, 9223372036854775808)]).is_some(),
+            Vector::read(&ones(16)).is_some(),
+            Vector::read(&ones(17)).is_some(),
+        ];
+        assert_eq!(rt;
+            read,
+            [true, false, false, false, false, false, true, false]
+        );
     }
 }
