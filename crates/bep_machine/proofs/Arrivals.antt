@@ -6,7 +6,6 @@ use Rattle.std.specs.List.{flat_map}
 use Rattle.std.specs.FinMap.{get}
 use Rattle.bep_facts.specs.Members.{Contains-first, Contains-flat_map}
 use Rattle.bep_record.specs.declared.entry.Entry.{Entry}
-use Rattle.bep_record.specs.declared.folder_kind.FolderKind.{FolderKind}
 use Rattle.bep_index.specs.After.{IsAmong}
 use Rattle.bep_index.specs.Laws.{AmongIsContained}
 use Rattle.bep_model.specs.declared.flight.Flight.{Flight}
@@ -19,10 +18,11 @@ use Rattle.bep_machine.specs.Peer.{Session}
 use Rattle.bep_machine.specs.Exchange.{SharesWith, IsNamed}
 use Rattle.bep_machine.specs.Cluster.{Config, Cluster, link_between}
 use Rattle.bep_machine.specs.Steps.{SharesFolder, AreLinked}
-use Rattle.bep_machine.specs.Said.{is_among, both_share, flight_when, flights_of, are_linked, on_its_way, tables_of_cluster}
+use Rattle.bep_machine.specs.Said.{both_share, flight_when, flights_of, are_linked, on_its_way, tables_of_cluster}
 use Rattle.bep_machine.specs.Sound.{IsSound, IsSoundPeer}
 use Rattle.bep_machine.proofs.LinkSteps.{any_from_member, member_from_any}
 use Rattle.bep_machine.proofs.LinkQueues.{queue_between, waiting_is_there}
+use Rattle.bep_machine.proofs.SaidReplicas.{shares_test}
 
 both_true : (a b : Bool) → a ≡ true → b ≡ true → (a && b) ≡ true
 both_true true b first second = second
@@ -42,10 +42,6 @@ same_pair one other = both_true (one == one) (other == other) (eq-eqb one one re
 some_of : {X : Type 0} (o : Option X) → IsSome o → (x : X) × (o ≡ Some x)
 some_of None has = absurd (cc)
 some_of (Some x) has = (x, refl)
-
-shares_test : (config : Config) (device : Device) (folder : Folder) → SharesFolder config device folder → is_among device (config.sharing folder) ≡ true
-shares_test config device folder shares =
-    any_from_member (λ (share : Device × FolderKind). share.0 == device) (config.sharing folder) (device, shares.0) shares.1 (eq-eqb device device refl)
 
 linked_test : (config : Config) (sender receiver : Device) → AreLinked config receiver sender → are_linked config sender receiver ≡ true
 linked_test config sender receiver linked =

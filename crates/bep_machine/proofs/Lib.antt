@@ -31,6 +31,7 @@ mod CalmReplicaStep
 mod LinkQueues
 mod ReadOn
 mod LinkSteps
+mod SaidReplicas
 mod Arrivals
 mod ReadingSteps
 mod ThereDecided
@@ -73,3 +74,4 @@ mod GapCluster
 mod GapSteps
 mod GapRun
 mod KeptFiles
+mod KnownPlaces

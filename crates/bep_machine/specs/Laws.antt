@@ -7,6 +7,7 @@ use Rattle.bep_index.specs.Index.{IsIndex}
 use Rattle.bep_index.specs.View.{IsView}
 use Rattle.bep_model.specs.declared.row.Row.{Row}
 use Rattle.bep_model.specs.Tables.{Tables}
+use Rattle.bep_model.specs.Foreign.{IsFinite}
 use Rattle.bep_model.specs.Settled.{IsSettled}
 use Rattle.bep_model.specs.Calm.{Contents, IsCalm, Kept}
 use Rattle.bep_model.specs.Stays.{Stays, KeepsRecords, SameContents}
@@ -27,6 +28,12 @@ IsSoundStep step = ⊤
 abbrev pub AreSound : List Event → Type 0
 AreSound [] = ⊤
 AreSound (event ∷ more) = IsSoundStep event.step × AreSound more
+
+-- ---- every cluster
+
+-- a cluster's tables are finite, as every cut's are: only these devices are viewed, and only these names known
+abbrev pub ClusterIsFinite : Type 0
+ClusterIsFinite = (cluster : Cluster) → IsSound cluster → IsFinite (tables_of_cluster cluster)
 
 -- ---- one step
 

@@ -6,6 +6,7 @@
 mod calm;
 mod effects;
 mod files;
+mod finite;
 mod gapless;
 mod halves;
 mod headline;
@@ -21,6 +22,7 @@ pub use effects::{
     finish_adopts, override_wins, revert_takes_back, scan_records, start_pull_begins,
 };
 pub use files::{finish_keeps_files, revert_keeps_files};
+pub use finite::clusters_are_finite;
 pub use gapless::{runs_are_gapless, same_point_same_index};
 pub use halves::{
     actions_are_told, halves_make_the_step, own_events_replay, replays_run, run_replays,
