@@ -75,3 +75,8 @@ mod GapSteps
 mod GapRun
 mod KeptFiles
 mod KnownPlaces
+mod BatchFound
+mod TakingFacts
+mod SessionEffect
+mod RecordsEffect
+mod RequestEffect

@@ -11,6 +11,7 @@ mod gapless;
 mod halves;
 mod headline;
 mod limits;
+mod link_effects;
 mod message;
 mod moved;
 mod refusal;
@@ -30,6 +31,10 @@ pub use halves::{
 };
 pub use headline::{settled_stays_put, settled_stays_settled};
 pub use limits::{MAX_EPOCH, MAX_OUTSTANDING, MAX_REQUEST_ID};
+pub use link_effects::{
+    begin_opens_session, block_is_asked_for, breach_loses_link, links_come_and_go,
+    records_are_announced, records_reach_view, request_is_answered,
+};
 pub use message::{Announced, Code, Message, Request, Response};
 pub use moved::Moved;
 pub use refusal::Refusal;
