@@ -19,11 +19,6 @@ use Rattle.bep_model.specs.Tables.{FileName}
 use Rattle.bep_machine.specs.Gapless.{HasNoGap}
 use Rattle.bep_machine.proofs.ReplicaFacts.{same_name_or_not}
 
--- a view without a gap, which isn't ahead of the index
-pub record KeepsUp (index view : Listing) : Type 0 where
-  pub no_gap : HasNoGap index view
-  pub behind : view.sequence ≤ index.sequence
-
 -- A batch that was sent, of what came after a sequence: what is still there of these sequences is in it, and nothing in
 -- it is newer than the index.
 pub record IsSent (index : Listing) (low : ℕ) (batch : List Entry) : Type 0 where
@@ -55,19 +50,17 @@ not_older_after_put index put is_index name now there =
     (λ apart. (now, get-insert_apart nat_list_cmp_total exact_bytes index.records put.name (numbered put (index.sequence + 1)) name apart ∙ there, omega arith))
     (same_name_or_not name put.name)
 
-pub keeps_up_after_put : (index view : Listing) (put : Entry) → IsIndex index → KeepsUp index view → KeepsUp (after_put index put) view
+pub keeps_up_after_put : (index view : Listing) (put : Entry) → IsIndex index → HasNoGap index view → HasNoGap (after_put index put) view
 keeps_up_after_put index view put is_index keeps = record {
-  no_gap = record {
-    held = λ name entry found small.
-        ⊎_elim
-        (λ new. let e : entry.sequence ≡ index.sequence + 1 = ap (λ (x : Entry). x.sequence) new.1 in absurd (omega (arith, e, small, keeps.behind)))
-        (λ old. keeps.no_gap.held name entry old small)
-        (found_after_put index put name entry found);
-    named = λ name entry seen.
-        let present = keeps.no_gap.named name entry seen in
-        let later = not_older_after_put index put is_index name present.0 present.1 in
-        (later.0, later.1, omega (arith, present.2, later.2));
-  };
+  held = λ name entry found small.
+      ⊎_elim
+      (λ new. let e : entry.sequence ≡ index.sequence + 1 = ap (λ (x : Entry). x.sequence) new.1 in absurd (omega (arith, e, small, keeps.behind)))
+      (λ old. keeps.held name entry old small)
+      (found_after_put index put name entry found);
+  named = λ name entry seen.
+      let present = keeps.named name entry seen in
+      let later = not_older_after_put index put is_index name present.0 present.1 in
+      (later.0, later.1, omega (arith, present.2, later.2));
   behind = omega (arith, keeps.behind);
 }
 
@@ -166,9 +159,10 @@ named_or_not name (first ∷ more) =
     (same_name_or_not first.name name)
 
 module _ (found : FoundIsOfBatchOrBefore) (taken : BatchIsFound) (others : OthersAreKept) where
-  pub keeps_up_when_amended : (index view : Listing) (batch : List Entry) → IsIndex index → KeepsUp index view → IsSent index view.sequence batch → KeepsUp index (amended view batch)
+  pub keeps_up_when_amended : (index view : Listing) (batch : List Entry) → IsIndex index → HasNoGap index view → IsSent index view.sequence batch → HasNoGap index (amended view batch)
   keeps_up_when_amended index view batch is_index keeps sent = record {
-    no_gap = record { held = held; named = named };
+    held = held;
+    named = named;
     behind = sent.behind;
   }
     where
@@ -186,7 +180,7 @@ module _ (found : FoundIsOfBatchOrBefore) (taken : BatchIsFound) (others : Other
           let same : Some now.0 ≡ Some entry = sym now.1 ∙ ap (get index.records) one.2 ∙ there in
           let sequence : now.0.sequence ≡ entry.sequence = some_sequence now.0 entry same in
           absurd (omega (arith, now.2, above, old, sequence)))
-          (λ none. others view.records batch name none ∙ keeps.no_gap.held name entry there old)
+          (λ none. others view.records batch name none ∙ keeps.held name entry there old)
           (named_or_not name batch))
           (above_or_not entry.sequence view.sequence)
 
@@ -194,13 +188,14 @@ module _ (found : FoundIsOfBatchOrBefore) (taken : BatchIsFound) (others : Other
       named name entry seen =
           ⊎_elim
           (λ of_batch. subst (λ (n : FileName). (present : Entry) × (get index.records n ≡ Some present) × (entry.sequence ≤ present.sequence)) of_batch.1 (sent.present entry of_batch.0))
-          (λ before. keeps.no_gap.named name entry before.1)
+          (λ before. keeps.named name entry before.1)
           (found view.records batch name entry seen)
 
   -- an Index takes the place of all that was known: as an update of nothing
-  pub keeps_up_when_replaced : (index view : Listing) (batch : List Entry) → IsIndex index → IsSent index 0 batch → KeepsUp index (replaced view batch)
+  pub keeps_up_when_replaced : (index view : Listing) (batch : List Entry) → IsIndex index → IsSent index 0 batch → HasNoGap index (replaced view batch)
   keeps_up_when_replaced index view batch is_index sent = record {
-    no_gap = record { held = held; named = named };
+    held = held;
+    named = named;
     behind = sent.behind;
   }
     where
