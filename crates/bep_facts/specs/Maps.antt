@@ -1,9 +1,9 @@
 -- What a finite map holds, where its order ties only equal keys.
-use Rattle.std.proofs.Common.{◌≡◌, ◌≢◌, ◌⊎◌, ◌↔◌, Bool, true, false, cond, Option, Some, None, Contains, IsSome, inl, inr, refl, sym, ap, ◌∙◌}
+use Rattle.std.proofs.Common.{◌≡◌, ◌≢◌, ◌⊎◌, ◌↔◌, ℕ, ◌+◌, ◌≤◌, Bool, true, false, cond, Option, Some, None, Contains, IsSome, is_some, inl, inr, refl, sym, ap, ◌∙◌, arith}
 use Rattle.std.specs.declared.cmp.Ordering.{Ordering}
 use Rattle.std.specs.Ordering.{is_eq, eq_by_cmp}
 use Rattle.std.specs.Cmp.{IsTotalOrder, Equal-is, eq_by_cmp_equiv}
-use Rattle.std.specs.FinMap.{FinMap, IsAntisymmetric, empty, get, insert, remove, keys, contains_key-keys, get-empty, get-insert, get-remove, same_map}
+use Rattle.std.specs.FinMap.{FinMap, IsAntisymmetric, empty, get, insert, remove, keys, len, contains_key-keys, get-empty, get-insert, get-remove, len-insert, same_map}
 use Rattle.std.proofs.lemmas.Cmp.{tied_itself}
 use Rattle.std.proofs.lemmas.Map.Views.{list_any-from_Contains, Contains-from_any}
 use Rattle.std.proofs.lemmas.Option.{none-some}
@@ -14,6 +14,14 @@ nothing_in_empty R key found is = absurd (none-some found (sym (get-empty R key)
 -- keys that tie are the same
 pub same_key : {K : Type 0} {R : K → K → Ordering} → IsAntisymmetric R → (one other : K) → eq_by_cmp R one other ≡ true → one ≡ other
 same_key exact one other tied = exact one other ((Equal-is _).0 tied)
+
+-- how many keys there are at most once a key was given a value
+pub len-insert_le : {K V : Type 0} {R : K → K → Ordering} → IsTotalOrder R → (m : FinMap R V) (key : K) (value : V) (most : ℕ) → len m ≤ most → (get m key ≡ None → len m + 1 ≤ most) → len (insert m key value) ≤ most
+len-insert_le total m key value most few room = cases (get m key) refl (len-insert total m key value)
+  where
+    cases : (o : Option _) → get m key ≡ o → len (insert m key value) ≡ cond (is_some o) (len m) (len m + 1) → len (insert m key value) ≤ most
+    cases None none e = let r = room none in omega arith
+    cases (Some v) has e = omega arith
 
 module _ {K V : Type 0} {R : K → K → Ordering} (total : IsTotalOrder R) (exact : IsAntisymmetric R) where
   -- a key stands among the keys exactly where it has a value

@@ -10,7 +10,7 @@ use Rattle.bep_record.specs.declared.entry.Entry.{Entry}
 use Rattle.bep_index.specs.Listing.{Listing}
 use Rattle.bep_index.specs.Index.{IsIndex, numbered, after_put}
 use Rattle.bep_index.specs.Change.{Change, given_back, taken_back, IsLastChange}
-use Rattle.bep_index.specs.Laws.{EarlierChangesDontFit, LastChangesAgree}
+use Rattle.bep_index.specs.Laws.{EarlierChangesDontFit, LastChangesAgree, PutsKeepAnIndex}
 use Rattle.bep_index.specs.declared.limits.TheConstants.{MAX_NAMES, MAX_SEQUENCE}
 use Rattle.bep_index.proofs.RecordsFacts.{AreNumbered-insert, HaveOwnNumbers-insert, len-insert_le}
 
@@ -75,3 +75,14 @@ last_changes_agree one other index is fits also =
     let same : one.sequence ≡ other.sequence = fits.last ∙ sym also.last in
     let numbers = fits.given.1.1 ∙ same ∙ sym also.given.1.1 in
     (is.distinct one.name other.name fits.given.0 also.given.0 fits.given.1.0 also.given.1.0 numbers, same)
+
+-- ---- puts
+
+-- a put that is not refused has room
+pub puts_keep_an_index : PutsKeepAnIndex
+puts_keep_an_index index entry is left room =
+    IsIndex-after_put index entry is left
+    (λ none.
+    let few = is.few in
+    let apart : ¬ (len index.records ≡ MAX_NAMES) = λ full. room (full, none) in
+    omega arith)

@@ -1,5 +1,5 @@
 -- Finite maps from names to entries, and lists of entries.
-use Rattle.std.proofs.Common.{◌≡◌, ◌⊎◌, inl, inr, ℕ, ◌+◌, ◌<◌, ◌≤◌, Bool, true, false, List, [], ◌∷◌, Contains, Option, Some, None, cond, is_some, refl, sym, ap, subst, ◌∙◌, ⊎_elim, arith}
+use Rattle.std.proofs.Common.{◌≡◌, ◌⊎◌, inl, inr, ℕ, ◌+◌, ◌<◌, ◌≤◌, Bool, true, false, List, [], ◌∷◌, Contains, Some, None, cond, is_some, sym, ap, subst, ◌∙◌, ⊎_elim, arith}
 use Rattle.std.specs.Ordering.{nat_cmp, eq_by_cmp}
 use Rattle.std.specs.Cmp.Lexicographic.{slice_cmp, nat_list_cmp_total}
 use Rattle.std.specs.FinMap.{get, insert, len, len-insert}
@@ -7,6 +7,7 @@ use Rattle.std.proofs.lemmas.Map.Lookups.{exact_bytes}
 use Rattle.std.proofs.lemmas.Cmp.{tied_itself}
 use Rattle.std.specs.Ordering.{is_eq}
 use Rattle.bep_facts.specs.Maps.{same_key, found_after_insert}
+use Rattle.bep_facts.specs.Maps as maps
 use Rattle.bep_facts.specs.Members.{not_in_none, Contains-first, Contains-more, Contains-cons_cases}
 use Rattle.bep_map.specs.NameMap.{ByName}
 use Rattle.bep_record.specs.declared.entry.Entry.{Entry}
@@ -35,10 +36,7 @@ pub len-insert_new : {V : Type 0} (m : ByName V) (n : List ℕ) (v : V) → get 
 len-insert_new m n v none = len-insert nat_list_cmp_total m n v ∙ ap (λ o. cond (is_some o) (len m) (len m + 1)) none
 
 pub len-insert_le : {V : Type 0} (m : ByName V) (n : List ℕ) (v : V) (most : ℕ) → len m ≤ most → (get m n ≡ None → len m + 1 ≤ most) → len (insert m n v) ≤ most
-len-insert_le m n v most few room = let h = len-insert nat_list_cmp_total m n v in cases (get m n) refl h where
-  cases : (o : Option _) → get m n ≡ o → len (insert m n v) ≡ cond (is_some o) (len m) (len m + 1) → len (insert m n v) ≤ most
-  cases None e h = let r = room e in omega arith
-  cases (Some w) e h = omega arith
+len-insert_le = maps.len-insert_le nat_list_cmp_total
 
 -- an entry that is given its name, under a number up to a greatest that isn't below the old one
 pub AreNumbered-insert : (records : ByName Entry) (n top : ℕ) (entry : Entry) → AreNumbered n records → n ≤ top → 1 ≤ entry.sequence → entry.sequence ≤ top → AreNumbered top (insert records entry.name entry)

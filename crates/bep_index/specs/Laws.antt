@@ -1,15 +1,15 @@
 -- What follows from the definitions alone; the functions of src/laws.rt have these as contracts. Most of it is what a
 -- receiver has that takes a sender's batches in order and without a gap (BEP v1, 'Index' and 'Index Update').
 use Rattle.std.specs.Prelude.{◌≡◌, ◌↔◌, ◌⊎◌, Contains, ℕ, ◌≤◌, nat_le, List, [], ◌∷◌, length, Option, Some, None, if◌then◌else◌}
-use Rattle.std.specs.FinMap.{empty, get}
+use Rattle.std.specs.FinMap.{empty, get, len}
 use Rattle.bep_record.specs.declared.entry.Entry.{Entry}
 use Rattle.bep_index.specs.Listing.{Listing}
-use Rattle.bep_index.specs.Index.{IsIndex, after_put}
+use Rattle.bep_index.specs.Index.{IsIndex, IsSequenceFull, IsIndexFull, after_put}
 use Rattle.bep_map.specs.NameMap.{ByName}
-use Rattle.bep_index.specs.Batch.{HasNo, NamesDiffer, last_sequence, with_all}
+use Rattle.bep_index.specs.Batch.{HasNo, NamesDiffer, IsBatch, last_sequence, with_all}
 use Rattle.bep_index.specs.Change.{Change, IsLastChange}
 use Rattle.bep_index.specs.After.{IsAmong, IsRun}
-use Rattle.bep_index.specs.View.{replaced, amended}
+use Rattle.bep_index.specs.View.{IsView, IsOld, cleared, replaced, amended}
 use Rattle.bep_index.specs.declared.limits.TheConstants.{MAX_NAMES, MAX_SEQUENCE}
 
 -- each batch begins where the one before ended, and leaves none of the index's records out; all are of this one index,
@@ -97,3 +97,22 @@ abbrev pub LastChangesAgree : Type 0
 LastChangesAgree =
     (one other : Change) (index : Listing) → IsIndex index → IsLastChange one index → IsLastChange other index →
     (one.name ≡ other.name) × (one.sequence ≡ other.sequence)
+
+-- an index stays one when a record is put, where a number is left and there is room for its name
+abbrev pub PutsKeepAnIndex : Type 0
+PutsKeepAnIndex =
+    (index : Listing) (entry : Entry) → IsIndex index → ¬ IsSequenceFull index → ¬ IsIndexFull index entry.name → IsIndex (after_put index entry)
+
+-- a view of which all is forgotten is a view
+abbrev pub ClearedIsView : Type 0
+ClearedIsView = (id : ℕ) → IsView (cleared id)
+
+-- what takes a batch in place of all that was known is a view
+abbrev pub ReplacedIsView : Type 0
+ReplacedIsView = (view : Listing) (batch : List Entry) → IsBatch batch → IsView (replaced view batch)
+
+-- a view to which a batch is added is a view, where the batch isn't old and there is room for its names
+abbrev pub AmendedIsView : Type 0
+AmendedIsView =
+    (view : Listing) (batch : List Entry) → IsView view → IsBatch batch → ¬ IsOld view.sequence batch → len (with_all view.records batch) ≤ MAX_NAMES →
+    IsView (amended view batch)

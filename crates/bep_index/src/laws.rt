@@ -1,6 +1,6 @@
 //! What follows from the definitions of indexes, batches and changes. Each function does nothing; its contract is the
 //! law.
-ghost use Rattle.bep_index.specs.Laws.{BatchesBringTheIndex, SamePointSameIndex, RecordsMakeAnIndex, RecordsAreFound, FoundIsOfBatchOrBefore, BatchIsFound, OthersAreKept, AmongIsContained, EarlierChangesDontFit, LastChangesAgree};
+ghost use Rattle.bep_index.specs.Laws.{BatchesBringTheIndex, SamePointSameIndex, RecordsMakeAnIndex, RecordsAreFound, FoundIsOfBatchOrBefore, BatchIsFound, OthersAreKept, AmongIsContained, EarlierChangesDontFit, LastChangesAgree, PutsKeepAnIndex, ClearedIsView, ReplacedIsView, AmendedIsView};
 
 /// Of an index that doesn't change meanwhile: a view that takes the beginning of what is after 0 in place of all that it
 /// had, and adds the batches that follow, in order and without a gap, holds after each batch exactly the sender's
@@ -29,4 +29,16 @@ pub fn batch_records_are_found()
 pub fn undo_fits_the_last_change()
     ensures earlier { EarlierChangesDontFit }
     ensures one { LastChangesAgree }
+{}
+
+/// An index stays one when a record is put that isn't refused.
+pub fn puts_keep_an_index()
+    ensures { PutsKeepAnIndex }
+{}
+
+/// A view stays one when all is forgotten, and when it takes a batch that isn't refused.
+pub fn changes_keep_a_view()
+    ensures cleared { ClearedIsView }
+    ensures replaced { ReplacedIsView }
+    ensures amended { AmendedIsView }
 {}

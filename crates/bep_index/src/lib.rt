@@ -33,8 +33,8 @@ pub use error::IndexError;
 pub use id::IndexId;
 pub use index::Index;
 pub use laws::{
-    batch_records_are_found, batches_bring_the_index, records_make_an_index,
-    undo_fits_the_last_change,
+    batch_records_are_found, batches_bring_the_index, changes_keep_a_view, puts_keep_an_index,
+    records_make_an_index, undo_fits_the_last_change,
 };
 pub use limits::{MAX_NAMES, MAX_RECORDS, MAX_SEQUENCE};
 pub use receiver::plan;
