@@ -13,8 +13,7 @@ use Rattle.bep_record.specs.declared.entry.Entry.{Entry}
 use Rattle.bep_index.specs.Listing.{Listing}
 use Rattle.bep_index.specs.View.{IsView, cleared}
 use Rattle.bep_index.specs.Batch.{with_all}
-use Rattle.bep_index.specs.Laws.{FoundIsOfBatchOrBefore}
-use Rattle.bep_index.proofs.BatchFacts.{IsView-cleared}
+use Rattle.bep_index.specs.Laws.{FoundIsOfBatchOrBefore, ClearedIsView}
 use Rattle.bep_model.specs.Tables.{Device, Folder}
 use Rattle.bep_machine.specs.Replica.{Replica, view_of, with_view}
 use Rattle.bep_machine.specs.Peer.{Peer, is_shared_with}
@@ -50,11 +49,11 @@ only_these_are_good law batch new = all_are_good law empty batch (λ name entry 
 
 -- ---- the view that a replica has, and another one in its place
 
-pub view_is_sound : (device other : Device) (replica : Replica) → IsSoundReplica device replica → IsView (view_of replica other) × AreGood (view_of replica other).records
-view_is_sound device other replica sound = cases (get replica.views other) refl
+pub view_is_sound : ClearedIsView → (device other : Device) (replica : Replica) → IsSoundReplica device replica → IsView (view_of replica other) × AreGood (view_of replica other).records
+view_is_sound cleared_is_view device other replica sound = cases (get replica.views other) refl
   where
     cases : (view : Option Listing) → get replica.views other ≡ view → IsView (unwrap_or view (cleared 0)) × AreGood (unwrap_or view (cleared 0)).records
-    cases None is = (IsView-cleared 0, none_is_good 0)
+    cases None is = (cleared_is_view 0, none_is_good 0)
     cases (Some view) is = let one = sound.views other view is in (one.view_of_index, one.good)
 
 pub with_view_changes : (device other : Device) (replica : Replica) (view : Listing) → IsSoundReplica device replica → Contains replica.others other → IsView view → AreGood view.records → SoundChange device replica (with_view replica other view)
