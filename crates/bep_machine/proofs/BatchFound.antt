@@ -1,7 +1,5 @@
 -- Of every index there is a batch of what comes first after a sequence.
-use Rattle.std.proofs.Common.{◌≡◌, ◌⊎◌, ◌<◌, ◌≤◌, ◌+◌, ℕ, zero, suc, nat_lt, List, [], ◌∷◌, Option, Some, None, Contains, IsSome, refl, sym, ap, subst, ◌∙◌, inl, inr, ⊎_elim, arith}
-use Rattle.std.proofs.lemmas.Bool.{cases_Bool}
-use Rattle.std.proofs.lemmas.Bool.Decides.{nat_tests}
+use Rattle.std.proofs.Common.{◌≡◌, ◌⊎◌, ◌<◌, ◌≤◌, ◌+◌, ℕ, zero, suc, List, [], ◌∷◌, Option, Some, None, Contains, IsSome, refl, sym, ap, subst, ◌∙◌, inl, inr, ⊎_elim, arith}
 use Rattle.std.proofs.lemmas.Option.{same_Some}
 use Rattle.std.specs.Cmp.Lexicographic.{nat_list_cmp_total}
 use Rattle.std.proofs.lemmas.Map.Lookups.{exact_bytes}
@@ -13,6 +11,7 @@ use Rattle.bep_index.specs.Listing.{Listing, IsRecord}
 use Rattle.bep_index.specs.Index.{IsIndex}
 use Rattle.bep_index.specs.After.{IsAfter}
 use Rattle.bep_model.specs.Tables.{FileName}
+use Rattle.bep_machine.proofs.GapFacts.{above_or_not}
 
 module _ (index : Listing) (is_index : IsIndex index) where
   -- the least record above a sequence, among those of these names
@@ -26,10 +25,6 @@ module _ (index : Listing) (is_index : IsIndex index) where
 
   abbrev NextOrNone : ℕ → List FileName → Type 0
   NextOrNone low names = ((entry : Entry) × IsNext low names entry) ⊎ NoneAbove low names
-
-  above_or_not : (low n : ℕ) → (low < n) ⊎ (n ≤ low)
-  above_or_not low n =
-      ⊎_elim (λ below. inl (grind (arith, nat_tests))) (λ above. inr (grind (arith, nat_tests))) (cases_Bool (nat_lt low n))
 
   -- a name more
   without_record : (low : ℕ) (name : FileName) (names : List FileName) → ((entry : Entry) → get index.records name ≡ Some entry → entry.sequence ≤ low) → NextOrNone low names → NextOrNone low (name ∷ names)
@@ -88,7 +83,7 @@ module _ (index : Listing) (is_index : IsIndex index) where
                   (Contains-cons_cases name names other.name stands);
             },
           ))
-          (above_or_not entry.sequence next.sequence)
+          (above_or_not next.sequence entry.sequence)
 
   next_or_none : (low : ℕ) (names : List FileName) → NextOrNone low names
   next_or_none low [] = inr (λ other stands is. absurd (not_in_none other.name stands))
@@ -100,7 +95,7 @@ module _ (index : Listing) (is_index : IsIndex index) where
           ⊎_elim
           (λ above. with_record low name names entry is above rest)
           (λ below. without_record low name names (λ other there. let equal = ap (λ (e : Entry). e.sequence) (same_Some entry other (sym is ∙ there)) in omega (arith, equal, below)) rest)
-          (above_or_not low entry.sequence)
+          (above_or_not entry.sequence low)
 
   listed : (entry : Entry) → IsRecord index.records entry → Contains (keys index.records) entry.name
   listed entry is = (key_has_value nat_list_cmp_total exact_bytes index.records entry.name).1 (subst (λ (o : Option Entry). IsSome o) (sym is) refl)
@@ -122,7 +117,7 @@ module _ (index : Listing) (is_index : IsIndex index) where
           ⊎_elim
           (λ later. inr (after.run.whole entry is later small))
           (λ not_later. inl (same entry is above not_later))
-          (above_or_not first.sequence entry.sequence);
+          (above_or_not entry.sequence first.sequence);
     };
     at_most = let bound = after.at_most in omega (arith, bound);
     ended = λ short. after.ended (omega (arith, short));

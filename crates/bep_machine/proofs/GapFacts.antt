@@ -17,6 +17,7 @@ use Rattle.bep_index.specs.View.{replaced, amended}
 use Rattle.bep_index.specs.Laws.{FoundIsOfBatchOrBefore, BatchIsFound, OthersAreKept}
 use Rattle.bep_model.specs.Tables.{FileName}
 use Rattle.bep_machine.specs.Gapless.{HasNoGap}
+use Rattle.bep_machine.proofs.BatchSent.{names_differ}
 use Rattle.bep_machine.proofs.ReplicaFacts.{same_name_or_not}
 
 -- A batch that was sent, of what came after a sequence: what is still there of these sequences is in it, and nothing in
@@ -89,21 +90,6 @@ some_sequence one other same = ap sequence_of same
     sequence_of None = 0
     sequence_of (Some entry) = entry.sequence
 
--- records of an index whose numbers rise have different names
-none_named : (index : Listing) (first : Entry) (low : ℕ) (batch : List Entry) → get index.records first.name ≡ Some first → first.sequence ≤ low → AreRecords index.records batch → Rises low batch → HasNo first.name batch
-none_named index first low [] here small all rises = tt
-none_named index first low (entry ∷ more) here small all rises = (
-  λ same.
-      let equal = some_sequence entry first (sym all.0 ∙ ap (get index.records) same ∙ here) in
-      absurd (omega (arith, equal, small, rises.0)),
-  none_named index first entry.sequence more here (omega (arith, small, rises.0)) all.1 rises.2,
-)
-
-records_differ : (index : Listing) (low : ℕ) (batch : List Entry) → AreRecords index.records batch → Rises low batch → NamesDiffer batch
-records_differ index low [] all rises = tt
-records_differ index low (first ∷ more) all rises =
-    (none_named index first first.sequence more all.0 (omega arith) all.1 rises.2, records_differ index first.sequence more all.1 rises.2)
-
 recorded : (index : Listing) (batch : List Entry) → AreRecords index.records batch → (entry : Entry) → IsAmong entry batch → get index.records entry.name ≡ Some entry
 recorded index [] all entry among = absurd among
 recorded index (first ∷ more) all entry among =
@@ -124,7 +110,7 @@ sent_when_announced index low limit batch is_index given after = record {
       after.run.whole entry (subst (λ (n : FileName). get index.records n ≡ Some entry) (sym named) found) above small;
   present = λ entry among. (entry, recorded index batch after.run.recorded entry among, omega arith);
   rises = after.run.rises;
-  differ = records_differ index low batch after.run.recorded after.run.rises;
+  differ = names_differ index.records low batch after.run.rises after.run.recorded;
   behind = last_is_given index low batch is_index given after.run.recorded;
 }
 
@@ -138,7 +124,7 @@ above_low low (first ∷ more) rises entry among =
     (λ later. let next = above_low first.sequence more rises.2 entry later in omega (arith, next, rises.0))
     among
 
-above_or_not : (n m : ℕ) → (m < n) ⊎ (n ≤ m)
+pub above_or_not : (n m : ℕ) → (m < n) ⊎ (n ≤ m)
 above_or_not n m =
     ⊎_elim
     (λ below. inl (grind (arith, nat_tests)))

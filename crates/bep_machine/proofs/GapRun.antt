@@ -25,9 +25,9 @@ use Rattle.bep_machine.proofs.GapSteps.{step_exchanging}
 -- ---- where all links are down
 
 -- a device that has the folder is among those that share it
-is_among_others : (cluster : Cluster) → IsSound cluster → (device other : Device) (folder : Folder) (replica others : Replica) → Contains cluster.config.devices device → Contains cluster.config.devices other → device ≢ other →
+shares_with_other : (cluster : Cluster) → IsSound cluster → (device other : Device) (folder : Folder) (replica others : Replica) → Contains cluster.config.devices device → Contains cluster.config.devices other → device ≢ other →
     get (cluster.peer device).replicas folder ≡ Some replica → get (cluster.peer other).replicas folder ≡ Some others → Contains replica.others other
-is_among_others cluster sound device other folder replica others member member_too apart there there_too =
+shares_with_other cluster sound device other folder replica others member member_too apart there there_too =
     (((sound.peers device member).fit folder replica there).others other).1
     ((λ same. apart (sym same)), (others.kind, ((sound.peers other member_too).fit folder others there_too).kind))
 
@@ -37,7 +37,7 @@ apart_exchanging cluster sound parted = record {
     keeps_up = λ same.
         let fit = (sound.peers device member).fit folder replica there in
         parted.gapless device other folder replica others (replica.kind, fit.kind) there there_too
-        (is_among_others cluster sound device other folder replica others member member_too apart there there_too) same;
+        (shares_with_other cluster sound device other folder replica others member member_too apart there there_too) same;
     in_step = λ up. let never : true ≡ false = sym up ∙ down device other (nat_lt device other) in absurd (cc);
   };
   epochs = λ device other member apart. of_epoch device other (get (cluster.peer device).sessions other) refl;

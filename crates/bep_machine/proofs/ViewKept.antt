@@ -1,5 +1,5 @@
 -- A view of another device's index that becomes another sound view.
-use Rattle.std.proofs.Common.{◌≡◌, ◌==◌, ◌||◌, ℕ, Bool, true, false, List, [], ◌∷◌, Option, Some, None, Contains, IsTrue, unwrap_or, refl, sym, subst, ◌∙◌, ⊎_elim, eqb-true, true≢false}
+use Rattle.std.proofs.Common.{◌≡◌, ◌==◌, ℕ, true, List, Option, Some, None, Contains, IsTrue, unwrap_or, refl, sym, subst, ◌∙◌, ⊎_elim, eqb-true}
 use Rattle.std.specs.List.{list_any}
 use Rattle.std.specs.Ordering.{nat_cmp}
 use Rattle.std.specs.Cmp.{nat_cmp_total}
@@ -7,7 +7,6 @@ use Rattle.std.specs.Cmp.Lexicographic.{slice_cmp}
 use Rattle.std.specs.FinMap.{nat_cmp-IsAntisymmetric, empty, get}
 use Rattle.std.proofs.lemmas.Option.{same_Some}
 use Rattle.bep_facts.specs.Maps.{found_after_insert, nothing_in_empty}
-use Rattle.bep_facts.specs.Members.{Contains-first, Contains-more}
 use Rattle.bep_map.specs.NameMap.{ByName}
 use Rattle.bep_record.specs.declared.entry.Entry.{Entry}
 use Rattle.bep_index.specs.Listing.{Listing}
@@ -20,16 +19,14 @@ use Rattle.bep_machine.specs.Peer.{Peer, is_shared_with}
 use Rattle.bep_machine.specs.Exchange.{SharesWith}
 use Rattle.bep_machine.specs.Sound.{AreGood, AllGood, IsSoundView, IsSoundReplica}
 use Rattle.bep_machine.proofs.SoundParts.{SoundChange}
+use Rattle.bep_machine.proofs.LinkSteps.{member_from_any}
 
 -- ---- who shares the folder
 
-is_among_others : (other : Device) (others : List Device) → list_any (λ one. one == other) others ≡ true → Contains others other
-is_among_others other [] is = absurd (true≢false (sym is))
-is_among_others other (first ∷ more) is = cases (first == other) refl is (λ later. is_among_others other more later)
-  where
-    cases : (b : Bool) → (first == other) ≡ b → (b || list_any (λ one. one == other) more) ≡ true → (list_any (λ one. one == other) more ≡ true → Contains more other) → Contains (first ∷ more) other
-    cases true same e rest = subst (λ d. Contains (first ∷ more) d) (eqb-true first other same) (Contains-first first more)
-    cases false apart e rest = Contains-more first more other (rest e)
+pub is_among_others : (other : Device) (others : List Device) → list_any (λ one. one == other) others ≡ true → Contains others other
+is_among_others other others is =
+    let found = member_from_any (λ one. one == other) others is in
+    subst (λ (one : Device). Contains others one) (eqb-true found.0 other found.2) found.1
 
 pub is_other_of : (other : Device) (peer : Peer) (folder : Folder) (replica : Replica) → SharesWith other peer folder → get peer.replicas folder ≡ Some replica → Contains replica.others other
 is_other_of other peer folder replica shares is =
