@@ -1,12 +1,11 @@
 -- In a sound cluster the records of a message that a device takes were on their way to it, from a device that shares
 -- the folder.
-use Rattle.std.proofs.Common.{◌≡◌, ◌⊎◌, ◌==◌, ◌&&◌, ◌||◌, ℕ, Bool, true, false, List, [], Option, Some, None, IsSome, Contains, refl, sym, subst, ⊎_elim, if◌then◌else◌}
-use Rattle.std.proofs.lemmas.Bool.{eqb-true, eq-eqb}
+use Rattle.std.proofs.Common.{◌≡◌, ◌⊎◌, ◌==◌, ◌&&◌, ◌||◌, ℕ, Bool, true, false, List, [], Some, Contains, refl, sym, subst, ⊎_elim, if◌then◌else◌}
+use Rattle.std.proofs.lemmas.Bool.{eq-eqb}
 use Rattle.std.specs.List.{flat_map}
 use Rattle.std.specs.FinMap.{get}
 use Rattle.bep_facts.specs.Members.{Contains-first, Contains-flat_map}
 use Rattle.bep_record.specs.declared.entry.Entry.{Entry}
-use Rattle.bep_record.specs.declared.folder_kind.FolderKind.{FolderKind}
 use Rattle.bep_index.specs.After.{IsAmong}
 use Rattle.bep_index.specs.Laws.{AmongIsContained}
 use Rattle.bep_model.specs.declared.flight.Flight.{Flight}
@@ -19,10 +18,13 @@ use Rattle.bep_machine.specs.Peer.{Session}
 use Rattle.bep_machine.specs.Exchange.{SharesWith, IsNamed}
 use Rattle.bep_machine.specs.Cluster.{Config, Cluster, link_between}
 use Rattle.bep_machine.specs.Steps.{SharesFolder, AreLinked}
-use Rattle.bep_machine.specs.Said.{is_among, both_share, flight_when, flights_of, are_linked, on_its_way, tables_of_cluster}
+use Rattle.bep_machine.specs.Said.{both_share, flight_when, flights_of, are_linked, on_its_way, tables_of_cluster}
 use Rattle.bep_machine.specs.Sound.{IsSound, IsSoundPeer}
-use Rattle.bep_machine.proofs.LinkSteps.{any_from_member, member_from_any}
+use Rattle.bep_machine.proofs.FoundAfter.{value_of}
+use Rattle.bep_machine.proofs.LinkSteps.{any_from_member}
 use Rattle.bep_machine.proofs.LinkQueues.{queue_between, waiting_is_there}
+use Rattle.bep_machine.proofs.SaidReplicas.{shares_test}
+use Rattle.bep_machine.proofs.ViewKept.{is_among_others}
 
 both_true : (a b : Bool) → a ≡ true → b ≡ true → (a && b) ≡ true
 both_true true b first second = second
@@ -38,14 +40,6 @@ right_true false b second = second
 
 same_pair : (one other : ℕ) → ((one == one) && (other == other)) ≡ true
 same_pair one other = both_true (one == one) (other == other) (eq-eqb one one refl) (eq-eqb other other refl)
-
-some_of : {X : Type 0} (o : Option X) → IsSome o → (x : X) × (o ≡ Some x)
-some_of None has = absurd (cc)
-some_of (Some x) has = (x, refl)
-
-shares_test : (config : Config) (device : Device) (folder : Folder) → SharesFolder config device folder → is_among device (config.sharing folder) ≡ true
-shares_test config device folder shares =
-    any_from_member (λ (share : Device × FolderKind). share.0 == device) (config.sharing folder) (device, shares.0) shares.1 (eq-eqb device device refl)
 
 linked_test : (config : Config) (sender receiver : Device) → AreLinked config receiver sender → are_linked config sender receiver ≡ true
 linked_test config sender receiver linked =
@@ -68,14 +62,13 @@ module _ (among : AmongIsContained) (cluster : Cluster) (sound : IsSound cluster
 
   shares_with : (session : Session) (folder : Folder) → get (cluster.peer device).sessions other ≡ Some session → IsNamed session folder → SharesWith other (cluster.peer device) folder
   shares_with session folder is named =
-      let cursor = some_of (get session.cursors folder) named in
+      let cursor = value_of (get session.cursors folder) named in
       (peer_is_sound.sessions other session is).named folder cursor.0 cursor.1
 
   both_shares : (folder : Folder) → SharesWith other (cluster.peer device) folder → SharesFolder cluster.config other folder × SharesFolder cluster.config device folder
   both_shares folder shared =
       let fit = peer_is_sound.fit folder shared.0 shared.1 in
-      let found = member_from_any (λ one. one == other) shared.0.others shared.2 in
-      let member : Contains shared.0.others other = subst (λ one. Contains shared.0.others one) (eqb-true found.0 other found.2) found.1 in
+      let member = is_among_others other shared.0.others shared.2 in
       (((fit.others other).0 member).1, (shared.0.kind, fit.kind))
 
   flies : (message : Message) (flight : Flight) → Contains (queue_between cluster.link other device) message → Contains (flights_of cluster.config other device message) flight → Contains (on_its_way cluster other device) flight

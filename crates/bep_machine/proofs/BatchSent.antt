@@ -26,7 +26,7 @@ later_names records first low (next ∷ more) is below rises all = (apart, later
         let above = rises.0 in
         omega arith
 
-names_differ : (records : ByName Entry) (low : ℕ) (batch : List Entry) → Rises low batch → AreRecords records batch → NamesDiffer batch
+pub names_differ : (records : ByName Entry) (low : ℕ) (batch : List Entry) → Rises low batch → AreRecords records batch → NamesDiffer batch
 names_differ records low [] rises all = tt
 names_differ records low (first ∷ more) rises all =
     (later_names records first first.sequence more all.0 (le_refl first.sequence) rises.2 all.1, names_differ records first.sequence more rises.2 all.1)

@@ -1,5 +1,5 @@
 -- What each device's replicas and each link may do, so that the cluster makes a quiet move.
-use Rattle.std.proofs.Common.{◌≡◌, ◌⊎◌, false, Option, Some, Contains, refl, subst, inl, inr, ⊎_elim}
+use Rattle.std.proofs.Common.{◌≡◌, ◌⊎◌, Bool, true, false, Option, Some, None, Contains, refl, sym, subst, inl, inr, ⊎_elim, if◌then◌else◌}
 use Rattle.std.specs.FinMap.{get}
 use Rattle.bep_record.specs.declared.entry.Entry.{Entry}
 use Rattle.bep_record.specs.Node.{IsClean}
@@ -9,7 +9,7 @@ use Rattle.bep_model.specs.Foreign.{IsFlying, IsForeign}
 use Rattle.bep_model.specs.Calm.{Contents, IsCalm, SameFile}
 use Rattle.bep_machine.specs.Replica.{Replica, own_at, node_at, viewed_at, target_at}
 use Rattle.bep_machine.specs.Cluster.{Config, Cluster}
-use Rattle.bep_machine.specs.Said.{looked_up, on_its_way, tables_of_cluster}
+use Rattle.bep_machine.specs.Said.{is_among, replica_said, looked_up, on_its_way, tables_of_cluster}
 use Rattle.bep_machine.proofs.CalmParts.{GoesOn}
 use Rattle.bep_machine.proofs.CalmScan.{same_file}
 use Rattle.bep_machine.proofs.CalmTables.{HasDue, IsQuietMove}
@@ -36,6 +36,11 @@ quiet_where_same Comes replica = record {
   elsewhere = λ name entry was. inl was;
 }
 
+-- so what is told of it stays or changes so
+place_said : (Comes : FileName → Entry → Type 0) (shared : Bool) (old new : Option Replica) → IsQuietPlace Comes old new → IsQuietPlace Comes (if shared then old else None) (if shared then new else None)
+place_said Comes true old new place = place
+place_said Comes false old new place = quiet_where_same Comes None
+
 -- the records of a flight have the contents that are due
 abbrev pub AllDue : Contents → Flight → Type 0
 AllDue contents flight = (entry : Entry) → Contains flight.records entry → HasDue contents flight.folder entry.name entry
@@ -55,6 +60,11 @@ module _ (contents : Contents) (old new : Cluster) (parts : AreQuietParts conten
   shares_before : (device : Device) (folder : Folder) → Shares (tables_of_cluster new) device folder → Shares (tables_of_cluster old) device folder
   shares_before device folder shares = subst (λ (config : Config). Shares (record (tables_of_cluster new) { sharing = config.sharing }) device folder) parts.config shares
 
+  place : (device : Device) (folder : Folder) → IsQuietPlace (IsComing contents old device folder) (replica_said old device folder) (replica_said new device folder)
+  place device folder =
+      subst (λ (config : Config). IsQuietPlace (IsComing contents old device folder) (replica_said old device folder) (if is_among device (config.sharing folder) then get (new.peer device).replicas folder else None)) (sym parts.config)
+      (place_said (IsComing contents old device folder) (is_among device (old.config.sharing folder)) (get (old.peer device).replicas folder) (get (new.peer device).replicas folder) (parts.places device folder))
+
   flown_before : (device : Device) (folder : Folder) (name : FileName) (entry : Entry) → IsFlying (tables_of_cluster new) device folder name entry → IsComing contents old device folder name entry
   flown_before device folder name entry flying =
       ⊎_elim
@@ -69,12 +79,12 @@ module _ (contents : Contents) (old new : Cluster) (parts : AreQuietParts conten
       (λ due. inr due)
       coming
 
-  had_from : (device : Device) (folder : Folder) (name : FileName) (entry : Entry) → entry.invalid ≡ false → ElsewhereIn (get (new.peer device).replicas folder) name entry → IsForeign (tables_of_cluster old) device folder name entry ⊎ HasDue contents folder name entry
+  had_from : (device : Device) (folder : Folder) (name : FileName) (entry : Entry) → entry.invalid ≡ false → ElsewhereIn (replica_said new device folder) name entry → IsForeign (tables_of_cluster old) device folder name entry ⊎ HasDue contents folder name entry
   had_from device folder name entry valid has =
       ⊎_elim
       (λ was. inl (record { known_by = ⊎_elim (λ viewed. inl viewed) (λ target. inr (inr target)) was; valid = valid }))
       (λ coming. came_from device folder name entry valid coming)
-      ((parts.places device folder).elsewhere name entry has)
+      ((place device folder).elsewhere name entry has)
 
   foreign_before : (device : Device) (folder : Folder) (name : FileName) (entry : Entry) → IsForeign (tables_of_cluster new) device folder name entry → IsForeign (tables_of_cluster old) device folder name entry ⊎ HasDue contents folder name entry
   foreign_before device folder name entry foreign =
@@ -90,8 +100,8 @@ module _ (contents : Contents) (old new : Cluster) (parts : AreQuietParts conten
   pub move_of_parts : IsCalm (tables_of_cluster old) contents → IsQuietMove contents (tables_of_cluster old) (tables_of_cluster new)
   move_of_parts calm = record {
     shares = shares_before;
-    own = λ device folder name shares. (parts.places device folder).own name;
-    file = λ device folder name. (parts.places device folder).file name;
-    clean = λ device folder name shares. (parts.places device folder).clean name (calm device folder name shares).node;
+    own = λ device folder name shares. (place device folder).own name;
+    file = λ device folder name. (place device folder).file name;
+    clean = λ device folder name shares. (place device folder).clean name (calm device folder name shares).node;
     foreign = λ device folder name entry shares foreign. foreign_before device folder name entry foreign;
   }

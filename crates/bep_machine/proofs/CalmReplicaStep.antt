@@ -8,19 +8,23 @@ use Rattle.bep_model.specs.Calm.{Contents, content_due, OwnIsCalm, StoreIsCalm, 
 use Rattle.bep_machine.specs.Replica.{Replica, own_at, node_at, viewed_at, target_at}
 use Rattle.bep_machine.specs.Peer.{with_replica}
 use Rattle.bep_machine.specs.Cluster.{Cluster, with_peer}
-use Rattle.bep_machine.specs.Said.{looked_up, tables_of_cluster}
+use Rattle.bep_machine.specs.Said.{replica_said, looked_up, tables_of_cluster}
 use Rattle.bep_machine.proofs.CalmParts.{IsElsewhere, IsCalmReplica, IsQuietChange}
 use Rattle.bep_machine.proofs.CalmMoves.{IsQuietPlace, IsComing, AreQuietParts, quiet_where_same}
+use Rattle.bep_machine.proofs.SaidReplicas.{said_where_shared}
 use Rattle.bep_machine.proofs.Places.{each_name_after_insert, each_after_change}
 
 -- ---- a replica of a calm cluster
 
 module _ (contents : Contents) (cluster : Cluster) (calm : IsCalm (tables_of_cluster cluster) contents) (device : Device) (folder : Folder) (replica : Replica) (shares : Shares (tables_of_cluster cluster) device folder) (here : get (cluster.peer device).replicas folder ≡ Some replica) where
+  said : replica_said cluster device folder ≡ Some replica
+  said = said_where_shared cluster device folder shares ∙ here
+
   elsewhere_is_foreign : (name : FileName) (entry : Entry) → IsElsewhere replica name entry → entry.invalid ≡ false → IsForeign (tables_of_cluster cluster) device folder name entry
   elsewhere_is_foreign name entry has valid = record {
     known_by = ⊎_elim
-        (λ viewed. inl (viewed.0, ap (looked_up (λ one name. viewed_at one viewed.0 name) name) here ∙ viewed.1))
-        (λ target. inr (inr (ap (looked_up target_at name) here ∙ target)))
+        (λ viewed. inl (viewed.0, ap (looked_up (λ one name. viewed_at one viewed.0 name) name) said ∙ viewed.1))
+        (λ target. inr (inr (ap (looked_up target_at name) said ∙ target)))
         has;
     valid = valid;
   }
@@ -30,12 +34,12 @@ module _ (contents : Contents) (cluster : Cluster) (calm : IsCalm (tables_of_clu
   calm_replica name =
       let at = calm device folder name shares in
       record {
-        own = subst (λ one. OwnIsCalm (looked_up own_at name one) (content_due (contents folder name))) here at.own;
-        store = subst (λ one. StoreIsCalm (looked_up node_at name one) (content_due (contents folder name))) here at.store;
-        node = subst (λ one. NodeIsCalm (looked_up node_at name one) (looked_up own_at name one)) here at.node;
-        elsewhere = λ entry has valid. subst (λ one. IsHarmless (looked_up own_at name one) (content_due (contents folder name)) entry) here (at.foreign entry (elsewhere_is_foreign name entry has valid));
+        own = subst (λ one. OwnIsCalm (looked_up own_at name one) (content_due (contents folder name))) said at.own;
+        store = subst (λ one. StoreIsCalm (looked_up node_at name one) (content_due (contents folder name))) said at.store;
+        node = subst (λ one. NodeIsCalm (looked_up node_at name one) (looked_up own_at name one)) said at.node;
+        elsewhere = λ entry has valid. subst (λ one. IsHarmless (looked_up own_at name one) (content_due (contents folder name)) entry) said (at.foreign entry (elsewhere_is_foreign name entry has valid));
         unlisted = λ none. (
-          subst (λ one. looked_up own_at name one ≡ None) here (at.unlisted none).own,
+          subst (λ one. looked_up own_at name one ≡ None) said (at.unlisted none).own,
           λ entry has valid. (at.unlisted none).foreign entry (elsewhere_is_foreign name entry has valid),
         );
       }

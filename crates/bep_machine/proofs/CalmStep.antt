@@ -21,7 +21,7 @@ use Rattle.bep_machine.specs.Link.{Link}
 use Rattle.bep_machine.specs.Local.{ScanRow}
 use Rattle.bep_machine.specs.Pull.{StartPullRow, FinishRow}
 use Rattle.bep_machine.specs.Peer.{with_replica}
-use Rattle.bep_machine.specs.Cluster.{Cluster}
+use Rattle.bep_machine.specs.Cluster.{Cluster, with_peer}
 use Rattle.bep_machine.specs.Steps.{SharesFolder, IsThere, AtReplica, StepRow, IsStep, IsQuiet}
 use Rattle.bep_machine.specs.Said.{looked_up, both_share, flight_when, flights_of, are_linked, tables_of_cluster}
 use Rattle.bep_machine.specs.Sound.{IsSound, IsSoundReplica}
@@ -31,6 +31,7 @@ use Rattle.bep_machine.proofs.CalmParts.{IsCalmReplica, IsQuietChange}
 use Rattle.bep_machine.proofs.CalmTables.{HasDue, calm_after_move, kept_after_move}
 use Rattle.bep_machine.proofs.CalmMoves.{AllDue, IsComing, AreQuietParts, move_of_parts}
 use Rattle.bep_machine.proofs.CalmReplicaStep.{calm_replica, quiet_parts_of_change}
+use Rattle.bep_machine.proofs.SaidReplicas.{said_where_shared, records_said}
 use Rattle.bep_machine.proofs.Places.{each_name_after_insert, each_after_change}
 use Rattle.bep_machine.proofs.CalmRows.{at_becomes}
 use Rattle.bep_machine.proofs.CalmScan.{scan_is_quiet}
@@ -54,7 +55,7 @@ module _ (among : AmongIsContained) (contents : Contents) (cluster : Cluster) (s
   own_is_due device folder replica entry there here own =
       let fit = (sound.peers device there).fit folder replica here in
       let at = calm device folder entry.name (replica.kind, fit.kind) in
-      let has : (tables_of_cluster cluster).own device folder entry.name ≡ Some entry = ap (looked_up own_at entry.name) here ∙ own in
+      let has : (tables_of_cluster cluster).own device folder entry.name ≡ Some entry = ap (looked_up own_at entry.name) (said_where_shared cluster device folder (replica.kind, fit.kind) ∙ here) ∙ own in
       let of_due : OwnIsCalm (Some entry) (content_due (contents folder entry.name)) = subst (λ one. OwnIsCalm one (content_due (contents folder entry.name))) has at.own in
       due_content (contents folder entry.name) (content_of entry) of_due.1
       (λ none. let nothing = (at.unlisted none).own in absurd (cc))
@@ -129,6 +130,7 @@ replica_keeps_calm contents old new device folder row answer quiet sound calm sh
 replica_keeps_records : (old new : Cluster) (device : Device) (folder : Folder) (row : Replica → Row Replica) (answer : Answer) → RowKeepsOwn row → AtReplica device folder row old new answer → KeepsRecords (tables_of_cluster old) (tables_of_cluster new)
 replica_keeps_records old new device folder row answer keeps made =
     subst (λ one. KeepsRecords (tables_of_cluster old) (tables_of_cluster one)) (sym made.4)
+    (records_said old (with_peer old device (with_replica (old.peer device) folder made.1)) refl
     (each_after_change (λ one peer. (in_folder : Folder) (name : FileName) → IsSome (looked_up own_at name (get (old.peer one).replicas in_folder)) → IsSome (looked_up own_at name (get peer.replicas in_folder)))
     old.peer device (with_replica (old.peer device) folder made.1)
     (each_name_after_insert (λ in_folder replica. (name : FileName) → IsSome (looked_up own_at name (get (old.peer device).replicas in_folder)) → IsSome (looked_up own_at name replica))
@@ -136,10 +138,11 @@ replica_keeps_records old new device folder row answer keeps made =
     (subst (λ replica. (name : FileName) → IsSome (looked_up own_at name replica) → IsSome (own_at made.1 name)) (sym made.2)
     (λ name has. keeps made.0 made.1 answer made.3 name has))
     (λ in_folder name has. has))
-    (λ one in_folder name has. has))
+    (λ one in_folder name has. has)))
 
 reading_keeps_records : (old new : Cluster) → IsReadingStep old new → KeepsRecords (tables_of_cluster old) (tables_of_cluster new)
-reading_keeps_records old new step device folder name has = subst (λ own. IsSome own) (sym ((step.reads device folder).own name)) has
+reading_keeps_records old new step =
+    records_said old new step.config (λ device folder name has. subst (λ own. IsSome own) (sym ((step.reads device folder).own name)) has)
 
 -- ---- the laws
 

@@ -8,7 +8,7 @@ use Rattle.bep_map.specs.NameMap.{ByName}
 use Rattle.bep_index.specs.Listing.{Listing}
 use Rattle.bep_index.specs.View.{IsView, cleared}
 use Rattle.bep_index.specs.declared.send.Plan.{Plan}
-use Rattle.bep_index.proofs.BatchFacts.{IsView-cleared}
+use Rattle.bep_index.specs.Laws.{ClearedIsView}
 use Rattle.bep_model.specs.Tables.{Device, Folder}
 use Rattle.bep_machine.specs.declared.message.Announced.{Announced}
 use Rattle.bep_machine.specs.Replica.{Replica, view_of, with_view}
@@ -23,18 +23,18 @@ use Rattle.bep_machine.proofs.ViewKept.{is_other_of, none_is_good, view_is_sound
 
 -- ---- views under the announced ids
 
-known_is_sound : (id : ℕ) (view : Listing) → IsView view × AreGood view.records → IsView (known_under id view) × AreGood (known_under id view).records
-known_is_sound id view sound = cases (view.id == id)
+known_is_sound : ClearedIsView → (id : ℕ) (view : Listing) → IsView view × AreGood view.records → IsView (known_under id view) × AreGood (known_under id view).records
+known_is_sound cleared_is_view id view sound = cases (view.id == id)
   where
     cases : (b : Bool) → IsView (if b then view else cleared id) × AreGood (if b then view else cleared id).records
     cases true = sound
-    cases false = (IsView-cleared id, none_is_good id)
+    cases false = (cleared_is_view id, none_is_good id)
 
-renewed_keeps : (device other : Device) (one : Announced) (peer : Peer) (o : Option Replica) → AllSound device peer.replicas → get peer.replicas one.folder ≡ o → SharesWith other peer one.folder
+renewed_keeps : ClearedIsView → (device other : Device) (one : Announced) (peer : Peer) (o : Option Replica) → AllSound device peer.replicas → get peer.replicas one.folder ≡ o → SharesWith other peer one.folder
     → KeepsFolders device peer.replicas (renewed other one o peer.replicas)
-renewed_keeps device other one peer None all is shares = KeepsFolders-refl device peer.replicas all
-renewed_keeps device other one peer (Some replica) all is shares =
-    let known = known_is_sound one.index_id (view_of replica other) (view_is_sound device other replica (all one.folder replica is)) in
+renewed_keeps cleared_is_view device other one peer None all is shares = KeepsFolders-refl device peer.replicas all
+renewed_keeps cleared_is_view device other one peer (Some replica) all is shares =
+    let known = known_is_sound cleared_is_view one.index_id (view_of replica other) (view_is_sound cleared_is_view device other replica (all one.folder replica is)) in
     KeepsFolders-insert device peer.replicas one.folder replica (with_view replica other (known_under one.index_id (view_of replica other))) all is
     (with_view_changes device other replica (known_under one.index_id (view_of replica other)) (all one.folder replica is) (is_other_of other peer one.folder replica shares is) known.0 known.1)
 
@@ -42,12 +42,12 @@ names_still : (device other : Device) (named : List Announced) (old new : Peer) 
 names_still device other [] old new keeps shared = tt
 names_still device other (one ∷ more) old new keeps shared = (shares_still device other old new one.folder keeps shared.0, names_still device other more old new keeps shared.1)
 
-all_renewed_keeps : (device other : Device) (named : List Announced) (peer : Peer) → AllSound device peer.replicas → NamesShared other peer named → KeepsFolders device peer.replicas (all_renewed other named peer.replicas)
-all_renewed_keeps device other [] peer all shared = KeepsFolders-refl device peer.replicas all
-all_renewed_keeps device other (one ∷ more) peer all shared =
+all_renewed_keeps : ClearedIsView → (device other : Device) (named : List Announced) (peer : Peer) → AllSound device peer.replicas → NamesShared other peer named → KeepsFolders device peer.replicas (all_renewed other named peer.replicas)
+all_renewed_keeps cleared_is_view device other [] peer all shared = KeepsFolders-refl device peer.replicas all
+all_renewed_keeps cleared_is_view device other (one ∷ more) peer all shared =
     let next : Peer = record peer { replicas = renewed other one (get peer.replicas one.folder) peer.replicas } in
-    let first : KeepsFolders device peer.replicas next.replicas = renewed_keeps device other one peer (get peer.replicas one.folder) all refl shared.0 in
-    let rest = all_renewed_keeps device other more next (AllSound_after device peer.replicas next.replicas first) (names_still device other more peer next first shared.1) in
+    let first : KeepsFolders device peer.replicas next.replicas = renewed_keeps cleared_is_view device other one peer (get peer.replicas one.folder) all refl shared.0 in
+    let rest = all_renewed_keeps cleared_is_view device other more next (AllSound_after device peer.replicas next.replicas first) (names_still device other more peer next first shared.1) in
     KeepsFolders-trans device peer.replicas next.replicas (all_renewed other more next.replicas) first rest
 
 -- ---- cursors of the named folders
@@ -67,10 +67,10 @@ cursors_within other peer (one ∷ more) replicas cursors old shared folder curs
 
 -- ---- the whole
 
-pub configured_is_sound : (config : Config) (device other : Device) (session : Session) (named : List Announced) (old : Peer) → IsSoundPeer config device old → IsSoundSession other old session → NamesShared other old named
+pub configured_is_sound : ClearedIsView → (config : Config) (device other : Device) (session : Session) (named : List Announced) (old : Peer) → IsSoundPeer config device old → IsSoundSession other old session → NamesShared other old named
     → IsSoundPeer config device (configured_by other session named old)
-configured_is_sound config device other session named old sound one shared =
-    let keeps = all_renewed_keeps device other named old sound.replicas shared in
+configured_is_sound cleared_is_view config device other session named old sound one shared =
+    let keeps = all_renewed_keeps cleared_is_view device other named old sound.replicas shared in
     let new : Peer = record old { replicas = all_renewed other named old.replicas } in
     sound_with_session config device other new (record session { configured = true; cursors = cursors_for named old.replicas empty })
     (sound_with_folders config device old (all_renewed other named old.replicas) sound keeps)

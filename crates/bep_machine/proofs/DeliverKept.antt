@@ -4,8 +4,6 @@ use Rattle.std.specs.FinMap.{get, len}
 use Rattle.bep_index.specs.Listing.{Listing}
 use Rattle.bep_index.specs.View.{IsView, replaced, amended}
 use Rattle.bep_index.specs.declared.limits.TheConstants.{MAX_NAMES}
-use Rattle.bep_index.specs.Laws.{FoundIsOfBatchOrBefore}
-use Rattle.bep_index.proofs.BatchFacts.{IsView-replaced, IsView-amended}
 use Rattle.bep_model.specs.Tables.{Device, Folder}
 use Rattle.bep_machine.specs.declared.message.Message.{Message}
 use Rattle.bep_machine.specs.declared.message.Message.TheVariants as messages
@@ -17,6 +15,7 @@ use Rattle.bep_machine.specs.Peer.{Session, Peer, Acted, with_replica}
 use Rattle.bep_machine.specs.Exchange.{SharesWith, IsNamed, ViewRow, RequestRow, MessageRow, WaitingRow, DeliverRow, configured_by}
 use Rattle.bep_machine.specs.Cluster.{Config}
 use Rattle.bep_machine.specs.Sound.{AreGood, IsSoundMessage, IsSoundSession, IsSoundPeer}
+use Rattle.bep_machine.proofs.LowerLaws.{LowerLaws}
 use Rattle.bep_machine.proofs.FoundAfter.{value_of}
 use Rattle.bep_machine.proofs.LinkKept.{one_sent}
 use Rattle.bep_machine.proofs.PeerKept.{sound_with_replica}
@@ -28,7 +27,7 @@ use Rattle.bep_machine.proofs.ReceivedKept.{response_keeps}
 named_is_shared : (other : Device) (peer : Peer) (session : Session) (folder : Folder) → IsSoundSession other peer session → IsNamed session folder → SharesWith other peer folder
 named_is_shared other peer session folder one named = let cursor = value_of (get session.cursors folder) named in one.named folder cursor.0 cursor.1
 
-module _ (law : FoundIsOfBatchOrBefore) (config : Config) (device other : Device) (sight : Sight) (session : Session) (old : Peer) (acted : Acted) (answer : Answer)
+module _ (laws : LowerLaws) (config : Config) (device other : Device) (sight : Sight) (session : Session) (old : Peer) (acted : Acted) (answer : Answer)
     (sound : IsSoundPeer config device old) (one : IsSoundSession other old session) (up : ¬ (sight.up ≡ false)) where
   view_keeps : (folder : Folder) (view : Listing) (replica : Replica) → get old.replicas folder ≡ Some replica → SharesWith other old folder
       → (len view.records ≤ MAX_NAMES → IsView view) → AreGood view.records → ViewRow other folder view replica old acted answer → SoundActed config device sight acted
@@ -47,17 +46,17 @@ module _ (law : FoundIsOfBatchOrBefore) (config : Config) (device other : Device
 
   message_keeps : (failed : Option ℕ) (message : Message) → IsSoundMessage message → MessageRow other failed sight.full session message old acted answer → SoundActed config device sight acted
   message_keeps failed (messages.ClusterConfig named) good (inl (is, made)) =
-      took config device sight (configured_by other session named old) acted (configured_is_sound config device other session named old sound one is.shared) made.0
+      took config device sight (configured_by other session named old) acted (configured_is_sound laws.cleared_is_view config device other session named old sound one is.shared) made.0
   message_keeps failed (messages.ClusterConfig named) good (inr (bad, made)) = gave_up config device sight old acted sound made.0
   message_keeps failed (messages.Index folder batch) good (inl (named, (replica, is, row))) =
       view_keeps folder (replaced (view_of replica other) batch) replica is (named_is_shared other old session folder one named)
-      (λ few. IsView-replaced (view_of replica other) batch good.0) (only_these_are_good law batch good.1) row
+      (λ few. laws.replaced_is_view (view_of replica other) batch good.0) (only_these_are_good laws.batch_found batch good.1) row
   message_keeps failed (messages.Index folder batch) good (inr (bad, made)) = gave_up config device sight old acted sound made.0
   message_keeps failed (messages.IndexUpdate folder batch) good (inl (named, (replica, is, inl (before, made)))) = gave_up config device sight old acted sound made.0
   message_keeps failed (messages.IndexUpdate folder batch) good (inl (named, (replica, is, inr (later, row)))) =
-      let had = view_is_sound device other replica (sound.replicas folder replica is) in
+      let had = view_is_sound laws.cleared_is_view device other replica (sound.replicas folder replica is) in
       view_keeps folder (amended (view_of replica other) batch) replica is (named_is_shared other old session folder one named)
-      (λ few. IsView-amended (view_of replica other) batch had.0 good.0 later few) (all_are_good law (view_of replica other).records batch had.1 good.1) row
+      (λ few. laws.amended_is_view (view_of replica other) batch had.0 good.0 later few) (all_are_good laws.batch_found (view_of replica other).records batch had.1 good.1) row
   message_keeps failed (messages.IndexUpdate folder batch) good (inr (bad, made)) = gave_up config device sight old acted sound made.0
   message_keeps failed (messages.Request request) good (inl (named, (replica, is, row))) = request_keeps request failed replica row
   message_keeps failed (messages.Request request) good (inr (bad, made)) = gave_up config device sight old acted sound made.0
@@ -67,8 +66,8 @@ module _ (law : FoundIsOfBatchOrBefore) (config : Config) (device other : Device
   waiting_keeps failed None waits made = stayed config device sight old acted sound made.0
   waiting_keeps failed (Some message) waits row = message_keeps failed message (waits message refl) row
 
-pub deliver_keeps : FoundIsOfBatchOrBefore → (config : Config) (device other : Device) (failed : Option ℕ) → KeepsPeer config device (DeliverRow other failed)
-deliver_keeps law config device other failed sight old acted answer sound waits row =
+pub deliver_keeps : LowerLaws → (config : Config) (device other : Device) (failed : Option ℕ) → KeepsPeer config device (DeliverRow other failed)
+deliver_keeps laws config device other failed sight old acted answer sound waits row =
     in_session config device sight other old (λ session. WaitingRow other failed sight.full session sight.waiting old) acted answer sound
-    (λ session one up made. waiting_keeps law config device other sight session old acted answer sound one up failed sight.waiting waits made)
+    (λ session one up made. waiting_keeps laws config device other sight session old acted answer sound one up failed sight.waiting waits made)
     row

@@ -12,9 +12,10 @@ use Rattle.bep_machine.specs.declared.message.Message.{Message}
 use Rattle.bep_machine.specs.Replica.{ByDevice, Replica, view_of}
 use Rattle.bep_machine.specs.Link.{End, Lower, Upper, Link, end_of, queue_to, queue_from, connected, after_deed}
 use Rattle.bep_machine.specs.Peer.{Session, Peer, Acted}
+use Rattle.bep_machine.specs.Gapless.{HasNoGap}
 use Rattle.bep_machine.specs.Cluster.{Cluster, link_between, with_link_between, with_peer}
 use Rattle.bep_machine.specs.Sound.{IsSound}
-use Rattle.bep_machine.proofs.GapFacts.{KeepsUp, keeps_up_after_put}
+use Rattle.bep_machine.proofs.GapFacts.{keeps_up_after_put}
 use Rattle.bep_machine.proofs.GapMoves.{in_step_after_put, in_step_anew}
 use Rattle.bep_machine.proofs.GapPair.{cursor_at, cursor_of_another, IsBetween, between_in_step, OfBoth, IsOfEpoch, KeepsExchange}
 use Rattle.bep_machine.proofs.GapRows.{IsGrown}
@@ -263,7 +264,7 @@ not_yet epoch folder (Some session) is =
     epoch_of None = 0
     epoch_of (Some one) = one.epoch
 
-anew : (folder : Folder) (end : End) (link : Link) (index view : Listing) (sender receiver : Option Session) → IsOfEpoch link.epoch sender → IsOfEpoch link.epoch receiver → (view.id ≡ index.id → KeepsUp index view) → IsPair folder end (connected link) index view sender receiver
+anew : (folder : Folder) (end : End) (link : Link) (index view : Listing) (sender receiver : Option Session) → IsOfEpoch link.epoch sender → IsOfEpoch link.epoch receiver → (view.id ≡ index.id → HasNoGap index view) → IsPair folder end (connected link) index view sender receiver
 anew folder end link index view sender receiver sends receives keeps =
     subst (λ (cursor : Option Plan). IsBetween folder true index view cursor (cursor_at (link.epoch + 1) folder receiver) (queue_to end (connected link)) (queue_from end (connected link))) (sym (not_yet link.epoch folder sender sends))
     (subst (λ (named : Option Plan). IsBetween folder true index view None named (queue_to end (connected link)) (queue_from end (connected link))) (sym (not_yet link.epoch folder receiver receives))

@@ -17,12 +17,8 @@ use Rattle.bep_index.specs.View.{replaced, amended}
 use Rattle.bep_index.specs.Laws.{FoundIsOfBatchOrBefore, BatchIsFound, OthersAreKept}
 use Rattle.bep_model.specs.Tables.{FileName}
 use Rattle.bep_machine.specs.Gapless.{HasNoGap}
+use Rattle.bep_machine.proofs.BatchSent.{names_differ}
 use Rattle.bep_machine.proofs.ReplicaFacts.{same_name_or_not}
-
--- a view without a gap, which isn't ahead of the index
-pub record KeepsUp (index view : Listing) : Type 0 where
-  pub no_gap : HasNoGap index view
-  pub behind : view.sequence ≤ index.sequence
 
 -- A batch that was sent, of what came after a sequence: what is still there of these sequences is in it, and nothing in
 -- it is newer than the index.
@@ -55,19 +51,17 @@ not_older_after_put index put is_index name now there =
     (λ apart. (now, get-insert_apart nat_list_cmp_total exact_bytes index.records put.name (numbered put (index.sequence + 1)) name apart ∙ there, omega arith))
     (same_name_or_not name put.name)
 
-pub keeps_up_after_put : (index view : Listing) (put : Entry) → IsIndex index → KeepsUp index view → KeepsUp (after_put index put) view
+pub keeps_up_after_put : (index view : Listing) (put : Entry) → IsIndex index → HasNoGap index view → HasNoGap (after_put index put) view
 keeps_up_after_put index view put is_index keeps = record {
-  no_gap = record {
-    held = λ name entry found small.
-        ⊎_elim
-        (λ new. let e : entry.sequence ≡ index.sequence + 1 = ap (λ (x : Entry). x.sequence) new.1 in absurd (omega (arith, e, small, keeps.behind)))
-        (λ old. keeps.no_gap.held name entry old small)
-        (found_after_put index put name entry found);
-    named = λ name entry seen.
-        let present = keeps.no_gap.named name entry seen in
-        let later = not_older_after_put index put is_index name present.0 present.1 in
-        (later.0, later.1, omega (arith, present.2, later.2));
-  };
+  held = λ name entry found small.
+      ⊎_elim
+      (λ new. let e : entry.sequence ≡ index.sequence + 1 = ap (λ (x : Entry). x.sequence) new.1 in absurd (omega (arith, e, small, keeps.behind)))
+      (λ old. keeps.held name entry old small)
+      (found_after_put index put name entry found);
+  named = λ name entry seen.
+      let present = keeps.named name entry seen in
+      let later = not_older_after_put index put is_index name present.0 present.1 in
+      (later.0, later.1, omega (arith, present.2, later.2));
   behind = omega (arith, keeps.behind);
 }
 
@@ -96,21 +90,6 @@ some_sequence one other same = ap sequence_of same
     sequence_of None = 0
     sequence_of (Some entry) = entry.sequence
 
--- records of an index whose numbers rise have different names
-none_named : (index : Listing) (first : Entry) (low : ℕ) (batch : List Entry) → get index.records first.name ≡ Some first → first.sequence ≤ low → AreRecords index.records batch → Rises low batch → HasNo first.name batch
-none_named index first low [] here small all rises = tt
-none_named index first low (entry ∷ more) here small all rises = (
-  λ same.
-      let equal = some_sequence entry first (sym all.0 ∙ ap (get index.records) same ∙ here) in
-      absurd (omega (arith, equal, small, rises.0)),
-  none_named index first entry.sequence more here (omega (arith, small, rises.0)) all.1 rises.2,
-)
-
-records_differ : (index : Listing) (low : ℕ) (batch : List Entry) → AreRecords index.records batch → Rises low batch → NamesDiffer batch
-records_differ index low [] all rises = tt
-records_differ index low (first ∷ more) all rises =
-    (none_named index first first.sequence more all.0 (omega arith) all.1 rises.2, records_differ index first.sequence more all.1 rises.2)
-
 recorded : (index : Listing) (batch : List Entry) → AreRecords index.records batch → (entry : Entry) → IsAmong entry batch → get index.records entry.name ≡ Some entry
 recorded index [] all entry among = absurd among
 recorded index (first ∷ more) all entry among =
@@ -131,7 +110,7 @@ sent_when_announced index low limit batch is_index given after = record {
       after.run.whole entry (subst (λ (n : FileName). get index.records n ≡ Some entry) (sym named) found) above small;
   present = λ entry among. (entry, recorded index batch after.run.recorded entry among, omega arith);
   rises = after.run.rises;
-  differ = records_differ index low batch after.run.recorded after.run.rises;
+  differ = names_differ index.records low batch after.run.rises after.run.recorded;
   behind = last_is_given index low batch is_index given after.run.recorded;
 }
 
@@ -145,7 +124,7 @@ above_low low (first ∷ more) rises entry among =
     (λ later. let next = above_low first.sequence more rises.2 entry later in omega (arith, next, rises.0))
     among
 
-above_or_not : (n m : ℕ) → (m < n) ⊎ (n ≤ m)
+pub above_or_not : (n m : ℕ) → (m < n) ⊎ (n ≤ m)
 above_or_not n m =
     ⊎_elim
     (λ below. inl (grind (arith, nat_tests)))
@@ -166,9 +145,10 @@ named_or_not name (first ∷ more) =
     (same_name_or_not first.name name)
 
 module _ (found : FoundIsOfBatchOrBefore) (taken : BatchIsFound) (others : OthersAreKept) where
-  pub keeps_up_when_amended : (index view : Listing) (batch : List Entry) → IsIndex index → KeepsUp index view → IsSent index view.sequence batch → KeepsUp index (amended view batch)
+  pub keeps_up_when_amended : (index view : Listing) (batch : List Entry) → IsIndex index → HasNoGap index view → IsSent index view.sequence batch → HasNoGap index (amended view batch)
   keeps_up_when_amended index view batch is_index keeps sent = record {
-    no_gap = record { held = held; named = named };
+    held = held;
+    named = named;
     behind = sent.behind;
   }
     where
@@ -186,7 +166,7 @@ module _ (found : FoundIsOfBatchOrBefore) (taken : BatchIsFound) (others : Other
           let same : Some now.0 ≡ Some entry = sym now.1 ∙ ap (get index.records) one.2 ∙ there in
           let sequence : now.0.sequence ≡ entry.sequence = some_sequence now.0 entry same in
           absurd (omega (arith, now.2, above, old, sequence)))
-          (λ none. others view.records batch name none ∙ keeps.no_gap.held name entry there old)
+          (λ none. others view.records batch name none ∙ keeps.held name entry there old)
           (named_or_not name batch))
           (above_or_not entry.sequence view.sequence)
 
@@ -194,13 +174,14 @@ module _ (found : FoundIsOfBatchOrBefore) (taken : BatchIsFound) (others : Other
       named name entry seen =
           ⊎_elim
           (λ of_batch. subst (λ (n : FileName). (present : Entry) × (get index.records n ≡ Some present) × (entry.sequence ≤ present.sequence)) of_batch.1 (sent.present entry of_batch.0))
-          (λ before. keeps.no_gap.named name entry before.1)
+          (λ before. keeps.named name entry before.1)
           (found view.records batch name entry seen)
 
   -- an Index takes the place of all that was known: as an update of nothing
-  pub keeps_up_when_replaced : (index view : Listing) (batch : List Entry) → IsIndex index → IsSent index 0 batch → KeepsUp index (replaced view batch)
+  pub keeps_up_when_replaced : (index view : Listing) (batch : List Entry) → IsIndex index → IsSent index 0 batch → HasNoGap index (replaced view batch)
   keeps_up_when_replaced index view batch is_index sent = record {
-    no_gap = record { held = held; named = named };
+    held = held;
+    named = named;
     behind = sent.behind;
   }
     where

@@ -12,7 +12,8 @@ use Rattle.bep_machine.specs.declared.message.Message.{Message}
 use Rattle.bep_machine.specs.declared.message.Message.TheVariants as messages
 use Rattle.bep_machine.specs.declared.message.Announced.{Announced}
 use Rattle.bep_machine.specs.Exchange.{same_bytes}
-use Rattle.bep_machine.proofs.GapFacts.{KeepsUp, IsSent, sent_after_put}
+use Rattle.bep_machine.specs.Gapless.{HasNoGap}
+use Rattle.bep_machine.proofs.GapFacts.{IsSent, sent_after_put}
 
 -- what a message is to a folder: all of an index, more of it, or nothing of it
 pub data Part : Type 0 where
@@ -130,7 +131,7 @@ IsFlow folder index start queue (Some (Above end)) = Flows folder index start qu
 -- the sender's index and cursor, what is on its way to the receiver, the receiver's view, what is on its way back, and
 -- that the receiver's session names the folder
 pub record IsInStep (folder : Folder) (index view : Listing) (cursor : Option Plan) (Named : Type 0) (queue back : List Message) : Type 0 where
-  pub keeps_up : view.id ≡ index.id → KeepsUp index view
+  pub keeps_up : view.id ≡ index.id → HasNoGap index view
   pub flow : IsFlow folder index (start_of index view) queue cursor
   pub ids : ConfigsSay folder (SaysId index) queue
   pub points : cursor ≡ None → ConfigsSay folder (SaysPoint index view) back

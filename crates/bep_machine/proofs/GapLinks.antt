@@ -2,9 +2,10 @@
 use Rattle.std.proofs.Common.{◌≡◌, ◌≢◌, ◌==◌, ◌&&◌, Bool, true, false, nat_lt, if◌then◌else◌, refl, arith, eqb-true}
 use Rattle.std.proofs.lemmas.Bool.{ltb-true, ltb-false}
 use Rattle.std.proofs.lemmas.Bool.Decides.{nat_tests}
-use Rattle.std.specs.Prelude.{Option}
+use Rattle.std.specs.Prelude.{ℕ, List, Option}
 use Rattle.bep_index.specs.Listing.{Listing}
 use Rattle.bep_model.specs.Tables.{Device, Folder}
+use Rattle.bep_machine.specs.declared.message.Message.{Message}
 use Rattle.bep_machine.specs.Link.{End, Lower, Upper, Link, Deed, end_of, queue_to, queue_from, after_deed}
 use Rattle.bep_machine.specs.Peer.{Session, Peer}
 use Rattle.bep_machine.specs.Cluster.{Cluster, link_between, with_link, with_link_between, with_peer}
@@ -24,64 +25,55 @@ IsPairFrom folder end link index view sender receiver =
 
 -- ---- the two ends
 
+-- of two devices one is the lower
+one_is_lower : (P : Bool → Bool → Type 0) (device other : Device) → device ≢ other → P true false → P false true → P (nat_lt device other) (nat_lt other device)
+one_is_lower P device other apart lower upper = cases (nat_lt device other) (nat_lt other device) refl refl
+  where
+    cases : (a b : Bool) → nat_lt device other ≡ a → nat_lt other device ≡ b → P a b
+    cases true true less more = absurd (let one = ltb-true device other less in let two = ltb-true other device more in omega arith)
+    cases true false less more = lower
+    cases false true less more = upper
+    cases false false less more = absurd (apart (let one = ltb-false device other less in let two = ltb-false other device more in omega arith))
+
 module _ (folder : Folder) (device other : Device) (apart : device ≢ other) (link : Link) (index view : Listing) (sender receiver : Option Session) where
   pub seen_from_here : IsPair folder (end_of other device) link index view sender receiver → IsPairFrom folder (end_of device other) link index view sender receiver
-  seen_from_here = cases (nat_lt device other) (nat_lt other device) refl refl
-    where
-      cases : (a b : Bool) → nat_lt device other ≡ a → nat_lt other device ≡ b → IsPair folder (if b then Lower else Upper) link index view sender receiver → IsPairFrom folder (if a then Lower else Upper) link index view sender receiver
-      cases true true less more pair = absurd (let one = ltb-true device other less in let two = ltb-true other device more in omega arith)
-      cases true false less more pair = pair
-      cases false true less more pair = pair
-      cases false false less more pair = absurd (apart (let one = ltb-false device other less in let two = ltb-false other device more in omega arith))
+  seen_from_here =
+      one_is_lower (λ a b. IsPair folder (if b then Lower else Upper) link index view sender receiver → IsPairFrom folder (if a then Lower else Upper) link index view sender receiver) device other apart
+      (λ pair. pair) (λ pair. pair)
 
   pub seen_from_there : IsPairFrom folder (end_of device other) link index view sender receiver → IsPair folder (end_of other device) link index view sender receiver
-  seen_from_there = cases (nat_lt device other) (nat_lt other device) refl refl
-    where
-      cases : (a b : Bool) → nat_lt device other ≡ a → nat_lt other device ≡ b → IsPairFrom folder (if a then Lower else Upper) link index view sender receiver → IsPair folder (if b then Lower else Upper) link index view sender receiver
-      cases true true less more pair = absurd (let one = ltb-true device other less in let two = ltb-true other device more in omega arith)
-      cases true false less more pair = pair
-      cases false true less more pair = pair
-      cases false false less more pair = absurd (apart (let one = ltb-false device other less in let two = ltb-false other device more in omega arith))
+  seen_from_there =
+      one_is_lower (λ a b. IsPairFrom folder (if a then Lower else Upper) link index view sender receiver → IsPair folder (if b then Lower else Upper) link index view sender receiver) device other apart
+      (λ pair. pair) (λ pair. pair)
 
 pub link_swap : (cluster : Cluster) (device other : Device) → device ≢ other → link_between cluster other device ≡ link_between cluster device other
-link_swap cluster device other apart = cases (nat_lt device other) (nat_lt other device) refl refl
-  where
-    cases : (a b : Bool) → nat_lt device other ≡ a → nat_lt other device ≡ b → (if b then cluster.link other device else cluster.link device other) ≡ (if a then cluster.link device other else cluster.link other device)
-    cases true true less more = absurd (let one = ltb-true device other less in let two = ltb-true other device more in omega arith)
-    cases true false less more = refl
-    cases false true less more = refl
-    cases false false less more = absurd (apart (let one = ltb-false device other less in let two = ltb-false other device more in omega arith))
+link_swap cluster device other apart =
+    one_is_lower (λ a b. (if b then cluster.link other device else cluster.link device other) ≡ (if a then cluster.link device other else cluster.link other device)) device other apart refl refl
 
 -- ---- after a deed
 
+-- what is so of the epoch, of whether the link is up and of what is on its way both ways
+link_after_deed : (P : ℕ → Bool → List Message → List Message → Type 0) (end : End) (deed : Deed) (link : Link) →
+    P link.epoch (up_after deed link.up) (queue_after deed (queue_to end link)) (back_after deed (queue_from end link)) →
+    P (after_deed end deed link).epoch (after_deed end deed link).up (queue_to end (after_deed end deed link)) (queue_from end (after_deed end deed link))
+link_after_deed P end deed link = cases deed.loses end
+  where
+    cases : (b : Bool) (end : End) → P link.epoch (up_after (record deed { loses = b }) link.up) (queue_after (record deed { loses = b }) (queue_to end link)) (back_after (record deed { loses = b }) (queue_from end link)) →
+        P (after_deed end (record deed { loses = b }) link).epoch (after_deed end (record deed { loses = b }) link).up (queue_to end (after_deed end (record deed { loses = b }) link)) (queue_from end (after_deed end (record deed { loses = b }) link))
+    cases true Lower holds = holds
+    cases true Upper holds = holds
+    cases false Lower holds = holds
+    cases false Upper holds = holds
+
 module _ (folder : Folder) (end : End) (link : Link) (index view : Listing) (sender receiver : Option Session) where
   pub pair_after_deed : (deed : Deed) → IsBetween folder (up_after deed link.up) index view (cursor_at link.epoch folder sender) (cursor_at link.epoch folder receiver) (queue_after deed (queue_to end link)) (back_after deed (queue_from end link)) → IsPair folder end (after_deed end deed link) index view sender receiver
-  pair_after_deed deed = cases deed.loses end
-    where
-      cases : (b : Bool) (end : End) → IsBetween folder (up_after (record deed { loses = b }) link.up) index view (cursor_at link.epoch folder sender) (cursor_at link.epoch folder receiver) (queue_after (record deed { loses = b }) (queue_to end link)) (back_after (record deed { loses = b }) (queue_from end link)) →
-          IsPair folder end (after_deed end (record deed { loses = b }) link) index view sender receiver
-      cases true Lower between = between
-      cases true Upper between = between
-      cases false Lower between = between
-      cases false Upper between = between
+  pair_after_deed deed = link_after_deed (λ epoch up to from. IsBetween folder up index view (cursor_at epoch folder sender) (cursor_at epoch folder receiver) to from) end deed link
 
   pub pair_from_after_deed : (deed : Deed) → IsBetween folder (up_after deed link.up) index view (cursor_at link.epoch folder sender) (cursor_at link.epoch folder receiver) (back_after deed (queue_from end link)) (queue_after deed (queue_to end link)) → IsPairFrom folder end (after_deed end deed link) index view sender receiver
-  pair_from_after_deed deed = cases deed.loses end
-    where
-      cases : (b : Bool) (end : End) → IsBetween folder (up_after (record deed { loses = b }) link.up) index view (cursor_at link.epoch folder sender) (cursor_at link.epoch folder receiver) (back_after (record deed { loses = b }) (queue_from end link)) (queue_after (record deed { loses = b }) (queue_to end link)) →
-          IsPairFrom folder end (after_deed end (record deed { loses = b }) link) index view sender receiver
-      cases true Lower between = between
-      cases true Upper between = between
-      cases false Lower between = between
-      cases false Upper between = between
+  pair_from_after_deed deed = link_after_deed (λ epoch up to from. IsBetween folder up index view (cursor_at epoch folder sender) (cursor_at epoch folder receiver) from to) end deed link
 
 pub same_epoch : (end : End) (deed : Deed) (link : Link) → (after_deed end deed link).epoch ≡ link.epoch
-same_epoch end deed link = cases deed.loses end
-  where
-    cases : (b : Bool) (end : End) → (after_deed end (record deed { loses = b }) link).epoch ≡ link.epoch
-    cases true end = refl
-    cases false Lower = refl
-    cases false Upper = refl
+same_epoch end deed link = link_after_deed (λ epoch up to from. epoch ≡ link.epoch) end deed link refl
 
 -- ---- a link that was changed
 

@@ -19,7 +19,8 @@ use Rattle.bep_machine.specs.declared.message.Message.{Message}
 use Rattle.bep_machine.specs.declared.message.Message.TheVariants as messages
 use Rattle.bep_machine.specs.declared.message.Announced.{Announced}
 use Rattle.bep_machine.specs.Exchange.{cursor_after}
-use Rattle.bep_machine.proofs.GapFacts.{KeepsUp, IsSent, keeps_up_after_put, keeps_up_when_amended, keeps_up_when_replaced}
+use Rattle.bep_machine.specs.Gapless.{HasNoGap}
+use Rattle.bep_machine.proofs.GapFacts.{IsSent, keeps_up_after_put, keeps_up_when_amended, keeps_up_when_replaced}
 use Rattle.bep_machine.proofs.GapFlow.{Part, Whole, Further, Other, part_of, AfterPart, Flows, flows_with_other, flows_with_further, flows_with_whole, none_with_other, none_flows_through, flows_after_put, EachSays, ConfigSays, ConfigsSay, SaysId, SaysPoint, configs_say_with, start_of, IsFlow, IsInStep}
 
 -- ---- where a view stands
@@ -151,12 +152,10 @@ in_step_taking_other folder index view cursor Named first queue back other step 
 }
 
 -- its view of another index is cleared, and takes the id of this one
-nothing_known : (index view : Listing) → view.id ≢ index.id → IsIndex index → KeepsUp index (cleared index.id)
+nothing_known : (index view : Listing) → view.id ≢ index.id → IsIndex index → HasNoGap index (cleared index.id)
 nothing_known index view apart is_index = record {
-  no_gap = record {
-    held = λ name entry there small. absurd (omega (arith, small, (is_index.numbered name entry there).1));
-    named = λ name entry seen. nothing_in_empty (slice_cmp nat_cmp) name entry seen;
-  };
+  held = λ name entry there small. absurd (omega (arith, small, (is_index.numbered name entry there).1));
+  named = λ name entry seen. nothing_in_empty (slice_cmp nat_cmp) name entry seen;
   behind = omega arith;
 }
 
@@ -215,7 +214,7 @@ in_step_named folder index view cursor Named Later queue back named step = recor
 }
 
 -- nothing is on its way, and no session was begun
-pub in_step_anew : (folder : Folder) (index view : Listing) (Named : Type 0) → (¬ Named) → (view.id ≡ index.id → KeepsUp index view) → IsInStep folder index view None Named [] []
+pub in_step_anew : (folder : Folder) (index view : Listing) (Named : Type 0) → (¬ Named) → (view.id ≡ index.id → HasNoGap index view) → IsInStep folder index view None Named [] []
 in_step_anew folder index view Named never keeps = record {
   keeps_up = keeps;
   flow = tt;

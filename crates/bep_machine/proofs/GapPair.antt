@@ -13,7 +13,7 @@ use Rattle.bep_machine.specs.Replica.{Replica, view_of}
 use Rattle.bep_machine.specs.Link.{Deed, losing, first_of_queue, after_taking, after_sending}
 use Rattle.bep_machine.specs.Peer.{Session, Peer, Acted, idle}
 use Rattle.bep_machine.specs.Exchange.{SessionRow}
-use Rattle.bep_machine.proofs.GapFacts.{KeepsUp}
+use Rattle.bep_machine.specs.Gapless.{HasNoGap}
 use Rattle.bep_machine.proofs.GapFlow.{IsInStep}
 
 -- the cursor of a folder in a session, if it is of this epoch
@@ -24,13 +24,13 @@ cursor_at epoch folder (Some session) = if session.epoch == epoch then get sessi
 -- One folder, from a sender to a receiver: the view doesn't get ahead of the index, and while the link is up the two are
 -- in step. The sender's cursor and the receiver's are those of the sessions of this epoch.
 pub record IsBetween (folder : Folder) (up : Bool) (index view : Listing) (cursor named : Option Plan) (queue back : List Message) : Type 0 where
-  pub keeps_up : view.id ≡ index.id → KeepsUp index view
+  pub keeps_up : view.id ≡ index.id → HasNoGap index view
   pub in_step : up ≡ true → IsInStep folder index view cursor (IsSome named) queue back
 
 pub between_in_step : (folder : Folder) (up : Bool) (index view : Listing) (cursor named : Option Plan) (queue back : List Message) → IsInStep folder index view cursor (IsSome named) queue back → IsBetween folder up index view cursor named queue back
 between_in_step folder up index view cursor named queue back step = record { keeps_up = step.keeps_up; in_step = λ _. step }
 
-pub between_down : (folder : Folder) (index view : Listing) (cursor named : Option Plan) (queue back : List Message) → (view.id ≡ index.id → KeepsUp index view) → IsBetween folder false index view cursor named queue back
+pub between_down : (folder : Folder) (index view : Listing) (cursor named : Option Plan) (queue back : List Message) → (view.id ≡ index.id → HasNoGap index view) → IsBetween folder false index view cursor named queue back
 between_down folder index view cursor named queue back keeps = record { keeps_up = keeps; in_step = λ up. absurd (cc) }
 
 -- ---- the link after a deed

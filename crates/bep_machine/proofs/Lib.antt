@@ -31,6 +31,7 @@ mod CalmReplicaStep
 mod LinkQueues
 mod ReadOn
 mod LinkSteps
+mod SaidReplicas
 mod Arrivals
 mod ReadingSteps
 mod ThereDecided
@@ -73,3 +74,9 @@ mod GapCluster
 mod GapSteps
 mod GapRun
 mod KeptFiles
+mod KnownPlaces
+mod BatchFound
+mod TakingFacts
+mod SessionEffect
+mod RecordsEffect
+mod RequestEffect

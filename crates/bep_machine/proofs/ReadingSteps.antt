@@ -1,9 +1,9 @@
 -- Steps over links and restarts: what each device learns, and what is sent.
-use Rattle.std.proofs.Common.{◌≡◌, ◌⊎◌, ◌==◌, ◌||◌, ℕ, Bool, true, false, cond, nat_lt, map, List, [], ◌∷◌, Option, Some, None, option_map, Contains, refl, sym, ap, subst, ◌∙◌, inl, ⊎_elim, if◌then◌else◌}
+use Rattle.std.proofs.Common.{◌≡◌, ◌⊎◌, ◌==◌, ◌||◌, ℕ, Bool, true, false, nat_lt, [], Option, Some, None, option_map, Contains, refl, sym, subst, inl, ⊎_elim, if◌then◌else◌}
 use Rattle.std.proofs.lemmas.Cmp.{nat_list_cmp_total}
-use Rattle.std.specs.Ordering.{nat_cmp, eq_by_cmp}
+use Rattle.std.specs.Ordering.{nat_cmp}
 use Rattle.std.specs.Cmp.Lexicographic.{slice_cmp}
-use Rattle.std.specs.FinMap.{empty, entries, get, find, get-entries, get-from_entries}
+use Rattle.std.specs.FinMap.{empty, get}
 use Rattle.bep_facts.specs.Maps.{nothing_in_empty}
 use Rattle.bep_record.specs.declared.entry.Entry.{Entry}
 use Rattle.bep_index.specs.Laws.{FoundIsOfBatchOrBefore, AmongIsContained}
@@ -19,6 +19,7 @@ use Rattle.bep_machine.specs.Cluster.{Cluster, link_between, with_link, with_lin
 use Rattle.bep_machine.specs.Steps.{AreLinked, OverLink, AtLink, ConnectRow, LoseRow, without_pulls, restarted, RestartRow}
 use Rattle.bep_machine.specs.Said.{tables_of_cluster}
 use Rattle.bep_machine.specs.Sound.{IsSound}
+use Rattle.bep_machine.proofs.FoundAfter.{get-mapped}
 use Rattle.bep_machine.proofs.Places.{each_after_change}
 use Rattle.bep_machine.proofs.CalmRows.{at_answers, at_becomes}
 use Rattle.bep_machine.proofs.CalmMoves.{ElsewhereIn}
@@ -75,19 +76,8 @@ lose_reads old new lower upper answer made = subst (λ one. IsReadingStep old on
 
 -- ---- restart
 
-find_mapped : (es : List (Folder × Replica)) (folder : Folder) → find (slice_cmp nat_cmp) folder (map (λ one. (one.0, without_pulls one.1)) es) ≡ option_map without_pulls (find (slice_cmp nat_cmp) folder es)
-find_mapped [] folder = refl
-find_mapped (one ∷ es) folder = cases (eq_by_cmp (slice_cmp nat_cmp) folder one.0) (find_mapped es folder)
-  where
-    cases : (b : Bool) → find (slice_cmp nat_cmp) folder (map (λ (one : Folder × Replica). (one.0, without_pulls one.1)) es) ≡ option_map without_pulls (find (slice_cmp nat_cmp) folder es) → cond b (Some (without_pulls one.1)) (find (slice_cmp nat_cmp) folder (map (λ (one : Folder × Replica). (one.0, without_pulls one.1)) es)) ≡ option_map without_pulls (cond b (Some one.1) (find (slice_cmp nat_cmp) folder es))
-    cases true rest = refl
-    cases false rest = rest
-
 replica_restarted : (peer : Peer) (folder : Folder) → get (restarted peer).replicas folder ≡ option_map without_pulls (get peer.replicas folder)
-replica_restarted peer folder =
-    get-from_entries nat_list_cmp_total (map (λ (one : Folder × Replica). (one.0, without_pulls one.1)) (entries peer.replicas)) folder
-    ∙ find_mapped (entries peer.replicas) folder
-    ∙ ap (option_map without_pulls) (sym (get-entries peer.replicas folder))
+replica_restarted peer folder = get-mapped nat_list_cmp_total without_pulls peer.replicas folder
 
 read_without_pulls : (Comes : FileName → Entry → Type 0) (replica : Option Replica) → IsReadOn Comes replica (option_map without_pulls replica)
 read_without_pulls Comes None = nothing_read Comes None

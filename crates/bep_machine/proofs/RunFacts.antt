@@ -23,6 +23,7 @@ use Rattle.bep_machine.specs.Said.{looked_up, tables_of_cluster}
 use Rattle.bep_machine.specs.Sound.{IsSound}
 use Rattle.bep_machine.specs.Laws.{IsSoundStep, StepsKeepSound, QuietStepsKeepCalm, QuietStepsKeepRecords, SettledStaysPut, SettledStaysSettled}
 use Rattle.bep_machine.proofs.CalmScan.{same_file}
+use Rattle.bep_machine.proofs.SaidReplicas.{said_where_shared}
 
 -- ---- files that are kept
 
@@ -152,7 +153,7 @@ module _ (sound : StepsKeepSound) (calm : QuietStepsKeepCalm) where
         let peer = is_sound.peers device (is_sound.config.sharing folder device shares) in
         named_in name (get (cluster.peer device).replicas folder) entry
         (λ replica there here. ((peer.replicas folder replica there).index.numbered name entry here).0)
-        own
+        (sym (ap (looked_up own_at name) (said_where_shared cluster device folder shares)) ∙ own)
 
     pub settled_stays_settled_lem : SettledIsCalm → CalmIsSettledAgain → SettledStaysSettled
     settled_stays_settled_lem settled_calm again tables rows settled cluster later events is_sound has run quiet =

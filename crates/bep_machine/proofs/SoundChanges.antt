@@ -1,17 +1,17 @@
 -- The changes of a replica that keep it sound: a node, a record or a pull at a name.
 use Rattle.std.proofs.Common.{◌≡◌, ◌≤◌, ◌+◌, false, length, List, [], ◌∷◌, map, Option, Some, None, refl, subst, arith}
+use Rattle.std.specs.Cmp.Lexicographic.{nat_list_cmp_total}
 use Rattle.std.specs.FinMap.{get, len}
+use Rattle.bep_facts.specs.Maps.{len-insert_le}
 use Rattle.bep_record.specs.declared.block.Block.{Block}
 use Rattle.bep_record.specs.declared.entry.Entry.{Entry}
 use Rattle.bep_record.specs.declared.node.NodeParts.{NodeParts}
 use Rattle.bep_record.specs.declared.limits.TheConstants.{MAX_PULLS}
 use Rattle.bep_record.specs.Node.{IsNode}
 use Rattle.bep_record.specs.Vector.{IsVersion, most_counters}
-use Rattle.bep_index.specs.declared.limits.TheConstants.{MAX_NAMES}
 use Rattle.bep_index.specs.Listing.{Listing}
 use Rattle.bep_index.specs.Index.{IsSequenceFull, IsIndexFull, numbered}
-use Rattle.bep_index.proofs.RecordsFacts.{len-insert_le}
-use Rattle.bep_index.proofs.IndexFacts.{IsIndex-after_put}
+use Rattle.bep_index.specs.Laws.{PutsKeepAnIndex}
 use Rattle.bep_model.specs.Tables.{Device, FileName}
 use Rattle.bep_machine.specs.Replica.{Pull, Replica, own_at, node_at, version_of, with_record, with_node, with_pull, without_pull}
 use Rattle.bep_machine.specs.Pull.{new_pull, ArePullsFull}
@@ -86,16 +86,13 @@ pub record HasRoom (index : Listing) (name : FileName) : Type 0 where
   pub numbers : ¬ IsSequenceFull index
   pub names : ¬ IsIndexFull index name
 
-pub record_is_sound : {device : Device} {old : Replica} (name : FileName) (entry : Entry) → IsSoundReplica device old → HasRoom old.index name → IsGoodAt name entry →
+pub record_is_sound : PutsKeepAnIndex → {device : Device} {old : Replica} (name : FileName) (entry : Entry) → IsSoundReplica device old → HasRoom old.index name → IsGoodAt name entry →
     SoundChange device old (with_record old entry)
-record_is_sound {device} {old} name entry sound room good = record {
+record_is_sound law {device} {old} name entry sound room good = record {
   sound = record {
     index =
-        IsIndex-after_put old.index entry sound.index room.numbers
-        (λ none.
-        let few = sound.index.few in
-        let apart : ¬ (len old.index.records ≡ MAX_NAMES) = λ full. room.names (full, subst (λ n. get old.index.records n ≡ None) good.named none) in
-        omega arith);
+        law old.index entry sound.index room.numbers
+        (λ full. room.names (full.0, subst (λ n. get old.index.records n ≡ None) good.named full.1));
     id = sound.id;
     own = each_after_insert (λ there one. IsGood one) old.index.records entry.name sound.own (numbered entry (old.index.sequence + 1)) (good_under entry (old.index.sequence + 1) good.good);
     views = sound.views;
@@ -132,7 +129,7 @@ pull_is_sound {device} {old} name pull sound is roomy = record {
     views = sound.views;
     pulls = each_after_insert IsSoundPull old.pulls name sound.pulls pull is;
     few_pulls =
-        len-insert_le old.pulls name pull MAX_PULLS sound.few_pulls
+        len-insert_le nat_list_cmp_total old.pulls name pull MAX_PULLS sound.few_pulls
         (λ none. let apart : ¬ (MAX_PULLS ≤ len old.pulls) = λ full. roomy (none, full) in omega arith);
     store = sound.store;
   };

@@ -40,13 +40,13 @@ remove_is_sound device name failed old new answer sound row =
 
 -- ---- new records
 
-put_is_sound : {device : Device} {old new : Replica} {answer : Answer} (name : FileName) (IsNew : Entry → Type 0) → IsSoundReplica device old →
+put_is_sound : LowerLaws → {device : Device} {old new : Replica} {answer : Answer} (name : FileName) (IsNew : Entry → Type 0) → IsSoundReplica device old →
     ((entry : Entry) → IsNew entry → IsGoodAt name entry) → PutRow name IsNew old new answer → SoundChange device old new
-put_is_sound name IsNew sound good row =
+put_is_sound laws name IsNew sound good row =
     or_rest sound
     (λ numbers.
     or_rest sound
-    (λ names. let put = names.1 in made_is_sound (record_is_sound name put.0 sound (record { numbers = numbers.0; names = names.0 }) (good put.0 put.1)) put.2.0)
+    (λ names. let put = names.1 in made_is_sound (record_is_sound laws.puts_keep_an_index name put.0 sound (record { numbers = numbers.0; names = names.0 }) (good put.0 put.1)) put.2.0)
     numbers.1)
     row
 
@@ -70,7 +70,7 @@ raised_row_is_sound : LowerLaws → {device : Device} {old new : Replica} {answe
     SoundChange device old new
 raised_row_is_sound laws {device} {old} name sound roomy row =
     let own_is = own_is_good device old name sound in
-    put_is_sound name _ sound
+    put_is_sound laws name _ sound
     (λ entry new.
     found_is_good laws device name (node_at old name) (own_at old name) new.0 entry (node_is_node device old name sound) own_is new.1.version
     (raised_is_few laws device (version_of (own_at old name)) new.0 (version_is name (own_at old name) own_is) (version_is_few name (own_at old name) own_is) roomy new.1) new.2)
@@ -80,7 +80,7 @@ found_row_is_sound : LowerLaws → {device : Device} {old new : Replica} (answer
     FoundRow kind device name old new answer → SoundChange device old new
 found_row_is_sound laws {device} {old} answer ReceiveOnly name sound row =
     let own_is = own_is_good device old name sound in
-    put_is_sound name _ sound
+    put_is_sound laws name _ sound
     (λ entry new.
     let found =
     found_is_good laws device name (node_at old name) (own_at old name) (version_of (own_at old name)) new.0 (node_is_node device old name sound) own_is
@@ -113,7 +113,7 @@ overriding_row_is_sound laws {device} {old} name chosen sound good row =
     (λ below.
     or_rest sound
     (λ roomy.
-    put_is_sound name _ sound
+    put_is_sound laws name _ sound
     (λ entry new.
     subst (IsGoodAt name) (sym new.2)
     (overriding_is_good device name own chosen new.0 own_is good new.1.version
@@ -134,24 +134,24 @@ override_is_sound laws device name old new answer sound row =
 
 -- ---- revert
 
-reverted_row_is_sound : {device : Device} {old new : Replica} (answer : Answer) (name : FileName) (failed : Option ℕ) (own : Option Entry) → IsSoundReplica device old →
+reverted_row_is_sound : LowerLaws → {device : Device} {old new : Replica} (answer : Answer) (name : FileName) (failed : Option ℕ) (own : Option Entry) → IsSoundReplica device old →
     own_at old name ≡ own → IfAny (IsGoodAt name) own → ¬ IsSequenceFull old.index → RevertedRow device name failed own old new answer → SoundChange device old new
-reverted_row_is_sound answer name failed None sound is own_is numbers row = absurd row
-reverted_row_is_sound {device} {old} answer name failed (Some own) sound is own_is numbers row =
+reverted_row_is_sound laws answer name failed None sound is own_is numbers row = absurd row
+reverted_row_is_sound laws {device} {old} answer name failed (Some own) sound is own_is numbers row =
     or_rest sound
     (λ rest.
     let gone = node_is_sound name None sound tt in
     let names : ¬ (own_at old name ≡ None) = λ none. none-some own (sym none ∙ is) in
     made_is_sound
     (then_sound gone
-    (record_is_sound name (deletion_of device name own []) gone.sound (record { numbers = numbers; names = λ full. names full.1 })
+    (record_is_sound laws.puts_keep_an_index name (deletion_of device name own []) gone.sound (record { numbers = numbers; names = λ full. names full.1 })
     (record { good = good_deletion device name own [] own_is.good tt (omega arith); named = refl })))
     rest.1.0)
     row
 
-pub revert_is_sound : (device : Device) (name : FileName) (failed : Option ℕ) (old new : Replica) (answer : Answer) →
+pub revert_is_sound : LowerLaws → (device : Device) (name : FileName) (failed : Option ℕ) (old new : Replica) (answer : Answer) →
     IsSoundReplica device old → RevertRow device name failed old new answer → SoundChange device old new
-revert_is_sound device name failed old new answer sound row =
+revert_is_sound laws device name failed old new answer sound row =
     or_rest sound
     (λ kind.
     or_rest sound
@@ -161,7 +161,7 @@ revert_is_sound device name failed old new answer sound row =
     or_rest sound
     (λ clean.
     or_rest sound
-    (λ numbers. reverted_row_is_sound answer name failed (own_at old name) sound refl (own_is_good device old name sound) numbers.0 numbers.1)
+    (λ numbers. reverted_row_is_sound laws answer name failed (own_at old name) sound refl (own_is_good device old name sound) numbers.0 numbers.1)
     clean.1)
     unfailed.1)
     local.1)

@@ -68,7 +68,7 @@ settling_is_sound laws {device} {old} {new} name pull call failed own held can f
     (λ unfailed.
     let adopted = unfailed.1 in
     let good = adopted_is_good laws name own pull.target adopted.0 can.own_is target_is few adopted.1 in
-    let there = record_is_sound name adopted.0 put.sound (subst (λ index. HasRoom index name) (sym (index_with_node old name after)) room) good in
+    let there = record_is_sound laws.puts_keep_an_index name adopted.0 put.sound (subst (λ index. HasRoom index name) (sym (index_with_node old name after)) room) good in
     let gone = pull_gone_is_sound name there.sound in
     made_is_sound (then_sound put (then_sound there gone)) adopted.2.0)
     settles.2

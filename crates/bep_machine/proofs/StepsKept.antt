@@ -1,6 +1,5 @@
 -- No step breaks what holds of every cluster.
 use Rattle.std.proofs.Common.{ℕ, Option, sym, subst, inl, inr}
-use Rattle.bep_index.specs.Laws.{FoundIsOfBatchOrBefore}
 use Rattle.bep_machine.specs.declared.step.Step.{Step}
 use Rattle.bep_machine.specs.declared.step.Step.TheVariants.{Edit, Remove, Scan, Override, Revert, Connect, Lose, Begin, Deliver, Announce, StartPull, Ask, Finish, Restart}
 use Rattle.bep_machine.specs.Answer.{Answer}
@@ -20,19 +19,19 @@ use Rattle.bep_machine.proofs.DeliverKept.{deliver_keeps}
 use Rattle.bep_machine.proofs.ClusterKept.{linked_if_not_apart}
 use Rattle.bep_machine.proofs.PlacesKept.{replica_row_keeps, link_row_keeps, connecting_keeps, losing_keeps, restart_keeps}
 
-module _ (laws : LowerLaws) (found : FoundIsOfBatchOrBefore) where
+module _ (laws : LowerLaws) where
   row_keeps : (step : Step) (failed : Option ℕ) (old new : Cluster) (answer : Answer) → IsSoundStep step → IsSound old → ¬ (¬ IsThere old.config step) → StepRow step failed old new answer → IsSound new
   row_keeps (Edit device folder name node) failed old new answer user sound there row = replica_row_keeps device folder (EditRow name node failed) (λ before after reply is made. edit_is_sound device name node failed before after reply user is made) old new answer sound row
   row_keeps (Remove device folder name) failed old new answer user sound there row = replica_row_keeps device folder (RemoveRow name failed) (remove_is_sound device name failed) old new answer sound row
   row_keeps (Scan device folder name) failed old new answer user sound there row = replica_row_keeps device folder (ScanRow device name failed) (scan_is_sound laws device name failed) old new answer sound row
   row_keeps (Override device folder name) failed old new answer user sound there row = replica_row_keeps device folder (OverrideRow device name) (override_is_sound laws device name) old new answer sound row
-  row_keeps (Revert device folder name) failed old new answer user sound there row = replica_row_keeps device folder (RevertRow device name failed) (revert_is_sound device name failed) old new answer sound row
+  row_keeps (Revert device folder name) failed old new answer user sound there row = replica_row_keeps device folder (RevertRow device name failed) (revert_is_sound laws device name failed) old new answer sound row
   row_keeps (Connect one other) failed old new answer user sound there row = connecting_keeps one other old new answer sound row
   row_keeps (Lose one other) failed old new answer user sound there row = losing_keeps one other old new answer sound row
   row_keeps (Begin device other) failed old new answer user sound there row =
       link_row_keeps device other (BeginRow other) old new answer (begin_keeps old.config device other) sound (linked_if_not_apart old.config device other there) row
   row_keeps (Deliver device other) failed old new answer user sound there row =
-      link_row_keeps device other (DeliverRow other failed) old new answer (deliver_keeps found old.config device other failed) sound (linked_if_not_apart old.config device other there) row
+      link_row_keeps device other (DeliverRow other failed) old new answer (deliver_keeps laws old.config device other failed) sound (linked_if_not_apart old.config device other there) row
   row_keeps (Announce device other folder) failed old new answer user sound there row =
       link_row_keeps device other (AnnounceRow other folder) old new answer (announce_keeps old.config device other folder) sound
       (linked_if_not_apart old.config device other (λ apart. there (λ all. apart all.0))) row

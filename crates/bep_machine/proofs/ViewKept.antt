@@ -1,5 +1,5 @@
 -- A view of another device's index that becomes another sound view.
-use Rattle.std.proofs.Common.{◌≡◌, ◌==◌, ◌||◌, ℕ, Bool, true, false, List, [], ◌∷◌, Option, Some, None, Contains, IsTrue, unwrap_or, refl, sym, subst, ◌∙◌, ⊎_elim, eqb-true, true≢false}
+use Rattle.std.proofs.Common.{◌≡◌, ◌==◌, ℕ, true, List, Option, Some, None, Contains, IsTrue, unwrap_or, refl, sym, subst, ◌∙◌, ⊎_elim, eqb-true}
 use Rattle.std.specs.List.{list_any}
 use Rattle.std.specs.Ordering.{nat_cmp}
 use Rattle.std.specs.Cmp.{nat_cmp_total}
@@ -7,30 +7,26 @@ use Rattle.std.specs.Cmp.Lexicographic.{slice_cmp}
 use Rattle.std.specs.FinMap.{nat_cmp-IsAntisymmetric, empty, get}
 use Rattle.std.proofs.lemmas.Option.{same_Some}
 use Rattle.bep_facts.specs.Maps.{found_after_insert, nothing_in_empty}
-use Rattle.bep_facts.specs.Members.{Contains-first, Contains-more}
 use Rattle.bep_map.specs.NameMap.{ByName}
 use Rattle.bep_record.specs.declared.entry.Entry.{Entry}
 use Rattle.bep_index.specs.Listing.{Listing}
 use Rattle.bep_index.specs.View.{IsView, cleared}
 use Rattle.bep_index.specs.Batch.{with_all}
-use Rattle.bep_index.specs.Laws.{FoundIsOfBatchOrBefore}
-use Rattle.bep_index.proofs.BatchFacts.{IsView-cleared}
+use Rattle.bep_index.specs.Laws.{FoundIsOfBatchOrBefore, ClearedIsView}
 use Rattle.bep_model.specs.Tables.{Device, Folder}
 use Rattle.bep_machine.specs.Replica.{Replica, view_of, with_view}
 use Rattle.bep_machine.specs.Peer.{Peer, is_shared_with}
 use Rattle.bep_machine.specs.Exchange.{SharesWith}
 use Rattle.bep_machine.specs.Sound.{AreGood, AllGood, IsSoundView, IsSoundReplica}
 use Rattle.bep_machine.proofs.SoundParts.{SoundChange}
+use Rattle.bep_machine.proofs.LinkSteps.{member_from_any}
 
 -- ---- who shares the folder
 
-is_among_others : (other : Device) (others : List Device) → list_any (λ one. one == other) others ≡ true → Contains others other
-is_among_others other [] is = absurd (true≢false (sym is))
-is_among_others other (first ∷ more) is = cases (first == other) refl is (λ later. is_among_others other more later)
-  where
-    cases : (b : Bool) → (first == other) ≡ b → (b || list_any (λ one. one == other) more) ≡ true → (list_any (λ one. one == other) more ≡ true → Contains more other) → Contains (first ∷ more) other
-    cases true same e rest = subst (λ d. Contains (first ∷ more) d) (eqb-true first other same) (Contains-first first more)
-    cases false apart e rest = Contains-more first more other (rest e)
+pub is_among_others : (other : Device) (others : List Device) → list_any (λ one. one == other) others ≡ true → Contains others other
+is_among_others other others is =
+    let found = member_from_any (λ one. one == other) others is in
+    subst (λ (one : Device). Contains others one) (eqb-true found.0 other found.2) found.1
 
 pub is_other_of : (other : Device) (peer : Peer) (folder : Folder) (replica : Replica) → SharesWith other peer folder → get peer.replicas folder ≡ Some replica → Contains replica.others other
 is_other_of other peer folder replica shares is =
@@ -50,11 +46,11 @@ only_these_are_good law batch new = all_are_good law empty batch (λ name entry 
 
 -- ---- the view that a replica has, and another one in its place
 
-pub view_is_sound : (device other : Device) (replica : Replica) → IsSoundReplica device replica → IsView (view_of replica other) × AreGood (view_of replica other).records
-view_is_sound device other replica sound = cases (get replica.views other) refl
+pub view_is_sound : ClearedIsView → (device other : Device) (replica : Replica) → IsSoundReplica device replica → IsView (view_of replica other) × AreGood (view_of replica other).records
+view_is_sound cleared_is_view device other replica sound = cases (get replica.views other) refl
   where
     cases : (view : Option Listing) → get replica.views other ≡ view → IsView (unwrap_or view (cleared 0)) × AreGood (unwrap_or view (cleared 0)).records
-    cases None is = (IsView-cleared 0, none_is_good 0)
+    cases None is = (cleared_is_view 0, none_is_good 0)
     cases (Some view) is = let one = sound.views other view is in (one.view_of_index, one.good)
 
 pub with_view_changes : (device other : Device) (replica : Replica) (view : Listing) → IsSoundReplica device replica → Contains replica.others other → IsView view → AreGood view.records → SoundChange device replica (with_view replica other view)

@@ -7,6 +7,7 @@ use Rattle.bep_index.specs.Index.{IsIndex}
 use Rattle.bep_index.specs.View.{IsView}
 use Rattle.bep_model.specs.declared.row.Row.{Row}
 use Rattle.bep_model.specs.Tables.{Tables}
+use Rattle.bep_model.specs.Foreign.{IsFinite}
 use Rattle.bep_model.specs.Settled.{IsSettled}
 use Rattle.bep_model.specs.Calm.{Contents, IsCalm, Kept}
 use Rattle.bep_model.specs.Stays.{Stays, KeepsRecords, SameContents}
@@ -17,7 +18,7 @@ use Rattle.bep_machine.specs.Cluster.{Cluster}
 use Rattle.bep_machine.specs.Steps.{IsStep, Event, IsRun, IsQuiet, AreQuiet}
 use Rattle.bep_machine.specs.Said.{tables_of_cluster}
 use Rattle.bep_machine.specs.Sound.{IsSound}
-use Rattle.bep_machine.specs.Gapless.{HasNoGap, IsGapless, IsFresh}
+use Rattle.bep_machine.specs.Gapless.{HasNoGap, IsGapless, IsApart, IsFresh}
 
 -- what a user puts into a folder is a node
 abbrev pub IsSoundStep : Step → Type 0
@@ -27,6 +28,12 @@ IsSoundStep step = ⊤
 abbrev pub AreSound : List Event → Type 0
 AreSound [] = ⊤
 AreSound (event ∷ more) = IsSoundStep event.step × AreSound more
+
+-- ---- every cluster
+
+-- a cluster's tables are finite, as every cut's are: only these devices are viewed, and only these names known
+abbrev pub ClusterIsFinite : Type 0
+ClusterIsFinite = (cluster : Cluster) → IsSound cluster → IsFinite (tables_of_cluster cluster)
 
 -- ---- one step
 
@@ -47,10 +54,14 @@ QuietStepsKeepRecords = (step : Step) (failed : Option ℕ) (old new : Cluster) 
     IsQuiet step → IsSound old → IsStep step failed old new answer →
     KeepsRecords (tables_of_cluster old) (tables_of_cluster new)
 
--- no view has a gap, in every cluster that a run reaches from one in which nothing was exchanged yet
+-- no view has a gap, in every cluster that a run reaches from one without a gap whose links are all down
 abbrev pub RunsAreGapless : Type 0
 RunsAreGapless = (cluster later : Cluster) (events : List Event) →
-    IsSound cluster → IsFresh cluster → AreSound events → IsRun cluster events later → IsGapless later
+    IsSound cluster → IsApart cluster → AreSound events → IsRun cluster events later → IsGapless later
+
+-- so it is where nothing was exchanged yet
+abbrev pub FreshIsApart : Type 0
+FreshIsApart = (cluster : Cluster) → IsSound cluster → IsFresh cluster → IsApart cluster
 
 -- a view without a gap, at the point of the index, is the index
 abbrev pub SamePointSameIndex : Type 0

@@ -12,6 +12,7 @@ pub mod Sound
 pub mod Gapless
 pub mod Laws
 pub mod Effects
+pub mod LinkEffects
 pub mod Halves
 pub mod HalfLaws
 pub mod Files

@@ -1,5 +1,5 @@
 -- What a cluster says, as the tables by which cuts are judged: sessions, received blocks and all messages but those with
--- records are forgotten (this project's profile).
+-- records are forgotten, and so is what a device has of a folder that it doesn't share (this project's profile).
 use Rattle.std.specs.Prelude.{◌==◌, ◌&&◌, ◌||◌, Bool, true, false, List, [], ◌∷◌, Option, Some, None, if◌then◌else◌}
 use Rattle.std.specs.List.{flat_map, list_any}
 use Rattle.std.specs.FinMap.{get}
@@ -13,6 +13,15 @@ use Rattle.bep_machine.specs.Replica.{Replica, own_at, node_at, viewed_at, targe
 use Rattle.bep_machine.specs.Link.{end_of, queue_to}
 use Rattle.bep_machine.specs.Cluster.{Config, Cluster, link_between}
 
+-- the device is one of those that share
+abbrev pub is_among : Device → List (Device × FolderKind) → Bool
+is_among device sharing = list_any (λ share. share.0 == device) sharing
+
+-- a device's replica of a folder, where the device shares it
+abbrev pub replica_said : Cluster → Device → Folder → Option Replica
+replica_said cluster device folder =
+    if is_among device (cluster.config.sharing folder) then get (cluster.peer device).replicas folder else None
+
 -- what a replica has at a name, if there is one
 abbrev pub looked_up : {X : Type 0} → (Replica → FileName → Option X) → FileName → Option Replica → Option X
 looked_up look name None = None
@@ -20,12 +29,9 @@ looked_up look name (Some replica) = look replica name
 
 -- what a device has at a name of a folder
 abbrev pub at_device : {X : Type 0} → (Replica → FileName → Option X) → Cluster → Device → Folder → FileName → Option X
-at_device look cluster device folder name = looked_up look name (get (cluster.peer device).replicas folder)
+at_device look cluster device folder name = looked_up look name (replica_said cluster device folder)
 
 -- both devices share the folder
-abbrev pub is_among : Device → List (Device × FolderKind) → Bool
-is_among device sharing = list_any (λ share. share.0 == device) sharing
-
 abbrev pub both_share : Config → Device → Device → Folder → Bool
 both_share config device other folder = is_among device (config.sharing folder) && is_among other (config.sharing folder)
 

@@ -1,13 +1,15 @@
 //! No gap in what a device knows of another's index. Each function does nothing; its contract is the law.
-ghost use Rattle.bep_machine.specs.Laws.{RunsAreGapless, SamePointSameIndex};
+ghost use Rattle.bep_machine.specs.Laws.{FreshIsApart, RunsAreGapless, SamePointSameIndex};
 
 use crate::steps_keep_sound;
 use bep_index::{batch_records_are_found, batches_bring_the_index};
 
-/// In every cluster that a run reaches from one in which nothing was exchanged yet, a view under the id of the other
-/// device's own index has each of its records up to the view's sequence, and none that is newer than the index's own.
+/// In every cluster that a run reaches from one without a gap whose links are all down, a view under the id of the other
+/// device's own index has each of its records up to the view's sequence, and none that is newer than the index's own;
+/// whatever the views of other indexes hold at first. So a run may begin where nothing was exchanged yet.
 pub fn runs_are_gapless()
-    ensures { RunsAreGapless }
+    ensures runs { RunsAreGapless }
+    ensures fresh { FreshIsApart }
 {
     steps_keep_sound();
     batch_records_are_found();

@@ -6,10 +6,12 @@
 mod calm;
 mod effects;
 mod files;
+mod finite;
 mod gapless;
 mod halves;
 mod headline;
 mod limits;
+mod link_effects;
 mod message;
 mod moved;
 mod refusal;
@@ -21,6 +23,7 @@ pub use effects::{
     finish_adopts, override_wins, revert_takes_back, scan_records, start_pull_begins,
 };
 pub use files::{finish_keeps_files, revert_keeps_files};
+pub use finite::clusters_are_finite;
 pub use gapless::{runs_are_gapless, same_point_same_index};
 pub use halves::{
     actions_are_told, halves_make_the_step, own_events_replay, replays_run, run_replays,
@@ -28,6 +31,10 @@ pub use halves::{
 };
 pub use headline::{settled_stays_put, settled_stays_settled};
 pub use limits::{MAX_EPOCH, MAX_OUTSTANDING, MAX_REQUEST_ID};
+pub use link_effects::{
+    begin_opens_session, block_is_asked_for, breach_loses_link, links_come_and_go,
+    records_are_announced, records_reach_view, request_is_answered,
+};
 pub use message::{Announced, Code, Message, Request, Response};
 pub use moved::Moved;
 pub use refusal::Refusal;

@@ -2,7 +2,7 @@
 ghost use Rattle.bep_machine.specs.Laws.{StepsKeepSound};
 
 use bep_blocks::plain_blocks_match;
-use bep_index::batch_records_are_found;
+use bep_index::{batch_records_are_found, changes_keep_a_view, puts_keep_an_index};
 use bep_record::{bump_exists, merge_exists};
 
 /// No step breaks what holds of every cluster: its records, views, pulls and stores are well formed, its devices and
@@ -13,5 +13,7 @@ pub fn steps_keep_sound()
     merge_exists();
     bump_exists();
     plain_blocks_match();
+    puts_keep_an_index();
+    changes_keep_a_view();
     batch_records_are_found();
 }
