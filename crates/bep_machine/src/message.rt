@@ -1,7 +1,9 @@
 //! What devices send each other over a link.
+ghost use Rattle.std.specs.Prelude.{◌≡◌, IfOk};
 
 use bep_index::Batch;
-use bep_record::{FolderName, Items, Name};
+use bep_record::{Duplicate, FolderName, Items, Name};
+use std::alloc::{AllocError, Global};
 
 /// What a ClusterConfig says of a folder that both ends share.
 ///
@@ -18,6 +20,27 @@ pub struct Announced {
     pub known_id: u64,
     /// The greatest sequence of the receiver's index that the sender has seen.
     pub known_sequence: u64,
+}
+
+impl Announced {
+    /// An equal one of its own, or want of memory.
+    pub fn copy(&self, alloc: Global) -> Result<Self, AllocError>
+        ensures { IfOk result (λ made. made ≡ self.now) }
+    {
+        Ok(Announced {
+            folder: self.folder.copy(alloc)?,
+            index_id: self.index_id,
+            sequence: self.sequence,
+            known_id: self.known_id,
+            known_sequence: self.known_sequence,
+        })
+    }
+}
+
+impl Duplicate for Announced {
+    fn duplicate(&self, alloc: Global) -> Result<Self, AllocError> {
+        self.copy(alloc)
+    }
 }
 
 /// A request for one block of a file.
@@ -37,6 +60,22 @@ pub struct Request {
     pub size: u32,
     /// The SHA-256 of these bytes.
     pub hash: [u8; 32],
+}
+
+impl Request {
+    /// An equal request of its own, or want of memory.
+    pub fn copy(&self, alloc: Global) -> Result<Self, AllocError>
+        ensures { IfOk result (λ made. made ≡ self.now) }
+    {
+        Ok(Request {
+            id: self.id,
+            folder: self.folder.copy(alloc)?,
+            name: self.name.copy(alloc)?,
+            offset: self.offset,
+            size: self.size,
+            hash: self.hash,
+        })
+    }
 }
 
 /// Whether a request was answered, or why it wasn't.
@@ -67,6 +106,19 @@ pub struct Response {
     pub bytes: Items<u8>,
 }
 
+impl Response {
+    /// An equal response of its own, or want of memory.
+    pub fn copy(&self, alloc: Global) -> Result<Self, AllocError>
+        ensures { IfOk result (λ made. made ≡ self.now) }
+    {
+        Ok(Response {
+            id: self.id,
+            code: self.code,
+            bytes: self.bytes.copy(alloc)?,
+        })
+    }
+}
+
 /// A message of the Block Exchange Protocol.
 ///
 /// BEP v1, 'Cluster Config', 'Index', 'Index Update', 'Request', 'Response'.
@@ -82,4 +134,23 @@ pub enum Message {
     Request(Request),
     /// The answer to a request.
     Response(Response),
+}
+
+impl Message {
+    /// An equal message of its own, or want of memory.
+    pub fn copy(&self, alloc: Global) -> Result<Self, AllocError>
+        ensures { IfOk result (λ made. made ≡ self.now) }
+    {
+        match self {
+            Message::ClusterConfig(named) => Ok(Message::ClusterConfig(named.duplicate(alloc)?)),
+            Message::Index(folder, batch) => {
+                Ok(Message::Index(folder.copy(alloc)?, batch.copy(alloc)?))
+            }
+            Message::IndexUpdate(folder, batch) => {
+                Ok(Message::IndexUpdate(folder.copy(alloc)?, batch.copy(alloc)?))
+            }
+            Message::Request(request) => Ok(Message::Request(request.copy(alloc)?)),
+            Message::Response(response) => Ok(Message::Response(response.copy(alloc)?)),
+        }
+    }
 }

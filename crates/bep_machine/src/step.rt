@@ -1,6 +1,8 @@
 //! The steps of a cluster.
+ghost use Rattle.std.specs.Prelude.{◌≡◌, IfOk};
 
 use bep_record::{DeviceId, FolderName, Name, Node};
+use std::alloc::{AllocError, Global};
 
 /// A step of a cluster: one device acts, or a link comes up or goes down.
 #[derive(Debug, Drop)]
@@ -33,4 +35,49 @@ pub enum Step {
     Finish(DeviceId, FolderName, Name),
     /// The device starts anew: sessions, pulls and links are gone, and what is stored stays.
     Restart(DeviceId),
+}
+
+impl Step {
+    /// An equal step of its own, or want of memory.
+    pub fn copy(&self, alloc: Global) -> Result<Self, AllocError>
+        ensures { IfOk result (λ made. made ≡ self.now) }
+    {
+        Ok(match self {
+            Step::Edit(device, folder, name, node) => Step::Edit(
+                *device,
+                folder.copy(alloc)?,
+                name.copy(alloc)?,
+                node.copy(alloc)?,
+            ),
+            Step::Remove(device, folder, name) => {
+                Step::Remove(*device, folder.copy(alloc)?, name.copy(alloc)?)
+            }
+            Step::Scan(device, folder, name) => {
+                Step::Scan(*device, folder.copy(alloc)?, name.copy(alloc)?)
+            }
+            Step::Override(device, folder, name) => {
+                Step::Override(*device, folder.copy(alloc)?, name.copy(alloc)?)
+            }
+            Step::Revert(device, folder, name) => {
+                Step::Revert(*device, folder.copy(alloc)?, name.copy(alloc)?)
+            }
+            Step::Connect(one, other) => Step::Connect(*one, *other),
+            Step::Lose(one, other) => Step::Lose(*one, *other),
+            Step::Begin(device, other) => Step::Begin(*device, *other),
+            Step::Deliver(device, other) => Step::Deliver(*device, *other),
+            Step::Announce(device, other, folder) => {
+                Step::Announce(*device, *other, folder.copy(alloc)?)
+            }
+            Step::StartPull(device, folder, name) => {
+                Step::StartPull(*device, folder.copy(alloc)?, name.copy(alloc)?)
+            }
+            Step::Ask(device, other, folder, name) => {
+                Step::Ask(*device, *other, folder.copy(alloc)?, name.copy(alloc)?)
+            }
+            Step::Finish(device, folder, name) => {
+                Step::Finish(*device, folder.copy(alloc)?, name.copy(alloc)?)
+            }
+            Step::Restart(device) => Step::Restart(*device),
+        })
+    }
 }

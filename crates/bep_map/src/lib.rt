@@ -1,4 +1,4 @@
-//! Finite maps whose keys are the names of files, on which indexes, views and stores stand.
+//! Finite maps whose keys are the names of files, on which indexes, views and stores stand, and maps of folders.
 //!
 //! ```rust
 //! let mut nodes = NameMap::new(alloc);
@@ -7,6 +7,8 @@
 //! ```
 #![tactic(auto)]
 
+mod folder_map;
 mod name_map;
 
+pub use folder_map::FolderMap;
 pub use name_map::NameMap;

@@ -1,0 +1,3 @@
+pub mod Link
+pub mod LinkError
+pub mod Side

@@ -1,0 +1,98 @@
+//! A map from folders to values, over a `BTreeMap`.
+ghost use Rattle.std.specs.Prelude.{◌≡◌, IfOk, IfErr, OnOk, OnErr, Some, None};
+ghost use Rattle.std.specs.Option.{option_copied};
+ghost use Rattle.std.specs.FinMap as map;
+
+use bep_record::FolderName;
+use std::alloc::{AllocError, Global};
+use std::collections::BTreeMap;
+use std::marker::Model;
+use std::mem;
+
+/// A finite map from folder names to values of `V`. Two maps with the same values at the same names are equal in
+/// contracts.
+#[derive(Drop)]
+pub struct FolderMap<V> {
+    entries: BTreeMap<FolderName, V>,
+}
+
+impl<V> Model for FolderMap<V> {
+    ghost use Rattle.std.specs.FinMap as map;
+    ghost use Rattle.std.specs.Coded.{coded_ℕ, coded_list};
+    ghost use Rattle.bep_map.specs.NameMap.{ByName};
+
+    ghost Value = { ByName V };
+
+    ghost coded = { map.code (coded_list coded_ℕ) V.code };
+
+    ghost view = { λ m. map.from_entries m.entries.entries };
+}
+
+impl<V> FolderMap<V> {
+    /// The map without folders. It takes no memory.
+    pub fn new(alloc: Global) -> Self
+        ensures { result ≡ map.empty }
+    {
+        FolderMap {
+            entries: BTreeMap::new(alloc),
+        }
+    }
+
+    /// The value of the folder, if it has one.
+    pub fn get(&self, folder: &FolderName) -> Option<&V>
+        ensures { option_copied result ≡ map.get self.now folder.now }
+    {
+        self.entries.get(folder)
+    }
+}
+
+impl<V: Drop> FolderMap<V> {
+    /// Gives the folder this value, and answers the value that it had. Without memory the map is as before, and the
+    /// folder's name and the value are used up.
+    pub fn insert(&mut self, folder: FolderName, value: V) -> Result<Option<V>, AllocError>
+        ensures old { IfOk result (λ old. old ≡ map.get self.old folder) }
+        ensures ok { OnOk result (self.new ≡ map.insert self.old folder value) }
+        ensures err { OnErr result (self.new ≡ self.old) }
+    {
+        Ok(self.entries.insert(folder, value)?)
+    }
+
+    /// Gives the folder this value in place of the one that it has, which is answered. A folder without a value gets
+    /// none, and the value comes back. Takes no memory.
+    pub fn replace(&mut self, folder: &FolderName, value: V) -> Result<V, V>
+        ensures old { IfOk result (λ old. map.get self.old folder.now ≡ Some old) }
+        ensures ok { OnOk result (self.new ≡ map.insert self.old folder.now value) }
+
+        ensures absent { OnErr result (map.get self.old folder.now ≡ None) }
+        ensures back { IfErr result (λ same. same ≡ value) }
+        ensures err { OnErr result (self.new ≡ self.old) }
+    {
+        let held = match self.entries.get_mut(folder) {
+            Some(held) => held,
+            None => return Err(value),
+        };
+        Ok(mem::replace(held, value))
+    }
+}
+
+#[cfg(test)]
+mod tests {
+    use super::*;
+    use std::test::Fail;
+
+    #[test]
+    fn folders_have_values(rt: HostRuntime) -> Result<(), Fail> {
+        let alloc = rt.alloc();
+        let docs = FolderName::read(alloc, b"docs")?;
+        let pictures = FolderName::read(alloc, b"pictures")?;
+        let mut places = FolderMap::new(alloc);
+        assert!(rt; places.insert(docs.copy(alloc)?, 1)?.is_none());
+        assert_eq!(rt; places.replace(&docs, 2), Ok(1));
+        assert_eq!(rt; places.replace(&pictures, 3), Err(3));
+        assert_eq!(rt;
+            (places.get(&docs).copied(), places.get(&pictures).copied()),
+            (Some(2), None)
+        );
+        Ok(())
+    }
+}
