@@ -17,6 +17,8 @@ mod names;
 mod share;
 #[cfg(test)]
 mod tests;
+#[cfg(test)]
+mod value_tests;
 
 pub use bep_document::{DocError, DocFault, Fault, MAX_BYTES};
 pub use bep_model::{Flight, Row};

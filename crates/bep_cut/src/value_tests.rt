@@ -1,0 +1,33 @@
+// Cuts as trees by themselves; which fault a tree has was read off by hand, by docs/DOCUMENTS.md.
+use crate::*;
+use serde_json::Value;
+use std::alloc::Global;
+use std::test::Fail;
+
+// The number of the fault for which a cut is refused, 0 where it is read.
+fn fault_of(alloc: Global, text: &str) -> Result<u32, Fail> {
+    let value = Value::from_str(alloc, text)?;
+    match Cut::from_value(alloc, &value) {
+        Ok(_) => Ok(0),
+        Err(DocError::Memory) => Err(DocError::Memory)?,
+        Err(DocError::Refused(fault)) => Ok(fault.fault.number()),
+    }
+}
+
+#[test]
+fn a_cut_is_read_by_itself(rt: HostRuntime) -> Result<(), Fail> {
+    let alloc = rt.alloc();
+    assert_eq!(rt; fault_of(alloc, r#"{"folders":[]}"#)?, 0);
+    // It has no version.
+    assert_eq!(rt; fault_of(alloc, r#"{"version":1,"folders":[]}"#)?, 183);
+    assert_eq!(rt;
+        fault_of(alloc, r#"{"folders":[{"folder":"a b","devices":[]}]}"#)?,
+        184
+    );
+    let down = r#"{"folders":[{"folder":"docs","devices":[
+        {"device":1,"kind":"send-receive","index_id":11,"max":0},
+        {"device":2,"kind":"send-receive","index_id":12,"max":0}]}],"links":[
+        {"a":1,"b":2,"up":false,"epoch":0,"to_b":[{"folder":"docs","full":true,"records":[]}]}]}"#;
+    assert_eq!(rt; fault_of(alloc, down)?, 189);
+    Ok(())
+}
