@@ -2,3 +2,4 @@
 pub mod Sorting
 pub mod Written
 pub mod AsWritten
+pub mod Trees

@@ -1,10 +1,12 @@
-//! The cut and the certificate that a check document writes down.
+//! The cut and the certificate that a check document writes down, read and written.
 
 mod laws;
 mod reading;
 mod records;
 mod sorting;
+mod trees;
 mod written;
 
 pub use laws::cut_is_as_written;
 pub use reading::read_check;
+pub use trees::check_value;

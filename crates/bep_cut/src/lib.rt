@@ -17,11 +17,13 @@ mod names;
 mod share;
 #[cfg(test)]
 mod tests;
+#[cfg(test)]
+mod value_tests;
 
 pub use bep_document::{DocError, DocFault, Fault, MAX_BYTES};
 pub use bep_model::{Flight, Row};
 pub use cut::{Cut, CutParts};
-pub use document::{cut_is_as_written, read_check};
+pub use document::{check_value, cut_is_as_written, read_check};
 pub use laws::{cut_says, names_are_known};
 pub use link::LinkState;
 pub use share::{PeerView, Share, SharedFolder};

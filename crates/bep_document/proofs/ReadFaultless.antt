@@ -12,9 +12,9 @@ use Rattle.bep_document.specs.declared.parts.FolderParts.{FolderParts}
 use Rattle.bep_document.specs.declared.parts.FlightParts.{FlightParts}
 use Rattle.bep_document.specs.declared.parts.LinkParts.{LinkParts}
 use Rattle.bep_document.specs.declared.parts.CheckParts.{CheckParts}
-use Rattle.bep_document.specs.read.Checks.{has_version, is_check, read_check}
+use Rattle.bep_document.specs.read.Checks.{is_cut, read_cut, has_version, is_check, read_check}
 use Rattle.bep_document.specs.read.Devices.{is_one_of, with_devices}
-use Rattle.bep_document.specs.Reading.{Read, is_short, tree_of, first_fault, reading_of_tree, reading_of}
+use Rattle.bep_document.specs.Reading.{Read, is_short, tree_of, first_fault, reading_of_tree, reading_of, without_rows, reading_of_cut}
 use Rattle.bep_document.specs.Faultless.{IsFaultlessIndex, IsFaultlessShare, IsFaultlessFolder, IsFaultlessFlight, IsFaultlessLink, IsFaultless}
 use Rattle.bep_document.proofs.read.DevicesKnown.{devices_known, known_are_of, no_more}
 use Rattle.bep_document.proofs.FaultlessFacts.{HasNoFault, has_no_fault}
@@ -24,7 +24,7 @@ use Rattle.bep_document.proofs.faults.LinksFacts.{IsLinkOf}
 use Rattle.bep_document.proofs.faults.NoFault.{all_map, all_both, all_four}
 use Rattle.bep_document.proofs.faults.SequencesFacts.{AreNumbered, IsNumberedAt, RisesInRange}
 use Rattle.bep_document.proofs.faults.TwiceFacts.{IsOnceAt, IsOnceIn}
-use Rattle.bep_document.proofs.read.RangeFacts.{IsIndexInRange, IsShareInRange, IsFlightInRange, IsLinkInRange, IsCutInRange, check_in_range}
+use Rattle.bep_document.proofs.read.RangeFacts.{IsIndexInRange, IsShareInRange, IsFlightInRange, IsLinkInRange, IsCutInRange, cut_in_range, check_in_range}
 use Rattle.bep_document.proofs.faults.UnsharedFacts.{AreOfOthers, IsOfBoth}
 use Rattle.bep_document.proofs.Steps.{passed_and, given_and, no_fault_and}
 
@@ -130,3 +130,11 @@ reading_faultless bytes parts e =
     let short = passed_and Range is_short bytes _ e in
     let tree = given_and NotJson (tree_of bytes) _ short in
     tree_faultless tree.0 parts tree.2
+
+pub cut_faultless : (tree : Data) (parts : CheckParts) → reading_of_cut tree ≡ Read parts → IsFaultless parts
+unfolding reading_of_cut
+cut_faultless tree parts e =
+    let shaped = passed_and Shape is_cut tree _ e in
+    let found = given_and Range (read_cut tree) _ shaped in
+    let clean = no_fault_and (first_fault (without_rows found.0)) found.2 in
+    subst IsFaultless clean.1 (faultless (without_rows found.0) (cut_in_range tree found.0 found.1) (has_no_fault (without_rows found.0) clean.0))

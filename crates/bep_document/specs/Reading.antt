@@ -1,6 +1,6 @@
 -- The reading of a check document: what its bytes say, or the one fault for which it is refused. The smallest number
 -- that applies is told, at its first place (this project's profile).
-use Rattle.std.specs.Prelude.{◌≡◌, ℕ, nat_le, Bool, ⊤, List, length, Option, Some, None, Result, Ok, Err, if◌then◌else◌}
+use Rattle.std.specs.Prelude.{◌≡◌, ℕ, nat_le, Bool, ⊤, List, [], length, Option, Some, None, Result, Ok, Err, if◌then◌else◌}
 use Rattle.std.specs.Str.{is_utf8}
 use Rattle.serde_json.specs.Data.{Data}
 use Rattle.serde_json.specs.Read as json
@@ -9,6 +9,8 @@ use Rattle.bep_document.specs.declared.error.DocError.TheVariants as errors
 use Rattle.bep_document.specs.declared.fault.DocFault.{DocFault}
 use Rattle.bep_document.specs.declared.fault.Fault.{Fault}
 use Rattle.bep_document.specs.declared.fault.Fault.TheVariants.{NotJson, VersionBad, Shape, Range}
+use Rattle.bep_document.specs.declared.parts.FolderParts.{FolderParts}
+use Rattle.bep_document.specs.declared.parts.LinkParts.{LinkParts}
 use Rattle.bep_document.specs.declared.parts.CheckParts.{CheckParts}
 use Rattle.bep_document.specs.Fault.{nowhere}
 use Rattle.bep_document.specs.faults.Judge.{◌else_at◌}
@@ -17,7 +19,7 @@ use Rattle.bep_document.specs.faults.Unshared.{first_unshared}
 use Rattle.bep_document.specs.faults.Records.{first_bad}
 use Rattle.bep_document.specs.faults.Sequences.{first_bad_sequence}
 use Rattle.bep_document.specs.faults.Links.{first_bad_link}
-use Rattle.bep_document.specs.read.Checks.{has_version, is_check, read_check}
+use Rattle.bep_document.specs.read.Checks.{is_cut, read_cut, has_version, is_check, read_check}
 
 -- a thing, or the fault in place of it
 pub data Reading (T : Type 0) : Type 0 where
@@ -95,3 +97,14 @@ reading_of bytes = do
   short ← passed Range is_short bytes
   tree ← given NotJson (tree_of short)
   reading_of_tree tree
+
+-- a cut alone: its folders and links, and no rows
+abbrev pub without_rows : List FolderParts × List LinkParts → CheckParts
+without_rows cut = record { folders = cut.0; links = cut.1; certificate = [] }
+
+-- what the tree of a cut says, by itself; it has no version, and is no document of bytes
+unfoldable pub reading_of_cut : Data → Reading CheckParts
+reading_of_cut tree = do
+  shaped ← passed Shape is_cut tree
+  cut ← given Range (read_cut shaped)
+  unless (first_fault (without_rows cut)) (without_rows cut)

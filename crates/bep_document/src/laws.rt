@@ -1,12 +1,13 @@
 //! What holds of each document that is read, as laws.
-ghost use Rattle.bep_document.specs.Faultless.{ReadingsAreFaultless};
+ghost use Rattle.bep_document.specs.Faultless.{ReadingsAreFaultless, CutsAreFaultless};
 ghost use Rattle.bep_document.specs.Laws.{RecordsAreTold, NodesAreTold};
 
 /// That what is read has no fault: folders, devices, views, links and names stand once, views and messages are of what is
 /// shared, records and nodes are well formed, sequences are numbered, links join two devices and are empty while they are
 /// down, and all is within its limits. A law, which does nothing when it runs.
 pub fn readings_are_faultless()
-    ensures { ReadingsAreFaultless }
+    ensures documents { ReadingsAreFaultless }
+    ensures cuts { CutsAreFaultless }
 {}
 
 /// That the tests by which records and nodes are found bad tell what fields are a record and what parts are a node: a

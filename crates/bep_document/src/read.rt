@@ -8,4 +8,4 @@ mod links;
 mod shares;
 mod views;
 
-pub(crate) use checks::has_version;
+pub(crate) use checks::{CutLists, has_version};

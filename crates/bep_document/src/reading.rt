@@ -1,14 +1,15 @@
 //! The reading of a document: from its bytes to what it says, or to its fault.
 ghost use Rattle.std.specs.Prelude.{◌≡◌};
 ghost use Rattle.serde_json.specs.View.{view};
-ghost use Rattle.bep_document.specs.Reading.{Answers, AnswersBy, given, tree_of, unless, first_fault, reading_of_tree, reading_of};
+ghost use Rattle.bep_document.specs.Reading.{Answers, AnswersBy, given, tree_of, unless, first_fault, reading_of_tree, reading_of, reading_of_cut};
 ghost use Rattle.bep_document.specs.Fault.{nowhere};
 ghost use Rattle.bep_document.specs.declared.fault.Fault.TheVariants.{NotJson};
 
 use crate::faults::fault_of;
-use crate::read::has_version;
+use crate::read::{CutLists, has_version};
 use crate::{CheckParts, DocError, DocFault, Fault};
 use bep_json::{ReadError, Readable};
+use bep_record::Items;
 use serde_json::Value;
 use serde_json::error::Category;
 use std::alloc::Global;
@@ -78,5 +79,21 @@ fn judged(alloc: Global, parts: CheckParts) -> Result<CheckParts, DocError>
     match fault_of(alloc, &parts)? {
         Some(fault) => Err(DocError::Refused(fault)),
         None => Ok(parts),
+    }
+}
+
+/// What the tree of a cut says by itself, with no rows, or the fault for which it is refused: `Shape`, `Range`, or the
+/// first of those that have a place. `Memory` may come in place of any answer.
+#[tactic(auto, unfolding(crate::specs::Reading::reading_of_cut))]
+pub fn read_cut_parts(alloc: Global, tree: &Value) -> Result<CheckParts, DocError>
+    ensures { Answers result (reading_of_cut (view tree.now)) }
+{
+    if !CutLists::has_shape(tree) {
+        return Err(refused(Fault::Shape));
+    }
+    match CutLists::read(alloc, tree) {
+        Ok(cut) => judged(alloc, cut.with_rows(Items::new(Vec::new(alloc)))),
+        Err(ReadError::Range) => Err(refused(Fault::Range)),
+        Err(ReadError::Memory) => Err(DocError::Memory),
     }
 }

@@ -7,7 +7,7 @@ use Rattle.bep_record.specs.Block.{base_block_size, block_count, cut_at, CutWhol
 use Rattle.bep_record.specs.declared.block.Block.{Block}
 use Rattle.bep_json.specs.Records.{blocks_from}
 
-abbrev place_of : Block → ℕ × ℕ
+abbrev pub place_of : Block → ℕ × ℕ
 place_of b = (b.offset, b.size)
 
 pub blocks_from-hashes : (size offset : ℕ) (hashes : List (List ℕ)) → map (λ b. b.hash) (blocks_from size offset hashes) ≡ hashes

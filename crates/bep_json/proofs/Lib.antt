@@ -2,3 +2,5 @@ mod TreeFacts
 pub mod TextFacts
 pub mod ListFacts
 pub mod BlockFacts
+pub mod WrittenFacts
+pub mod RecordSays

@@ -5,4 +5,6 @@ pub mod Texts
 pub mod Lists
 pub mod Records
 pub mod Nodes
+pub mod Written
+pub mod Says
 pub mod Laws

@@ -19,6 +19,7 @@ mod records;
 mod tests;
 mod texts;
 mod tree;
+mod writing;
 
 pub use error::ReadError;
 pub use laws::{hashes_make_blocks, texts_are_told};
@@ -26,3 +27,4 @@ pub use nodes::NamedParts;
 pub use numbers::{Nanoseconds, Sequence, Whole};
 pub use readable::{Readable, has, may_have, member, member_or};
 pub use tree::has_only;
+pub use writing::{node_value, record_value};

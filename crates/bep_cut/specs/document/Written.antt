@@ -5,6 +5,7 @@ use Rattle.std.specs.Ordering.{nat_cmp, on}
 use Rattle.std.specs.Cmp.Lexicographic.{slice_cmp}
 use Rattle.std.specs.FinMap.{empty, insert}
 use Rattle.std.specs.List.{AllByRecursion, filter}
+use Rattle.serde_json.specs.Data.{Data}
 use Rattle.bep_map.specs.NameMap.{ByName}
 use Rattle.bep_record.specs.Entry.{IsWellFormed}
 use Rattle.bep_record.specs.declared.node.NodeParts.{NodeParts}
@@ -16,7 +17,7 @@ use Rattle.bep_document.specs.declared.parts.FolderParts.{FolderParts}
 use Rattle.bep_document.specs.declared.parts.FlightParts.{FlightParts}
 use Rattle.bep_document.specs.declared.parts.LinkParts.{LinkParts}
 use Rattle.bep_document.specs.declared.parts.RowParts.{RowParts}
-use Rattle.bep_document.specs.Reading.{Reading, Read, ◌>>=◌, reading_of}
+use Rattle.bep_document.specs.Reading.{Reading, Read, ◌>>=◌, reading_of, reading_of_cut}
 use Rattle.bep_model.specs.declared.flight.Flight.{Flight}
 use Rattle.bep_model.specs.declared.row.Row.{Row}
 use Rattle.bep_cut.specs.declared.share.Share.{Share}
@@ -115,3 +116,7 @@ row_written parts = record { folder = parts.folder; device = parts.device; entry
 -- the cut and the rows of a check document, or the fault for which it is refused
 abbrev pub check_of : List ℕ → Reading (CutParts × List Row)
 check_of bytes = reading_of bytes >>= λ parts. Read (cut_written parts.folders parts.links, map row_written parts.certificate)
+
+-- the cut that the tree of a cut says by itself, or the fault for which it is refused
+abbrev pub cut_of_tree : Data → Reading CutParts
+cut_of_tree tree = reading_of_cut tree >>= λ parts. Read (cut_written parts.folders parts.links)

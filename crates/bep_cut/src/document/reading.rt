@@ -1,15 +1,17 @@
 //! The reading of a document: from its bytes to the cut and the rows that it writes down.
 ghost use Rattle.std.specs.Prelude.{◌≡◌, IfOk, map};
 ghost use Rattle.bep_document.specs.Faultless.{IsFaultless};
-ghost use Rattle.bep_document.specs.Reading.{AnswersBy};
-ghost use Rattle.bep_cut.specs.document.Written.{cut_written, row_written, check_of};
+ghost use Rattle.serde_json.specs.View.{view};
+ghost use Rattle.bep_document.specs.Reading.{Answers, AnswersBy};
+ghost use Rattle.bep_cut.specs.document.Written.{cut_written, row_written, check_of, cut_of_tree};
 
 use crate::document::records::rows_from;
 use crate::document::written::all_in_order;
 use crate::{Cut, CutParts, DocError};
-use bep_document::{CheckParts, read_parts, readings_are_faultless};
+use bep_document::{CheckParts, read_cut_parts, read_parts, readings_are_faultless};
 use bep_index::records_make_an_index;
 use bep_model::Row;
+use serde_json::Value;
 use std::alloc::{AllocError, Global};
 
 /// The cut and the certificate's rows that the bytes of a check document say, or the one fault for which the document is
@@ -24,6 +26,19 @@ pub fn read_check(alloc: Global, bytes: &[u8]) -> Result<(Cut, Vec<Row>), DocErr
             Err(_) => Err(DocError::Memory),
         },
         Err(error) => Err(error),
+    }
+}
+
+impl Cut {
+    /// The cut that a tree says by itself, as a check document's member `cut` does, or the one fault for which it is
+    /// refused: `Shape`, `Range`, or the first of those that have a place. `Memory` may come in place of any answer.
+    pub fn from_value(alloc: Global, value: &Value) -> Result<Cut, DocError>
+        ensures { Answers result (cut_of_tree (view value.now)) }
+    {
+        readings_are_faultless();
+        let parts = read_cut_parts(alloc, value)?;
+        let (cut, _rows) = check_from(alloc, parts)?;
+        Ok(cut)
     }
 }
 

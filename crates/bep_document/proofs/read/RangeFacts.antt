@@ -128,7 +128,7 @@ pub record IsCutInRange (folders : List FolderParts) (links : List LinkParts) : 
   pub shares : AllByRecursion (λ folder. AllByRecursion IsShareInRange folder.devices) folders
   pub links_in_range : AllByRecursion IsLinkInRange links
 
-cut_in_range : Reads (λ cut. IsCutInRange cut.0 cut.1) read_cut
+pub cut_in_range : Reads (λ cut. IsCutInRange cut.0 cut.1) read_cut
 unfolding read_cut
 cut_in_range d =
     keep (member_read (few_read MAX_FOLDERS folder_in_range) (codes "folders") d) (λ folders in_range.

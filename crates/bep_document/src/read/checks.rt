@@ -14,7 +14,7 @@ use std::marker::Model;
 
 // The folders and the links of a cut.
 #[derive(Debug, Drop)]
-struct CutLists {
+pub(crate) struct CutLists {
     folders: Items<FolderParts>,
     links: Items<LinkParts>,
 }
@@ -31,7 +31,7 @@ impl Model for CutLists {
 
 impl CutLists {
     // The cut and the rows together.
-    fn with_rows(self, certificate: Items<RowParts>) -> CheckParts
+    pub(crate) fn with_rows(self, certificate: Items<RowParts>) -> CheckParts
         ensures { result ≡ record { folders = self.0; links = self.1; certificate = certificate } }
     {
         CheckParts {

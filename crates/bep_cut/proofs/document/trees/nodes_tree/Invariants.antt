@@ -1,0 +1,10 @@
+use Rattle.std.proofs.Common.{◌≡◌, ◌++◌, map}
+use Rattle.std.specs.FinMap.{entries}
+use Rattle.serde_json.specs.View.{view}
+use Rattle.bep_json.specs.Written.{node_written}
+use Rattle.bep_cut.proofs.document.trees.nodes_tree.Given as goal
+
+-- the trees so far with those of the nodes that are left are all of them
+abbrev pub invariant-loop-name : goal.invariant-loop-name
+invariant-loop-name l =
+    map view l.trees.items ++ map (λ held. node_written held.0 held.1) l.name-iterator ≡ map (λ held. node_written held.0 held.1) (entries l.nodes)

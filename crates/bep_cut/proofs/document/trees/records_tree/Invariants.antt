@@ -1,0 +1,10 @@
+use Rattle.std.proofs.Common.{◌≡◌, ◌++◌, map}
+use Rattle.std.specs.FinMap.{values}
+use Rattle.serde_json.specs.View.{view}
+use Rattle.bep_json.specs.Written.{record_written}
+use Rattle.bep_cut.proofs.document.trees.records_tree.Given as goal
+
+-- the trees so far with those of the records that are left are all of them
+abbrev pub invariant-loop-entry : goal.invariant-loop-entry
+invariant-loop-entry l =
+    map view l.trees.items ++ map record_written l.entry-iterator ≡ map record_written (values l.records)
