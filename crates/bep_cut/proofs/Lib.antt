@@ -1,6 +1,9 @@
 mod Found
+mod Grouped
 mod Tables
 mod Values
 mod Added
 mod Known
 mod Finite
+mod Entries
+mod Said

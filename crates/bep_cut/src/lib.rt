@@ -15,6 +15,7 @@ mod laws;
 mod link;
 mod names;
 mod share;
+mod table;
 #[cfg(test)]
 mod tests;
 #[cfg(test)]
@@ -27,3 +28,4 @@ pub use document::{check_value, cut_is_as_written, read_check};
 pub use laws::{cut_says, names_are_known};
 pub use link::LinkState;
 pub use share::{PeerView, Share, SharedFolder};
+pub use table::{Held, Source, Table, TableEntry, entries_are_held};

@@ -212,6 +212,45 @@ fn known_names_are_told(rt: HostRuntime) -> Result<(), Fail> {
     Ok(())
 }
 
+fn word_of_entry(held: &Held<'_>) -> &'static str {
+    match held {
+        Held::Node(_) => " node",
+        Held::Record(Source::Own, _) => " own",
+        Held::Record(Source::View, _) => " view",
+        Held::Record(Source::Flight, _) => " flight",
+        Held::Record(Source::Pull, _) => " pull",
+    }
+}
+
+// Each entry of the cut's table: its name, its device, and what it is.
+fn told_of_table(alloc: Global, cut: &Cut) -> Result<String, AllocError> {
+    let table = Table::of(alloc, cut)?;
+    let mut text = String::new(alloc);
+    for entry in table.entries() {
+        text.push_str(entry.name.as_str())?;
+        push_number(&mut text, alloc, entry.device.number())?;
+        text.push_str(word_of_entry(&entry.held))?;
+        text.push_str("; ")?;
+    }
+    Ok(text)
+}
+
+#[test]
+fn entries_are_grouped_by_name(rt: HostRuntime) -> Result<(), Fail> {
+    let alloc = rt.alloc();
+    let (cut, _rows) = of_folders(alloc)?;
+    assert_eq!(rt;
+        told_of_table(alloc, &cut)?.as_str(),
+        "a 7 own; b 7 own; c 2 node; d 2 node; "
+    );
+    let (cut, _rows) = of_links(alloc)?;
+    assert_eq!(rt;
+        told_of_table(alloc, &cut)?.as_str(),
+        "a 2 view; b 2 view; b 2 pull; c 2 flight; d 7 flight; e 7 flight; "
+    );
+    Ok(())
+}
+
 // The number of the fault for which so many letters are refused, 0 where they are read.
 fn fault_of_letters(alloc: Global, count: usize) -> Result<u32, AllocError> {
     let bytes = vec![in alloc; b'x'; count]?;
