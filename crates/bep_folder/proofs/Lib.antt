@@ -1,0 +1,2 @@
+mod DeviceMapFacts
+mod HeldFacts

@@ -1,0 +1,14 @@
+//! One folder at one device: the device's own index, its views of the others' indexes, its pulls and its store.
+#![tactic(auto)]
+
+mod device_map;
+mod error;
+mod pull;
+mod readers;
+mod replica;
+mod traced;
+
+pub use device_map::DeviceMap;
+pub use error::FolderError;
+pub use pull::Pull;
+pub use replica::Replica;
