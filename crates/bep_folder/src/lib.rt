@@ -1,6 +1,7 @@
 //! One folder at one device: the device's own index, its views of the others' indexes, its pulls and its store.
 #![tactic(auto)]
 
+mod chosen;
 mod device_map;
 mod error;
 mod pull;
