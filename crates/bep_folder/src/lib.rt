@@ -8,6 +8,7 @@ mod pull;
 mod readers;
 mod replica;
 mod traced;
+mod wanted;
 
 pub use device_map::DeviceMap;
 pub use error::FolderError;
