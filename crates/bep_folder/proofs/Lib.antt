@@ -2,3 +2,4 @@ mod ChosenFacts
 mod DeviceMapFacts
 mod HeldFacts
 mod KnownFacts
+mod ViewFacts

@@ -4,3 +4,4 @@ pub mod Known
 pub mod Makes
 pub mod Pull
 pub mod Trace
+pub mod Views

@@ -8,6 +8,7 @@ mod pull;
 mod readers;
 mod replica;
 mod traced;
+mod views;
 mod wanted;
 
 pub use device_map::DeviceMap;
