@@ -1,0 +1,3 @@
+pub mod BlockFacts
+pub mod PullFacts
+pub mod KeptFacts

@@ -1,0 +1,2 @@
+pub mod Pulled
+pub mod Pull
