@@ -1,3 +1,7 @@
-pub mod BlockFacts
-pub mod PullFacts
-pub mod KeptFacts
+mod BlockFacts
+mod ChosenFacts
+mod DeviceMapFacts
+mod HeldFacts
+mod KeptFacts
+mod KnownFacts
+mod PullFacts

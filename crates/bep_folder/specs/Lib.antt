@@ -1,2 +1,7 @@
-pub mod Pulled
+pub mod FolderError
+pub mod Held
+pub mod Known
+pub mod Makes
 pub mod Pull
+pub mod Pulled
+pub mod Trace
