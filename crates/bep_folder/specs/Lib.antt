@@ -4,4 +4,5 @@ pub mod Known
 pub mod Makes
 pub mod Pull
 pub mod Pulled
+pub mod ScanResult
 pub mod Trace

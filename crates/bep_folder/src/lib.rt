@@ -8,6 +8,7 @@ mod pull;
 mod pulled;
 mod readers;
 mod replica;
+mod scan_result;
 mod traced;
 mod wanted;
 
@@ -15,3 +16,4 @@ pub use device_map::DeviceMap;
 pub use error::FolderError;
 pub use pull::Pull;
 pub use replica::Replica;
+pub use scan_result::ScanResult;
