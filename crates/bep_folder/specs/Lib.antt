@@ -3,5 +3,7 @@ pub mod Held
 pub mod Known
 pub mod Makes
 pub mod Pull
+pub mod Pulled
+pub mod ScanResult
 pub mod Trace
 pub mod Views
