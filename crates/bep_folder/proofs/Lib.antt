@@ -1,0 +1,8 @@
+mod BlockFacts
+mod ChosenFacts
+mod DeviceMapFacts
+mod HeldFacts
+mod KeptFacts
+mod KnownFacts
+mod PullFacts
+mod ViewFacts

@@ -1,0 +1,9 @@
+pub mod FolderError
+pub mod Held
+pub mod Known
+pub mod Makes
+pub mod Pull
+pub mod Pulled
+pub mod ScanResult
+pub mod Trace
+pub mod Views

@@ -1,0 +1,75 @@
+//! A map from devices to values, over a `BTreeMap`.
+ghost use Rattle.std.specs.Prelude.{◌≡◌, IfOk, IfErr, OnOk, OnErr, Some, None};
+ghost use Rattle.std.specs.Option.{option_copied};
+ghost use Rattle.std.specs.FinMap as map;
+
+use bep_record::DeviceId;
+use std::alloc::{AllocError, Global};
+use std::collections::BTreeMap;
+use std::marker::Model;
+use std::mem;
+
+/// A finite map from devices to values of `V`. Two maps with the same values at the same devices are equal in contracts.
+#[derive(Drop)]
+pub struct DeviceMap<V> {
+    entries: BTreeMap<DeviceId, V>,
+}
+
+impl<V> Model for DeviceMap<V> {
+    ghost use Rattle.std.specs.FinMap as map;
+    ghost use Rattle.std.specs.Coded.{coded_ℕ};
+    ghost use Rattle.bep_machine.specs.Replica.{ByDevice};
+
+    ghost Value = { ByDevice V };
+
+    ghost coded = { map.code coded_ℕ V.code };
+
+    ghost view = { λ m. map.from_entries m.entries.entries };
+}
+
+impl<V> DeviceMap<V> {
+    /// The map without devices.
+    pub fn new(alloc: Global) -> Self
+        ensures { result ≡ map.empty }
+    {
+        DeviceMap {
+            entries: BTreeMap::new(alloc),
+        }
+    }
+
+    /// The device's value, if it has one.
+    pub fn get(&self, device: DeviceId) -> Option<&V>
+        ensures { option_copied result ≡ map.get self.now device }
+    {
+        self.entries.get(&device)
+    }
+}
+
+impl<V: Drop> DeviceMap<V> {
+    /// Gives the device this value, and answers the value that it had. Without memory the map is as before, and the
+    /// value is used up.
+    pub fn insert(&mut self, device: DeviceId, value: V) -> Result<Option<V>, AllocError>
+        ensures old { IfOk result (λ old. old ≡ map.get self.old device) }
+        ensures ok { OnOk result (self.new ≡ map.insert self.old device value) }
+        ensures err { OnErr result (self.new ≡ self.old) }
+    {
+        Ok(self.entries.insert(device, value)?)
+    }
+
+    /// Gives the device this value in place of the one that it has, which is answered. A device without a value gets
+    /// none, and the value comes back. Takes no memory.
+    pub fn replace(&mut self, device: DeviceId, value: V) -> Result<V, V>
+        ensures old { IfOk result (λ old. map.get self.old device ≡ Some old) }
+        ensures ok { OnOk result (self.new ≡ map.insert self.old device value) }
+
+        ensures absent { OnErr result (map.get self.old device ≡ None) }
+        ensures back { IfErr result (λ same. same ≡ value) }
+        ensures err { OnErr result (self.new ≡ self.old) }
+    {
+        let held = match self.entries.get_mut(&device) {
+            Some(held) => held,
+            None => return Err(value),
+        };
+        Ok(mem::replace(held, value))
+    }
+}

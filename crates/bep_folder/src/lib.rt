@@ -1,0 +1,20 @@
+//! One folder at one device: the device's own index, its views of the others' indexes, its pulls and its store.
+#![tactic(auto)]
+
+mod chosen;
+mod device_map;
+mod error;
+mod pull;
+mod pulled;
+mod readers;
+mod replica;
+mod scan_result;
+mod traced;
+mod views;
+mod wanted;
+
+pub use device_map::DeviceMap;
+pub use error::FolderError;
+pub use pull::Pull;
+pub use replica::Replica;
+pub use scan_result::ScanResult;
