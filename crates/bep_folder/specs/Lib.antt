@@ -1,3 +1,4 @@
+pub mod Commit
 pub mod FolderError
 pub mod Held
 pub mod Known

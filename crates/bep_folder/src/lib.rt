@@ -2,8 +2,11 @@
 #![tactic(auto)]
 
 mod chosen;
+mod deletion;
 mod device_map;
+mod edit;
 mod error;
+mod found;
 mod pull;
 mod pulled;
 mod readers;
