@@ -82,3 +82,4 @@ mod SessionEffect
 mod RecordsEffect
 mod RequestEffect
 mod ConfigEffect
+mod ResponseEffect

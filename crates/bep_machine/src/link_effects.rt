@@ -1,6 +1,6 @@
 //! That each step over a link does what it is for, where nothing stands in its way, and what loses the link. Each function
 //! does nothing; its contract is the law.
-ghost use Rattle.bep_machine.specs.LinkEffects.{ConnectOpens, LoseEmpties, RestartForgets, BeginOpens, UnnamedLosesLink, SecondConfigLosesLink, UnsharedLosesLink, TwiceLosesLink, OldUpdateLosesLink, ConfigIsTaken, IndexBringsView, UpdateAddsToView, RequestIsAnswered, WholeIsAnnounced, FurtherIsAnnounced, AskSendsRequest};
+ghost use Rattle.bep_machine.specs.LinkEffects.{ConnectOpens, LoseEmpties, RestartForgets, BeginOpens, UnnamedLosesLink, SecondConfigLosesLink, UnsharedLosesLink, TwiceLosesLink, OldUpdateLosesLink, ConfigIsTaken, IndexBringsView, UpdateAddsToView, RequestIsAnswered, WholeIsAnnounced, FurtherIsAnnounced, AskSendsRequest, BlockIsReceived};
 
 use bep_index::{batch_records_are_found, records_make_an_index};
 
@@ -58,4 +58,9 @@ pub fn records_are_announced()
 /// A block that is missing and that the other device has is asked for.
 pub fn block_is_asked_for()
     ensures { AskSendsRequest }
+{}
+
+/// A right response to a request of the session brings the bytes to the block that was asked for.
+pub fn block_is_received()
+    ensures { BlockIsReceived }
 {}
