@@ -10,7 +10,8 @@ use Rattle.bep_index.specs.declared.send.Plan.{Plan}
 use Rattle.bep_model.specs.Tables.{Device, Folder}
 use Rattle.bep_machine.specs.declared.message.Announced.{Announced}
 use Rattle.bep_machine.specs.Replica.{Replica, view_of, with_view}
-use Rattle.bep_machine.specs.Exchange.{NamesNot, NamesOnce, known_under, cursor_after, renewed, all_renewed, with_cursor, cursors_for}
+use Rattle.bep_machine.specs.Peer.{Peer}
+use Rattle.bep_machine.specs.Exchange.{SharesWith, NamesNot, NamesOnce, NamesShared, known_under, cursor_after, renewed, all_renewed, with_cursor, cursors_for}
 use Rattle.bep_machine.proofs.ReplicaFacts.{same_name_or_not}
 use Rattle.bep_machine.proofs.GapFlow.{EachSays}
 
@@ -28,6 +29,15 @@ named_says folder Says (first ∷ more) one stands here says =
     ⊎_elim
     (λ same. subst Says same (says.0 (ap (λ (a : Announced). a.folder) same ∙ here)))
     (λ later. named_says folder Says more one later here says.1)
+    (Contains-cons_cases first more one stands)
+
+-- a folder that is named is shared, where all are
+pub shared_at : (other : Device) (peer : Peer) (named : List Announced) (one : Announced) → Contains named one → NamesShared other peer named → SharesWith other peer one.folder
+shared_at other peer [] one stands shared = absurd (not_in_none one stands)
+shared_at other peer (first ∷ more) one stands shared =
+    ⊎_elim
+    (λ same. subst (λ (a : Announced). SharesWith other peer a.folder) same shared.0)
+    (λ later. shared_at other peer more one later shared.1)
     (Contains-cons_cases first more one stands)
 
 -- ---- another folder is named

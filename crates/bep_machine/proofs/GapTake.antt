@@ -1,17 +1,15 @@
 -- A device that takes a message keeps in step.
-use Rattle.std.proofs.Common.{◌≡◌, ◌≢◌, ◌==◌, ℕ, Bool, true, false, if◌then◌else◌, List, [], ◌∷◌, Option, Some, None, IsSome, Contains, refl, sym, ap, subst, ◌∙◌, inl, inr, ⊎_elim, arith, unwrap_or}
-use Rattle.std.proofs.lemmas.Bool.Decides.{nat_tests}
+use Rattle.std.proofs.Common.{◌≡◌, ◌≢◌, ℕ, Bool, true, false, if◌then◌else◌, List, [], ◌∷◌, Option, Some, None, IsSome, Contains, refl, sym, ap, subst, ◌∙◌, inl, inr, ⊎_elim}
 use Rattle.std.specs.Ordering.{nat_cmp}
 use Rattle.std.specs.Cmp.{nat_cmp_total}
 use Rattle.std.specs.Cmp.Lexicographic.{slice_cmp}
 use Rattle.std.specs.FinMap.{empty, get, insert, get-empty, nat_cmp-IsAntisymmetric}
 use Rattle.bep_facts.specs.Maps.{get-insert_here, get-insert_apart}
-use Rattle.bep_facts.specs.Members.{not_in_none, Contains-cons_cases}
 use Rattle.bep_map.specs.NameMap.{ByName}
 use Rattle.bep_index.specs.declared.send.Plan.{Plan}
 use Rattle.bep_index.specs.Listing.{Listing}
 use Rattle.bep_index.specs.Index.{IsIndex}
-use Rattle.bep_index.specs.View.{cleared, replaced, amended}
+use Rattle.bep_index.specs.View.{replaced, amended}
 use Rattle.bep_index.specs.Laws.{FoundIsOfBatchOrBefore, BatchIsFound, OthersAreKept}
 use Rattle.bep_model.specs.Tables.{Device, Folder}
 use Rattle.bep_machine.specs.declared.message.Message.{Message}
@@ -23,11 +21,12 @@ use Rattle.bep_machine.specs.Answer.{Answer}
 use Rattle.bep_machine.specs.Replica.{Replica, Pull, view_of, pull_at, with_view}
 use Rattle.bep_machine.specs.Link.{first_of_queue, taking, losing}
 use Rattle.bep_machine.specs.Peer.{Session, Peer, Acted, with_session, with_replica}
-use Rattle.bep_machine.specs.Exchange.{IsGoodConfig, SharesWith, NamesShared, known_under, cursor_after, all_renewed, cursors_for, configured_by, ViewRow, RequestRow, asked_for, AnsweredRow, AskedRow, ResponseRow, MessageRow, WaitingRow, DeliverRow, taken_by, with_block, with_received, without}
+use Rattle.bep_machine.specs.Exchange.{IsGoodConfig, known_under, cursor_after, all_renewed, cursors_for, configured_by, ViewRow, RequestRow, asked_for, AnsweredRow, AskedRow, ResponseRow, MessageRow, WaitingRow, DeliverRow, taken_by, with_block, with_received, without}
 use Rattle.bep_machine.proofs.ReplicaFacts.{same_name_or_not, insert_here, insert_apart}
+use Rattle.bep_machine.proofs.ViewFacts.{known_same, known_other, view_here, view_apart}
 use Rattle.bep_machine.proofs.GapFlow.{Whole, Further, Other, part_of, EachSays, ConfigSays, SaysId, SaysPoint, IsInStep}
 use Rattle.bep_machine.proofs.GapMoves.{same_id_or_not, in_step_sending_other, in_step_with_cursor, in_step_less_back, in_step_more_back, in_step_taking_other, in_step_cleared, in_step_named, in_step_taking_whole, in_step_taking_further}
-use Rattle.bep_machine.proofs.GapNamed.{Naming, Unnamed, NamedBy, naming, named_says, renewed_unnamed, cursors_unnamed}
+use Rattle.bep_machine.proofs.GapNamed.{shared_at, Naming, Unnamed, NamedBy, naming, named_says, renewed_unnamed, cursors_unnamed}
 use Rattle.bep_machine.proofs.GapPair.{OfBoth, of_same, KeepsFolder, KeepsExchange, idle_keeps, losing_keeps, session_keeps, in_session_keeps, steps_keep_folder}
 use Rattle.bep_machine.proofs.GapSend.{same_when_equal, apart_when_not}
 
@@ -39,39 +38,9 @@ after_insert P m folder value here rest other =
     (λ apart. subst (P other) (sym (insert_apart m folder value other apart)) (rest other apart))
     (same_name_or_not other folder)
 
--- ---- views under an id
-
-known_same : (id : ℕ) (view : Listing) → view.id ≡ id → known_under id view ≡ view
-known_same id view same = by_test (view.id == id) refl
-  where
-    by_test : (b : Bool) → (view.id == id) ≡ b → (if b then view else cleared id) ≡ view
-    by_test true e = refl
-    by_test false e = absurd (grind (arith, nat_tests))
-
-known_other : (id : ℕ) (view : Listing) → view.id ≢ id → known_under id view ≡ cleared id
-known_other id view apart = by_test (view.id == id) refl
-  where
-    by_test : (b : Bool) → (view.id == id) ≡ b → (if b then view else cleared id) ≡ cleared id
-    by_test true e = absurd (apart (grind (arith, nat_tests)))
-    by_test false e = refl
-
-view_here : (replica : Replica) (other : Device) (view : Listing) → view_of (with_view replica other view) other ≡ view
-view_here replica other view = ap (λ o. unwrap_or o (cleared 0)) (get-insert_here nat_cmp_total nat_cmp-IsAntisymmetric replica.views other view)
-
-view_apart : (replica : Replica) (other : Device) (view : Listing) (third : Device) → third ≢ other → view_of (with_view replica other view) third ≡ view_of replica third
-view_apart replica other view third apart = ap (λ o. unwrap_or o (cleared 0)) (get-insert_apart nat_cmp_total nat_cmp-IsAntisymmetric replica.views other view third apart)
-
 -- the index and all views are the same
 abbrev SameViews : Replica → Replica → Type 0
 SameViews before after = (after.index ≡ before.index) × ((third : Device) → view_of after third ≡ view_of before third)
-
-shared_at : (other : Device) (peer : Peer) (named : List Announced) (one : Announced) → Contains named one → NamesShared other peer named → SharesWith other peer one.folder
-shared_at other peer [] one stands shared = absurd (not_in_none one stands)
-shared_at other peer (first ∷ more) one stands shared =
-    ⊎_elim
-    (λ same. subst (λ (a : Announced). SharesWith other peer a.folder) same shared.0)
-    (λ later. shared_at other peer more one later shared.1)
-    (Contains-cons_cases first more one stands)
 
 module _ (other : Device) (up : Bool) (epoch : ℕ) (first : Message) (rest back : List Message) (full : Bool) (old : Peer) (acted : Acted) (answer : Answer) (up_now : up ≡ true) where
   -- ---- a folder of which nothing is taken

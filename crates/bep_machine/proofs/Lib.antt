@@ -67,6 +67,7 @@ mod GapPair
 mod GapEntries
 mod GapSend
 mod GapNamed
+mod ViewFacts
 mod GapTake
 mod GapRows
 mod GapLinks
@@ -80,3 +81,5 @@ mod TakingFacts
 mod SessionEffect
 mod RecordsEffect
 mod RequestEffect
+mod ConfigEffect
+mod ResponseEffect

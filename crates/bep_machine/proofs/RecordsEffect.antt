@@ -1,5 +1,5 @@
 -- Records that are announced, and records that reach a view.
-use Rattle.std.proofs.Common.{◌≡◌, ◌≤◌, ◌<◌, ◌↔◌, ℕ, true, false, List, [], ◌∷◌, Option, Some, IsSome, unwrap_or, refl, sym, ap, subst, ◌∙◌, inl, inr, arith}
+use Rattle.std.proofs.Common.{◌≡◌, ◌≤◌, ◌<◌, ◌↔◌, ℕ, true, false, List, [], ◌∷◌, Option, Some, IsSome, refl, sym, ap, subst, ◌∙◌, inl, inr, arith}
 use Rattle.std.specs.Cmp.{nat_cmp_total}
 use Rattle.std.specs.FinMap.{get, insert, len, nat_cmp-IsAntisymmetric}
 use Rattle.bep_facts.specs.Maps.{get-insert_here}
@@ -10,7 +10,7 @@ use Rattle.bep_index.specs.declared.send.Plan.TheVariants.{Full, Above}
 use Rattle.bep_index.specs.Listing.{Listing, IsRecord}
 use Rattle.bep_index.specs.Batch.{last_sequence}
 use Rattle.bep_index.specs.After.{IsAmong, IsAfter}
-use Rattle.bep_index.specs.View.{cleared, replaced, amended}
+use Rattle.bep_index.specs.View.{replaced, amended}
 use Rattle.bep_index.specs.Laws.{RecordsAreFound, BatchIsFound, OthersAreKept}
 use Rattle.bep_model.specs.Tables.{Device, Folder}
 use Rattle.bep_machine.specs.declared.message.Message.TheVariants as messages
@@ -23,6 +23,7 @@ use Rattle.bep_machine.specs.Exchange.{IsInSession, IsNamed, ViewRow, taken_by, 
 use Rattle.bep_machine.specs.LinkEffects.{IsOpen, HasTakenView, IndexBringsView, UpdateAddsToView, HasMovedOn, WholeIsAnnounced, FurtherIsAnnounced}
 use Rattle.bep_machine.proofs.BatchFound.{batch_exists}
 use Rattle.bep_machine.proofs.ReplicaFacts.{insert_here}
+use Rattle.bep_machine.proofs.ViewFacts.{view_here}
 use Rattle.bep_machine.proofs.TakingFacts.{in_session, delivers}
 
 -- ---- records reach a view
@@ -37,16 +38,13 @@ module _ (other : Device) (folder : Folder) (old : Peer) (replica : Replica) (vi
   view_row : len view.records ≤ MAX_NAMES → ViewRow other folder view replica old viewing (Done Changed)
   view_row room = inr ((λ many. omega (arith, room, many)), (refl, refl))
 
-  seen : view_of (with_view replica other view) other ≡ view
-  seen = ap (λ (o : Option Listing). unwrap_or o (cleared 0)) (get-insert_here nat_cmp_total nat_cmp-IsAntisymmetric replica.views other view)
-
   taken_view : view.id ≡ (view_of replica other).id → HasTakenView other folder replica (with_view replica other view) viewing
   taken_view id = record {
     there = insert_here old.replicas folder (with_view replica other view);
     index = refl;
     store = refl;
     pulls = refl;
-    id = ap (λ (v : Listing). v.id) seen ∙ id;
+    id = ap (λ (v : Listing). v.id) (view_here replica other view) ∙ id;
     takes = refl;
     keeps = refl;
   }
@@ -54,7 +52,7 @@ module _ (other : Device) (folder : Folder) (old : Peer) (replica : Replica) (vi
 pub index_brings_view : RecordsAreFound → IndexBringsView
 index_brings_view found other failed sight old session cursor folder batch replica taking named there differ room =
     let view = replaced (view_of replica other) batch in
-    let same = seen other folder old replica view in (
+    let same = view_here replica other view in (
       viewing other folder old replica view,
       with_view replica other view,
       delivers other failed sight old session (messages.Index folder batch) taking _ (Done Changed)
@@ -67,7 +65,7 @@ index_brings_view found other failed sight old session cursor folder batch repli
 pub update_adds_to_view : BatchIsFound → OthersAreKept → UpdateAddsToView
 update_adds_to_view found kept other failed sight old session cursor folder batch replica taking named there differ fresh room =
     let view = amended (view_of replica other) batch in
-    let same = seen other folder old replica view in (
+    let same = view_here replica other view in (
       viewing other folder old replica view,
       with_view replica other view,
       delivers other failed sight old session (messages.IndexUpdate folder batch) taking _ (Done Changed)

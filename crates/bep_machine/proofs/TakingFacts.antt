@@ -1,8 +1,7 @@
 -- What a device does in its session over a link that is up, and with the message that waits; and what loses the link.
-use Rattle.std.proofs.Common.{◌≡◌, true, false, List, [], ◌∷◌, Option, Some, None, IsSome, Contains, refl, sym, ap, subst, ◌∙◌, inl, inr, ⊎_elim, ℕ}
+use Rattle.std.proofs.Common.{◌≡◌, true, false, List, Option, Some, None, IsSome, refl, sym, ap, subst, ◌∙◌, inl, inr, ⊎_elim, ℕ}
 use Rattle.std.proofs.lemmas.Option.{same_Some}
 use Rattle.std.specs.FinMap.{get}
-use Rattle.bep_facts.specs.Members.{not_in_none, Contains-cons_cases}
 use Rattle.bep_index.specs.declared.send.Plan.{Plan}
 use Rattle.bep_index.specs.View.{IsOld}
 use Rattle.bep_model.specs.Tables.{Device, Folder}
@@ -14,7 +13,8 @@ use Rattle.bep_machine.specs.Answer.{Answer, Done, Row, when◌then◌else◌}
 use Rattle.bep_machine.specs.Replica.{Replica, view_of}
 use Rattle.bep_machine.specs.Link.{Sight, losing}
 use Rattle.bep_machine.specs.Peer.{Session, Peer, Acted}
-use Rattle.bep_machine.specs.Exchange.{IsInSession, SessionRow, LosingRow, SharesWith, NamesShared, IsNamed, IsGoodConfig, MessageRow, WaitingRow, DeliverRow}
+use Rattle.bep_machine.specs.Exchange.{IsInSession, SessionRow, LosingRow, IsNamed, IsGoodConfig, MessageRow, WaitingRow, DeliverRow}
+use Rattle.bep_machine.proofs.GapNamed.{shared_at}
 use Rattle.bep_machine.specs.LinkEffects.{IsTaking, LosesLink, UnnamedLosesLink, SecondConfigLosesLink, UnsharedLosesLink, OldUpdateLosesLink}
 
 -- ---- a row in a session
@@ -76,7 +76,7 @@ unnamed_loses_link other failed sight old session (messages.Response response) f
 
 -- ---- ClusterConfigs
 
-bad_config_loses : (other : Device) (failed : Option ℕ) (sight : Sight) (old : Peer) (session : Session) (named : List Announced) → IsTaking other sight old session (messages.ClusterConfig named) → ¬ IsGoodConfig other session old named → LosesLink old (DeliverRow other failed sight old)
+pub bad_config_loses : (other : Device) (failed : Option ℕ) (sight : Sight) (old : Peer) (session : Session) (named : List Announced) → IsTaking other sight old session (messages.ClusterConfig named) → ¬ IsGoodConfig other session old named → LosesLink old (DeliverRow other failed sight old)
 bad_config_loses other failed sight old session named taking bad =
     loses_when_taken other failed sight old session (messages.ClusterConfig named) taking (loses_unless old (IsGoodConfig other session old named) _ bad)
 
@@ -84,17 +84,9 @@ pub second_config_loses_link : SecondConfigLosesLink
 second_config_loses_link other failed sight old session named taking configured =
     bad_config_loses other failed sight old session named taking (λ good. let never : true ≡ false = sym configured ∙ good.first in absurd (cc))
 
-named_is_shared : (other : Device) (peer : Peer) (named : List Announced) (one : Announced) → Contains named one → NamesShared other peer named → SharesWith other peer one.folder
-named_is_shared other peer [] one stands all = absurd (not_in_none one stands)
-named_is_shared other peer (first ∷ more) one stands all =
-    ⊎_elim
-    (λ same. subst (λ (a : Announced). SharesWith other peer a.folder) same all.0)
-    (λ later. named_is_shared other peer more one later all.1)
-    (Contains-cons_cases first more one stands)
-
 pub unshared_loses_link : UnsharedLosesLink
 unshared_loses_link other failed sight old session named one taking stands unshared =
-    bad_config_loses other failed sight old session named taking (λ good. unshared (named_is_shared other old named one stands good.shared))
+    bad_config_loses other failed sight old session named taking (λ good. unshared (shared_at other old named one stands good.shared))
 
 -- ---- updates
 

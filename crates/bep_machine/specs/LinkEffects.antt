@@ -1,21 +1,22 @@
 -- That each step over a link does what it is for, where nothing stands in its way, and that what breaks the protocol loses
 -- the link. The functions of src/link_effects.rt have these as contracts (BEP v1; sessions, epochs and limits are this
 -- project's profile).
-use Rattle.std.specs.Prelude.{◌≡◌, ◌≢◌, ◌↔◌, ℕ, ◌+◌, ◌<◌, ◌≤◌, true, false, List, [], ◌∷◌, ◌++◌, take, drop, Option, Some, None, Contains, IsTrue}
+use Rattle.std.specs.Prelude.{◌≡◌, ◌≢◌, ◌↔◌, ℕ, ◌+◌, ◌<◌, ◌≤◌, true, false, List, [], ◌∷◌, ◌++◌, take, drop, Option, Some, None, Contains, IsTrue, length}
 use Rattle.std.specs.FinMap.{empty, get, len}
 use Rattle.bep_record.specs.declared.block.Block.{Block}
 use Rattle.bep_record.specs.declared.entry.Entry.{Entry}
 use Rattle.bep_record.specs.declared.kind.Kind.TheVariants.{File}
 use Rattle.bep_record.specs.declared.node.NodeParts.{NodeParts}
 use Rattle.bep_record.specs.Content.{content_of}
+use Rattle.bep_blocks.specs.Plain.{hash_of}
 use Rattle.bep_index.specs.declared.limits.TheConstants.{MAX_NAMES, MAX_RECORDS}
 use Rattle.bep_index.specs.declared.send.Plan.{Plan}
 use Rattle.bep_index.specs.declared.send.Plan.TheVariants.{Full, Above}
 use Rattle.bep_index.specs.Listing.{IsRecord}
-use Rattle.bep_index.specs.Index.{IsIndex}
+use Rattle.bep_index.specs.Index.{IsIndex, IsPoint}
 use Rattle.bep_index.specs.Batch.{HasNo, NamesDiffer, last_sequence, with_all}
 use Rattle.bep_index.specs.After.{IsAmong, IsAfter}
-use Rattle.bep_index.specs.View.{IsOld}
+use Rattle.bep_index.specs.View.{IsOld, cleared}
 use Rattle.bep_model.specs.Tables.{Device, Folder, FileName}
 use Rattle.bep_model.specs.Settled.{content_of_node}
 use Rattle.bep_machine.specs.declared.limits.TheConstants.{MAX_EPOCH}
@@ -27,10 +28,10 @@ use Rattle.bep_machine.specs.declared.message.Response.{Response}
 use Rattle.bep_machine.specs.declared.message.Code.TheVariants.{NoError}
 use Rattle.bep_machine.specs.declared.moved.Moved.TheVariants.{Changed, LinkLost}
 use Rattle.bep_machine.specs.Answer.{Answer, Done, Row}
-use Rattle.bep_machine.specs.Replica.{Replica, own_at, node_at, view_of}
+use Rattle.bep_machine.specs.Replica.{Pull, Replica, own_at, node_at, pull_at, view_of}
 use Rattle.bep_machine.specs.Link.{Link, Sight}
 use Rattle.bep_machine.specs.Peer.{Session, Peer, Acted, is_shared_with}
-use Rattle.bep_machine.specs.Exchange.{IsInSession, HasSession, SharesWith, BeginRow, DeliverRow, AnnounceRow, AskRow, CanAsk}
+use Rattle.bep_machine.specs.Exchange.{IsInSession, HasSession, SharesWith, NamesNot, NamesOnce, NamesShared, BeginRow, DeliverRow, AnnounceRow, AskRow, CanAsk, asked_for, without}
 use Rattle.bep_machine.specs.Cluster.{Cluster}
 use Rattle.bep_machine.specs.Steps.{ConnectRow, LoseRow, RestartRow}
 
@@ -150,6 +151,13 @@ UnsharedLosesLink =
     IsTaking other sight old session (messages.ClusterConfig named) → Contains named one → (¬ SharesWith other old one.folder) →
     LosesLink old (DeliverRow other failed sight old)
 
+-- or that names a folder twice
+abbrev pub TwiceLosesLink : Type 0
+TwiceLosesLink =
+    (other : Device) (failed : Option ℕ) (sight : Sight) (old : Peer) (session : Session) (front middle back : List Announced) (one again : Announced) →
+    IsTaking other sight old session (messages.ClusterConfig (front ++ (one ∷ (middle ++ (again ∷ back))))) → again.folder ≡ one.folder →
+    LosesLink old (DeliverRow other failed sight old)
+
 -- an IndexUpdate that doesn't begin above what is known loses it too
 abbrev pub OldUpdateLosesLink : Type 0
 OldUpdateLosesLink =
@@ -157,6 +165,28 @@ OldUpdateLosesLink =
     IsTaking other sight old session (messages.IndexUpdate folder batch) → get old.replicas folder ≡ Some replica →
     IsOld (view_of replica other).sequence batch →
     LosesLink old (DeliverRow other failed sight old)
+
+-- A folder that the ClusterConfig named: the view is under the announced id, cleared if it was under another one; and what is
+-- above the announced point is sent next, where it is one of the own index, else the whole index.
+pub record IsConfigured (other : Device) (one : Announced) (old later : Replica) (session : Session) : Type 0 where
+  pub index : later.index ≡ old.index
+  pub store : later.store ≡ old.store
+  pub pulls : later.pulls ≡ old.pulls
+  pub known : (view_of old other).id ≡ one.index_id → view_of later other ≡ view_of old other
+  pub unknown : (view_of old other).id ≢ one.index_id → view_of later other ≡ cleared one.index_id
+  pub goes_on : IsPoint old.index one.known_id one.known_sequence → get session.cursors one.folder ≡ Some (Above one.known_sequence)
+  pub anew : (¬ IsPoint old.index one.known_id one.known_sequence) → get session.cursors one.folder ≡ Some Full
+
+-- the first ClusterConfig of a session is taken, if it names each folder once and only folders that both share
+abbrev pub ConfigIsTaken : Type 0
+ConfigIsTaken =
+    (other : Device) (failed : Option ℕ) (sight : Sight) (old : Peer) (session : Session) (named : List Announced) →
+    IsTaking other sight old session (messages.ClusterConfig named) → session.configured ≡ false → NamesOnce named → NamesShared other old named →
+    (new : Acted) × (next : Session) × DeliverRow other failed sight old new (Done Changed) × (new.deed.takes ≡ true) × (new.deed.loses ≡ false) ×
+    (get new.peer.sessions other ≡ Some next) × (next.epoch ≡ session.epoch) × (next.configured ≡ true) ×
+    ((one : Announced) (replica : Replica) → Contains named one → get old.replicas one.folder ≡ Some replica →
+    (later : Replica) × (get new.peer.replicas one.folder ≡ Some later) × IsConfigured other one replica later next) ×
+    ((folder : Folder) → NamesNot folder named → (get next.cursors folder ≡ None) × (get new.peer.replicas folder ≡ get old.replicas folder))
 
 -- the message was taken, and the replica's view of the other device became another one; index, store and pulls stay
 pub record HasTakenView (other : Device) (folder : Folder) (old later : Replica) (new : Acted) : Type 0 where
@@ -213,6 +243,21 @@ RequestIsAnswered =
     (new : Acted) × (response : Response) × DeliverRow other None sight old new (Done Changed) ×
     (new.deed.sends ≡ Some (messages.Response response)) × (new.deed.takes ≡ true) × (new.deed.loses ≡ false) × (new.peer ≡ old) ×
     (response.id ≡ request.id) × (response.code ≡ NoError) × (response.bytes ≡ take block.size (drop block.offset node.bytes))
+
+-- A right response to a request of the session: the request isn't outstanding any more, and the bytes count as received at
+-- the block that was asked for, with what the pull's target is and where the block stands in it as before.
+abbrev pub BlockIsReceived : Type 0
+BlockIsReceived =
+    (other : Device) (failed : Option ℕ) (sight : Sight) (old : Peer) (session : Session) (response : Response) (request : Request) (replica : Replica) (pull : Pull)
+    (block : Block) (front back : List Block) (had more : List (Option (List ℕ))) →
+    IsTaking other sight old session (messages.Response response) → asked_for response.id session.outstanding ≡ Some request →
+    response.code ≡ NoError → length response.bytes ≡ request.size → hash_of response.bytes ≡ request.hash →
+    get old.replicas request.folder ≡ Some replica → pull_at replica request.name ≡ Some pull → AsksFor block request →
+    pull.target.blocks ≡ front ++ (block ∷ back) → pull.received ≡ had ++ (None ∷ more) → length front ≡ length had →
+    (new : Acted) × (next : Session) × (later : Replica) × (now : Pull) × (before after : List (Option (List ℕ))) × DeliverRow other failed sight old new (Done Changed) ×
+    (get new.peer.sessions other ≡ Some next) × (next.outstanding ≡ without response.id session.outstanding) ×
+    (get new.peer.replicas request.folder ≡ Some later) × (pull_at later request.name ≡ Some now) × (now.target ≡ pull.target) ×
+    (now.received ≡ before ++ (Some response.bytes ∷ after)) × (length before ≡ length front)
 
 -- ---- announcing and asking
 

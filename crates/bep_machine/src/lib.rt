@@ -32,8 +32,8 @@ pub use halves::{
 pub use headline::{settled_stays_put, settled_stays_settled};
 pub use limits::{MAX_EPOCH, MAX_OUTSTANDING, MAX_REQUEST_ID};
 pub use link_effects::{
-    begin_opens_session, block_is_asked_for, breach_loses_link, links_come_and_go,
-    records_are_announced, records_reach_view, request_is_answered,
+    begin_opens_session, block_is_asked_for, block_is_received, breach_loses_link, config_is_taken,
+    links_come_and_go, records_are_announced, records_reach_view, request_is_answered,
 };
 pub use message::{Announced, Code, Message, Request, Response};
 pub use moved::Moved;

@@ -1,6 +1,6 @@
 //! That each step over a link does what it is for, where nothing stands in its way, and what loses the link. Each function
 //! does nothing; its contract is the law.
-ghost use Rattle.bep_machine.specs.LinkEffects.{ConnectOpens, LoseEmpties, RestartForgets, BeginOpens, UnnamedLosesLink, SecondConfigLosesLink, UnsharedLosesLink, OldUpdateLosesLink, IndexBringsView, UpdateAddsToView, RequestIsAnswered, WholeIsAnnounced, FurtherIsAnnounced, AskSendsRequest};
+ghost use Rattle.bep_machine.specs.LinkEffects.{ConnectOpens, LoseEmpties, RestartForgets, BeginOpens, UnnamedLosesLink, SecondConfigLosesLink, UnsharedLosesLink, TwiceLosesLink, OldUpdateLosesLink, ConfigIsTaken, IndexBringsView, UpdateAddsToView, RequestIsAnswered, WholeIsAnnounced, FurtherIsAnnounced, AskSendsRequest, BlockIsReceived};
 
 use bep_index::{batch_records_are_found, records_make_an_index};
 
@@ -19,12 +19,20 @@ pub fn begin_opens_session()
 {}
 
 /// What breaks the protocol loses the link: a message about a folder that the session's ClusterConfig didn't name, a second
-/// ClusterConfig or one that names a folder that isn't shared, and an IndexUpdate that doesn't begin above what is known.
+/// ClusterConfig or one that names a folder that isn't shared or a folder twice, and an IndexUpdate that doesn't begin above
+/// what is known.
 pub fn breach_loses_link()
     ensures unnamed { UnnamedLosesLink }
     ensures second { SecondConfigLosesLink }
     ensures unshared { UnsharedLosesLink }
+    ensures twice { TwiceLosesLink }
     ensures old { OldUpdateLosesLink }
+{}
+
+/// A ClusterConfig brings each named folder's view under the announced id, cleared if it was under another one, and sets
+/// what is sent next: what is above the announced point, where that is one of the own index, else the whole index.
+pub fn config_is_taken()
+    ensures { ConfigIsTaken }
 {}
 
 /// An Index brings the view to its records and to no others; an IndexUpdate adds its records.
@@ -50,4 +58,9 @@ pub fn records_are_announced()
 /// A block that is missing and that the other device has is asked for.
 pub fn block_is_asked_for()
     ensures { AskSendsRequest }
+{}
+
+/// A right response to a request of the session brings the bytes to the block that was asked for.
+pub fn block_is_received()
+    ensures { BlockIsReceived }
 {}
