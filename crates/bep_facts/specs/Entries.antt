@@ -11,19 +11,19 @@ use Rattle.std.proofs.lemmas.Cmp.{tied_itself}
 use Rattle.bep_facts.specs.Maps.{same_key}
 use Rattle.bep_facts.specs.Members.{Contains-cons_cases, Contains-first, Contains-more, not_in_none}
 
-both_hold : (a b : Bool) → T (a && b) → T a × T b
+pub both_hold : (a b : Bool) → T (a && b) → T a × T b
 both_hold true true h = (tt, tt)
 both_hold true false h = absurd h
 both_hold false b h = absurd h
 
-is_Less : (o : Ordering) → T (is_lt o) → o ≡ Less
+pub is_Less : (o : Ordering) → T (is_lt o) → o ≡ Less
 is_Less Less h = refl
 is_Less Equal h = absurd h
 is_Less Greater h = absurd h
 
 module _ {K V : Type 0} {R : K → K → Ordering} (total : IsTotalOrder R) (exact : IsAntisymmetric R) where
   -- each later key is above the first
-  later_is_above : (key : K) (es : List (K × V)) (later : K × V) → T (below_all R key es) → Contains es later → R key later.0 ≡ Less
+  pub later_is_above : (key : K) (es : List (K × V)) (later : K × V) → T (below_all R key es) → Contains es later → R key later.0 ≡ Less
   later_is_above key [] later below h = absurd (not_in_none later h)
   later_is_above key (e ∷ es) later below h =
       let parts = both_hold _ _ below in
