@@ -19,7 +19,8 @@ use Rattle.bep_audit.specs.Known.{HasValid, IsValidOf, HasValidOf, Brings}
 use Rattle.bep_audit.specs.Missing.{FindsMissing}
 use Rattle.bep_audit.specs.Search.{FindsFirst, lesser}
 use Rattle.bep_audit.proofs.ListFacts.{SomeSuch}
-use Rattle.bep_audit.proofs.MapFacts.{by_name, both_hold, there_is, later_is_above, entry_stands}
+use Rattle.bep_facts.specs.Entries.{both_hold}
+use Rattle.bep_audit.proofs.MapFacts.{by_name, there_is, later_is_above, entry_stands}
 use Rattle.bep_audit.proofs.SearchFacts.{AllSay, finds_as, goes_on, fails_here, ends, lesser_finds}
 use Rattle.bep_facts.specs.Places.{done_with}
 

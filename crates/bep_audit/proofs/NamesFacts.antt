@@ -18,7 +18,8 @@ use Rattle.bep_cut.specs.declared.share.SharedFolder.{SharedFolder}
 use Rattle.bep_model.specs.Foreign.{IsKnown}
 use Rattle.bep_model.specs.Settled.{key_cmp}
 use Rattle.bep_model.specs.Tables.{Folder, FileName}
-use Rattle.bep_audit.proofs.MapFacts.{by_name, key_stands, both_hold, is_Less}
+use Rattle.bep_facts.specs.Entries.{both_hold, is_Less}
+use Rattle.bep_audit.proofs.MapFacts.{by_name, key_stands}
 
 abbrev Key : Type 0
 Key = Folder × FileName

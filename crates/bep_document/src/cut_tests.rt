@@ -1,9 +1,7 @@
-//! Views, pulls and links, by docs/DOCUMENTS.md.
-use crate::place_tests::records_of;
-use crate::tests::{BLOCKLESS, DEVICE, DOCUMENT, FOLDER, RECORD, answer, text_of};
+//! Records in all places, views, pulls and links, by docs/DOCUMENTS.md.
+use crate::tests::{BLOCKLESS, DEVICE, DOCUMENT, FOLDER, RECORD, is_told, tells, text_of};
 use crate::*;
 use std::alloc::{AllocError, Global};
-use std::test::Fail;
 
 // The folder of devices 1 and 2 ends, and one of devices 1 and 3 follows.
 const OTHERS: &str = r#"},
@@ -14,71 +12,89 @@ const OTHERS: &str = r#"},
 
 const END: &str = r#"]},"certificate":[]}"#;
 
-const VIEW: &str = r#"{"of":2,"index_id":12,"max":9,"records":"#;
+const OWN: &str = r#","own":["#;
 
-const MESSAGE: &str = r#"{"folder":"docs","full":true,"records":"#;
+const PULLS: &str = r#","pulls":["#;
+
+const VIEW: &str = r#","views":[{"of":2,"index_id":12,"max":9,"records":["#;
+
+const TO_A: &str =
+    r#"{"a":1,"b":2,"up":true,"epoch":1,"to_a":[{"folder":"docs","full":true,"records":["#;
+
+const TO_B: &str =
+    r#"{"a":1,"b":2,"up":true,"epoch":1,"to_b":[{"folder":"docs","full":true,"records":["#;
+
+const AFTER_LIST: &str = r#"]},
+    {"device":2,"kind":"send-only","index_id":12,"max":0}]}],"links":["#;
+
+const AFTER_VIEW: &str = r#"]}]},
+    {"device":2,"kind":"send-only","index_id":12,"max":0}]}],"links":["#;
+
+const AFTER_MESSAGE: &str = "]}]}";
 
 // A directory's invalid record, without its name and sequence.
 const INVALID: &str =
     r#"{"type":1,"modified_s":0,"modified_by":1,"version":[[1,1]],"invalid":true"#;
 
-// The answer for a document whose first device has these members more, and which has these links.
-fn told(alloc: Global, members: &str, links: &str) -> Result<String, AllocError> {
-    answer(
+// Whether this is told of a document whose first device has these members more, and which has these links.
+fn cut_tells(alloc: Global, members: &str, links: &str, told: &str) -> bool {
+    tells(
         alloc,
         &[DOCUMENT, FOLDER, DEVICE, members, OTHERS, links, END],
+        told,
     )
 }
 
 #[test]
-fn views_are_refused(rt: HostRuntime) -> Result<(), Fail> {
-    let alloc = rt.alloc();
-    for (views, want) in [
-        (r#"{"of":2,"index_id":0,"max":0,"records":[]}"#, "read"),
-        (r#"{"of":2,"index_id":-1,"max":0,"records":[]}"#, "184"),
-        (r#"{"of":0,"index_id":0,"max":0,"records":[]}"#, "184"),
+fn views_are_refused(rt: HostRuntime) {
+    for (views, told) in [
         (
-            r#"{"of":2,"index_id":18446744073709551615,"max":9223372036854775807,"records":[]}"#,
+            r#","views":[{"of":2,"index_id":0,"max":0,"records":[]}]"#,
             "read",
         ),
         (
-            r#"{"of":2,"index_id":0,"max":9223372036854775808,"records":[]}"#,
+            r#","views":[{"of":2,"index_id":-1,"max":0,"records":[]}]"#,
             "184",
         ),
-        (r#"{"of":2,"index_id":0,"max":0}"#, "183"),
-        (r#"{"of":2,"index_id":0,"records":[]}"#, "183"),
         (
-            r#"{"of":2,"index_id":0,"max":0,"records":[],"more":1}"#,
+            r#","views":[{"of":0,"index_id":0,"max":0,"records":[]}]"#,
+            "184",
+        ),
+        (
+            r#","views":[{"of":2,"index_id":18446744073709551615,"max":9223372036854775807,"records":[]}]"#,
+            "read",
+        ),
+        (
+            r#","views":[{"of":2,"index_id":0,"max":9223372036854775808,"records":[]}]"#,
+            "184",
+        ),
+        (r#","views":[{"of":2,"index_id":0,"max":0}]"#, "183"),
+        (r#","views":[{"of":2,"index_id":0,"records":[]}]"#, "183"),
+        (
+            r#","views":[{"of":2,"index_id":0,"max":0,"records":[],"more":1}]"#,
             "183",
         ),
         (
-            r#"{"of":2,"index_id":0,"max":0,"records":[]},{"of":2,"index_id":1,"max":1,"records":[]}"#,
+            r#","views":[{"of":2,"index_id":0,"max":0,"records":[]},{"of":2,"index_id":1,"max":1,"records":[]}]"#,
             "185 docs 1",
         ),
         // A view of the device itself, and of one that shares another folder.
         (
-            r#"{"of":1,"index_id":0,"max":0,"records":[]}"#,
+            r#","views":[{"of":1,"index_id":0,"max":0,"records":[]}]"#,
             "186 docs 1",
         ),
         (
-            r#"{"of":3,"index_id":0,"max":0,"records":[]}"#,
+            r#","views":[{"of":3,"index_id":0,"max":0,"records":[]}]"#,
             "186 docs 1",
         ),
     ] {
-        let members = text_of(alloc, &[r#","views":["#, views, "]"])?;
-        assert_eq!(rt;
-            told(alloc, members.as_str(), "")?.as_str(),
-            want,
-            "{views}"
-        );
+        assert!(rt; cut_tells(rt.alloc(), views, "", told), "{views}");
     }
-    Ok(())
 }
 
 #[test]
-fn links_are_refused(rt: HostRuntime) -> Result<(), Fail> {
-    let alloc = rt.alloc();
-    for (links, want) in [
+fn links_are_refused(rt: HostRuntime) {
+    for (links, told) in [
         (r#"{"a":1,"b":2,"up":false,"epoch":0}"#, "read"),
         (
             r#"{"a":1,"b":3,"up":true,"epoch":9223372036854775807,"to_a":[],"to_b":[]}"#,
@@ -121,270 +137,425 @@ fn links_are_refused(rt: HostRuntime) -> Result<(), Fail> {
             "186 none 2",
         ),
     ] {
-        assert_eq!(rt; told(alloc, "", links)?.as_str(), want, "{links}");
+        assert!(rt; cut_tells(rt.alloc(), "", links, told), "{links}");
     }
-    Ok(())
 }
 
-// The answers for a document with these records in a view of 2 at 1, among the pulls of 1, and on their way to 2.
-fn told_of_lists(
-    alloc: Global,
-    records: &[(&str, &str, &str)],
-) -> Result<(String, String, String), AllocError> {
-    let list = records_of(alloc, records)?;
-    let view = text_of(alloc, &[r#","views":["#, VIEW, list.as_str(), "}]"])?;
-    let pulls = text_of(alloc, &[r#","pulls":"#, list.as_str()])?;
-    let link = r#"{"a":1,"b":2,"up":true,"epoch":1,"to_b":["#;
-    let message = text_of(alloc, &[link, MESSAGE, list.as_str(), "}]}"])?;
-    Ok((
-        told(alloc, view.as_str(), "")?,
-        told(alloc, pulls.as_str(), "")?,
-        told(alloc, "", message.as_str())?,
-    ))
+// What begins a record, and its name and sequence.
+type Said<'a> = (&'a str, &'a str);
+
+const NAME: &str = r#","name":""#;
+
+// Where records stand: what begins the list, the rest of the list behind them, and what follows.
+type Place<'a> = (&'a str, &'a str, &'a str);
+
+// Whether this is told of a document with these three records at a place.
+fn list_tells(alloc: Global, place: Place<'_>, records: [Said<'_>; 3], told: &str) -> bool {
+    let (before, list, after) = place;
+    let [
+        (first, first_name),
+        (second, second_name),
+        (third, third_name),
+    ] = records;
+    let pieces = [
+        DOCUMENT,
+        FOLDER,
+        DEVICE,
+        before,
+        list,
+        first,
+        NAME,
+        first_name,
+        "},",
+        second,
+        NAME,
+        second_name,
+        "},",
+        third,
+        NAME,
+        third_name,
+        "}",
+        after,
+        END,
+    ];
+    tells(alloc, &pieces, told)
 }
 
 #[test]
-fn lists_are_refused(rt: HostRuntime) -> Result<(), Fail> {
-    let alloc = rt.alloc();
-    for (third, in_view, in_pulls, in_message) in [
-        ((RECORD, "c", "9"), "read", "read", "read"),
+fn own_records_are_refused(rt: HostRuntime) {
+    let a = (RECORD, r#"a","sequence":1"#);
+    let b = (RECORD, r#"b","sequence":2"#);
+    let bad = (BLOCKLESS, r#"c","sequence":3"#);
+    for (first, second, third, told) in [
+        (a, b, (RECORD, r#"c","sequence":9"#), "read"),
+        (a, b, (RECORD, r#"b","sequence":3"#), "185 docs 1 b"),
+        (bad, b, (RECORD, r#"b","sequence":0"#), "185 docs 1 b"),
+        (a, bad, (BLOCKLESS, r#"d","sequence":4"#), "187 docs 1 c"),
+        ((RECORD, r#"d","sequence":0"#), b, bad, "187 docs 1 c"),
+        (a, b, (RECORD, r#"c","sequence":10"#), "188 docs 1 c"),
         (
-            (RECORD, "b", "3"),
+            a,
+            (RECORD, r#"c","sequence":0"#),
+            (RECORD, r#"d","sequence":10"#),
+            "188 docs 1 c",
+        ),
+        (a, b, (RECORD, r#"c","sequence":1"#), "188 docs 1 c"),
+        (a, b, (RECORD, r#"c","sequence":-1"#), "184"),
+        (a, b, (RECORD, r#"c/","sequence":3"#), "184"),
+        (a, b, (RECORD, r#"c","sequence":1.0"#), "183"),
+    ] {
+        let records = [first, second, third];
+        assert!(rt; list_tells(rt.alloc(), ("", OWN, AFTER_LIST), records, told));
+    }
+}
+
+// Whether these are told of a document with these records in a view of 2 at 1, among the pulls of 1, and on their way to 2.
+fn lists_tell(alloc: Global, records: [Said<'_>; 3], told: [&str; 3]) -> [bool; 3] {
+    [
+        list_tells(alloc, ("", VIEW, AFTER_VIEW), records, told[0]),
+        list_tells(alloc, ("", PULLS, AFTER_LIST), records, told[1]),
+        list_tells(alloc, (OTHERS, TO_B, AFTER_MESSAGE), records, told[2]),
+    ]
+}
+
+#[test]
+fn lists_are_refused(rt: HostRuntime) {
+    let a = (RECORD, r#"a","sequence":1"#);
+    for (first, third, in_view, in_pulls, in_message) in [
+        (a, (RECORD, r#"c","sequence":9"#), "read", "read", "read"),
+        (
+            a,
+            (RECORD, r#"b","sequence":3"#),
             "185 docs 1 b",
             "185 docs 1 b",
             "185 docs 2 b",
         ),
         (
-            (BLOCKLESS, "c", "3"),
+            a,
+            (BLOCKLESS, r#"c","sequence":3"#),
             "187 docs 1 c",
             "187 docs 1 c",
             "187 docs 2 c",
         ),
-        ((INVALID, "c", "3"), "read", "187 docs 1 c", "read"),
-        ((RECORD, "c", "10"), "188 docs 1 c", "read", "read"),
-        ((RECORD, "c", "0"), "188 docs 1 c", "read", "188 docs 2 c"),
-        ((RECORD, "c", "1"), "188 docs 1 c", "read", "188 docs 2 c"),
-        ((RECORD, "c", "2"), "188 docs 1 c", "read", "188 docs 2 c"),
-        ((RECORD, "c", "-1"), "184", "184", "184"),
+        (
+            a,
+            (INVALID, r#"c","sequence":3"#),
+            "read",
+            "187 docs 1 c",
+            "read",
+        ),
+        (
+            a,
+            (RECORD, r#"c","sequence":10"#),
+            "188 docs 1 c",
+            "read",
+            "read",
+        ),
+        (
+            a,
+            (RECORD, r#"c","sequence":0"#),
+            "188 docs 1 c",
+            "read",
+            "188 docs 2 c",
+        ),
+        (
+            a,
+            (RECORD, r#"c","sequence":1"#),
+            "188 docs 1 c",
+            "read",
+            "188 docs 2 c",
+        ),
+        (
+            a,
+            (RECORD, r#"c","sequence":2"#),
+            "188 docs 1 c",
+            "read",
+            "188 docs 2 c",
+        ),
+        (a, (RECORD, r#"c","sequence":-1"#), "184", "184", "184"),
+        // No sequence of an index is 0, not even a message's first.
+        (
+            (RECORD, r#"a","sequence":0"#),
+            (RECORD, r#"c","sequence":3"#),
+            "188 docs 1 a",
+            "read",
+            "188 docs 2 a",
+        ),
     ] {
-        let (view, pulls, message) = told_of_lists(
-            alloc,
-            &[(RECORD, "a", "1"), (RECORD, "b", "2"), third],
-        )?;
-        assert_eq!(rt; view.as_str(), in_view);
-        assert_eq!(rt; pulls.as_str(), in_pulls);
-        assert_eq!(rt; message.as_str(), in_message);
+        let records = [first, (RECORD, r#"b","sequence":2"#), third];
+        let told = [in_view, in_pulls, in_message];
+        assert_eq!(rt;
+            lists_tell(rt.alloc(), records, told),
+            [true, true, true],
+            "{third:?}"
+        );
     }
-    // No sequence of an index is 0, not even a message's first.
-    let (view, pulls, message) = told_of_lists(alloc, &[(RECORD, "a", "0")])?;
-    assert_eq!(rt; view.as_str(), "188 docs 1 a");
-    assert_eq!(rt; pulls.as_str(), "read");
-    assert_eq!(rt; message.as_str(), "188 docs 2 a");
-    Ok(())
 }
 
-// So many records of different names, in a list.
-fn crowd_of(alloc: Global, count: u64) -> Result<String, AllocError> {
-    let mut text = String::from_str(alloc, "[")?;
+const DOWN_TO_A: &str =
+    r#"{"a":1,"b":2,"up":false,"epoch":1,"to_a":[{"folder":"docs","full":true,"records":["#;
+
+const TWO_LINKS: &str = r#"]}]},{"a":1,"b":2,"up":true,"epoch":1}"#;
+
+// The first device views itself.
+const VIEWS_ITSELF: &str = r#","views":[{"of":1,"index_id":0,"max":0,"records":[]}]},
+    {"device":2,"kind":"send-only","index_id":12,"max":0}]}],"links":["#;
+
+#[test]
+fn smallest_number_is_told(rt: HostRuntime) {
+    // Each on a link that is down.
+    for (before, first, after, told) in [
+        (VIEWS_ITSELF, BLOCKLESS, TWO_LINKS, "185 1"),
+        (VIEWS_ITSELF, BLOCKLESS, AFTER_MESSAGE, "186 docs 1"),
+        (OTHERS, BLOCKLESS, AFTER_MESSAGE, "187 docs 1 a"),
+        (OTHERS, RECORD, AFTER_MESSAGE, "188 docs 1 b"),
+    ] {
+        let falling = [
+            (first, r#"a","sequence":2"#),
+            (RECORD, r#"b","sequence":1"#),
+            (RECORD, r#"c","sequence":3"#),
+        ];
+        let place = (before, DOWN_TO_A, after);
+        assert!(rt; list_tells(rt.alloc(), place, falling, told), "{told}");
+    }
+}
+
+// Lists of a record that lacks its block: the first device's own, in a view, among its pulls, and on their way to either.
+const BAD_OWN: &str =
+    r#","own":[{"type":0,"size":5,"modified_s":0,"modified_by":1,"version":[[1,1]],"name":"own","sequence":1}]"#;
+
+const BAD_VIEW: &str =
+    r#","views":[{"of":2,"index_id":1,"max":9,"records":[{"type":0,"size":5,"modified_s":0,"modified_by":1,"version":[[1,1]],"name":"viewed","sequence":1}]}]"#;
+
+const BAD_PULL: &str =
+    r#","pulls":[{"type":0,"size":5,"modified_s":0,"modified_by":1,"version":[[1,1]],"name":"pulled","sequence":1}]"#;
+
+const BAD_MESSAGES: &str = r#"{"a":1,"b":2,"up":true,"epoch":1,
+    "to_b":[{"folder":"docs","full":true,"records":[{"type":0,"size":5,"modified_s":0,"modified_by":1,"version":[[1,1]],"name":"to_2","sequence":1}]}],
+    "to_a":[{"folder":"docs","full":true,"records":[{"type":0,"size":5,"modified_s":0,"modified_by":1,"version":[[1,1]],"name":"to_1","sequence":1}]}]}"#;
+
+#[test]
+fn first_place_is_told(rt: HostRuntime) {
+    for (first, second, third, links, told) in [
+        (BAD_PULL, BAD_VIEW, BAD_OWN, "", "187 docs 1 own"),
+        (BAD_PULL, BAD_VIEW, "", "", "187 docs 1 viewed"),
+        (BAD_PULL, "", "", BAD_MESSAGES, "187 docs 1 pulled"),
+        ("", "", "", BAD_MESSAGES, "187 docs 1 to_1"),
+    ] {
+        let pieces = [
+            DOCUMENT, FOLDER, DEVICE, first, second, third, OTHERS, links, END,
+        ];
+        assert!(rt; tells(rt.alloc(), &pieces, told), "{told}");
+    }
+}
+
+// Whether this is told of a document with so many items: each of these pieces with the item's number between them.
+fn crowd_tells(
+    alloc: Global,
+    begin: [&str; 5],
+    item: [&str; 3],
+    count: u64,
+    end: &str,
+    told: &str,
+) -> Result<bool, AllocError> {
+    let [before, between, after] = item;
+    let mut text = text_of(alloc, &begin)?;
     for number in 1..=count {
         let comma = if number == 1 { "" } else { "," };
-        let more = format!(in alloc; ",\"name\":\"{number}\",\"sequence\":{number}}}")?;
-        text.push_str(comma)?;
-        text.push_str(RECORD)?;
+        let more = format!(in alloc; "{comma}{before}{number}{between}{number}{after}")?;
         text.push_str(more.as_str())?;
     }
-    text.push_str("]")?;
-    Ok(text)
-}
-
-#[test]
-fn long_lists_are_refused(rt: HostRuntime) -> Result<(), Fail> {
-    let alloc = rt.alloc();
-    for (count, want) in [(64, "read"), (65, "184")] {
-        let list = crowd_of(alloc, count)?;
-        let pulls = text_of(alloc, &[r#","pulls":"#, list.as_str()])?;
-        assert_eq!(rt; told(alloc, pulls.as_str(), "")?.as_str(), want);
-    }
-    for (count, want) in [(1000, "read"), (1001, "184")] {
-        let list = crowd_of(alloc, count)?;
-        let link = r#"{"a":1,"b":2,"up":true,"epoch":1,"to_a":["#;
-        let message = text_of(alloc, &[link, MESSAGE, list.as_str(), "}]}"])?;
-        assert_eq!(rt; told(alloc, "", message.as_str())?.as_str(), want);
-    }
-    for (count, want) in [(4096, "read"), (4097, "184")] {
-        let list = crowd_of(alloc, count)?;
-        let view = r#","views":[{"of":2,"index_id":12,"max":5000,"records":"#;
-        let view = text_of(alloc, &[view, list.as_str(), "}]"])?;
-        assert_eq!(rt; told(alloc, view.as_str(), "")?.as_str(), want);
-    }
-    Ok(())
-}
-
-// A link with so many messages on their way to this end.
-fn link_with(alloc: Global, end: &str, count: u64) -> Result<String, AllocError> {
-    let mut text = String::from_str(alloc, r#"{"a":1,"b":2,"up":true,"epoch":1,""#)?;
     text.push_str(end)?;
-    text.push_str(r#"":["#)?;
-    for number in 0..count {
-        text.push_str(if number == 0 { "" } else { "," })?;
-        text.push_str(MESSAGE)?;
-        text.push_str("[]}")?;
-    }
-    text.push_str("]}")?;
-    Ok(text)
+    Ok(is_told(alloc, text.as_bytes(), told))
 }
 
+const NUMBERED_RECORD: [&str; 3] = [
+    r#"{"type":1,"modified_s":0,"modified_by":1,"version":[[1,1]],"name":""#,
+    r#"","sequence":"#,
+    "}",
+];
+
+const NUMBERED_MESSAGE: [&str; 3] = [
+    r#"{"folder":"docs","full":true,"records":[{"type":1,"modified_s":0,"modified_by":1,"version":[[1,1]],"name":""#,
+    r#"","sequence":"#,
+    "}]}",
+];
+
+const NUMBERED_FOLDER: [&str; 3] = [
+    r#"{"folder":"f"#,
+    r#"","devices":[{"device":1,"kind":"send-only","max":0,"index_id":"#,
+    "}]}",
+];
+
+const NUMBERED_DEVICE: [&str; 3] = [
+    r#"{"device":"#,
+    r#","kind":"send-only","max":0,"index_id":"#,
+    "}",
+];
+
+const LONG_VIEW: &str = r#","views":[{"of":2,"index_id":12,"max":5000,"records":["#;
+
+const MESSAGES_TO_A: &str = r#"{"a":1,"b":2,"up":true,"epoch":1,"to_a":["#;
+
+const MESSAGES_TO_B: &str = r#"{"a":1,"b":2,"up":true,"epoch":1,"to_b":["#;
+
+// Another folder, of the first device alone.
+const OTHER: &str =
+    r#"{"folder":"other","devices":[{"device":1,"kind":"send-only","index_id":1,"max":0}]},"#;
+
+const END_OF_FOLDERS: &str = r#"]},"certificate":[]}"#;
+
+const END_OF_DEVICES: &str = r#"]}]},"certificate":[]}"#;
+
+const END_OF_LIST: &str = r#"]}]}]},"certificate":[]}"#;
+
+const END_OF_VIEW: &str =
+    r#"]}]},{"device":2,"kind":"send-only","index_id":12,"max":0}]}]},"certificate":[]}"#;
+
 #[test]
-fn full_links_are_read(rt: HostRuntime) -> Result<(), Fail> {
+fn long_lists_are_refused(rt: HostRuntime) {
     let alloc = rt.alloc();
-    for (end, count, want) in [
-        ("to_a", 1024, "read"),
-        ("to_a", 1025, "184"),
-        ("to_b", 1024, "read"),
-        ("to_b", 1025, "184"),
+    for (begin, item, end, most) in [
+        (
+            [DOCUMENT, FOLDER, DEVICE, PULLS, ""],
+            NUMBERED_RECORD,
+            END_OF_LIST,
+            64,
+        ),
+        (
+            [DOCUMENT, FOLDER, DEVICE, LONG_VIEW, ""],
+            NUMBERED_RECORD,
+            END_OF_VIEW,
+            4096,
+        ),
+        (
+            [DOCUMENT, FOLDER, DEVICE, OTHERS, TO_A],
+            NUMBERED_RECORD,
+            END_OF_LIST,
+            1000,
+        ),
+        (
+            [DOCUMENT, FOLDER, DEVICE, OTHERS, MESSAGES_TO_A],
+            NUMBERED_MESSAGE,
+            END_OF_DEVICES,
+            1024,
+        ),
+        (
+            [DOCUMENT, FOLDER, DEVICE, OTHERS, MESSAGES_TO_B],
+            NUMBERED_MESSAGE,
+            END_OF_DEVICES,
+            1024,
+        ),
+        (
+            [DOCUMENT, "", "", "", ""],
+            NUMBERED_FOLDER,
+            END_OF_FOLDERS,
+            16,
+        ),
+        (
+            [DOCUMENT, OTHER, FOLDER, "", ""],
+            NUMBERED_DEVICE,
+            END_OF_DEVICES,
+            16,
+        ),
     ] {
-        let link = link_with(alloc, end, count)?;
-        assert_eq!(rt; told(alloc, "", link.as_str())?.as_str(), want);
+        for (count, told) in [(most, "read"), (most + 1, "184")] {
+            assert_eq!(rt;
+                crowd_tells(alloc, begin, item, count, end, told),
+                Ok(true),
+                "{count}"
+            );
+        }
     }
-    Ok(())
-}
-
-const AGAIN: &str = r#",{"a":1,"b":2,"up":true,"epoch":1}"#;
-
-const OF_ITSELF: &str = r#","views":[{"of":1,"index_id":0,"max":0,"records":[]}]"#;
-
-// A link that is down with a message of falling sequences that begins so, and what follows it.
-fn down(alloc: Global, first: &str, more: &str) -> Result<String, AllocError> {
-    let list = records_of(alloc, &[(first, "a", "2"), (RECORD, "b", "1")])?;
-    let link = r#"{"a":1,"b":2,"up":false,"epoch":1,"to_a":["#;
-    text_of(alloc, &[link, MESSAGE, list.as_str(), "}]}", more])
-}
-
-#[test]
-fn smallest_number_is_told(rt: HostRuntime) -> Result<(), Fail> {
-    let alloc = rt.alloc();
-    for (members, first, more, want) in [
-        (OF_ITSELF, BLOCKLESS, AGAIN, "185 1"),
-        (OF_ITSELF, BLOCKLESS, "", "186 docs 1"),
-        ("", BLOCKLESS, "", "187 docs 1 a"),
-        ("", RECORD, "", "188 docs 1 b"),
-    ] {
-        let links = down(alloc, first, more)?;
-        assert_eq!(rt; told(alloc, members, links.as_str())?.as_str(), want);
-    }
-    Ok(())
-}
-
-// The member of this name: a list of a record of the second name that lacks its block.
-fn bad_list(alloc: Global, member: &str, name: &str) -> Result<String, AllocError> {
-    let list = records_of(alloc, &[(BLOCKLESS, name, "1")])?;
-    text_of(alloc, &[member, list.as_str()])
-}
-
-#[test]
-fn first_place_is_told(rt: HostRuntime) -> Result<(), Fail> {
-    let alloc = rt.alloc();
-    let own = bad_list(alloc, r#","own":"#, "own")?;
-    let pulls = bad_list(alloc, r#","pulls":"#, "pulled")?;
-    let view = bad_list(
-        alloc,
-        r#","views":[{"of":2,"index_id":1,"max":9,"records":"#,
-        "viewed",
-    )?;
-    let views = text_of(alloc, &[view.as_str(), "}]"])?;
-    let pieces = [pulls.as_str(), views.as_str(), own.as_str()];
-    let members = text_of(alloc, &pieces)?;
+    let third_again =
+        r#",{"device":3,"kind":"send-only","max":0,"index_id":1}]}]},"certificate":[]}"#;
+    let begin = [DOCUMENT, FOLDER, "", "", ""];
     assert_eq!(rt;
-        told(alloc, members.as_str(), "")?.as_str(),
-        "187 docs 1 own"
+        crowd_tells(alloc, begin, NUMBERED_DEVICE, 16, third_again, "185 docs 3"),
+        Ok(true)
     );
-    let members = text_of(alloc, &[pulls.as_str(), views.as_str()])?;
-    assert_eq!(rt;
-        told(alloc, members.as_str(), "")?.as_str(),
-        "187 docs 1 viewed"
-    );
-    let message = bad_list(alloc, MESSAGE, "flying")?;
-    let to_b = r#"{"a":1,"b":2,"up":true,"epoch":1,"to_b":["#;
-    let to_a = r#"}],"to_a":["#;
-    let pieces = [to_b, message.as_str(), to_a, message.as_str(), "}]}"];
-    let links = text_of(alloc, &pieces)?;
-    assert_eq!(rt;
-        told(alloc, "", links.as_str())?.as_str(),
-        "187 docs 1 flying"
-    );
-    let told = told(alloc, pulls.as_str(), links.as_str())?;
-    assert_eq!(rt; told.as_str(), "187 docs 1 pulled");
-    Ok(())
 }
 
-// The text of a document with a view, a pull and a message to either end.
-fn whole(alloc: Global) -> Result<String, AllocError> {
-    let list = records_of(alloc, &[(RECORD, "a", "4")])?;
-    let views = text_of(alloc, &[r#","views":["#, VIEW, list.as_str(), "}]"])?;
-    let pulls = text_of(alloc, &[r#","pulls":"#, list.as_str()])?;
-    let link = r#"{"a":1,"b":2,"up":true,"epoch":7,"to_a":["#;
-    let to_a = text_of(alloc, &[link, MESSAGE, "[]}]"])?;
-    let update = r#","to_b":[{"folder":"docs","full":false,"records":"#;
-    let to_b = text_of(alloc, &[update, list.as_str(), "}]}"])?;
-    let members = text_of(alloc, &[views.as_str(), pulls.as_str()])?;
-    let links = text_of(alloc, &[to_a.as_str(), to_b.as_str()])?;
-    text_of(
-        alloc,
-        &[
-            DOCUMENT,
-            FOLDER,
-            DEVICE,
-            members.as_str(),
-            OTHERS,
-            links.as_str(),
-            END,
-        ],
-    )
+// A record of the directory `a` with sequence 4: the first device's own, in its view of the second, among its pulls, and
+// on its way to the second, behind an empty message to the first.
+const WHOLE: &str = r#"{"version":1,"cut":{"folders":[{"folder":"docs","devices":[
+    {"device":1,"kind":"send-receive","index_id":11,"max":9,
+    "own":[{"type":1,"modified_s":0,"modified_by":1,"version":[[1,1]],"name":"a","sequence":4}],
+    "views":[{"of":2,"index_id":12,"max":9,"records":[
+    {"type":1,"modified_s":0,"modified_by":1,"version":[[1,1]],"name":"a","sequence":4}]}],
+    "pulls":[{"type":1,"modified_s":0,"modified_by":1,"version":[[1,1]],"name":"a","sequence":4}]},
+    {"device":2,"kind":"send-only","index_id":12,"max":0}]}],"links":[{"a":1,"b":2,"up":true,"epoch":7,
+    "to_a":[{"folder":"docs","full":true,"records":[]}],
+    "to_b":[{"folder":"docs","full":false,"records":[
+    {"type":1,"modified_s":0,"modified_by":1,"version":[[1,1]],"name":"a","sequence":4}]}]}]},"certificate":[]}"#;
+
+// The first device of the first folder: its number, index id and greatest sequence, and how much it has of its own, in
+// its store, its views and its pulls.
+fn share_of(parts: &CheckParts) -> Option<(u64, u64, u64, [usize; 4])> {
+    let share = parts
+        .folders
+        .as_slice()
+        .first()?
+        .devices
+        .as_slice()
+        .first()?;
+    let lists = [
+        share.own.as_slice().len(),
+        share.store.as_slice().len(),
+        share.views.as_slice().len(),
+        share.pulls.as_slice().len(),
+    ];
+    Some((
+        share.device.number(),
+        share.index_id.number(),
+        share.max,
+        lists,
+    ))
+}
+
+// The first view: whose it is, its index id, its greatest sequence, and how many records it has.
+fn view_of(parts: &CheckParts) -> Option<(u64, u64, u64, usize)> {
+    let share = parts
+        .folders
+        .as_slice()
+        .first()?
+        .devices
+        .as_slice()
+        .first()?;
+    let view = share.views.as_slice().first()?;
+    Some((
+        view.of.number(),
+        view.index_id,
+        view.max,
+        view.records.as_slice().len(),
+    ))
+}
+
+// The first link: its ends, whether it is up, and its epoch.
+fn link_of(parts: &CheckParts) -> Option<(u64, u64, bool, u64)> {
+    let link = parts.links.as_slice().first()?;
+    Some((link.a.number(), link.b.number(), link.up, link.epoch))
+}
+
+// Of the first message to each end of the first link whether it is full, and how many records it has.
+fn messages_of(parts: &CheckParts) -> Option<[(bool, usize); 2]> {
+    let link = parts.links.as_slice().first()?;
+    let to_a = link.to_a.as_slice().first()?;
+    let to_b = link.to_b.as_slice().first()?;
+    Some([
+        (to_a.full, to_a.records.as_slice().len()),
+        (to_b.full, to_b.records.as_slice().len()),
+    ])
 }
 
 #[test]
-fn links_are_read(rt: HostRuntime) -> Result<(), Fail> {
-    let alloc = rt.alloc();
-    let text = whole(alloc)?;
-    let parts = read_parts(alloc, text.as_bytes())?;
-    let [link] = parts.links.as_slice() else {
-        assert!(rt; false, "there is one link");
-        return Ok(());
-    };
-    assert!(rt; link.a.number() == 1 && link.b.number() == 2 && link.up && link.epoch == 7);
-    let [index] = link.to_a.as_slice() else {
-        assert!(rt; false, "one message is on its way to 1");
-        return Ok(());
-    };
-    assert!(rt; index.full && index.records.as_slice().is_empty());
-    let [update] = link.to_b.as_slice() else {
-        assert!(rt; false, "one message is on its way to 2");
-        return Ok(());
-    };
-    assert_eq!(rt; update.folder.as_str(), "docs");
-    assert!(rt; !update.full && update.records.as_slice().len() == 1);
-    Ok(())
-}
-
-#[test]
-fn views_and_pulls_are_read(rt: HostRuntime) -> Result<(), Fail> {
-    let alloc = rt.alloc();
-    let text = whole(alloc)?;
-    let parts = read_parts(alloc, text.as_bytes())?;
-    let [docs, _other] = parts.folders.as_slice() else {
-        assert!(rt; false, "there are two folders");
-        return Ok(());
-    };
-    let [one, _two] = docs.devices.as_slice() else {
-        assert!(rt; false, "two devices share the folder");
-        return Ok(());
-    };
-    let ([view], [pull]) = (one.views.as_slice(), one.pulls.as_slice()) else {
-        assert!(rt; false, "there are one view and one pull");
-        return Ok(());
-    };
-    assert!(rt; view.of.number() == 2 && view.index_id == 12 && view.max == 9);
-    assert!(rt; view.records.as_slice().len() == 1);
-    assert_eq!(rt; pull.name.as_str(), "a");
+fn a_document_is_read(rt: HostRuntime) -> Result<(), DocError> {
+    let parts = read_parts(rt.alloc(), WHOLE.as_bytes())?;
+    assert_eq!(rt; share_of(&parts), Some((1, 11, 9, [1, 0, 1, 1])));
+    assert_eq!(rt; view_of(&parts), Some((2, 12, 9, 1)));
+    assert_eq!(rt; link_of(&parts), Some((1, 2, true, 7)));
+    assert_eq!(rt; messages_of(&parts), Some([(true, 0), (false, 1)]));
+    readings_are_faultless();
+    records_are_told();
     Ok(())
 }

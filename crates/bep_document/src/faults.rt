@@ -11,17 +11,18 @@ mod twice;
 mod unshared;
 mod walks;
 
-use crate::{CheckParts, DocFault};
+use crate::CheckParts;
+use judge::Found;
 use links::first_bad_link;
 use records::first_bad;
 use sequences::first_bad_sequence;
-use std::alloc::{AllocError, Global};
+use std::alloc::Global;
 use twice::first_twice;
 use unshared::first_unshared;
 
 // The first fault that has a place, or want of memory.
 #[tactic(auto, unfolding(crate::specs::Reading::first_fault))]
-pub(crate) fn fault_of(alloc: Global, parts: &CheckParts) -> Result<Option<DocFault>, AllocError>
+pub(crate) fn fault_of(alloc: Global, parts: &CheckParts) -> Found
     ensures { IfOk result (λ found. found ≡ first_fault parts.now) }
 {
     match first_twice(alloc, parts)? {

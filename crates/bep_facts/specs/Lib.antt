@@ -4,4 +4,6 @@ pub mod Places
 pub mod Orders
 pub mod Rising
 pub mod Maps
+pub mod Entries
+pub mod Decided
 pub mod Values

@@ -1,30 +1,11 @@
 -- Whether two contents are the same can be decided.
 use Rattle.std.proofs.Common.{◌≡◌, ◌⊎◌, Option, Some, None, refl, ap, inl, inr, ⊎_elim}
-use Rattle.std.proofs.lemmas.Bool.{cases_eq}
-use Rattle.std.specs.Coded.{Coded, coded_ℕ, coded_list}
-use base.Stored.{Gv, gnil, gnum, gcons, num}
+use Rattle.std.specs.Coded.{coded_ℕ, coded_list}
+use Rattle.bep_facts.specs.Decided.{same_or_not}
 use Rattle.bep_record.specs.contracts.block.Block as block_row
 use Rattle.bep_record.specs.declared.entry.Entry.{Entry}
 use Rattle.bep_record.specs.Content.{Content, Deleted, File, Directory, Symlink, content_of}
 use Rattle.bep_machine.specs.Replica.{HasContentOf}
-
-same_code : (a b : Gv) → (a ≡ b) ⊎ (¬ (a ≡ b))
-same_code gnil gnil = inl refl
-same_code gnil (gnum n) = inr (λ e. cc)
-same_code gnil (gcons c d) = inr (λ e. cc)
-same_code (gnum m) gnil = inr (λ e. cc)
-same_code (gnum m) (gnum n) = ⊎_elim (λ e. inl (ap gnum e)) (λ ne. inr (λ e. ne (ap num e))) (cases_eq m n)
-same_code (gnum m) (gcons c d) = inr (λ e. cc)
-same_code (gcons a b) gnil = inr (λ e. cc)
-same_code (gcons a b) (gnum n) = inr (λ e. cc)
-same_code (gcons a b) (gcons c d) =
-    ⊎_elim
-    (λ first. ⊎_elim (λ rest. inl (λ i. gcons (first i) (rest i))) (λ differs. inr (λ e. differs (cc))) (same_code b d))
-    (λ differs. inr (λ e. differs (cc)))
-    (same_code a c)
-
-same_or_not : {A : Type 0} → Coded A → (x y : A) → (x ≡ y) ⊎ (¬ (x ≡ y))
-same_or_not c x y = ⊎_elim (λ e. inl (c.inj x y e)) (λ differs. inr (λ e. differs (ap c.code e))) (same_code (c.code x) (c.code y))
 
 same_content : (one other : Content) → (one ≡ other) ⊎ (¬ (one ≡ other))
 same_content Deleted Deleted = inl refl

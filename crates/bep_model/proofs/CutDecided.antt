@@ -23,7 +23,8 @@ use Rattle.bep_model.specs.Winner.{IsWinner, own_candidates, smallest}
 use Rattle.bep_model.specs.WithoutWinner.{HasWinner}
 use Rattle.bep_model.specs.Settled.{HasRow, content_of_node, key_of}
 use Rattle.bep_model.specs.Reasons.{Place, Asks, AsksAt, AsksName, AsksDevice, AsksShare, AsksHarmless, first_disordered}
-use Rattle.bep_model.proofs.Deciding.{OrNot, both_or_not, either_or_not, implies_or_not, not_or_not, or_not_as, same_or_not, true_or_not, false_or_not, Finite, finite_list, finite_option, finite_as, finite_or, finite_where, finite_union, finite_filter, each_in, some_in}
+use Rattle.bep_facts.specs.Decided.{OrNot, both_or_not, either_or_not, implies_or_not, not_or_not, or_not_as, same_or_not, true_or_not, false_or_not}
+use Rattle.bep_model.proofs.Deciding.{Finite, finite_list, finite_option, finite_as, finite_or, finite_where, finite_union, finite_filter, each_in, some_in}
 use Rattle.bep_model.proofs.VersionsDecided.{below_or_not}
 use Rattle.bep_model.proofs.Winners.{OneChoice, same_winner}
 

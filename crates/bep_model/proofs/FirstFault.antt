@@ -7,7 +7,7 @@ use Rattle.std.specs.Cmp.{IsTotalOrder}
 use Rattle.std.proofs.lemmas.Cmp.{alike_right}
 use Rattle.bep_facts.specs.Members.{not_in_none, Contains-cons_cases, each_or_one}
 use Rattle.bep_facts.specs.Orders.{order_cases, not_less_itself}
-use Rattle.bep_model.proofs.Deciding.{OrNot}
+use Rattle.bep_facts.specs.Decided.{OrNot}
 
 module _ {X : Type 0} (R : X → X → Ordering) (total : IsTotalOrder R) (A : X → Type 0) (decide : (x : X) → OrNot (A x)) where
   -- it fails here, and at no earlier member of the list; and `from` isn't earlier

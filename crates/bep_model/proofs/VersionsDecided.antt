@@ -3,7 +3,8 @@ use Rattle.std.proofs.Common.{◌≡◌, ◌⊎◌, ◌≤◌, ℕ, List, [], �
 use Rattle.std.proofs.lemmas.Bool.{cases_eq, cases_lt, cond-false, ne_eqb}
 use Rattle.bep_facts.specs.Members.{Contains-first, Contains-more}
 use Rattle.bep_record.specs.Vector.{counter_of, IsAtMost, IsBelow}
-use Rattle.bep_model.proofs.Deciding.{OrNot, both_or_not, not_or_not, or_not_as, finite_list, each_in}
+use Rattle.bep_facts.specs.Decided.{OrNot, both_or_not, not_or_not, or_not_as}
+use Rattle.bep_model.proofs.Deciding.{finite_list, each_in}
 
 -- the list has a counter of the id, or its counter is 0
 counter_or_zero : (v : List (ℕ × ℕ)) (id : ℕ) → ((counter : ℕ × ℕ) × (Contains v counter × (counter.0 ≡ id))) ⊎ (counter_of v id ≡ 0)

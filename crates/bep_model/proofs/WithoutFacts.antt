@@ -11,7 +11,7 @@ use Rattle.bep_model.specs.Winner.{IsWinner}
 use Rattle.bep_model.specs.Settled.{IsListOfWinners, HasRow, Rise, key_of, key_cmp}
 use Rattle.bep_model.specs.WithoutWinner.{HasWinner, IsFirstWithoutWinner, OwnRecordsAreNamed}
 use Rattle.bep_model.specs.Laws.{WinnersLeaveNoneOut, FirstWithoutIsUnique, WinnersOrFirstWithout}
-use Rattle.bep_model.proofs.Deciding.{OrNot, implies_or_not}
+use Rattle.bep_facts.specs.Decided.{OrNot, implies_or_not}
 use Rattle.bep_model.proofs.FirstFault.{holds_or_first}
 use Rattle.bep_model.proofs.Winners.{owned_says, first_is_below, tail_rises}
 use Rattle.bep_model.proofs.CutDecided.{SomeChoice, known_or_not, has_winner_or_not}

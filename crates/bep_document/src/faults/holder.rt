@@ -2,6 +2,7 @@
 ghost use Rattle.std.specs.Prelude.{◌≡◌, IfOk, Some, None, if◌then◌else◌};
 ghost use Rattle.bep_document.specs.Fault.{at_device, at_name};
 
+use crate::faults::judge::Found;
 use crate::{DocFault, Fault, FlightParts, FolderParts, ShareParts};
 use bep_record::{DeviceId, FolderName, Name};
 use std::alloc::{AllocError, Global};
@@ -52,7 +53,7 @@ impl<'a> Holder<'a> {
         is_well: bool,
         fault: Fault,
         name: &Name,
-    ) -> Result<Option<DocFault>, AllocError>
+    ) -> Found
         ensures { IfOk result (λ found.
             found ≡ (if is_well then None else Some (at_name fault self.now.folder.now self.now.device name.now))) }
     {

@@ -7,28 +7,22 @@ use crate::DocFault;
 use std::alloc::{AllocError, Global};
 use std::collections::BTreeSet;
 
+/// The first fault, if there is one, or want of memory.
+pub(crate) type Found = Result<Option<DocFault>, AllocError>;
+
 /// A judge of the items of a list, which looks for one kind of fault.
 pub(crate) trait Judge<T> {
     /// The first fault at an item, given the items before it.
     ghost fault_at: { Self → List T → T → Option DocFault };
 
     /// The first fault at the item, given the items before it, or want of memory.
-    fn fault_at(
-        &self,
-        alloc: Global,
-        earlier: &[T],
-        item: &T,
-    ) -> Result<Option<DocFault>, AllocError>
+    fn fault_at(&self, alloc: Global, earlier: &[T], item: &T) -> Found
         ensures { IfOk result (λ found. found ≡ fault_at self.now earlier.now item.now) };
 }
 
 // The first fault among the items, or want of memory.
 #[tactic(auto, using(crate::proofs::faults::JudgeFacts::first_in_next))]
-pub(crate) fn first_fault<T, J: Judge<T>>(
-    alloc: Global,
-    judge: &J,
-    items: &[T],
-) -> Result<Option<DocFault>, AllocError>
+pub(crate) fn first_fault<T, J: Judge<T>>(alloc: Global, judge: &J, items: &[T]) -> Found
     ensures { IfOk result (λ found. found ≡ first_in (J.fault_at judge.now) [] items.now) }
 {
     for (i, item) in items.iter().enumerate() {
@@ -56,21 +50,12 @@ pub(crate) trait JudgeKeyed<T> {
         ensures { IfOk result (λ key. key ≡ key_of item.now) };
 
     /// The first fault at the item, given whether an earlier one has its key, or want of memory.
-    fn fault_at(
-        &self,
-        alloc: Global,
-        is_again: bool,
-        item: &T,
-    ) -> Result<Option<DocFault>, AllocError>
+    fn fault_at(&self, alloc: Global, is_again: bool, item: &T) -> Found
         ensures { IfOk result (λ found. found ≡ fault_at self.now is_again item.now) };
 }
 
 // The first fault among the items, or want of memory.
-pub(crate) fn first_keyed<T, J: JudgeKeyed<T>>(
-    alloc: Global,
-    judge: &J,
-    items: &[T],
-) -> Result<Option<DocFault>, AllocError>
+pub(crate) fn first_keyed<T, J: JudgeKeyed<T>>(alloc: Global, judge: &J, items: &[T]) -> Found
     ensures { IfOk result (λ found. found ≡ first_in (by_key J.Key.eq J.key_of (J.fault_at judge.now)) [] items.now) }
 {
     let mut seen = BTreeSet::new(alloc);

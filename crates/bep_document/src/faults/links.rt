@@ -2,11 +2,11 @@
 ghost use Rattle.std.specs.Prelude.{◌≡◌, IfOk};
 ghost use Rattle.bep_document.specs.faults.Links.{is_device, is_quiet, is_link_of, bad_link, first_bad_link};
 
-use crate::faults::judge::{Judge, first_fault};
+use crate::faults::judge::{Found, Judge, first_fault};
 use crate::faults::unshared::has_device;
 use crate::{CheckParts, DocFault, Fault, FolderParts, LinkParts};
 use bep_record::DeviceId;
-use std::alloc::{AllocError, Global};
+use std::alloc::Global;
 
 // Links that can't be between the devices of these folders.
 #[derive(Clone, Copy)]
@@ -17,12 +17,7 @@ struct BadLinks<'a> {
 impl<'a> Judge<LinkParts> for BadLinks<'a> {
     ghost fault_at = { λ judge. bad_link judge.folders.now };
 
-    fn fault_at(
-        &self,
-        _alloc: Global,
-        _earlier: &[LinkParts],
-        item: &LinkParts,
-    ) -> Result<Option<DocFault>, AllocError> {
+    fn fault_at(&self, _alloc: Global, _earlier: &[LinkParts], item: &LinkParts) -> Found {
         if is_link_of(self.folders, item) {
             return Ok(None);
         }
@@ -32,10 +27,7 @@ impl<'a> Judge<LinkParts> for BadLinks<'a> {
 
 // The first link that can't be, or want of memory.
 #[tactic(auto, unfolding(crate::specs::faults::Links::first_bad_link))]
-pub(crate) fn first_bad_link(
-    alloc: Global,
-    parts: &CheckParts,
-) -> Result<Option<DocFault>, AllocError>
+pub(crate) fn first_bad_link(alloc: Global, parts: &CheckParts) -> Found
     ensures { IfOk result (λ found. found ≡ first_bad_link parts.now) }
 {
     let judge = BadLinks {

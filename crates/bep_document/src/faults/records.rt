@@ -3,15 +3,14 @@ ghost use Rattle.std.specs.Prelude.{◌≡◌, IfOk};
 ghost use Rattle.bep_document.specs.faults.Records.{is_well_formed, is_node, bad_entry, bad_pull, bad_node, bad_in_view, bad_at_share, bad_in_flight, bad_row, first_bad};
 
 use crate::faults::holder::Holder;
-use crate::faults::judge::{Judge, first_fault};
+use crate::faults::judge::{Found, Judge, first_fault};
 use crate::faults::walks::{JudgeFlights, JudgeShares, first_in_cut};
 use crate::{
-    CheckParts, DocFault, Fault, FlightParts, FolderParts, LinkParts, RowParts, ShareParts,
-    ViewParts,
+    CheckParts, Fault, FlightParts, FolderParts, LinkParts, RowParts, ShareParts, ViewParts,
 };
 use bep_json::NamedParts;
 use bep_record::{DeviceId, Entry, NodeParts};
-use std::alloc::{AllocError, Global};
+use std::alloc::Global;
 
 // What is bad at a device: a record, a node, or a record in a view.
 #[derive(Clone, Copy)]
@@ -22,12 +21,7 @@ struct BadAtDevice<'a> {
 impl<'a> Judge<Entry> for BadAtDevice<'a> {
     ghost fault_at = { λ judge. bad_entry judge.at.now.folder.now judge.at.now.device };
 
-    fn fault_at(
-        &self,
-        alloc: Global,
-        _earlier: &[Entry],
-        item: &Entry,
-    ) -> Result<Option<DocFault>, AllocError> {
+    fn fault_at(&self, alloc: Global, _earlier: &[Entry], item: &Entry) -> Found {
         let is_well = is_well_formed(item);
         self.at
             .fault_unless(alloc, is_well, Fault::RecordBad, &item.name)
@@ -37,12 +31,7 @@ impl<'a> Judge<Entry> for BadAtDevice<'a> {
 impl<'a> Judge<NamedParts> for BadAtDevice<'a> {
     ghost fault_at = { λ judge. bad_node judge.at.now.folder.now judge.at.now.device };
 
-    fn fault_at(
-        &self,
-        alloc: Global,
-        _earlier: &[NamedParts],
-        item: &NamedParts,
-    ) -> Result<Option<DocFault>, AllocError> {
+    fn fault_at(&self, alloc: Global, _earlier: &[NamedParts], item: &NamedParts) -> Found {
         let is_well = is_node(&item.parts);
         self.at
             .fault_unless(alloc, is_well, Fault::RecordBad, &item.name)
@@ -52,12 +41,7 @@ impl<'a> Judge<NamedParts> for BadAtDevice<'a> {
 impl<'a> Judge<ViewParts> for BadAtDevice<'a> {
     ghost fault_at = { λ judge. bad_in_view judge.at.now.folder.now judge.at.now.device };
 
-    fn fault_at(
-        &self,
-        alloc: Global,
-        _earlier: &[ViewParts],
-        item: &ViewParts,
-    ) -> Result<Option<DocFault>, AllocError> {
+    fn fault_at(&self, alloc: Global, _earlier: &[ViewParts], item: &ViewParts) -> Found {
         first_fault(alloc, self, item.records.as_slice())
     }
 }
@@ -71,12 +55,7 @@ struct BadPulls<'a> {
 impl<'a> Judge<Entry> for BadPulls<'a> {
     ghost fault_at = { λ judge. bad_pull judge.at.now.folder.now judge.at.now.device };
 
-    fn fault_at(
-        &self,
-        alloc: Global,
-        _earlier: &[Entry],
-        item: &Entry,
-    ) -> Result<Option<DocFault>, AllocError> {
+    fn fault_at(&self, alloc: Global, _earlier: &[Entry], item: &Entry) -> Found {
         let is_well = is_well_formed(item) && !item.invalid;
         self.at
             .fault_unless(alloc, is_well, Fault::RecordBad, &item.name)
@@ -97,7 +76,7 @@ impl JudgeShares for BadInDocument {
         folder: &FolderParts,
         _earlier: &[ShareParts],
         share: &ShareParts,
-    ) -> Result<Option<DocFault>, AllocError> {
+    ) -> Found {
         let at = &Holder::of_share(folder, share);
         let judge = BadAtDevice { at };
         match first_fault(alloc, &judge, share.own.as_slice())? {
@@ -125,7 +104,7 @@ impl JudgeFlights for BadInDocument {
         receiver: DeviceId,
         _earlier: &[FlightParts],
         flight: &FlightParts,
-    ) -> Result<Option<DocFault>, AllocError> {
+    ) -> Found {
         let at = &Holder::of_flight(flight, receiver);
         first_fault(alloc, &BadAtDevice { at }, flight.records.as_slice())
     }
@@ -135,12 +114,7 @@ impl Judge<RowParts> for BadInDocument {
     ghost fault_at = { λ _. bad_row };
 
     #[tactic(auto, unfolding(crate::specs::faults::Records::bad_row))]
-    fn fault_at(
-        &self,
-        alloc: Global,
-        _earlier: &[RowParts],
-        item: &RowParts,
-    ) -> Result<Option<DocFault>, AllocError> {
+    fn fault_at(&self, alloc: Global, _earlier: &[RowParts], item: &RowParts) -> Found {
         let at = &Holder {
             folder: &item.folder,
             device: item.device,
@@ -151,7 +125,7 @@ impl Judge<RowParts> for BadInDocument {
 
 // What is bad first, in the folders, or else on the links, or else in the certificate, or want of memory.
 #[tactic(auto, unfolding(crate::specs::faults::Records::first_bad, crate::specs::faults::Records::bad_at_folder, crate::specs::faults::Records::bad_at_link))]
-pub(crate) fn first_bad(alloc: Global, parts: &CheckParts) -> Result<Option<DocFault>, AllocError>
+pub(crate) fn first_bad(alloc: Global, parts: &CheckParts) -> Found
     ensures { IfOk result (λ found. found ≡ first_bad parts.now) }
 {
     match first_in_cut(alloc, &BadInDocument, parts)? {

@@ -6,11 +6,9 @@ ghost use Rattle.bep_document.specs.declared.fault.Fault.TheVariants.{SequenceBa
 ghost use Rattle.bep_document.specs.faults.Sequences.{sequence_in, sequence_in_view, sequence_at_share, bad_next, sequence_in_flight, first_bad_sequence};
 
 use crate::faults::holder::Holder;
-use crate::faults::judge::{Judge, JudgeKeyed, first_fault, first_keyed};
+use crate::faults::judge::{Found, Judge, JudgeKeyed, first_fault, first_keyed};
 use crate::faults::walks::{JudgeFlights, JudgeShares, first_in_cut};
-use crate::{
-    CheckParts, DocFault, Fault, FlightParts, FolderParts, LinkParts, ShareParts, ViewParts,
-};
+use crate::{CheckParts, Fault, FlightParts, FolderParts, LinkParts, ShareParts, ViewParts};
 use bep_record::{DeviceId, Entry};
 use std::alloc::{AllocError, Global};
 
@@ -34,12 +32,7 @@ impl<'a> JudgeKeyed<Entry> for Numbered<'a> {
         Ok(item.sequence)
     }
 
-    fn fault_at(
-        &self,
-        alloc: Global,
-        is_again: bool,
-        item: &Entry,
-    ) -> Result<Option<DocFault>, AllocError> {
+    fn fault_at(&self, alloc: Global, is_again: bool, item: &Entry) -> Found {
         let is_well = !is_bad(item.sequence, self.max, is_again);
         self.at
             .fault_unless(alloc, is_well, Fault::SequenceBad, &item.name)
@@ -54,12 +47,7 @@ fn is_bad(sequence: u64, max: u64, is_again: bool) -> bool
 }
 
 // The first record whose sequence is 0, above the greatest or that of an earlier one, or want of memory.
-fn first_unnumbered(
-    alloc: Global,
-    at: &Holder<'_>,
-    max: u64,
-    entries: &[Entry],
-) -> Result<Option<DocFault>, AllocError>
+fn first_unnumbered(alloc: Global, at: &Holder<'_>, max: u64, entries: &[Entry]) -> Found
     ensures { IfOk result (λ found. found ≡ sequence_in at.now.folder.now at.now.device max entries.now) }
 {
     first_keyed(alloc, &Numbered { at, max }, entries)
@@ -74,12 +62,7 @@ struct SequencesAtViews<'a> {
 impl<'a> Judge<ViewParts> for SequencesAtViews<'a> {
     ghost fault_at = { λ judge. sequence_in_view judge.at.now.folder.now judge.at.now.device };
 
-    fn fault_at(
-        &self,
-        alloc: Global,
-        _earlier: &[ViewParts],
-        item: &ViewParts,
-    ) -> Result<Option<DocFault>, AllocError> {
+    fn fault_at(&self, alloc: Global, _earlier: &[ViewParts], item: &ViewParts) -> Found {
         first_unnumbered(alloc, self.at, item.max, item.records.as_slice())
     }
 }
@@ -93,12 +76,7 @@ struct Rising<'a> {
 impl<'a> Judge<Entry> for Rising<'a> {
     ghost fault_at = { λ judge. bad_next judge.at.now.folder.now judge.at.now.device };
 
-    fn fault_at(
-        &self,
-        alloc: Global,
-        earlier: &[Entry],
-        item: &Entry,
-    ) -> Result<Option<DocFault>, AllocError> {
+    fn fault_at(&self, alloc: Global, earlier: &[Entry], item: &Entry) -> Found {
         let is_above = item.sequence > last_sequence(earlier);
         self.at
             .fault_unless(alloc, is_above, Fault::SequenceBad, &item.name)
@@ -130,7 +108,7 @@ impl JudgeShares for SequencesInCut {
         folder: &FolderParts,
         _earlier: &[ShareParts],
         share: &ShareParts,
-    ) -> Result<Option<DocFault>, AllocError> {
+    ) -> Found {
         let at = &Holder::of_share(folder, share);
         match first_unnumbered(alloc, at, share.max, share.own.as_slice())? {
             Some(fault) => Ok(Some(fault)),
@@ -149,7 +127,7 @@ impl JudgeFlights for SequencesInCut {
         receiver: DeviceId,
         _earlier: &[FlightParts],
         flight: &FlightParts,
-    ) -> Result<Option<DocFault>, AllocError> {
+    ) -> Found {
         let at = &Holder::of_flight(flight, receiver);
         first_fault(alloc, &Rising { at }, flight.records.as_slice())
     }
@@ -157,10 +135,7 @@ impl JudgeFlights for SequencesInCut {
 
 // The first sequence that can't be, in the folders or else on the links, or want of memory.
 #[tactic(auto, unfolding(crate::specs::faults::Sequences::first_bad_sequence, crate::specs::faults::Sequences::sequence_at_folder, crate::specs::faults::Sequences::sequence_at_link))]
-pub(crate) fn first_bad_sequence(
-    alloc: Global,
-    parts: &CheckParts,
-) -> Result<Option<DocFault>, AllocError>
+pub(crate) fn first_bad_sequence(alloc: Global, parts: &CheckParts) -> Found
     ensures { IfOk result (λ found. found ≡ first_bad_sequence parts.now) }
 {
     first_in_cut(alloc, &SequencesInCut, parts)

@@ -9,7 +9,7 @@ ghost use Rattle.bep_document.specs.declared.fault.Fault.TheVariants.{Twice};
 ghost use Rattle.bep_document.specs.faults.Twice.{name_again, twice_in_records, twice_at_share, twice_at_folder, twice_in_flight, twice_at_link, first_twice};
 
 use crate::faults::holder::Holder;
-use crate::faults::judge::{Judge, JudgeKeyed, first_fault, first_keyed};
+use crate::faults::judge::{Found, Judge, JudgeKeyed, first_fault, first_keyed};
 use crate::faults::unshared::has_device;
 use crate::faults::walks::{JudgeFlights, JudgeShares, first_at_shares, first_on_link};
 use crate::{
@@ -63,23 +63,14 @@ impl<'a, T: Named> JudgeKeyed<T> for NamesOnce<'a> {
         item.name().copy(alloc)
     }
 
-    fn fault_at(
-        &self,
-        alloc: Global,
-        is_again: bool,
-        item: &T,
-    ) -> Result<Option<DocFault>, AllocError> {
+    fn fault_at(&self, alloc: Global, is_again: bool, item: &T) -> Found {
         self.at
             .fault_unless(alloc, !is_again, Fault::Twice, item.name())
     }
 }
 
 // The first item that has the name of an earlier one, or want of memory.
-fn first_again<T: Named>(
-    alloc: Global,
-    at: &Holder<'_>,
-    items: &[T],
-) -> Result<Option<DocFault>, AllocError>
+fn first_again<T: Named>(alloc: Global, at: &Holder<'_>, items: &[T]) -> Found
     ensures { IfOk result (λ found.
         found ≡ first_in (name_again T.name_in at.now.folder.now at.now.device) [] items.now) }
 {
@@ -105,12 +96,7 @@ impl<'a> JudgeKeyed<ViewParts> for ViewsOnce<'a> {
         Ok(item.of)
     }
 
-    fn fault_at(
-        &self,
-        alloc: Global,
-        is_again: bool,
-        item: &ViewParts,
-    ) -> Result<Option<DocFault>, AllocError> {
+    fn fault_at(&self, alloc: Global, is_again: bool, item: &ViewParts) -> Found {
         if is_again {
             let fault = self.at.fault(alloc, Fault::Twice)?;
             return Ok(Some(fault));
@@ -133,7 +119,7 @@ impl JudgeShares for TwiceInCut {
         folder: &FolderParts,
         earlier: &[ShareParts],
         share: &ShareParts,
-    ) -> Result<Option<DocFault>, AllocError> {
+    ) -> Found {
         let at = &Holder::of_share(folder, share);
         if has_device(earlier, share.device) {
             let fault = at.fault(alloc, Fault::Twice)?;
@@ -158,12 +144,7 @@ impl Judge<FolderParts> for TwiceInCut {
     ghost fault_at = { λ _. twice_at_folder };
 
     #[tactic(auto, unfolding(crate::specs::faults::Twice::twice_at_folder))]
-    fn fault_at(
-        &self,
-        alloc: Global,
-        earlier: &[FolderParts],
-        item: &FolderParts,
-    ) -> Result<Option<DocFault>, AllocError> {
+    fn fault_at(&self, alloc: Global, earlier: &[FolderParts], item: &FolderParts) -> Found {
         if has_folder(earlier, &item.folder) {
             let fault = DocFault::at_folder(alloc, Fault::Twice, &item.folder)?;
             return Ok(Some(fault));
@@ -182,7 +163,7 @@ impl JudgeFlights for TwiceInCut {
         receiver: DeviceId,
         _earlier: &[FlightParts],
         flight: &FlightParts,
-    ) -> Result<Option<DocFault>, AllocError> {
+    ) -> Found {
         let at = &Holder::of_flight(flight, receiver);
         first_again(alloc, at, flight.records.as_slice())
     }
@@ -200,12 +181,7 @@ impl JudgeKeyed<LinkParts> for TwiceInCut {
         Ok((item.a, item.b))
     }
 
-    fn fault_at(
-        &self,
-        alloc: Global,
-        is_again: bool,
-        item: &LinkParts,
-    ) -> Result<Option<DocFault>, AllocError> {
+    fn fault_at(&self, alloc: Global, is_again: bool, item: &LinkParts) -> Found {
         if is_again {
             return Ok(Some(DocFault::at_link(Fault::Twice, item.a)));
         }
@@ -215,7 +191,7 @@ impl JudgeKeyed<LinkParts> for TwiceInCut {
 
 // What stands twice first among the links, or want of memory.
 #[tactic(auto, unfolding(crate::specs::faults::Twice::twice_at_link))]
-fn first_at_links(alloc: Global, links: &[LinkParts]) -> Result<Option<DocFault>, AllocError>
+fn first_at_links(alloc: Global, links: &[LinkParts]) -> Found
     ensures { IfOk result (λ found. found ≡ first_in twice_at_link [] links.now) }
 {
     first_keyed(alloc, &TwiceInCut, links)
@@ -223,7 +199,7 @@ fn first_at_links(alloc: Global, links: &[LinkParts]) -> Result<Option<DocFault>
 
 // What stands twice first, in the folders or else among the links, or want of memory.
 #[tactic(auto, unfolding(crate::specs::faults::Twice::first_twice))]
-pub(crate) fn first_twice(alloc: Global, parts: &CheckParts) -> Result<Option<DocFault>, AllocError>
+pub(crate) fn first_twice(alloc: Global, parts: &CheckParts) -> Found
     ensures { IfOk result (λ found. found ≡ first_twice parts.now) }
 {
     match first_fault(alloc, &TwiceInCut, parts.folders.as_slice())? {

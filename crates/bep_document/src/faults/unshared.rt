@@ -4,13 +4,13 @@ ghost use Rattle.std.specs.Cmp.Lexicographic.{pointwise};
 ghost use Rattle.bep_document.specs.faults.Unshared.{has_device, shares, bad_view, unshared_at_share, bad_flight, first_unshared};
 
 use crate::faults::holder::Holder;
-use crate::faults::judge::{Judge, first_fault};
+use crate::faults::judge::{Found, Judge, first_fault};
 use crate::faults::walks::{JudgeFlights, JudgeShares, first_in_cut};
 use crate::{
     CheckParts, DocFault, Fault, FlightParts, FolderParts, LinkParts, ShareParts, ViewParts,
 };
 use bep_record::{DeviceId, FolderName};
-use std::alloc::{AllocError, Global};
+use std::alloc::Global;
 
 // Views of a device that can't be, in a folder that these devices share.
 #[derive(Clone, Copy)]
@@ -22,12 +22,7 @@ struct UnsharedViews<'a> {
 impl<'a> Judge<ViewParts> for UnsharedViews<'a> {
     ghost fault_at = { λ judge. bad_view judge.at.now.folder.now judge.devices.now judge.at.now.device };
 
-    fn fault_at(
-        &self,
-        alloc: Global,
-        _earlier: &[ViewParts],
-        item: &ViewParts,
-    ) -> Result<Option<DocFault>, AllocError> {
+    fn fault_at(&self, alloc: Global, _earlier: &[ViewParts], item: &ViewParts) -> Found {
         if item.of == self.at.device || !has_device(self.devices, item.of) {
             let fault = self.at.fault(alloc, Fault::Unshared)?;
             return Ok(Some(fault));
@@ -52,7 +47,7 @@ impl<'a> JudgeShares for UnsharedInCut<'a> {
         folder: &FolderParts,
         _earlier: &[ShareParts],
         share: &ShareParts,
-    ) -> Result<Option<DocFault>, AllocError> {
+    ) -> Found {
         let at = &Holder::of_share(folder, share);
         let judge = UnsharedViews {
             at,
@@ -72,7 +67,7 @@ impl<'a> JudgeFlights for UnsharedInCut<'a> {
         receiver: DeviceId,
         _earlier: &[FlightParts],
         flight: &FlightParts,
-    ) -> Result<Option<DocFault>, AllocError> {
+    ) -> Found {
         let folder = &flight.folder;
         if shares(self.folders, folder, link.a) && shares(self.folders, folder, link.b) {
             return Ok(None);
@@ -84,10 +79,7 @@ impl<'a> JudgeFlights for UnsharedInCut<'a> {
 
 // The first view or message of what isn't shared, or want of memory.
 #[tactic(auto, unfolding(crate::specs::faults::Unshared::first_unshared, crate::specs::faults::Unshared::unshared_at_folder, crate::specs::faults::Unshared::unshared_at_link))]
-pub(crate) fn first_unshared(
-    alloc: Global,
-    parts: &CheckParts,
-) -> Result<Option<DocFault>, AllocError>
+pub(crate) fn first_unshared(alloc: Global, parts: &CheckParts) -> Found
     ensures { IfOk result (λ found. found ≡ first_unshared parts.now) }
 {
     let judge = UnsharedInCut {

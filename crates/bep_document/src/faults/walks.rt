@@ -8,10 +8,10 @@ ghost use Rattle.bep_document.specs.declared.parts.LinkParts.{LinkParts};
 ghost use Rattle.bep_document.specs.faults.Judge.{◌else_at◌, first_in};
 ghost use Rattle.bep_document.specs.faults.Walks.{at_shares, on_link};
 
-use crate::faults::judge::{Judge, first_fault};
-use crate::{CheckParts, DocFault, FlightParts, FolderParts, LinkParts, ShareParts};
+use crate::faults::judge::{Found, Judge, first_fault};
+use crate::{CheckParts, FlightParts, FolderParts, LinkParts, ShareParts};
 use bep_record::DeviceId;
-use std::alloc::{AllocError, Global};
+use std::alloc::Global;
 
 /// A judge of the devices of a folder, which looks for one kind of fault.
 pub(crate) trait JudgeShares {
@@ -25,7 +25,7 @@ pub(crate) trait JudgeShares {
         folder: &FolderParts,
         earlier: &[ShareParts],
         share: &ShareParts,
-    ) -> Result<Option<DocFault>, AllocError>
+    ) -> Found
         ensures { IfOk result (λ found. found ≡ fault_at_share self.now folder.now earlier.now share.now) };
 }
 
@@ -42,7 +42,7 @@ pub(crate) trait JudgeFlights {
         receiver: DeviceId,
         earlier: &[FlightParts],
         flight: &FlightParts,
-    ) -> Result<Option<DocFault>, AllocError>
+    ) -> Found
         ensures { IfOk result (λ found. found ≡ fault_in_flight self.now link.now receiver earlier.now flight.now) };
 }
 
@@ -56,12 +56,7 @@ struct SharesOf<'a, J> {
 impl<'a, J: JudgeShares> Judge<ShareParts> for SharesOf<'a, J> {
     ghost fault_at = { λ shares. J.fault_at_share shares.judge.now shares.folder.now };
 
-    fn fault_at(
-        &self,
-        alloc: Global,
-        earlier: &[ShareParts],
-        item: &ShareParts,
-    ) -> Result<Option<DocFault>, AllocError> {
+    fn fault_at(&self, alloc: Global, earlier: &[ShareParts], item: &ShareParts) -> Found {
         self.judge.fault_at_share(alloc, self.folder, earlier, item)
     }
 }
@@ -71,7 +66,7 @@ pub(crate) fn first_at_shares<J: JudgeShares>(
     alloc: Global,
     judge: &J,
     folder: &FolderParts,
-) -> Result<Option<DocFault>, AllocError>
+) -> Found
     ensures { IfOk result (λ found. found ≡ at_shares (J.fault_at_share judge.now) [] folder.now) }
 {
     first_fault(
@@ -92,12 +87,7 @@ struct FlightsTo<'a, J> {
 impl<'a, J: JudgeFlights> Judge<FlightParts> for FlightsTo<'a, J> {
     ghost fault_at = { λ flights. J.fault_in_flight flights.judge.now flights.link.now flights.receiver };
 
-    fn fault_at(
-        &self,
-        alloc: Global,
-        earlier: &[FlightParts],
-        item: &FlightParts,
-    ) -> Result<Option<DocFault>, AllocError> {
+    fn fault_at(&self, alloc: Global, earlier: &[FlightParts], item: &FlightParts) -> Found {
         self.judge
             .fault_in_flight(alloc, self.link, self.receiver, earlier, item)
     }
@@ -110,7 +100,7 @@ fn first_to<J: JudgeFlights>(
     link: &LinkParts,
     receiver: DeviceId,
     flights: &[FlightParts],
-) -> Result<Option<DocFault>, AllocError>
+) -> Found
     ensures { IfOk result (λ found. found ≡ first_in (J.fault_in_flight judge.now link.now receiver) [] flights.now) }
 {
     first_fault(
@@ -125,11 +115,7 @@ fn first_to<J: JudgeFlights>(
 }
 
 // The first fault in what is on its way over the link, to its first device and then to the other, or want of memory.
-pub(crate) fn first_on_link<J: JudgeFlights>(
-    alloc: Global,
-    judge: &J,
-    link: &LinkParts,
-) -> Result<Option<DocFault>, AllocError>
+pub(crate) fn first_on_link<J: JudgeFlights>(alloc: Global, judge: &J, link: &LinkParts) -> Found
     ensures { IfOk result (λ found. found ≡ on_link (J.fault_in_flight judge.now) [] link.now) }
 {
     match first_to(alloc, judge, link, link.a, link.to_a.as_slice())? {
@@ -147,12 +133,7 @@ struct FoldersBy<'a, J> {
 impl<'a, J: JudgeShares> Judge<FolderParts> for FoldersBy<'a, J> {
     ghost fault_at = { λ folders. at_shares (J.fault_at_share folders.judge.now) };
 
-    fn fault_at(
-        &self,
-        alloc: Global,
-        _earlier: &[FolderParts],
-        item: &FolderParts,
-    ) -> Result<Option<DocFault>, AllocError> {
+    fn fault_at(&self, alloc: Global, _earlier: &[FolderParts], item: &FolderParts) -> Found {
         first_at_shares(alloc, self.judge, item)
     }
 }
@@ -166,12 +147,7 @@ struct LinksBy<'a, J> {
 impl<'a, J: JudgeFlights> Judge<LinkParts> for LinksBy<'a, J> {
     ghost fault_at = { λ links. on_link (J.fault_in_flight links.judge.now) };
 
-    fn fault_at(
-        &self,
-        alloc: Global,
-        _earlier: &[LinkParts],
-        item: &LinkParts,
-    ) -> Result<Option<DocFault>, AllocError> {
+    fn fault_at(&self, alloc: Global, _earlier: &[LinkParts], item: &LinkParts) -> Found {
         first_on_link(alloc, self.judge, item)
     }
 }
@@ -181,7 +157,7 @@ pub(crate) fn first_in_cut<J: JudgeShares + JudgeFlights>(
     alloc: Global,
     judge: &J,
     parts: &CheckParts,
-) -> Result<Option<DocFault>, AllocError>
+) -> Found
     ensures { IfOk result (λ found. found ≡ (
         first_in (at_shares (J.fault_at_share judge.now)) [] parts.now.folders
         else_at first_in (on_link (J.fault_in_flight judge.now)) [] parts.now.links)) }
