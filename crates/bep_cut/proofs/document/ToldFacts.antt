@@ -1,5 +1,5 @@
 -- What is written of views, devices, folders, messages and links is read again.
-use Rattle.std.proofs.Common.{◌≡◌, ◌≤◌, ℕ, ◌&&◌, ◌↔◌, leb, Bool, true, IsTrue, List, [], ◌∷◌, map, length, Option, Some, None, if◌then◌else◌, refl, ap, ◌∙◌, arith}
+use Rattle.std.proofs.Common.{◌≡◌, ◌≤◌, ℕ, leb, Bool, true, List, [], ◌∷◌, map, length, Option, Some, if◌then◌else◌, refl, ap, ◌∙◌, arith}
 use Rattle.std.specs.FinMap.{entries, values}
 use Rattle.std.specs.List.{AllByRecursion}
 use Rattle.std.proofs.lemmas.Bool.Decides.{nat_tests}
@@ -9,7 +9,6 @@ use Rattle.bep_record.specs.FolderName.{IsFolderName}
 use Rattle.bep_record.specs.declared.entry.Entry.{Entry}
 use Rattle.bep_record.specs.declared.folder_kind.FolderKind.{FolderKind}
 use Rattle.bep_record.specs.declared.folder_kind.FolderKind.TheVariants.{SendReceive, SendOnly, ReceiveOnly}
-use Rattle.bep_record.specs.declared.node.NodeParts.{NodeParts}
 use Rattle.bep_record.specs.declared.limits.TheConstants.{MAX_PULLS, MAX_MESSAGES}
 use Rattle.bep_index.specs.declared.limits.TheConstants.{MAX_NAMES, MAX_RECORDS, MAX_SEQUENCE}
 use Rattle.bep_json.specs.Laws.{FolderNamesAreTold}
@@ -31,7 +30,7 @@ use Rattle.bep_cut.specs.declared.share.PeerView.{PeerView}
 use Rattle.bep_cut.specs.declared.share.SharedFolder.{SharedFolder}
 use Rattle.bep_cut.specs.declared.link.LinkState.{LinkState}
 use Rattle.bep_cut.specs.document.Trees.{name_of_kind, view_tree, share_tree, folder_tree, flight_tree, link_tree}
-use Rattle.bep_cut.specs.document.Told.{node_parts, view_parts, share_parts, folder_parts, flight_parts, link_parts, AreInRange, IsViewInRange, IsShareInRange, IsFlightInRange, IsLinkInRange, IsRecordTold, IsNodeTold, IsViewTold, IsShareTold, IsFolderTold, IsFlightTold, IsLinkTold}
+use Rattle.bep_cut.specs.document.Told.{node_parts, view_parts, share_parts, flight_parts, AreInRange, IsViewInRange, IsShareInRange, IsFlightInRange, IsRecordTold, IsNodeTold, IsViewTold, IsShareTold, IsFolderTold, IsFlightTold, IsLinkTold}
 
 where_true : {A : Type 0} {b : Bool} (x y : A) → b ≡ true → (if b then x else y) ≡ x
 where_true x y e = ap (λ c. if c then x else y) e
