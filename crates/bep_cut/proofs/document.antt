@@ -7,3 +7,5 @@ mod CutWritten
 mod AsWrittenFacts
 mod AsWrittenViews
 mod AsWrittenLinks
+mod ToldFacts
+pub mod RangeTold

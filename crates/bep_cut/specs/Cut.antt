@@ -53,10 +53,11 @@ pub record AreViews (devices : List Device) (device : Device) (views : List Peer
 abbrev pub AreNamed : ByName Entry → Type 0
 AreNamed pulls = (name : FileName) (entry : Entry) → get pulls name ≡ Some entry → (entry.name ≡ name) × (entry.invalid ≡ false)
 
--- what a device pulls
+-- what a device pulls; each was a record of an index
 pub record ArePulls (pulls : ByName Entry) : Type 0 where
   pub few : len pulls ≤ MAX_PULLS
   pub named : AreNamed pulls
+  pub within : (name : FileName) (entry : Entry) → get pulls name ≡ Some entry → entry.sequence ≤ MAX_SEQUENCE
 
 -- a device stands once in a folder, and devices rise; its records are those of an index
 pub record AreShares (shares : List Share) : Type 0 where

@@ -3,3 +3,4 @@ pub mod Sorting
 pub mod Written
 pub mod AsWritten
 pub mod Trees
+pub mod Told

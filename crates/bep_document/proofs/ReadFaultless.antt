@@ -51,6 +51,7 @@ share_faultless share range once good numbered = record {
     names = once.pull_names;
     well_formed = all_map (λ _ pull. pull.0) share.pulls good.pulls;
     valid = all_map (λ _ pull. pull.1) share.pulls good.pulls;
+    within = range.pulls;
   };
 }
 

@@ -45,6 +45,7 @@ pub record ArePulls (pulls : List Entry) : Type 0 where
   pub names : NamesDiffer pulls
   pub well_formed : AllByRecursion IsWellFormed pulls
   pub valid : AllByRecursion (λ entry. entry.invalid ≡ false) pulls
+  pub within : AllByRecursion (λ entry. entry.sequence ≤ MAX_SEQUENCE) pulls
 
 -- a device that shares a folder
 pub record IsFaultlessShare (share : ShareParts) : Type 0 where

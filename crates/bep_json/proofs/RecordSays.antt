@@ -1,8 +1,7 @@
 -- A record and a node that are written are read again.
-use Rattle.std.proofs.Common.{◌≡◌, ◌≤◌, ℕ, ◌&&◌, ◌||◌, Bool, true, false, List, [], ◌∷◌, map, Some, refl, ap, sym, ◌∙◌, arith}
+use Rattle.std.proofs.Common.{◌≡◌, ◌≤◌, ℕ, ◌||◌, Bool, true, false, List, [], ◌∷◌, map, Some, refl, ap, sym, ◌∙◌, arith}
 use Rattle.std.specs.List.{AllByRecursion}
 use Rattle.hex.specs.Hex.{IsBytes}
-use Rattle.bep_record.specs.Block.{base_block_size}
 use Rattle.bep_record.specs.Entry.{HasNoBlocks, HasBlocks, HasBody, IsWellFormed}
 use Rattle.bep_record.specs.Node.{IsNode}
 use Rattle.bep_record.specs.Name.{IsName}
@@ -13,7 +12,6 @@ use Rattle.bep_record.specs.declared.kind.Kind.{Kind}
 use Rattle.bep_record.specs.declared.kind.Kind.TheVariants.{File, Directory, Symlink}
 use Rattle.bep_record.specs.declared.limits.TheConstants.{MAX_FILE_SIZE, MAX_NANOSECONDS}
 use Rattle.bep_record.specs.declared.node.NodeParts.{NodeParts}
-use Rattle.bep_json.specs.declared.nodes.NamedParts.{NamedParts}
 use Rattle.bep_json.specs.Numbers.{is_whole, read_number, read_signed, greatest_id}
 use Rattle.bep_json.specs.Texts.{is_text, read_hash}
 use Rattle.bep_json.specs.Lists.{is_list, read_list, is_pair, read_version}

@@ -1,13 +1,12 @@
 -- What is written is read again: numbers, texts, lists and blocks.
-use Rattle.std.proofs.Common.{◌≡◌, ◌≤◌, ℕ, ◌&&◌, leb, Bool, true, false, List, [], ◌∷◌, map, length, Option, Some, None, if◌then◌else◌, refl, ap, sym, ◌∙◌, arith}
-use Rattle.std.specs.List.{AllByRecursion, range_with_len}
+use Rattle.std.proofs.Common.{◌≡◌, ◌≤◌, ℕ, Bool, true, List, [], ◌∷◌, map, length, Some, if◌then◌else◌, refl, ap, sym, ◌∙◌, arith}
+use Rattle.std.specs.List.{AllByRecursion}
 use Rattle.std.proofs.lemmas.Bool.Decides.{nat_tests}
 use Rattle.std.proofs.lemmas.List.{length-map}
 use Rattle.std.proofs.lemmas.List.FromFn.{length-map-range_with_len}
-use Rattle.hex.specs.Hex.{IsBytes, encode_lower}
+use Rattle.hex.specs.Hex.{IsBytes}
 use Rattle.hex.proofs.HexLemmas.{decode_of-encode_lower, decode_sized-encode_lower}
-use Rattle.serde_json.specs.Data.{Data, string}
-use Rattle.serde_json.specs.View.{items_of}
+use Rattle.serde_json.specs.Data.{string}
 use Rattle.bep_record.specs.Block.{base_block_size, block_count, cut_at, CutWhole}
 use Rattle.bep_record.specs.Vector.{IsVersion, most_counters}
 use Rattle.bep_record.specs.Name.{IsName}
@@ -17,13 +16,12 @@ use Rattle.bep_record.specs.declared.block.Block.{Block}
 use Rattle.bep_record.specs.declared.kind.Kind.{Kind}
 use Rattle.bep_record.specs.declared.kind.Kind.TheVariants.{File, Directory, Symlink}
 use Rattle.bep_record.specs.declared.limits.TheConstants.{MAX_FILE_SIZE}
-use Rattle.bep_json.specs.Reading.{◌>>=◌}
-use Rattle.bep_json.specs.Numbers.{is_whole, read_number, read_kind}
-use Rattle.bep_json.specs.Texts.{is_text, is_name, is_target, is_folder_name, if_passes, fits_file, read_name, read_target, read_folder_name, read_hash, read_hex_bytes}
-use Rattle.bep_json.specs.Lists.{have_shape, is_list, read_items, read_list, is_pair, read_pair, is_version, read_version}
+use Rattle.bep_json.specs.Numbers.{is_whole, read_kind}
+use Rattle.bep_json.specs.Texts.{is_text, fits_file, read_name, read_target, read_folder_name, read_hash, read_hex_bytes}
+use Rattle.bep_json.specs.Lists.{is_list, is_pair, read_pair, read_version}
 use Rattle.bep_json.specs.Records.{blocks_from}
-use Rattle.bep_json.specs.Says.{Says, both_are, then_read, list_says}
-use Rattle.bep_json.specs.Written.{whole, list_of, number_of, counter_written, version_written, hex_written}
+use Rattle.bep_json.specs.Says.{Says, then_read, list_says}
+use Rattle.bep_json.specs.Written.{whole, number_of, counter_written, version_written, hex_written}
 use Rattle.bep_json.proofs.BlockFacts.{place_of, blocks_from-hashes, cut_whole-where_counted}
 use Rattle.bep_json.proofs.ListFacts.{version_decides}
 use Rattle.bep_json.proofs.TextFacts.{name_decides, target_decides, folder_name_decides}

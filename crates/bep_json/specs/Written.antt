@@ -1,6 +1,6 @@
 -- What is written of records and nodes: every member, also those that have a default, in the order of their names
 -- (BEP v1, 'FileInfo'; the members are this project's profile).
-use Rattle.std.specs.Prelude.{◌≡◌, ℕ, ℤ, Bool, true, List, [], ◌∷◌, map, Option, Some, codes}
+use Rattle.std.specs.Prelude.{ℕ, ℤ, List, [], ◌∷◌, map, codes}
 use Rattle.hex.specs.Hex.{encode_lower}
 use Rattle.serde_json.specs.Data.{Data, unsigned, number, boolean, string, array, object, no_members, member}
 use Rattle.serde_json.specs.Find.{of_integer}

@@ -14,6 +14,7 @@ use Rattle.bep_record.specs.declared.entry.Entry.{Entry}
 use Rattle.bep_index.specs.After.{IsAmong}
 use Rattle.bep_index.specs.Batch.{with_all}
 use Rattle.bep_index.specs.Index.{IsIndex}
+use Rattle.bep_index.specs.declared.limits.TheConstants.{MAX_SEQUENCE}
 use Rattle.bep_index.specs.Laws.{HaveIndexNumbers, RecordsMakeAnIndex, RecordsAreFound}
 use Rattle.bep_model.specs.Tables.{Device}
 use Rattle.bep_document.specs.declared.parts.ShareParts.{ShareParts}
@@ -88,6 +89,9 @@ pulls_written found parts faultless = record {
   named = λ name entry is.
       let listed = (found parts.pulls name entry faultless.pulled.names).0 is in
       (listed.1, among_holds (λ e. e.invalid ≡ false) parts.pulls entry faultless.pulled.valid listed.0);
+  within = λ name entry is.
+      let listed = (found parts.pulls name entry faultless.pulled.names).0 is in
+      among_holds (λ e. e.sequence ≤ MAX_SEQUENCE) parts.pulls entry faultless.pulled.within listed.0;
 }
 
 -- ---- what is written in order

@@ -68,6 +68,7 @@ pub record IsShareInRange (share : ShareParts) : Type 0 where
   pub own : IsIndexInRange share.max share.own
   pub views : AllByRecursion IsViewInRange share.views
   pub few_pulls : length share.pulls ≤ MAX_PULLS
+  pub pulls : AllByRecursion IsInRange share.pulls
 
 share_in_range : Reads IsShareInRange read_share
 unfolding read_share
@@ -80,7 +81,7 @@ share_in_range d =
     skip (read_member_or (codes "store") (read_list read_node) [] d) (λ store.
     keep (member_or_read (list_read view_in_range) tt (codes "views") d) (λ views in_range.
     keep (member_or_read (few_read MAX_PULLS record_in_range) (omega arith, tt) (codes "pulls") d) (λ pulls few_pulls.
-    made IsShareInRange _ (record { own = record { within = within; few = few.0 }; views = in_range; few_pulls = few_pulls.0 })))))))))
+    made IsShareInRange _ (record { own = record { within = within; few = few.0 }; views = in_range; few_pulls = few_pulls.0; pulls = few_pulls.1 })))))))))
 
 folder_in_range : Reads (λ folder. AllByRecursion IsShareInRange folder.devices) read_folder
 unfolding read_folder

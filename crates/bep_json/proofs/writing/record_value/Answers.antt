@@ -1,7 +1,5 @@
 use Rattle.std.proofs.Common.{◌≤◌, sym, subst}
-use Rattle.std.specs.List.{AllByRecursion}
 use Rattle.bep_record.specs.Entry.{IsWellFormed}
-use Rattle.bep_record.specs.declared.block.Block.{Block}
 use Rattle.bep_record.specs.declared.entry.Entry.{Entry}
 use Rattle.bep_json.specs.Records.{is_record, read_record}
 use Rattle.bep_json.specs.Says.{Says}

@@ -1,0 +1,10 @@
+use Rattle.std.proofs.Common.{subst}
+use Rattle.std.specs.List.{AllByRecursion}
+use Rattle.bep_cut.specs.document.Told.{IsRecordTold}
+use Rattle.bep_cut.proofs.document.ToldFacts.{flight_says}
+use Rattle.bep_cut.proofs.document.trees.FlightWritten.tree.Goals as goal
+
+pub returns-clause-told : goal.returns-clause-told
+returns-clause-told c =
+    let records = subst (AllByRecursion IsRecordTold) c.as_slice.ensures c.in_ok-records.ensures.told in
+    flight_says c.args.self.now c.folder_is_told.ensures records

@@ -1,0 +1,10 @@
+use Rattle.std.proofs.Common.{subst}
+use Rattle.std.specs.List.{AllByRecursion}
+use Rattle.bep_cut.specs.document.Told.{IsShareTold}
+use Rattle.bep_cut.proofs.document.ToldFacts.{folder_says}
+use Rattle.bep_cut.proofs.document.trees.SharedFolderWritten.tree.Goals as goal
+
+pub returns-clause-told : goal.returns-clause-told
+returns-clause-told c =
+    let devices = subst (AllByRecursion IsShareTold) c.as_slice.ensures c.in_ok-devices.ensures.told in
+    folder_says c.args.self.now c.folder_is_told.ensures devices
