@@ -23,6 +23,12 @@ use Rattle.bep_audit.specs.Shown.{part_of}
 use Rattle.bep_audit.proofs.AskedAtRow.{IsOfDevices}
 use Rattle.bep_audit.proofs.CutFacts.{CutSays, share_of_device, device_of_share}
 use Rattle.bep_audit.proofs.ForeignFacts.{views_asked, flights_asked, pulls_asked}
+use Rattle.bep_cut.specs.declared.table.entry.Source.TheVariants.{View, Flight, Pull}
+use Rattle.bep_cut.specs.Listed.{Listed}
+use Rattle.bep_cut.specs.Said.{EntriesAreHeld}
+use Rattle.bep_model.specs.Settled.{key_of}
+use Rattle.bep_audit.specs.Group.{IsGroupOf, AsksGroup, AsksAmongGroup}
+use Rattle.bep_audit.proofs.GroupFacts.{elsewhere_asked}
 use Rattle.bep_audit.proofs.FailingRow.{less_by_order, finds_none, finds_part}
 
 -- a reason that asks something of devices asks nothing of a name as a whole
@@ -68,35 +74,66 @@ module _ (said : CutSays) (asked_here : ShareIsAsked) (cut : CutParts) (is_cut :
   asked_exactly StoreDiffers share member = alone StoreDiffers share member (omega arith)
   asked_exactly StoreUnclean share member = alone StoreUnclean share member (omega arith)
 
+-- what is found among a folder's devices, of each of which is asked what the reason asks
+module _ (said : CutSays) (cut : CutParts) (is_cut : IsCut cut) (row : Row) (reason : Reason) (of_devices : IsOfDevices reason) (Says : Share → Type 0) (exactly : (share : Share) → Contains (shares_of row.folder cut.folders) share → Says share ↔ AsksShare (tables_of cut) reason row share.device) where
+  -- what is asked of the device among these
+  abbrev Among : List Share → Device → Type 0
+  Among shares device = (share : Share) → Contains shares share → share.device ≡ device → Says share
+
   -- a device is asked what its shares are
-  part_exactly : (reason : Reason) (device : Device) → AsksAmong reason row cut.links (shares_of row.folder cut.folders) device ↔ AsksDevice (tables_of cut) (row ∷ []) reason row.folder row.entry.name device
-  unfolding AsksTables IsShare
-  part_exactly reason device = (
+  part_exactly : (device : Device) → Among (shares_of row.folder cut.folders) device ↔ AsksDevice (tables_of cut) (row ∷ []) reason row.folder row.entry.name device
+  part_exactly device = (
     λ met one member key shares.
         let share = share_of_device said cut is_cut row.folder device shares in
-        let asked = (asked_exactly reason share.0 share.1).0 (met share.0 share.1 share.2) in
+        let asked = (exactly share.0 share.1).0 (met share.0 share.1 share.2) in
         let of_device = subst (λ (d : Device). AsksShare (tables_of cut) reason row d) share.2 asked in
         subst (λ (r : Row). AsksShare (tables_of cut) reason r device) (Contains-one row one member) of_device,
     λ asked share member same.
         let shares = subst (λ (d : Device). Shares (tables_of cut) d row.folder) same (device_of_share said cut is_cut row.folder share member) in
         let of_device = asked row (Contains-first row []) refl shares in
-        (asked_exactly reason share member).1 (subst (λ (d : Device). AsksShare (tables_of cut) reason row d) (sym same) of_device),
+        (exactly share member).1 (subst (λ (d : Device). AsksShare (tables_of cut) reason row d) (sym same) of_device),
   )
 
-  found_exactly : (reason : Reason) → IsOfDevices reason → (found : Option Device) → FindsFirst nat_cmp (AsksAmong reason row cut.links (shares_of row.folder cut.folders)) found → FindsFailing (tables_of cut) (row ∷ []) reason (option_map (part_of row) found)
-  found_exactly reason of_devices None none = finds_none (tables_of cut) reason row (omega (arith, of_devices)) each where
+  found_exactly : (found : Option Device) → FindsFirst nat_cmp (Among (shares_of row.folder cut.folders)) found → FindsFailing (tables_of cut) (row ∷ []) reason (option_map (part_of row) found)
+  found_exactly None none = finds_none (tables_of cut) reason row (omega (arith, of_devices)) each where
     each : (device : Option Device) → AsksAt (tables_of cut) (row ∷ []) reason row.folder row.entry.name device
     each None = no_name (tables_of cut) (row ∷ []) reason row.folder row.entry.name of_devices
-    each (Some device) = (part_exactly reason device).0 (none device)
-  found_exactly reason of_devices (Some device) first =
-      finds_part (tables_of cut) reason row (omega (arith, of_devices)) (Some device) (λ asked. first.fails ((part_exactly reason device).1 asked)) before
+    each (Some device) = (part_exactly device).0 (none device)
+  found_exactly (Some device) first =
+      finds_part (tables_of cut) reason row (omega (arith, of_devices)) (Some device) (λ asked. first.fails ((part_exactly device).1 asked)) before
     where
       before : (earlier : Option Device) → device_rank earlier < device_rank (Some device) → AsksAt (tables_of cut) (row ∷ []) reason row.folder row.entry.name earlier
       before None less = no_name (tables_of cut) (row ∷ []) reason row.folder row.entry.name of_devices
-      before (Some earlier) less = (part_exactly reason earlier).0 (first.before earlier (less_by_order earlier device (omega (arith, less))))
+      before (Some earlier) less = (part_exactly earlier).0 (first.before earlier (less_by_order earlier device (omega (arith, less))))
 
+  pub finds_by : (shares : List Share) → shares ≡ shares_of row.folder cut.folders → (found : Option Device) → FindsFirst nat_cmp (Among shares) found → FindsFailing (tables_of cut) (row ∷ []) reason (option_map (part_of row) found)
+  finds_by shares is found finds = found_exactly found (subst (λ (all : List Share). FindsFirst nat_cmp (Among all) found) is finds)
+
+module _ (said : CutSays) (asked_here : ShareIsAsked) (cut : CutParts) (is_cut : IsCut cut) (row : Row) where
   -- what is found among the shares is what is found at the row
   pub finds_device : (reason : Reason) → IsOfDevices reason → (links : List LinkState) → links ≡ cut.links → (shares : List Share) → shares ≡ shares_of row.folder cut.folders → (found : Option Device) → FindsFirst nat_cmp (AsksAmong reason row links shares) found → FindsFailing (tables_of cut) (row ∷ []) reason (option_map (part_of row) found)
+  unfolding AsksTables IsShare
   finds_device reason of_devices links over shares is found finds =
-      let of_all = subst (λ (all : List LinkState). FindsFirst nat_cmp (AsksAmong reason row all shares) found) over finds in
-      found_exactly reason of_devices found (subst (λ (all : List Share). FindsFirst nat_cmp (AsksAmong reason row cut.links all) found) is of_all)
+      finds_by said cut is_cut row reason of_devices (AsksOf reason row cut.links) (λ share member. asked_exactly said asked_here cut is_cut row reason share member) shares is found
+      (subst (λ (all : List LinkState). FindsFirst nat_cmp (AsksAmong reason row all shares) found) over finds)
+
+  module _ (held : EntriesAreHeld) (group : List Listed) (is_group : IsGroupOf cut (key_of row) group) where
+    -- what is asked of the share beside its entries is what is asked of the device
+    asked_by_group : (reason : Reason) (share : Share) → Contains (shares_of row.folder cut.folders) share → AsksGroup reason row group share ↔ AsksShare (tables_of cut) reason row share.device
+    unfolding AsksTables IsShare
+    asked_by_group ViewAhead share member = (λ both. (elsewhere_asked said cut is_cut row share member held group is_group View).0 both.1, λ asked. (tt, (elsewhere_asked said cut is_cut row share member held group is_group View).1 asked))
+    asked_by_group FlightAhead share member = (λ both. (elsewhere_asked said cut is_cut row share member held group is_group Flight).0 both.1, λ asked. (tt, (elsewhere_asked said cut is_cut row share member held group is_group Flight).1 asked))
+    asked_by_group PullAhead share member = (λ both. (elsewhere_asked said cut is_cut row share member held group is_group Pull).0 both.1, λ asked. (tt, (elsewhere_asked said cut is_cut row share member held group is_group Pull).1 asked))
+    asked_by_group CertificateOrder share member = alone said asked_here cut is_cut row CertificateOrder share member (omega arith)
+    asked_by_group NameMissing share member = alone said asked_here cut is_cut row NameMissing share member (omega arith)
+    asked_by_group NameUnknown share member = alone said asked_here cut is_cut row NameUnknown share member (omega arith)
+    asked_by_group NotWinner share member = alone said asked_here cut is_cut row NotWinner share member (omega arith)
+    asked_by_group RecordMissing share member = alone said asked_here cut is_cut row RecordMissing share member (omega arith)
+    asked_by_group RecordDiffers share member = alone said asked_here cut is_cut row RecordDiffers share member (omega arith)
+    asked_by_group LocalOnly share member = alone said asked_here cut is_cut row LocalOnly share member (omega arith)
+    asked_by_group StoreDiffers share member = alone said asked_here cut is_cut row StoreDiffers share member (omega arith)
+    asked_by_group StoreUnclean share member = alone said asked_here cut is_cut row StoreUnclean share member (omega arith)
+
+    -- what is found among the devices by the name's entries is what is found at the row
+    pub finds_by_group : (reason : Reason) → IsOfDevices reason → (shares : List Share) → shares ≡ shares_of row.folder cut.folders → (found : Option Device) → FindsFirst nat_cmp (AsksAmongGroup reason row group shares) found → FindsFailing (tables_of cut) (row ∷ []) reason (option_map (part_of row) found)
+    finds_by_group reason of_devices = finds_by said cut is_cut row reason of_devices (AsksGroup reason row group) (asked_by_group reason)

@@ -12,7 +12,11 @@ pub mod RowSearch
 pub mod AskedAtRow
 pub mod RowWalk
 pub mod FailingRow
+pub mod GroupFacts
 pub mod FailingDevice
+pub mod GroupRow
+pub mod NameWalk
+pub mod LeastWalk
 pub mod ReasonWalk
 pub mod WinnerFacts
 pub mod CandidateFacts

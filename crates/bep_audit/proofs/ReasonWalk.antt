@@ -33,7 +33,7 @@ number_at (reason ∷ more) n (suc k) d numbered below = number_at more (n + 1) 
 abbrev pub reason_at : ℕ → Reason
 reason_at place = get_or REASONS place CertificateOrder
 
-number_of_reason_at : (place : ℕ) → place < 12 → number_of (reason_at place) ≡ place + 1
+pub number_of_reason_at : (place : ℕ) → place < 12 → number_of (reason_at place) ≡ place + 1
 number_of_reason_at place below =
     number_at REASONS 1 place CertificateOrder (refl, (refl, (refl, (refl, (refl, (refl, (refl, (refl, (refl, (refl, (refl, (refl, tt)))))))))))) below ∙ omega arith
 

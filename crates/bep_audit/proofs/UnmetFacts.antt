@@ -1,4 +1,4 @@
--- A walk over the devices of a folder, which rise, for the first that doesn't meet a reason beside a row.
+-- A walk over the devices of a folder, which rise, for the first that doesn't meet what is asked.
 use Rattle.std.proofs.Common.{◌≡◌, ◌<◌, List, Some, refl, sym, ⊎_elim, arith}
 use Rattle.std.specs.declared.cmp.Ordering.TheVariants.{Less}
 use Rattle.std.specs.Ordering.{nat_cmp}
@@ -6,20 +6,16 @@ use Rattle.std.specs.List.Sorted.{IsStrictlyIncreasing}
 use Rattle.std.proofs.lemmas.Bool.{cases_eq}
 use Rattle.std.proofs.lemmas.Cmp.{ranked}
 use Rattle.std.proofs.lemmas.Map.Keys.{sorted_from_strictly_increasing}
-use Rattle.bep_model.specs.declared.row.Row.{Row}
-use Rattle.bep_model.specs.declared.reason.Reason.{Reason}
 use Rattle.bep_model.specs.Tables.{Device}
 use Rattle.bep_cut.specs.declared.share.Share.{Share}
-use Rattle.bep_cut.specs.declared.link.LinkState.{LinkState}
 use Rattle.bep_cut.specs.Cut.{devices_of}
-use Rattle.bep_audit.specs.Held.{AsksOf}
 use Rattle.bep_audit.specs.Search.{FindsFirst}
 use Rattle.bep_audit.proofs.WalkFacts.{IsBefore, AreInOrder, in_order_by_key}
 
-module _ (reason : Reason) (row : Row) (links : List LinkState) where
-  -- the share meets the reason, if it is the device's
+module _ (Meets : Share → Type 0) where
+  -- the share meets what is asked, if it is the device's
   abbrev pub MeetsAs : Share → Device → Type 0
-  MeetsAs share device = share.device ≡ device → AsksOf reason row links share
+  MeetsAs share device = share.device ≡ device → Meets share
 
   -- where one device fails, a later one isn't before it
   lesser_is_before : (one other : Share) → nat_cmp one.device other.device ≡ Less → IsBefore nat_cmp MeetsAs one other
@@ -35,10 +31,10 @@ module _ (reason : Reason) (row : Row) (links : List LinkState) where
   devices_in_order shares rise =
       in_order_by_key nat_cmp MeetsAs nat_cmp (λ (share : Share). share.device) lesser_is_before shares (sorted_from_strictly_increasing (devices_of shares) rise)
 
-  pub meets : (share : Share) → AsksOf reason row links share → (device : Device) → MeetsAs share device
+  pub meets : (share : Share) → Meets share → (device : Device) → MeetsAs share device
   meets share asked device same = asked
 
-  pub fails_first : (share : Share) → ¬ AsksOf reason row links share → FindsFirst nat_cmp (MeetsAs share) (Some share.device)
+  pub fails_first : (share : Share) → ¬ Meets share → FindsFirst nat_cmp (MeetsAs share) (Some share.device)
   fails_first share unmet = record {
     fails = λ meets. unmet (meets refl);
     before = λ device before same.

@@ -1,9 +1,11 @@
 pub mod Candidates
 pub mod Certifier
 pub mod Foreign
+pub mod Group
 pub mod Held
 pub mod Known
 pub mod Missing
 pub mod Search
 pub mod Share
 pub mod Shown
+pub mod Walk

@@ -1,5 +1,5 @@
 //! The checkers: whether a cut and a certificate are settled, or why not.
-ghost use Rattle.std.specs.Prelude.{◌≡◌, ◌↔◌, IfOk, IsOk};
+ghost use Rattle.std.specs.Prelude.{◌≡◌, ◌↔◌, IfOk};
 ghost use Rattle.bep_model.specs.Calm.{IsCalm, contents_of};
 ghost use Rattle.bep_model.specs.Settled.{IsSettled};
 ghost use Rattle.bep_model.specs.Verdict.{IsVerdict};
@@ -9,8 +9,10 @@ ghost use Rattle.bep_audit.specs.declared.verdict.Verdict.TheVariants.{Settled};
 ghost use Rattle.bep_audit.specs.Shown.{verdict_shown};
 
 use crate::failing::first_failing;
-use crate::{Certificate, Verdict};
-use bep_cut::Cut;
+use crate::spot::Spot;
+use crate::walk::least_failure;
+use crate::{Certificate, Verdict, first_disordered};
+use bep_cut::{Cut, Table};
 use bep_machine::{settled_stays_put, settled_stays_settled};
 use bep_model::{
     Reason, reasons_are_numbered, rows_rise_in_order, settled_is_calm, settled_is_faultless,
@@ -62,18 +64,33 @@ pub fn check_plain<'a>(cut: &'a Cut, certificate: &'a Certificate) -> Verdict<'a
     Verdict::Settled
 }
 
-/// What `check_plain` answers; today always, later or want of memory.
+/// What `check_plain` answers, or want of memory.
+///
+/// Groups the cut by folder and name, and walks once over the groups beside the rows.
 pub fn check<'a>(
-    _alloc: Global,
+    alloc: Global,
     cut: &'a Cut,
     certificate: &'a Certificate,
 ) -> Result<Verdict<'a>, AllocError>
-    ensures answers { IsOk result }
     ensures verdict { IfOk result (λ verdict. IsVerdict (tables_of cut.now) certificate.now (verdict_shown verdict)) }
     ensures settled { IfOk result (λ verdict. (verdict ≡ Settled) ↔ IsSettled (tables_of cut.now) certificate.now) }
     ensures calm { IfOk result (λ verdict. verdict ≡ Settled → IsCalm (tables_of cut.now) (contents_of certificate.now)) }
     ensures stays_put { IfOk result (λ verdict. verdict ≡ Settled → StaysPut (tables_of cut.now) certificate.now) }
     ensures stays_settled { IfOk result (λ verdict. verdict ≡ Settled → StaysSettled (tables_of cut.now) certificate.now) }
 {
-    Ok(check_plain(cut, certificate))
+    settled_is_faultless();
+    settled_is_calm();
+    settled_stays_put();
+    settled_stays_settled();
+    reasons_are_numbered();
+    let rows = certificate.rows();
+    if let Some(row) = first_disordered(rows) {
+        let place = Spot::of_row(row);
+        return Ok(Verdict::at(Reason::CertificateOrder, place));
+    }
+    let table = Table::of(alloc, cut)?;
+    match least_failure(cut, table.entries(), rows) {
+        None => Ok(Verdict::Settled),
+        Some(least) => Ok(Verdict::at(least.reason, least.spot)),
+    }
 }

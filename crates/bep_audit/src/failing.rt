@@ -68,8 +68,8 @@ fn failing_at<'a>(cut: &Cut, row: &'a Row, reason: Reason) -> Option<Spot<'a>>
     }
 }
 
-// The row's name as a whole, unless this holds of it.
-fn unless<'a>(holds: bool, row: &'a Row) -> Option<Spot<'a>>
+/// The row's name as a whole, unless this holds of it.
+pub(crate) fn unless<'a>(holds: bool, row: &'a Row) -> Option<Spot<'a>>
     ensures { option_map place_shown result ≡ (if holds then None else Some (name_of row.now)) }
 {
     if holds { None } else { Some(Spot::of_row(row)) }

@@ -16,7 +16,10 @@ mod certifier;
 mod checkers;
 mod error;
 mod failing;
+mod failure;
 mod foreign;
+mod group;
+mod group_row;
 mod known;
 mod least;
 mod missing;
@@ -28,6 +31,7 @@ mod spot;
 #[cfg(test)]
 mod tests;
 mod verdict;
+mod walk;
 mod winner;
 
 pub use certifier::certify;

@@ -20,6 +20,23 @@ const UNRECORDED: &str = r#"{"version":1,"cut":{"folders":[{"folder":"docs","dev
     {"device":1,"kind":"send-receive","index_id":1,"max":0,
     "store":[{"name":"a","type":1,"modified_s":9}]}]}]},"certificate":[]}"#;
 
+// A file `a`, whose node has another time on device 1, and a directory `b`, which device 2 has no record of.
+const TWO_NAMES: &str = r#"{"version":1,"cut":{"folders":[{"folder":"docs","devices":[
+    {"device":1,"kind":"send-receive","index_id":1,"max":2,
+    "own":[{"name":"a","type":0,"modified_s":9,"modified_by":1,"version":[[1,1]],"sequence":1,
+    "size":3,"blocks":["ba7816bf8f01cfea414140de5dae2223b00361a396177a9cb410ff61f20015ad"]},
+    {"name":"b","type":1,"modified_s":9,"modified_by":1,"version":[[1,1]],"sequence":2}],
+    "store":[{"name":"a","type":0,"modified_s":7,"text":"abc"},{"name":"b","type":1,"modified_s":9}]},
+    {"device":2,"kind":"send-receive","index_id":2,"max":1,
+    "own":[{"name":"a","type":0,"modified_s":9,"modified_by":1,"version":[[1,1]],"sequence":1,
+    "size":3,"blocks":["ba7816bf8f01cfea414140de5dae2223b00361a396177a9cb410ff61f20015ad"]}],
+    "store":[{"name":"a","type":0,"modified_s":9,"text":"abc"},{"name":"b","type":1,"modified_s":9}]}]}]},
+    "certificate":[{"folder":"docs","device":1,
+    "record":{"name":"a","type":0,"modified_s":9,"modified_by":1,"version":[[1,1]],"sequence":1,
+    "size":3,"blocks":["ba7816bf8f01cfea414140de5dae2223b00361a396177a9cb410ff61f20015ad"]}},
+    {"folder":"docs","device":1,
+    "record":{"name":"b","type":1,"modified_s":9,"modified_by":1,"version":[[1,1]],"sequence":2}}]}"#;
+
 // The reason that fails at `a`, none where the cut is settled.
 fn reason_at_a(verdict: &Verdict<'_>) -> Option<Reason> {
     match verdict {
@@ -53,6 +70,33 @@ fn tells(alloc: Global, text: &str, wanted: Option<Reason>) -> Result<bool, DocE
 fn both_checkers_tell_the_verdict(rt: HostRuntime) -> Result<(), Fail> {
     assert!(rt; tells(rt.alloc(), WON, None)?);
     assert!(rt; tells(rt.alloc(), UNRECORDED, Some(Reason::NameMissing))?);
+    Ok(())
+}
+
+// Whether the verdict is that this reason fails at this name on this device.
+fn fails_on(verdict: &Verdict<'_>, wanted: Reason, name: &str, device: u64) -> bool {
+    match verdict {
+        Verdict::Not(reason, _folder, at, Some(on)) => {
+            *reason == wanted && at.as_str() == name && on.number() == device
+        }
+        _ => false,
+    }
+}
+
+// Whether both checkers tell that the record of `b` is missing on device 2.
+fn misses_b(alloc: Global) -> Result<bool, DocError> {
+    let (cut, rows) = read_check(alloc, TWO_NAMES.as_bytes())?;
+    let certificate = Certificate::of(rows);
+    let plain = check_plain(&cut, &certificate);
+    match check(alloc, &cut, &certificate) {
+        Err(_) => Err(DocError::Memory),
+        Ok(verdict) => Ok(verdict == plain && fails_on(&plain, Reason::RecordMissing, "b", 2)),
+    }
+}
+
+#[test]
+fn the_lesser_reason_at_a_later_name_is_told(rt: HostRuntime) -> Result<(), Fail> {
+    assert!(rt; misses_b(rt.alloc())?);
     Ok(())
 }
 

@@ -1,0 +1,17 @@
+use Rattle.std.proofs.Common.{rules, tests}
+use Rattle.std.proofs.lemmas.Iterator.{YieldsList-from_slice, cases_from_all}
+use Rattle.std.specs.Option.{option_copied}
+use Rattle.bep_cut.specs.declared.table.entry.TableEntry.{TableEntry}
+use Rattle.bep_cut.specs.Listed.{listed}
+use Rattle.bep_audit.specs.Group.{PassesFrom}
+use Rattle.bep_audit.proofs.ListFacts.{each_exactly}
+use Rattle.bep_audit.proofs.GroupFacts.{each_listed}
+use Rattle.bep_audit.proofs.group.all_pass.Goals as goal
+
+pub returns : goal.returns
+returns c =
+    let Q = PassesFrom c.args.source c.args.device c.args.row.now (option_copied c.args.own) in
+    let P = λ (entry : TableEntry). Q (listed entry) in
+    each_listed Q c.all.result c.args.group.now
+    (each_exactly P c.all.result c.args.group.now
+    (cases_from_all _ _ _ P (λ x. ¬ P x) c.all.ensures.ran (YieldsList-from_slice c.args.group.now cc) (λ x q k. search (rules, tests)) (λ x q k. search (rules, tests))))

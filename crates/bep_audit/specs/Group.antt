@@ -1,0 +1,54 @@
+-- What the entries of one name say (this project's profile).
+use Rattle.std.specs.Prelude.{◌≡◌, ◌↔◌, Bool, true, not, ⊤, List, Option, Contains}
+use Rattle.std.specs.FinMap.{get}
+use Rattle.bep_record.specs.declared.entry.Entry.{Entry}
+use Rattle.bep_model.specs.declared.row.Row.{Row}
+use Rattle.bep_model.specs.declared.reason.Reason.{Reason}
+use Rattle.bep_model.specs.declared.reason.Reason.TheVariants.{ViewAhead, FlightAhead, PullAhead}
+use Rattle.bep_model.specs.Tables.{Device, Folder, FileName}
+use Rattle.bep_cut.specs.declared.share.Share.{Share}
+use Rattle.bep_cut.specs.declared.cut.CutParts.{CutParts}
+use Rattle.bep_cut.specs.declared.table.entry.Source.{Source}
+use Rattle.bep_cut.specs.declared.table.entry.Source.TheVariants.{Own, View, Flight, Pull}
+use Rattle.bep_cut.specs.Listed.{Holding, Record, Node, Listed, key_at, cut_listed}
+use Rattle.bep_audit.specs.Foreign.{Passes}
+use Rattle.bep_audit.specs.Share.{AsksHere}
+
+-- these are the cut's entries of the folder and name
+abbrev pub IsGroupOf : CutParts → Folder × FileName → List Listed → Type 0
+IsGroupOf cut key group = (one : Listed) → Contains group one ↔ (Contains (cut_listed cut) one × (key_at one ≡ key))
+
+-- whether what a device holds makes its name known: it is no invalid record of another device
+abbrev pub counts : Holding → Bool
+counts (Record Own entry) = true
+counts (Record source entry) = not entry.invalid
+counts (Node node) = true
+
+-- one of the entries makes its name known
+abbrev pub IsCountedIn : List Listed → Type 0
+IsCountedIn group = (one : Listed) × Contains group one × (counts one.holding ≡ true)
+
+-- the entry's record passes beside the row and this own record, if it is this device's and from there
+abbrev pub PassesFrom : Source → Device → Row → Option Entry → Listed → Type 0
+PassesFrom source device row own one = (entry : Entry) → one.device ≡ device → one.holding ≡ Record source entry → Passes row own entry
+
+-- that of each of these entries
+abbrev pub GroupPasses : Source → Device → Row → Option Entry → List Listed → Type 0
+GroupPasses source device row own group = (one : Listed) → Contains group one → PassesFrom source device row own one
+
+-- what a reason asks of a device's foreign records, of which these are the entries of the row's name
+abbrev pub AsksElsewhere : Reason → Row → List Listed → Device → Option Entry → Type 0
+AsksElsewhere ViewAhead row group device own = GroupPasses View device row own group
+AsksElsewhere FlightAhead row group device own = GroupPasses Flight device row own group
+AsksElsewhere PullAhead row group device own = GroupPasses Pull device row own group
+AsksElsewhere reason row group device own = ⊤
+
+-- what a reason asks of a device beside a row, of which these are the entries of the row's name
+abbrev pub AsksGroup : Reason → Row → List Listed → Share → Type 0
+AsksGroup reason row group share =
+    AsksHere reason (get share.own row.entry.name) (get share.store row.entry.name) row.entry
+    × AsksElsewhere reason row group share.device (get share.own row.entry.name)
+
+-- what it asks of one of these devices
+abbrev pub AsksAmongGroup : Reason → Row → List Listed → List Share → Device → Type 0
+AsksAmongGroup reason row group shares device = (share : Share) → Contains shares share → share.device ≡ device → AsksGroup reason row group share

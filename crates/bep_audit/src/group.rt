@@ -1,0 +1,96 @@
+//! What the entries of one name say: whether it is known, and what each reason asks of its devices.
+ghost use Rattle.std.specs.Prelude.{◌≡◌, ◌↔◌, IsTrue, map, true};
+ghost use Rattle.std.specs.Option.{option_copied};
+ghost use Rattle.bep_cut.specs.Listed.{listed};
+ghost use Rattle.bep_audit.specs.Group.{counts, IsCountedIn, PassesFrom, GroupPasses, AsksElsewhere, AsksGroup};
+
+use crate::foreign::passes;
+use crate::meets_share;
+use bep_cut::{Held, Share, Source, TableEntry};
+use bep_model::{Reason, Row};
+use bep_record::{DeviceId, Record};
+
+/// Whether one of the entries makes its name known: any but an invalid record that isn't a device's own.
+pub(crate) fn has_known(group: &[TableEntry<'_>]) -> bool
+    ensures { IsTrue result ↔ IsCountedIn (map listed group.now) }
+{
+    group.iter().any(|entry| counts(entry))
+}
+
+fn counts(entry: &TableEntry<'_>) -> bool
+    ensures { IsTrue result ↔ (counts (listed entry.now).holding ≡ true) }
+{
+    match entry.held {
+        Held::Node(_) => true,
+        Held::Record(Source::Own, _) => true,
+        Held::Record(_, found) => !found.entry().invalid,
+    }
+}
+
+/// Whether the device meets what the reason asks of it beside the row, whose name's entries these are.
+pub(crate) fn meets_group(
+    reason: Reason,
+    row: &Row,
+    group: &[TableEntry<'_>],
+    share: &Share,
+) -> bool
+    ensures { IsTrue result ↔ AsksGroup reason row.now (map listed group.now) share.now }
+{
+    let winner = &row.entry;
+    let name = &winner.entry().name;
+    let own = share.own.get(name);
+    meets_share(reason, own, share.store.get(name), winner)
+        && meets_elsewhere(reason, row, group, share.device, own)
+}
+
+// Whether the device meets it by its foreign records.
+fn meets_elsewhere(
+    reason: Reason,
+    row: &Row,
+    group: &[TableEntry<'_>],
+    device: DeviceId,
+    own: Option<&Record>,
+) -> bool
+    ensures { IsTrue result ↔ AsksElsewhere reason row.now (map listed group.now) device (option_copied own.entry) }
+{
+    match reason {
+        Reason::ViewAhead => all_pass(Source::View, row, group, device, own),
+        Reason::FlightAhead => all_pass(Source::Flight, row, group, device, own),
+        Reason::PullAhead => all_pass(Source::Pull, row, group, device, own),
+        _ => true,
+    }
+}
+
+// Whether each of the device's records from there passes.
+fn all_pass(
+    source: Source,
+    row: &Row,
+    group: &[TableEntry<'_>],
+    device: DeviceId,
+    own: Option<&Record>,
+) -> bool
+    ensures { IsTrue result ↔ GroupPasses source device row.now (option_copied own.entry) (map listed group.now) }
+{
+    group
+        .iter()
+        .all(|entry| passes_from(source, row, entry, device, own))
+}
+
+// Whether the entry is of another device or from elsewhere, or its record passes.
+fn passes_from(
+    source: Source,
+    row: &Row,
+    entry: &TableEntry<'_>,
+    device: DeviceId,
+    own: Option<&Record>,
+) -> bool
+    ensures { IsTrue result ↔ PassesFrom source device row.now (option_copied own.entry) (listed entry.now) }
+{
+    if entry.device != device {
+        return true;
+    }
+    match entry.held {
+        Held::Node(_) => true,
+        Held::Record(from, found) => from != source || passes(row, own, found),
+    }
+}
