@@ -95,3 +95,28 @@ module _ {K V : Type 0} {R : K → K → Ordering} (total : IsTotalOrder R) (exa
       there : (other : K) (b : Bool) → eq_by_cmp R other key ≡ b → cond b None (cond b (Some value) (get m other)) ≡ get m other
       there other true tied = sym none ∙ ap (get m) (sym (same_key exact other key tied))
       there other false tied = refl
+
+  -- a key that lost its value, and is given another
+  pub insert-removed : (m : FinMap R V) (key : K) (value : V) → insert (remove m key) key value ≡ insert m key value
+  insert-removed m key value = same_map total exact _ _ (λ other.
+      get-insert total (remove m key) key value other
+      ∙ ap (cond (eq_by_cmp R other key) (Some value)) (get-remove total m key other)
+      ∙ last (eq_by_cmp R other key) (get m other)
+      ∙ sym (get-insert total m key value other))
+    where
+      last : (b : Bool) (old : Option V) → cond b (Some value) (cond b None old) ≡ cond b (Some value) old
+      last true old = refl
+      last false old = refl
+
+  -- values of two keys, given in either order
+  pub insert-swapped : (m : FinMap R V) (key other : K) (value more : V) → key ≢ other → insert (insert m key value) other more ≡ insert (insert m other more) key value
+  insert-swapped m key other value more apart = same_map total exact _ _ (λ q.
+      get-insert total (insert m key value) other more q
+      ∙ ap (cond (eq_by_cmp R q other) (Some more)) (get-insert total m key value q)
+      ∙ cases q (eq_by_cmp R q other) refl (eq_by_cmp R q key) refl
+      ∙ sym (get-insert total (insert m other more) key value q ∙ ap (cond (eq_by_cmp R q key) (Some value)) (get-insert total m other more q)))
+    where
+      cases : (q : K) (b : Bool) → eq_by_cmp R q other ≡ b → (d : Bool) → eq_by_cmp R q key ≡ d → cond b (Some more) (cond d (Some value) (get m q)) ≡ cond d (Some value) (cond b (Some more) (get m q))
+      cases q true tied true also = absurd (apart (sym (same_key exact q key also) ∙ same_key exact q other tied))
+      cases q true tied false also = refl
+      cases q false tied d also = refl

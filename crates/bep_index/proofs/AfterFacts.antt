@@ -1,152 +1,150 @@
--- What `after` finds: the next record by sequence, again and again.
-use Rattle.std.proofs.Common.{length, ◌≡◌, ◌⊎◌, inl, inr, ℕ, ◌<◌, ◌≤◌, Bool, true, false, cond, ◌&&◌, nat_lt, List, [], ◌∷◌, ◌++◌, Option, Some, None, refl, sym, ap, subst, ◌∙◌, arith}
-use Rattle.std.proofs.lemmas.Bool.Decides.{nat_tests}
-use Rattle.std.specs.Cmp.Lexicographic.{nat_list_cmp_total}
-use Rattle.std.specs.FinMap.{get, values}
-use Rattle.std.proofs.lemmas.Map.Lookups.{exact_bytes}
-use Rattle.bep_facts.specs.Values.{value_at_key, key_of_value}
+-- What is after a sequence: the beginning of all records above it.
+use Rattle.std.proofs.Common.{◌≡◌, ◌⊎◌, ◌∙◌, inl, inr, ℕ, suc, zero, ◌<◌, ◌≤◌, Bool, true, false, cond, nat_le, List, [], ◌∷◌, length, take, drop, refl, sym, ap, subst, ⊎_elim, arith}
+use Rattle.std.specs.FinMap.{get, empty}
+use Rattle.std.proofs.lemmas.Option.{same_Some}
 use Rattle.bep_map.specs.NameMap.{ByName}
 use Rattle.bep_record.specs.declared.entry.Entry.{Entry}
-use Rattle.bep_index.specs.Listing.{Listing, IsRecord}
-use Rattle.bep_index.specs.Index.{AreNumbered, HaveOwnNumbers, IsIndex}
-use Rattle.bep_index.specs.Batch.{Rises, HasNo, NamesDiffer, IsBatch, last_sequence}
-use Rattle.bep_index.specs.Next.{IsNext, is_sooner, sooner, soonest}
-use Rattle.bep_index.specs.After.{IsAmong, AreRecords, IsRun}
-use Rattle.bep_index.specs.declared.limits.TheConstants.{MAX_SEQUENCE, MAX_RECORDS}
-use Rattle.bep_index.proofs.RecordsFacts.{among_is_contained}
+use Rattle.bep_index.specs.Listing.{IsRecord}
+use Rattle.bep_index.specs.Batch.{Rises, HasNo, NamesDiffer, IsBatch, last_sequence, with_all}
+use Rattle.bep_index.specs.Order.{AreInOrder, count_up_to}
+use Rattle.bep_index.specs.After.{IsAmong, AreRecords, IsRun, IsAfter}
+use Rattle.bep_index.specs.declared.limits.TheConstants.{MAX_RECORDS}
+use Rattle.bep_index.proofs.LawFacts.{among_above, last_from, from_leb_true, from_leb_false}
+use Rattle.bep_index.proofs.MadeFacts.{is_in_all, records_are_found}
 
--- ---- the soonest of a list
+-- ---- how many there are up to a sequence
 
--- the best of what was seen
-abbrev IsBest : ℕ → List Entry → Option Entry → Type 0
-IsBest low seen None = (e : Entry) → IsAmong e seen → e.sequence ≤ low
-IsBest low seen (Some best) = IsAmong best seen × (low < best.sequence) × ((e : Entry) → IsAmong e seen → low < e.sequence → best.sequence ≤ e.sequence)
+pub count_none : (sequence low : ℕ) (es : List Entry) → Rises low es → sequence ≤ low → count_up_to sequence es ≡ 0
+count_none sequence low [] rises below = refl
+count_none sequence low (e ∷ es) rises below =
+    let above = rises.0 in
+    cases (nat_le e.sequence sequence) refl (count_none sequence e.sequence es rises.2 (omega arith))
+  where
+    cases : (b : Bool) → nat_le e.sequence sequence ≡ b → count_up_to sequence es ≡ 0 → cond b (suc (count_up_to sequence es)) (count_up_to sequence es) ≡ 0
+    cases true t none = let within = from_leb_true _ _ t in let above = rises.0 in absurd (omega arith)
+    cases false t none = none
 
-ltb_true : (a b : ℕ) → nat_lt a b ≡ true → a < b
-ltb_true a b e = grind (arith, nat_tests)
+pub count_le : (sequence : ℕ) (es : List Entry) → count_up_to sequence es ≤ length es
+count_le sequence [] = omega arith
+count_le sequence (e ∷ es) = cases (nat_le e.sequence sequence) (count_le sequence es)
+  where
+    cases : (b : Bool) → count_up_to sequence es ≤ length es → cond b (suc (count_up_to sequence es)) (count_up_to sequence es) ≤ suc (length es)
+    cases true most = omega arith
+    cases false most = omega arith
 
-ltb_false : (a b : ℕ) → nat_lt a b ≡ false → b ≤ a
-ltb_false a b e = grind (arith, nat_tests)
+-- ---- what is behind that place
 
-one_sooner : (low : ℕ) (seen : List Entry) (best : Option Entry) (e : Entry) → IsBest low seen best → IsBest low (e ∷ seen) (sooner low best e)
-one_sooner low seen best e is = above (nat_lt low e.sequence) refl where
-  at : Entry → ℕ
-  at f = f.sequence
+abbrev rest : ℕ → List Entry → List Entry
+rest sequence es = drop (count_up_to sequence es) es
 
-  none : (b : Bool) → nat_lt low e.sequence ≡ b → IsBest low seen None → IsBest low (e ∷ seen) (cond (b && true) (Some e) None)
-  none true t old = (inl refl, ltb_true _ _ t, λ f among h. elim among [ inl q ↦ (let s = ap (λ (x : Entry). x.sequence) q in omega arith) | inr r ↦ (let o = old f r in omega arith) ])
-  none false t old = λ f among. elim among [ inl q ↦ (let s = ap (λ (x : Entry). x.sequence) q in let l = ltb_false _ _ t in omega arith) | inr r ↦ old f r ]
+-- the first is above the sequence, and so are all
+none_yet : (sequence low : ℕ) (e : Entry) (es : List Entry) → Rises low (e ∷ es) → nat_le e.sequence sequence ≡ false → rest sequence (e ∷ es) ≡ e ∷ es
+none_yet sequence low e es rises t =
+    let above = from_leb_false _ _ t in
+    ap (λ b. drop (cond b (suc (count_up_to sequence es)) (count_up_to sequence es)) (e ∷ es)) t ∙ ap (λ n. drop n (e ∷ es)) (count_none sequence e.sequence es rises.2 (omega arith))
 
-  some : (b : Bool) → nat_lt low e.sequence ≡ b → (d : Entry) (k : Bool) → nat_lt e.sequence d.sequence ≡ k → IsBest low seen (Some d) → IsBest low (e ∷ seen) (cond (b && k) (Some e) (Some d))
-  some true t d true u old = (inl refl, ltb_true _ _ t, λ f among h. elim among [ inl q ↦ (let s = ap (λ (x : Entry). x.sequence) q in omega arith) | inr r ↦ (let o = old.2 f r h in let l = ltb_true _ _ u in omega arith) ])
-  some true t d false u old = (inr old.0, old.1, λ f among h. elim among [ inl q ↦ (let s = ap (λ (x : Entry). x.sequence) q in let l = ltb_false _ _ u in omega arith) | inr r ↦ old.2 f r h ])
-  some false t d k u old = (inr old.0, old.1, λ f among h. elim among [ inl q ↦ (let s = ap (λ (x : Entry). x.sequence) q in let l = ltb_false _ _ t in absurd (omega arith)) | inr r ↦ old.2 f r h ])
+passed : (sequence : ℕ) (e : Entry) (es : List Entry) → nat_le e.sequence sequence ≡ true → rest sequence (e ∷ es) ≡ rest sequence es
+passed sequence e es t = ap (λ b. drop (cond b (suc (count_up_to sequence es)) (count_up_to sequence es)) (e ∷ es)) t
 
-  cases : (b : Bool) → nat_lt low e.sequence ≡ b → (o : Option Entry) → IsBest low seen o → IsBest low (e ∷ seen) (cond (b && is_sooner e o) (Some e) o)
-  cases b t None old = none b t old
-  cases b t (Some d) old = some b t d (nat_lt e.sequence d.sequence) refl old
+rest_rises : (sequence low : ℕ) (es : List Entry) → Rises low es → low ≤ sequence → Rises sequence (rest sequence es)
+rest_rises sequence low [] rises below = tt
+rest_rises sequence low (e ∷ es) rises below = cases (nat_le e.sequence sequence) refl (rest_rises sequence e.sequence es rises.2)
+  where
+    cases : (b : Bool) → nat_le e.sequence sequence ≡ b → (e.sequence ≤ sequence → Rises sequence (rest sequence es)) → Rises sequence (rest sequence (e ∷ es))
+    cases true t later = subst (Rises sequence) (sym (passed sequence e es t)) (later (from_leb_true _ _ t))
+    cases false t later = subst (Rises sequence) (sym (none_yet sequence low e es rises t)) (from_leb_false _ _ t, rises.1, rises.2)
 
-  above : (b : Bool) → nat_lt low e.sequence ≡ b → IsBest low (e ∷ seen) (sooner low best e)
-  above b t = cases (nat_lt low e.sequence) refl best is
+among_rest : (sequence low : ℕ) (es : List Entry) (x : Entry) → Rises low es → IsAmong x es → sequence < x.sequence → IsAmong x (rest sequence es)
+among_rest sequence low [] x rises none above = absurd none
+among_rest sequence low (e ∷ es) x rises there above = cases (nat_le e.sequence sequence) refl (λ more. among_rest sequence e.sequence es x rises.2 more above) there
+  where
+    cases : (b : Bool) → nat_le e.sequence sequence ≡ b → (IsAmong x es → IsAmong x (rest sequence es)) → IsAmong x (e ∷ es) → IsAmong x (rest sequence (e ∷ es))
+    cases true t later (inl q) = let within = from_leb_true _ _ t in let s = ap (λ (y : Entry). y.sequence) q in absurd (omega arith)
+    cases true t later (inr more) = subst (IsAmong x) (sym (passed sequence e es t)) (later more)
+    cases false t later among = subst (IsAmong x) (sym (none_yet sequence low e es rises t)) among
 
-onto : List Entry → List Entry → List Entry
-onto seen [] = seen
-onto seen (e ∷ es) = onto (e ∷ seen) es
+among_drop : (n : ℕ) (es : List Entry) (x : Entry) → IsAmong x (drop n es) → IsAmong x es
+among_drop zero es x h = h
+among_drop (suc n) [] x h = h
+among_drop (suc n) (e ∷ es) x h = inr (among_drop n es x h)
 
-soonest-best : (low : ℕ) (seen : List Entry) (best : Option Entry) (es : List Entry) → IsBest low seen best → IsBest low (onto seen es) (soonest low best es)
-unfolding onto
-soonest-best low seen best [] is = is
-soonest-best low seen best (e ∷ es) is = soonest-best low (e ∷ seen) (sooner low best e) es (one_sooner low seen best e is)
+-- ---- the beginning of what is behind it
 
-among_seen : (x : Entry) (seen es : List Entry) → IsAmong x seen → IsAmong x (onto seen es)
-unfolding onto
-among_seen x seen [] h = h
-among_seen x seen (e ∷ es) h = among_seen x (e ∷ seen) es (inr h)
+among_take : (n : ℕ) (es : List Entry) (x : Entry) → IsAmong x (take n es) → IsAmong x es
+among_take zero es x h = absurd h
+among_take (suc n) [] x h = h
+among_take (suc n) (e ∷ es) x (inl q) = inl q
+among_take (suc n) (e ∷ es) x (inr h) = inr (among_take n es x h)
 
-among_onto : (x : Entry) (seen es : List Entry) → IsAmong x es → IsAmong x (onto seen es)
-unfolding onto
-among_onto x seen [] h = absurd h
-among_onto x seen (e ∷ es) (inl q) = among_seen x (e ∷ seen) es (inl q)
-among_onto x seen (e ∷ es) (inr h) = among_onto x (e ∷ seen) es h
+take_rises : (n low : ℕ) (es : List Entry) → Rises low es → Rises low (take n es)
+take_rises zero low es h = tt
+take_rises (suc n) low [] h = tt
+take_rises (suc n) low (e ∷ es) h = (h.0, h.1, take_rises n e.sequence es h.2)
 
-among_either : (x : Entry) (seen es : List Entry) → IsAmong x (onto seen es) → IsAmong x seen ⊎ IsAmong x es
-unfolding onto
-among_either x seen [] h = inl h
-among_either x seen (e ∷ es) h = elim (among_either x (e ∷ seen) es h) [
-  | inl here ↦ elim here [ inl q ↦ inr (inl q) | inr r ↦ inl r ]
-  | inr there ↦ inr (inr there)
-]
+-- each is among the first ones, or above the last of these
+among_first : (n low : ℕ) (es : List Entry) (x : Entry) → Rises low es → IsAmong x es → IsAmong x (take n es) ⊎ (last_sequence low (take n es) < x.sequence)
+among_first zero low es x rises h = inr (among_above low es x rises h)
+among_first (suc n) low [] x rises h = absurd h
+among_first (suc n) low (e ∷ es) x rises (inl q) = inl (inl q)
+among_first (suc n) low (e ∷ es) x rises (inr h) = ⊎_elim (λ first. inl (inr first)) (λ above. inr above) (among_first n e.sequence es x rises.2 h)
 
-among_all : (x : Entry) (es : List Entry) → IsAmong x (onto [] es) → IsAmong x es
-among_all x es h = elim (among_either x [] es h) [ inl none ↦ absurd none | inr r ↦ r ]
+take_all_of_few : (n : ℕ) (es : List Entry) → length (take n es) < n → take n es ≡ es
+take_all_of_few zero es few = absurd (omega arith)
+take_all_of_few (suc n) [] few = refl
+take_all_of_few (suc n) (e ∷ es) few = ap (λ more. e ∷ more) (take_all_of_few n es (omega arith))
 
--- ---- values and names
+take_le : (n : ℕ) (es : List Entry) → length (take n es) ≤ n
+take_le zero es = omega arith
+take_le (suc n) [] = omega arith
+take_le (suc n) (e ∷ es) = let le = take_le n es in omega arith
 
-record_among : (m : ByName Entry) (e : Entry) → IsRecord m e → IsAmong e (values m)
-record_among m e is = (among_is_contained e (values m)).1 (value_at_key m e.name e is)
+last_most : (low : ℕ) (es : List Entry) (x : Entry) → Rises low es → IsAmong x es → x.sequence ≤ last_sequence low es
+last_most low [] x rises h = absurd h
+last_most low (e ∷ es) x rises (inl q) = let s = ap (λ (y : Entry). y.sequence) q in let l = last_from e.sequence es rises.2 in omega arith
+last_most low (e ∷ es) x rises (inr h) = last_most e.sequence es x rises.2 h
 
-among_record : (m : ByName Entry) (top : ℕ) (e : Entry) → AreNumbered top m → IsAmong e (values m) → IsRecord m e
-among_record m top e numbered h =
-    let found = key_of_value nat_list_cmp_total exact_bytes m e ((among_is_contained e (values m)).0 h) in
-    ap (get m) (numbered found.0 e found.1).0 ∙ found.1
+AreRecords-each : (m : ByName Entry) (es : List Entry) → ((x : Entry) → IsAmong x es → IsRecord m x) → AreRecords m es
+AreRecords-each m [] each = tt
+AreRecords-each m (e ∷ es) each = (each e (inl refl), AreRecords-each m es (λ x h. each x (inr h)))
 
--- the soonest of the values is the next record
-pub IsNext-soonest : (m : ByName Entry) (top low : ℕ) → AreNumbered top m → IsNext m low (soonest low None (values m))
-IsNext-soonest m top low numbered = cases (soonest low None (values m)) (soonest-best low [] None (values m) (λ e none. absurd none)) where
-  cases : (o : Option Entry) → IsBest low (onto [] (values m)) o → IsNext m low o
-  cases None is = λ e r. is e (among_onto e [] (values m) (record_among m e r))
-  cases (Some best) is = (among_record m top best numbered (among_all best (values m) is.0), is.1, λ e r above. is.2 e (among_onto e [] (values m) (record_among m e r)) above)
+-- from the place on, as many as are asked
+module _ (sequence limit : ℕ) (es : List Entry) (order : AreInOrder es) where
+  abbrev found : List Entry
+  found = take limit (rest sequence es)
 
--- ---- runs of records
+  rises : Rises sequence (rest sequence es)
+  rises = rest_rises sequence 0 es order.rises (omega arith)
 
-pub last_sequence-push : (low : ℕ) (es : List Entry) (e : Entry) → last_sequence low (es ++ e ∷ []) ≡ e.sequence
-last_sequence-push low [] e = refl
-last_sequence-push low (f ∷ es) e = last_sequence-push f.sequence es e
+  recorded : (x : Entry) → IsAmong x found → IsRecord (with_all empty es) x
+  recorded x h = is_in_all empty es x order.names (among_drop (count_up_to sequence es) es x (among_take limit (rest sequence es) x h))
 
-Rises-push : (low : ℕ) (es : List Entry) (e : Entry) → Rises low es → last_sequence low es < e.sequence → e.sequence ≤ MAX_SEQUENCE → Rises low (es ++ e ∷ [])
-Rises-push low [] e h above within = (above, within, tt)
-Rises-push low (f ∷ es) e h above within = (h.0, h.1, Rises-push f.sequence es e h.2 above within)
+  there : (x : Entry) → IsRecord (with_all empty es) x → sequence < x.sequence → IsAmong x (rest sequence es)
+  there x is above = among_rest sequence 0 es x order.rises ((records_are_found es x.name x order.names).0 is).0 above
 
-AreRecords-push : (m : ByName Entry) (es : List Entry) (e : Entry) → AreRecords m es → IsRecord m e → AreRecords m (es ++ e ∷ [])
-AreRecords-push m [] e h is = (is, tt)
-AreRecords-push m (f ∷ es) e h is = (h.0, AreRecords-push m es e h.1 is)
+  up_to_last : (x : Entry) → length found < limit → IsRecord (with_all empty es) x → (x.sequence ≤ sequence) ⊎ (sequence < x.sequence) → x.sequence ≤ last_sequence sequence found
+  up_to_last x few is (inl below) = let l = last_from sequence found (take_rises limit sequence (rest sequence es) rises) in omega arith
+  up_to_last x few is (inr above) =
+      subst (λ all. x.sequence ≤ last_sequence sequence all) (sym (take_all_of_few limit (rest sequence es) few))
+      (last_most sequence (rest sequence es) x rises (there x is above))
 
-among_front : (x : Entry) (es fs : List Entry) → IsAmong x es → IsAmong x (es ++ fs)
-among_front x [] fs h = absurd h
-among_front x (e ∷ es) fs (inl q) = inl q
-among_front x (e ∷ es) fs (inr h) = inr (among_front x es fs h)
+  below_or_above : (a b : ℕ) (t : Bool) → nat_le a b ≡ t → (a ≤ b) ⊎ (b < a)
+  below_or_above a b true t = inl (from_leb_true a b t)
+  below_or_above a b false t = inr (from_leb_false a b t)
 
-among_last : (x : Entry) (es : List Entry) → IsAmong x (es ++ x ∷ [])
-among_last x [] = inl refl
-among_last x (e ∷ es) = inr (among_last x es)
-
-same_Some : (x y : Entry) → Some x ≡ Some y → x ≡ y
-same_Some x y e = cc
-
--- one record for each number
-pub same_record : (m : ByName Entry) (x y : Entry) → HaveOwnNumbers m → IsRecord m x → IsRecord m y → x.sequence ≡ y.sequence → x ≡ y
-same_record m x y own is also number = same_Some x y (sym is ∙ ap (get m) (own x.name y.name x y is also number) ∙ also)
-
-at_or_above : (a b : ℕ) → (a ≤ b) ⊎ (b < a)
-at_or_above a b = cases (nat_lt b a) refl where
-  cases : (t : Bool) → nat_lt b a ≡ t → (a ≤ b) ⊎ (b < a)
-  cases true e = inr (ltb_true b a e)
-  cases false e = inl (ltb_false b a e)
-
-pub IsRun-empty : (m : ByName Entry) (low : ℕ) → IsRun m low []
-IsRun-empty m low = record { rises = tt; recorded = tt; whole = λ e is above below. absurd (omega arith) }
-
-pub IsRun-push : (index : Listing) (low : ℕ) (es : List Entry) (e : Entry) → IsIndex index → IsRun index.records low es → IsNext index.records (last_sequence low es) (Some e) → IsRun index.records low (es ++ e ∷ [])
-IsRun-push index low es e is run next = record {
-  rises = Rises-push low es e run.rises next.1 (let n = (is.numbered e.name e next.0).2 in let most = is.sequence in omega arith);
-  recorded = AreRecords-push index.records es e run.recorded next.0;
-  whole = λ f there above below. cases f there above (subst (λ n. f.sequence ≤ n) (last_sequence-push low es e) below) (at_or_above f.sequence (last_sequence low es));
-} where
-  cases : (f : Entry) → IsRecord index.records f → low < f.sequence → f.sequence ≤ e.sequence → (f.sequence ≤ last_sequence low es) ⊎ (last_sequence low es < f.sequence) → IsAmong f (es ++ e ∷ [])
-  cases f there above below (inl before) = among_front f es (e ∷ []) (run.whole f there above before)
-  cases f there above below (inr later) =
-      let least = next.2 f there later in
-      subst (λ x. IsAmong x (es ++ e ∷ [])) (sym (same_record index.records f e is.distinct there next.0 (omega arith))) (among_last e es)
+  pub IsAfter-place : IsAfter (with_all empty es) sequence limit found
+  IsAfter-place = record {
+    run = record {
+      rises = take_rises limit sequence (rest sequence es) rises;
+      recorded = AreRecords-each (with_all empty es) found recorded;
+      whole = λ x is above below.
+          ⊎_elim
+          (λ first. first)
+          (λ later. absurd (omega arith))
+          (among_first limit sequence (rest sequence es) x rises (there x is above));
+    };
+    at_most = take_le limit (rest sequence es);
+    ended = λ few x is. up_to_last x few is (below_or_above x.sequence sequence (nat_le x.sequence sequence) refl);
+  }
 
 -- ---- a run is a batch
 

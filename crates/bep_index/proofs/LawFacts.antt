@@ -19,12 +19,12 @@ use Rattle.bep_index.proofs.RecordsFacts.{same_name, equal_from_same_name, clash
 abbrev Holds : ByName Entry → ℕ → ByName Entry → Type 0
 Holds records low m = (name : List ℕ) → get m name ≡ up_to low (get records name)
 
-among_above : (low : ℕ) (es : List Entry) (x : Entry) → Rises low es → IsAmong x es → low < x.sequence
+pub among_above : (low : ℕ) (es : List Entry) (x : Entry) → Rises low es → IsAmong x es → low < x.sequence
 among_above low [] x h none = absurd none
 among_above low (e ∷ es) x h (inl q) = let s = ap (λ (y : Entry). y.sequence) q in let above = h.0 in omega arith
 among_above low (e ∷ es) x h (inr there) = let above = h.0 in let later = among_above e.sequence es x h.2 there in omega arith
 
-last_from : (low : ℕ) (es : List Entry) → Rises low es → low ≤ last_sequence low es
+pub last_from : (low : ℕ) (es : List Entry) → Rises low es → low ≤ last_sequence low es
 last_from low [] h = omega arith
 last_from low (e ∷ es) h = let above = h.0 in let later = last_from e.sequence es h.2 in omega arith
 
@@ -45,16 +45,16 @@ only_first records low e es run x is above below = first (run.whole x is above (
   first (inl q) = q
   first (inr there) = let later = among_above e.sequence es x run.rises.2 there in absurd (omega arith)
 
-leb_true : (a b : ℕ) → a ≤ b → nat_le a b ≡ true
+pub leb_true : (a b : ℕ) → a ≤ b → nat_le a b ≡ true
 leb_true a b h = grind (arith, nat_tests)
 
-leb_false : (a b : ℕ) → b < a → nat_le a b ≡ false
+pub leb_false : (a b : ℕ) → b < a → nat_le a b ≡ false
 leb_false a b h = grind (arith, nat_tests)
 
-from_leb_true : (a b : ℕ) → nat_le a b ≡ true → a ≤ b
+pub from_leb_true : (a b : ℕ) → nat_le a b ≡ true → a ≤ b
 from_leb_true a b h = grind (arith, nat_tests)
 
-from_leb_false : (a b : ℕ) → nat_le a b ≡ false → b < a
+pub from_leb_false : (a b : ℕ) → nat_le a b ≡ false → b < a
 from_leb_false a b h = grind (arith, nat_tests)
 
 up_to_within : (low : ℕ) (e : Entry) → e.sequence ≤ low → up_to low (Some e) ≡ Some e

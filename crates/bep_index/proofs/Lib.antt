@@ -3,4 +3,9 @@ pub mod IndexFacts
 pub mod BatchFacts
 pub mod AfterFacts
 pub mod LawFacts
-mod MadeFacts
+pub mod MadeFacts
+pub mod OrderFacts
+pub mod PlaceFacts
+pub mod PutFacts
+pub mod MoveFacts
+pub mod UndoFacts

@@ -6,5 +6,5 @@ pub mod Index
 pub mod IndexError
 pub mod Laws
 pub mod Listing
-pub mod Next
+pub mod Order
 pub mod View

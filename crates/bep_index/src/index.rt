@@ -1,18 +1,17 @@
 //! A device's own index of a folder.
-ghost use Rattle.std.specs.Prelude.{◌≡◌, ◌↔◌, ◌+◌, ◌≤◌, IfOk, IfErr, OnOk, OnErr, IsErrOf, IsTrue};
+ghost use Rattle.std.specs.Prelude.{◌≡◌, ◌↔◌, ◌+◌, ◌≤◌, slice_get, IfOk, IfErr, OnOk, OnErr, IsErrOf};
 ghost use Rattle.std.specs.Option.{option_copied};
 ghost use Rattle.std.specs.FinMap as map;
 ghost use Rattle.bep_index.specs.Index.{IsIndex, IsSequenceFull, IsIndexFull, IsPutError, after_put};
 ghost use Rattle.bep_index.specs.After.{IsAfter};
 ghost use Rattle.bep_index.specs.declared.limits.TheConstants.{MAX_RECORDS};
 ghost use Rattle.bep_index.specs.Batch.{IsBatch};
-ghost use Rattle.bep_index.specs.Next.{IsNext};
-ghost use Rattle.bep_index.specs.Change.{IsLastChange, taken_back, given_back};
+ghost use Rattle.bep_index.specs.Order.{in_order, count_up_to};
+ghost use Rattle.bep_index.specs.Change.{IsLastChange, taken_back};
 
-use crate::next::soonest_above;
 use crate::number::renumber;
+use crate::records::Records;
 use crate::{IndexError, IndexId, MAX_NAMES, MAX_SEQUENCE, Undo};
-use bep_map::NameMap;
 use bep_record::{Name, Record};
 use std::alloc::{AllocError, Global};
 use std::marker::Model;
@@ -25,7 +24,7 @@ use std::marker::Model;
 pub struct Index {
     id: IndexId,
     sequence: u64,
-    records: NameMap<Record>,
+    records: Records,
     alloc: Global,
 }
 
@@ -37,11 +36,14 @@ impl Model for Index {
 
     ghost coded = { listing_code entry.the_row.coded };
 
+    ghost use Rattle.std.specs.FinMap.{empty};
+    ghost use Rattle.bep_index.specs.Batch.{with_all};
     ghost use Rattle.bep_index.specs.Index.{IsIndex};
+    ghost use Rattle.bep_index.specs.Order.{AreInOrder};
 
-    ghost view = { λ index. record { id = index.id; sequence = index.sequence; records = index.records } };
+    ghost view = { λ index. record { id = index.id; sequence = index.sequence; records = with_all empty index.records } };
 
-    ghost invariant = { λ index. IsIndex (record { id = index.id; sequence = index.sequence; records = index.records }) };
+    ghost invariant = { λ index. IsIndex (record { id = index.id; sequence = index.sequence; records = with_all empty index.records }) × AreInOrder index.records };
 }
 
 impl Index {
@@ -52,7 +54,7 @@ impl Index {
         Index {
             id,
             sequence: 0,
-            records: NameMap::new(alloc),
+            records: Records::new(alloc),
             alloc,
         }
     }
@@ -93,25 +95,23 @@ impl Index {
         ensures found { IfOk result (λ found. IsAfter self.now.records sequence limit found.items) }
         ensures batch { IfOk result (λ found. limit ≤ MAX_RECORDS → IsBatch found.items) }
     {
-        let mut found = Vec::new(alloc);
-        let mut low = sequence;
-        for _taken in 0..limit {
-            let entry = match self.next_above(low) {
-                Some(entry) => entry,
-                None => return Ok(found),
-            };
-            low = entry.entry().sequence;
-            found.push(entry.copy(alloc)?)?;
-        }
-        Ok(found)
+        self.records.after(alloc, sequence, limit)
     }
 
-    // The record with the least sequence above `low`.
-    fn next_above(&self, low: u64) -> Option<&Record>
-        ensures next { IsNext self.now.records low (option_copied result) }
+    /// How many records have at most this sequence: the place of the first one above it. Takes no memory.
+    pub fn place_above(&self, sequence: u64) -> usize
+        ensures value { result ≡ count_up_to sequence (in_order self.now.records) }
         ensures an_index { IsIndex self.now }
     {
-        soonest_above(&self.records, low)
+        self.records.place_above(sequence)
+    }
+
+    /// The record at the place, from 0, by rising sequence. Takes no memory.
+    pub fn at(&self, place: usize) -> Option<&Record>
+        ensures value { option_copied result ≡ slice_get (in_order self.now.records) place }
+        ensures an_index { IsIndex self.now }
+    {
+        self.records.at(place)
     }
 
     /// Puts the record at its name, in place of the one that is there, and answers its new number, which is the next
@@ -144,12 +144,12 @@ impl Index {
         if self.sequence == MAX_SEQUENCE {
             return Err(IndexError::SequenceFull);
         }
-        if self.records.len() >= MAX_NAMES && !self.records.contains(&entry.entry().name) {
+        if self.records.len() >= MAX_NAMES && self.records.get(&entry.entry().name).is_none() {
             return Err(IndexError::IndexFull);
         }
         let sequence = self.sequence + 1;
         let name = entry.entry().name.copy(self.alloc)?;
-        let old = change(&mut self.records, self.alloc, renumber(entry, sequence))?;
+        let old = self.records.put(self.alloc, renumber(entry, sequence))?;
         self.sequence = sequence;
         Ok(Undo {
             id: self.id,
@@ -166,7 +166,7 @@ impl Index {
         ensures { self.new ≡ taken_back undo self.old }
     {
         let Undo { name, old, .. } = undo;
-        give_back(&mut self.records, &name, old);
+        self.records.give_back(&name, old);
         self.sequence -= 1;
     }
 
@@ -180,34 +180,5 @@ impl Index {
             records: self.records.copy(alloc)?,
             alloc,
         })
-    }
-}
-
-// Gives the record to its name, and answers the one that makes way for it.
-fn change(
-    records: &mut NameMap<Record>,
-    alloc: Global,
-    entry: Record,
-) -> Result<Option<Record>, AllocError>
-    ensures ok { OnOk result (records.new ≡ map.insert records.old entry.name entry) }
-    ensures before { IfOk result (λ before. before ≡ map.get records.old entry.name) }
-    ensures err { OnErr result (records.new ≡ records.old) }
-{
-    let key = entry.entry().name.copy(alloc)?;
-    Ok(records.insert(key, entry)?)
-}
-
-// Gives the changed name back what it had.
-fn give_back(records: &mut NameMap<Record>, name: &Name, old: Option<Record>)
-    requires { IsTrue (map.contains_key records.old name.now) }
-    ensures { records.new ≡ given_back records.old name.now old }
-{
-    match old {
-        None => {
-            records.remove(name);
-        }
-        Some(entry) => {
-            let _new = records.replace(name, entry);
-        }
     }
 }

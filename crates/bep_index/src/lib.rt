@@ -19,9 +19,9 @@ mod id;
 mod index;
 mod laws;
 mod limits;
-mod next;
 mod number;
 mod receiver;
+mod records;
 mod send;
 #[cfg(test)]
 mod tests;
@@ -38,5 +38,8 @@ pub use laws::{
 };
 pub use limits::{MAX_NAMES, MAX_RECORDS, MAX_SEQUENCE};
 pub use receiver::plan;
+// Another crate can name an index in a contract only if the types of its fields are exported.
+#[doc(hidden)]
+pub use records::Records;
 pub use send::Plan;
 pub use view::View;

@@ -137,6 +137,32 @@ fn plans_by_the_point(rt: HostRuntime) -> Result<(), Fail> {
     Ok(())
 }
 
+// The sequence of the record at the place, 0 where there is none.
+fn sequence_at(index: &Index, place: usize) -> u64 {
+    match index.at(place) {
+        Some(record) => record.entry().sequence,
+        None => 0,
+    }
+}
+
+#[test]
+fn records_stand_in_the_order_of_their_sequences(rt: HostRuntime) -> Result<(), Fail> {
+    let mut index = index(rt.alloc())?;
+    for name in ["a", "b", "a", "c"] {
+        index.put(deletion(rt.alloc(), name, 0)?)?;
+    }
+    for (sequence, place) in [(0, 0), (2, 1), (3, 2), (9, 3)] {
+        assert_eq!(rt; index.place_above(sequence), place);
+    }
+    // b was put second, and not again; c was put last.
+    for (place, sequence) in [(0, 2), (2, 4), (3, 0)] {
+        assert_eq!(rt; sequence_at(&index, place), sequence);
+    }
+    assert_eq!(rt; sequence_of(rt.alloc(), &index, "b")?, 2);
+    assert_eq!(rt; sequence_of(rt.alloc(), &index, "c")?, 4);
+    Ok(())
+}
+
 #[test]
 fn a_change_is_taken_back(rt: HostRuntime) -> Result<(), Fail> {
     let mut index = index_to(rt.alloc(), 3)?;

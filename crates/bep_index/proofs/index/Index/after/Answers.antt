@@ -1,26 +1,26 @@
-use Rattle.std.proofs.Common.{◌≡◌, ◌++◌, ◌∷◌, [], Some, rules, arith, ap, sym, subst, ◌∙◌}
+use Rattle.std.proofs.Common.{◌≡◌, List, IfOk, sym, subst, take, drop, arith}
+use Rattle.std.specs.FinMap.{empty}
+use Rattle.std.proofs.lemmas.Result.{IfOk-weaker}
 use Rattle.bep_record.specs.declared.entry.Entry.{Entry}
-use Rattle.bep_index.specs.Batch.{last_sequence}
-use Rattle.bep_index.specs.After.{IsRun}
-use Rattle.bep_index.specs.Next.{IsNext}
-use Rattle.bep_index.proofs.AfterFacts.{IsBatch-run, IsRun-push, last_sequence-push}
+use Rattle.bep_index.specs.Listing.{Listing}
+use Rattle.bep_index.specs.Batch.{with_all}
+use Rattle.bep_index.specs.Order.{count_up_to}
+use Rattle.bep_index.specs.After.{IsAfter}
+use Rattle.bep_index.proofs.AfterFacts.{IsAfter-place, IsBatch-run}
 use Rattle.bep_index.proofs.index.Index.after.Goals as goal
 
-pub loop-taken-preserved : goal.loop-taken-preserved
-loop-taken-preserved c =
-    let found : c.push.new.self.items ≡ c.loop-taken.found.items ++ c.in-Some.entry.now ∷ [] =
-    c.in_ok-push.ensures.items ∙ ap (λ x. c.loop-taken.found.items ++ x ∷ []) c.in_ok-copy.ensures in
-    record {
-      run = subst (IsRun c.args.self.now.records c.args.sequence) (sym found)
-          (IsRun-push c.args.self.now c.args.sequence c.loop-taken.found.items c.in-Some.entry.now c.in-Some.ensures.an_index c.loop-taken.invariant.run
-          (subst (λ n. IsNext c.args.self.now.records n (Some c.in-Some.entry.now)) c.loop-taken.invariant.low c.in-Some.ensures.next));
-      low = ap (λ (x : Entry). x.sequence) c.entry.ensures.value
-          ∙ sym (ap (last_sequence c.args.sequence) found ∙ last_sequence-push c.args.sequence c.loop-taken.found.items c.in-Some.entry.now);
-      many = search rules;
-    }
+-- what is found is what is after the sequence
+is_after : (c : goal.After-after) (found : List Entry) → found ≡ take c.args.limit (drop (count_up_to c.args.sequence c.self.inside.records) c.self.inside.records) → IsAfter (with_all empty c.self.inside.records) c.args.sequence c.args.limit found
+is_after c found same =
+    subst (IsAfter (with_all empty c.self.inside.records) c.args.sequence c.args.limit) (sym same) (IsAfter-place c.args.sequence c.args.limit c.self.inside.records c.self.invariant.1)
 
-pub returns-in-None-clause-batch : goal.returns-in-None-clause-batch
-returns-in-None-clause-batch c = λ few. IsBatch-run c.args.self.now.records c.args.sequence c.loop-taken.found.items c.loop-taken.invariant.run (omega arith)
+pub returns-clause-found : goal.returns-clause-found
+returns-clause-found c =
+    subst (λ (index : Listing). IfOk c.after.result (λ found. IsAfter index.records c.args.sequence c.args.limit found.items)) c.self.view_is
+    (IfOk-weaker c.after.result _ _ (λ found same. is_after c found.items same) c.after.ensures)
 
 pub returns-clause-batch : goal.returns-clause-batch
-returns-clause-batch c = λ few. IsBatch-run c.args.self.now.records c.args.sequence c.loop-taken.found.items c.loop-taken.invariant.run (omega arith)
+returns-clause-batch c =
+    IfOk-weaker c.after.result _ _
+    (λ found same few. let after = is_after c found.items same in let most = after.at_most in IsBatch-run _ c.args.sequence found.items after.run (omega arith))
+    c.after.ensures
