@@ -6,3 +6,4 @@ mod KeptFacts
 mod KnownFacts
 mod PullFacts
 mod ViewFacts
+mod WantedFacts

@@ -8,3 +8,4 @@ pub mod Pulled
 pub mod ScanResult
 pub mod Trace
 pub mod Views
+pub mod Wanted

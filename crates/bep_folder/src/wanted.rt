@@ -1,14 +1,20 @@
 //! What the device wants: the record that it chooses, where it needs that one.
-ghost use Rattle.std.specs.Prelude.{◌≡◌, ◌↔◌, Some, IfSome, IfNone, IsTrue};
+ghost use Rattle.std.specs.Prelude.{◌≡◌, ◌↔◌, Some, IfSome, IfNone, IfOk, OnOk, IsSome, IsTrue};
 ghost use Rattle.std.specs.Option.{option_copied};
+ghost use Rattle.std.specs.FinMap as map;
 ghost use Rattle.bep_record.specs.declared.entry.Entry.{Entry};
 ghost use Rattle.bep_choice.specs.Need.{IsNeeded};
+ghost use Rattle.bep_model.specs.Tables.{FileName};
 ghost use Rattle.bep_machine.specs.Replica.{Wants, own_at};
+ghost use Rattle.bep_folder.specs.Wanted.{AddsWanted, IsRecorded, IsViewedOf, IsWantedName};
 
 use crate::Replica;
 use bep_choice::needed;
-use bep_record::{Name, Record};
+use bep_index::View;
+use bep_map::NameMap;
+use bep_record::{DeviceId, Name, Record};
 use bep_store::Store;
+use std::alloc::{AllocError, Global};
 
 impl<S: Store> Replica<S> {
     // The record that the device wants of the name: it chooses this one, and needs it.
@@ -31,5 +37,63 @@ impl<S: Store> Replica<S> {
         ensures { IsTrue result ↔ IsNeeded self.now.tables.kind (own_at self.now.tables name.now) chosen.now }
     {
         needed(self.kind, self.index.get(name), chosen)
+    }
+
+    /// The names of which the device wants a record, or want of memory.
+    pub fn wanted_names(&self, alloc: Global) -> Result<NameMap<()>, AllocError>
+        ensures { IfOk result (λ names. (name : FileName) → IsSome (map.get names name) ↔ IsWantedName self.now.device self.now.tables name) }
+    {
+        let mut names = NameMap::new(alloc);
+        let others = self.others.as_slice();
+        for other in others {
+            self.add_viewed(&mut names, alloc, *other)?;
+        }
+        Ok(names)
+    }
+
+    // Adds the names that the device wants of those that the other one is known to have.
+    fn add_viewed(
+        &self,
+        names: &mut NameMap<()>,
+        alloc: Global,
+        other: DeviceId,
+    ) -> Result<(), AllocError>
+        ensures { OnOk result (AddsWanted self.now.device self.now.tables names.old names.new (IsViewedOf self.now.tables.views other)) }
+    {
+        match self.views.get(other) {
+            Some(view) => self.add_records(names, alloc, view),
+            None => Ok(()),
+        }
+    }
+
+    // Adds the names that the device wants of those of the view.
+    fn add_records(
+        &self,
+        names: &mut NameMap<()>,
+        alloc: Global,
+        view: &View,
+    ) -> Result<(), AllocError>
+        ensures { OnOk result (AddsWanted self.now.device self.now.tables names.old names.new (IsRecorded view.now.records)) }
+    {
+        for entry in view.records() {
+            self.add_wanted(names, alloc, &entry.entry().name)?;
+        }
+        Ok(())
+    }
+
+    // Adds the name, if the device wants a record of it.
+    fn add_wanted(
+        &self,
+        names: &mut NameMap<()>,
+        alloc: Global,
+        name: &Name,
+    ) -> Result<(), AllocError>
+        ensures { OnOk result (AddsWanted self.now.device self.now.tables names.old names.new (λ other. other ≡ name.now)) }
+    {
+        if names.contains(name) || self.wanted(name).is_none() {
+            return Ok(());
+        }
+        names.insert(name.copy(alloc)?, ())?;
+        Ok(())
     }
 }
