@@ -4,7 +4,8 @@ use Rattle.std.specs.Ordering.{nat_cmp, eq_by_cmp}
 use Rattle.std.specs.Cmp.{eq_by_cmp_equiv, nat_cmp_total}
 use Rattle.std.specs.Map.{lookup}
 use Rattle.std.specs.BTreeMap.{is_at}
-use Rattle.std.specs.FinMap.{find, get, insert, from_entries, get-from_entries, get-insert, same_map}
+use Rattle.std.specs.FinMap.{FinMap, nat_cmp-IsAntisymmetric, find, get, insert, from_entries, get-from_entries, get-insert, same_map}
+use Rattle.bep_facts.specs.Maps.{get-insert_here, insert-twice, insert-what_is_there}
 use Rattle.std.proofs.lemmas.Map.Lookups.{exact_unsigned}
 
 find_device : {V : Type 0} (es : List (ℕ × V)) (q : ℕ) → find nat_cmp q es ≡ lookup (is_at (nat_cmp q)) es
@@ -23,3 +24,17 @@ pub device_given : {V : Type 0} (es fs : List (ℕ × V)) (n : ℕ) (v : V) → 
 device_given es fs n v h = same_map nat_cmp_total exact_unsigned _ _ (λ q.
     get-device fs q ∙ h q ∙ ap (λ b. cond b (Some v) (lookup (is_at (nat_cmp q)) es)) (flipped n q)
     ∙ sym (get-insert nat_cmp_total (from_entries es) n v q ∙ ap (cond (eq_by_cmp nat_cmp q n) (Some v)) (get-device es q)))
+
+-- ---- a device that is given a value
+
+-- it has that value
+pub device_has : {V : Type 0} (m : FinMap nat_cmp V) (device : ℕ) (value : V) → get (insert m device value) device ≡ Some value
+device_has m device value = get-insert_here nat_cmp_total nat_cmp-IsAntisymmetric m device value
+
+-- of two values in a row the later one counts
+pub device_given_twice : {V : Type 0} (m : FinMap nat_cmp V) (device : ℕ) (value later : V) → insert (insert m device value) device later ≡ insert m device later
+device_given_twice m device value later = insert-twice nat_cmp_total nat_cmp-IsAntisymmetric m device value later
+
+-- the value that it had, given again after another
+pub device_given_back : {V : Type 0} (m : FinMap nat_cmp V) (device : ℕ) (value held : V) → get m device ≡ Some held → insert (insert m device value) device held ≡ m
+device_given_back m device value held has = device_given_twice m device value held ∙ insert-what_is_there nat_cmp_total nat_cmp-IsAntisymmetric m device held has

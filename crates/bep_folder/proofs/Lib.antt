@@ -6,3 +6,4 @@ mod HeldFacts
 mod KeptFacts
 mod KnownFacts
 mod PullFacts
+mod ViewFacts

@@ -7,3 +7,4 @@ pub mod Pull
 pub mod Pulled
 pub mod ScanResult
 pub mod Trace
+pub mod Views

@@ -14,6 +14,7 @@ mod readers;
 mod replica;
 mod scan_result;
 mod traced;
+mod views;
 mod wanted;
 
 pub use device_map::DeviceMap;

@@ -2,11 +2,12 @@
 ghost use Rattle.std.specs.Prelude.{◌≡◌};
 ghost use Rattle.std.specs.Option.{option_copied};
 ghost use Rattle.std.specs.FinMap as map;
-ghost use Rattle.bep_folder.specs.Held.{AreOthers};
+ghost use Rattle.bep_folder.specs.Held.{AreOthers, ArePulls};
 
-use crate::Replica;
+use crate::{Pull, Replica};
 use bep_index::{Index, View};
-use bep_record::{DeviceId, FolderKind, FolderName};
+use bep_map::NameMap;
+use bep_record::{DeviceId, FolderKind, FolderName, Name};
 use bep_store::Store;
 
 impl<S: Store> Replica<S> {
@@ -51,6 +52,21 @@ impl<S: Store> Replica<S> {
         ensures { option_copied result ≡ map.get self.now.tables.views device }
     {
         self.views.get(device)
+    }
+
+    /// The name's pull, if there is one.
+    pub fn pull(&self, name: &Name) -> Option<&Pull>
+        ensures { option_copied result ≡ map.get self.now.tables.pulls name.now }
+    {
+        self.pulls.get(name)
+    }
+
+    /// The pulls, each under its target's name.
+    pub fn pulls(&self) -> &NameMap<Pull>
+        ensures value { result.now ≡ self.now.tables.pulls }
+        ensures pulls { ArePulls self.now.tables.pulls }
+    {
+        &self.pulls
     }
 
     /// Of the last call that may change the folder or look into its store: which of its calls of the store failed,

@@ -1,0 +1,177 @@
+//! What the device takes of what others send of their indexes.
+ghost use Rattle.std.specs.Prelude.{◌≡◌, ◌⊎◌, ◌↔◌, IfErr, IsErrOf, OnErr, OnOk, Some};
+ghost use Rattle.std.specs.FinMap as map;
+ghost use Rattle.bep_index.specs.View.{IsOld, cleared, replaced, amended};
+ghost use Rattle.bep_machine.specs.Replica.{view_of};
+ghost use Rattle.bep_folder.specs.Views.{IsApart, IsTooMuch, known_view, unchanged, with_viewed};
+
+use crate::error::index_error;
+use crate::{DeviceMap, FolderError, Replica};
+use bep_index::{Batch, View};
+use bep_record::DeviceId;
+use bep_store::Store;
+use std::alloc::Global;
+
+impl<S: Store> Replica<S> {
+    /// Takes the batch in place of all that was known of the device's index, as an Index asks. Refuses `NotShared`
+    /// exactly where the device isn't another one that shares the folder. After an error all is as before.
+    ///
+    /// BEP v1, 'Index'.
+    pub fn replace_view(&mut self, device: DeviceId, batch: Batch) -> Result<(), FolderError>
+        ensures ok { OnOk result (self.new ≡ with_viewed self.old device (replaced (view_of self.old.tables device) batch)) }
+
+        ensures not_shared { IsErrOf result FolderError.NotShared ↔ IsApart self.old device }
+        ensures only { IfErr result (λ e. (e ≡ FolderError.NotShared) ⊎ (e ≡ FolderError.Memory)) }
+        ensures err { OnErr result (self.new ≡ unchanged self.old) }
+    {
+        self.store.begin();
+        if !self.others.as_slice().contains(&device) {
+            return Err(FolderError::NotShared);
+        }
+        replace_in(&mut self.views, self.alloc, device, batch)
+    }
+
+    /// Adds the batch to what was known of the device's index, as an IndexUpdate asks. Refuses `NotShared` exactly where
+    /// the device isn't another one that shares the folder, then `BatchOld` exactly where the batch's first sequence
+    /// isn't above the view's, and then `IndexFull` exactly where the view would have more than 4096 names. After an
+    /// error all is as before.
+    ///
+    /// BEP v1, 'Index Update'.
+    pub fn amend_view(&mut self, device: DeviceId, batch: Batch) -> Result<(), FolderError>
+        ensures ok { OnOk result (self.new ≡ with_viewed self.old device (amended (view_of self.old.tables device) batch)) }
+
+        ensures not_shared { IsErrOf result FolderError.NotShared ↔ IsApart self.old device }
+        ensures old { IsErrOf result FolderError.BatchOld ↔ ((¬ IsApart self.old device) × IsOld (view_of self.old.tables device).sequence batch) }
+        ensures full { IsErrOf result FolderError.IndexFull ↔ ((¬ IsApart self.old device) × IsTooMuch (view_of self.old.tables device) batch) }
+        ensures only { IfErr result (λ e. (e ≡ FolderError.NotShared) ⊎ (e ≡ FolderError.BatchOld) ⊎ (e ≡ FolderError.IndexFull) ⊎ (e ≡ FolderError.Memory)) }
+        ensures err { OnErr result (self.new ≡ unchanged self.old) }
+    {
+        self.store.begin();
+        if !self.others.as_slice().contains(&device) {
+            return Err(FolderError::NotShared);
+        }
+        amend_in(&mut self.views, self.alloc, device, batch)
+    }
+
+    /// Forgets all that was known of the device's index, and takes this index id with sequence 0. Refuses `NotShared`
+    /// exactly where the device isn't another one that shares the folder. After an error all is as before.
+    ///
+    /// BEP v1, 'Fields (ClusterConfig)', field 'index_id'.
+    pub fn clear_view(&mut self, device: DeviceId, id: u64) -> Result<(), FolderError>
+        ensures ok { OnOk result (self.new ≡ with_viewed self.old device (cleared id)) }
+
+        ensures not_shared { IsErrOf result FolderError.NotShared ↔ IsApart self.old device }
+        ensures only { IfErr result (λ e. (e ≡ FolderError.NotShared) ⊎ (e ≡ FolderError.Memory)) }
+        ensures err { OnErr result (self.new ≡ unchanged self.old) }
+    {
+        self.store.begin();
+        if !self.others.as_slice().contains(&device) {
+            return Err(FolderError::NotShared);
+        }
+        let mut view = View::empty(self.alloc);
+        view.clear(id);
+        self.views.insert(device, view)?;
+        Ok(())
+    }
+}
+
+fn replace_in(
+    views: &mut DeviceMap<View>,
+    alloc: Global,
+    device: DeviceId,
+    batch: Batch,
+) -> Result<(), FolderError>
+    ensures ok { OnOk result (views.new ≡ map.insert views.old device (replaced (known_view views.old device) batch)) }
+    ensures only { IfErr result (λ e. e ≡ FolderError.Memory) }
+    ensures err { OnErr result (views.new ≡ views.old) }
+{
+    let mut view = View::empty(alloc);
+    view.clear(known_id(views, device));
+    match view.replace(batch) {
+        Ok(()) => {}
+        Err(error) => return Err(index_error(error)),
+    }
+    views.insert(device, view)?;
+    Ok(())
+}
+
+// The id of the index that is known of the device, 0 where none is.
+fn known_id(views: &DeviceMap<View>, device: DeviceId) -> u64
+    ensures { result ≡ (known_view views.now device).id }
+{
+    match views.get(device) {
+        Some(view) => view.point().0,
+        None => 0,
+    }
+}
+
+// While the view is changed, an empty one keeps its place, so that want of memory leaves what was known.
+fn amend_in(
+    views: &mut DeviceMap<View>,
+    alloc: Global,
+    device: DeviceId,
+    batch: Batch,
+) -> Result<(), FolderError>
+    ensures ok { OnOk result (views.new ≡ map.insert views.old device (amended (known_view views.old device) batch)) }
+    ensures old { IsErrOf result FolderError.BatchOld ↔ IsOld (known_view views.old device).sequence batch }
+    ensures full { IsErrOf result FolderError.IndexFull ↔ IsTooMuch (known_view views.old device) batch }
+    ensures only { IfErr result (λ e. (e ≡ FolderError.BatchOld) ⊎ (e ≡ FolderError.IndexFull) ⊎ (e ≡ FolderError.Memory)) }
+    ensures err { OnErr result (views.new ≡ views.old) }
+{
+    match views.replace(device, View::empty(alloc)) {
+        Ok(view) => amend_held(views, device, view, batch),
+        Err(view) => amend_new(views, device, view, batch),
+    }
+}
+
+// Gives the device its view with the batch, or as it was.
+fn amend_held(
+    views: &mut DeviceMap<View>,
+    device: DeviceId,
+    view: View,
+    batch: Batch,
+) -> Result<(), FolderError>
+    requires { map.get views.old device ≡ Some (cleared 0) }
+    ensures ok { OnOk result (views.new ≡ map.insert views.old device (amended view batch)) }
+    ensures old { IsErrOf result FolderError.BatchOld ↔ IsOld view.sequence batch }
+    ensures full { IsErrOf result FolderError.IndexFull ↔ IsTooMuch view batch }
+    ensures only { IfErr result (λ e. (e ≡ FolderError.BatchOld) ⊎ (e ≡ FolderError.IndexFull) ⊎ (e ≡ FolderError.Memory)) }
+    ensures err { OnErr result (views.new ≡ map.insert views.old device view) }
+{
+    let mut view = view;
+    let answer = amend_one(&mut view, batch);
+    let _empty = views.replace(device, view);
+    answer
+}
+
+// Gives the device its first view, with the batch.
+fn amend_new(
+    views: &mut DeviceMap<View>,
+    device: DeviceId,
+    view: View,
+    batch: Batch,
+) -> Result<(), FolderError>
+    ensures ok { OnOk result (views.new ≡ map.insert views.old device (amended view batch)) }
+    ensures old { IsErrOf result FolderError.BatchOld ↔ IsOld view.sequence batch }
+    ensures full { IsErrOf result FolderError.IndexFull ↔ IsTooMuch view batch }
+    ensures only { IfErr result (λ e. (e ≡ FolderError.BatchOld) ⊎ (e ≡ FolderError.IndexFull) ⊎ (e ≡ FolderError.Memory)) }
+    ensures err { OnErr result (views.new ≡ views.old) }
+{
+    let mut view = view;
+    amend_one(&mut view, batch)?;
+    views.insert(device, view)?;
+    Ok(())
+}
+
+fn amend_one(view: &mut View, batch: Batch) -> Result<(), FolderError>
+    ensures ok { OnOk result (view.new ≡ amended view.old batch) }
+    ensures old { IsErrOf result FolderError.BatchOld ↔ IsOld view.old.sequence batch }
+    ensures full { IsErrOf result FolderError.IndexFull ↔ IsTooMuch view.old batch }
+    ensures only { IfErr result (λ e. (e ≡ FolderError.BatchOld) ⊎ (e ≡ FolderError.IndexFull) ⊎ (e ≡ FolderError.Memory)) }
+    ensures err { OnErr result (view.new ≡ view.old) }
+{
+    match view.amend(batch) {
+        Ok(()) => Ok(()),
+        Err(error) => Err(index_error(error)),
+    }
+}
