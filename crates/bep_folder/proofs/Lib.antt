@@ -1,5 +1,6 @@
 mod BlockFacts
 mod ChosenFacts
+mod CommitFacts
 mod DeviceMapFacts
 mod HeldFacts
 mod KeptFacts

@@ -2,6 +2,7 @@
 #![tactic(auto)]
 
 mod chosen;
+mod commit;
 mod deletion;
 mod device_map;
 mod edit;
