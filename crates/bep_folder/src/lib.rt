@@ -1,8 +1,12 @@
 //! One folder at one device: the device's own index, its views of the others' indexes, its pulls and its store.
 #![tactic(auto)]
 
+mod adopt;
+mod beside;
+mod conflict;
 mod device_map;
 mod error;
+mod overriding;
 mod pull;
 mod readers;
 mod replica;
