@@ -1,2 +1,4 @@
+mod ChosenFacts
 mod DeviceMapFacts
 mod HeldFacts
+mod KnownFacts

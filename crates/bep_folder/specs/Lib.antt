@@ -1,5 +1,6 @@
 pub mod FolderError
 pub mod Held
+pub mod Known
 pub mod Makes
 pub mod Pull
 pub mod Trace

@@ -3,6 +3,7 @@
 
 mod adopt;
 mod beside;
+mod chosen;
 mod conflict;
 mod device_map;
 mod error;
@@ -11,6 +12,7 @@ mod pull;
 mod readers;
 mod replica;
 mod traced;
+mod wanted;
 
 pub use device_map::DeviceMap;
 pub use error::FolderError;

@@ -1,0 +1,23 @@
+-- The candidates for a name, as the code finds them.
+use Rattle.std.specs.Prelude.{List, ◌++◌, Option, unwrap_or}
+use Rattle.std.specs.List.{flat_map}
+use Rattle.std.specs.FinMap.{get}
+use Rattle.bep_record.specs.declared.entry.Entry.{Entry}
+use Rattle.bep_index.specs.View.{cleared}
+use Rattle.bep_index.specs.Listing.{Listing}
+use Rattle.bep_choice.specs.Choice.{Candidate}
+use Rattle.bep_model.specs.Tables.{Device, FileName}
+use Rattle.bep_model.specs.Winner.{beside}
+use Rattle.bep_machine.specs.Replica.{ByDevice}
+
+-- the record of a name in the view of a device
+abbrev pub record_in : ByDevice Listing → FileName → Device → Option Entry
+record_in views name other = get (unwrap_or (get views other) (cleared 0)).records name
+
+-- these devices beside their records
+abbrev pub viewed_among : ByDevice Listing → FileName → List Device → List Candidate
+viewed_among views name = flat_map (λ (other : Device). beside other (record_in views name other))
+
+-- the own record and those of the views
+abbrev pub known_by : Device → Option Entry → ByDevice Listing → FileName → List Device → List Candidate
+known_by device own views name others = beside device own ++ viewed_among views name others
