@@ -4,3 +4,5 @@ pub mod Known
 pub mod Makes
 pub mod Pull
 pub mod Trace
+pub mod Pulled
+pub mod Ending

@@ -9,6 +9,8 @@ mod device_map;
 mod error;
 mod overriding;
 mod pull;
+mod pulled;
+mod settle;
 mod readers;
 mod replica;
 mod traced;

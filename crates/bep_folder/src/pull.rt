@@ -1,34 +1,232 @@
-//! A pull of a record that another device has.
-ghost use Rattle.std.specs.Prelude.{◌≡◌};
-ghost use Rattle.bep_machine.specs.Pull.{new_pull};
+//! A record that is being pulled, with the blocks of it that were received.
+ghost use Rattle.std.specs.Prelude.{◌≡◌, ◌↔◌, true, false, Some, Contains, slice_get, IfOk, OnOk, OnErr, IsTrue};
+ghost use Rattle.std.specs.Option.{option_copied};
+ghost use Rattle.bep_machine.specs.Pull.{new_pull, written, IsMissingBlocks};
+ghost use Rattle.bep_folder.specs.Pull.{AreOf, AreOfBlockAt, IsPull, IsReceivedAt, with_bytes};
 
-use bep_record::Record;
+use crate::pulled::{copy_node, empty_node, put_bytes};
+use bep_blocks::matches;
+use bep_record::{BASE_BLOCK_SIZE, Block, Duplicate, Node, Record};
+use std::alloc::{AllocError, Global};
 use std::marker::Model;
 
-/// A pull: the record that is being pulled, and which of its blocks were received.
+/// A record that is being pulled, with the bytes of each of its blocks that were received.
+///
+/// The bytes are kept in the node that the pull will write, so that a file is in memory once.
 #[derive(Drop)]
 pub struct Pull {
     target: Record,
+    node: Option<Node>,
+    arrived: Vec<bool>,
+    alloc: Global,
 }
 
 impl Model for Pull {
     ghost use Rattle.bep_record.specs.contracts.entry.Entry as entry;
     ghost use Rattle.bep_machine.specs.Replica.{Pull};
-    ghost use Rattle.bep_machine.specs.Pull.{new_pull};
     ghost use Rattle.bep_folder.specs.Pull.{pull_code};
 
     ghost Value = { Pull };
 
     ghost coded = { pull_code entry.the_row.coded };
 
-    ghost view = { λ pull. new_pull pull.target };
+    ghost use Rattle.bep_record.specs.Block.{base_block_size};
+    ghost use Rattle.bep_folder.specs.Pulled.{bytes_in};
+    ghost use Rattle.bep_folder.specs.Pull.{received_of, IsKept};
+
+    ghost view = { λ pull. record { target = pull.target; received = received_of base_block_size pull.arrived.items (bytes_in pull.node) } };
+
+    ghost invariant = { λ pull. IsKept pull.target pull.node pull.arrived.items };
 }
 
 impl Pull {
+    /// The pull of this record, of which nothing was received yet, or want of memory. The caller sees to it that the
+    /// record isn't invalid.
+    pub fn new(alloc: Global, target: Record) -> Result<Self, AllocError>
+        requires { target.invalid ≡ false }
+        ensures { IfOk result (λ pull. pull ≡ new_pull target) }
+    {
+        let entry = target.entry();
+        let arrived = vec![in alloc; false; entry.blocks.as_slice().len()]?;
+        let node = empty_node(alloc, entry)?;
+        Ok(Pull {
+            target,
+            node,
+            arrived,
+            alloc,
+        })
+    }
+
     /// The record that is being pulled.
     pub fn target(&self) -> &Record
-        ensures { result.now ≡ self.now.target }
+        ensures value { result.now ≡ self.now.target }
+        ensures a_pull { IsPull self.now }
     {
         &self.target
+    }
+
+    /// Whether some block wasn't received.
+    pub fn is_missing_blocks(&self) -> bool
+        ensures { IsTrue result ↔ IsMissingBlocks self.now }
+    {
+        is_any_missing(&self.arrived)
+    }
+
+    /// Whether the block at this place, from 0, was received.
+    pub fn is_received(&self, place: usize) -> bool
+        ensures { IsTrue result ↔ IsReceivedAt self.now.received place }
+    {
+        is_set(&self.arrived, place)
+    }
+
+    /// Whether there is a block at this place, from 0, and these are its bytes: as many, and with its SHA-256.
+    pub fn is_block(&self, place: usize, bytes: &[u8]) -> bool
+        ensures { IsTrue result ↔ AreOfBlockAt self.now.target.blocks place bytes.now }
+    {
+        match self.target.entry().blocks.as_slice().get(place) {
+            Some(block) => are_of(block, bytes),
+            None => false,
+        }
+    }
+
+    /// Receives the block at this place, or answers want of memory and is as before. A block that was received stays
+    /// as it is. The caller sees to it that the bytes are the block's, as `is_block` tells.
+    pub fn add(&mut self, place: usize, bytes: &[u8]) -> Result<(), AllocError>
+        requires { AreOfBlockAt self.old.target.blocks place bytes.now }
+        ensures ok { OnOk result (self.new ≡ with_bytes self.old place bytes.now) }
+        ensures err { OnErr result (self.new ≡ self.old) }
+    {
+        if is_set(&self.arrived, place) {
+            return Ok(());
+        }
+        let size = self.target.entry().size as usize;
+        let offset = place * BASE_BLOCK_SIZE as usize;
+        put_bytes(&mut self.node, self.alloc, size, offset, bytes)?;
+        self.arrived[place] = true;
+        Ok(())
+    }
+
+    /// The node that the record tells of, once no block is missing; a deletion has none.
+    pub fn node(&self) -> Option<&Node>
+        ensures { (¬ IsMissingBlocks self.now) → option_copied result ≡ written self.now }
+    {
+        self.node.as_ref()
+    }
+
+    /// An equal pull of its own, or want of memory.
+    pub fn copy(&self, alloc: Global) -> Result<Self, AllocError>
+        ensures { IfOk result (λ pull. pull ≡ self.now) }
+    {
+        Ok(Pull {
+            target: self.target.copy(alloc)?,
+            node: copy_node(alloc, self.node.as_ref())?,
+            arrived: Vec::from_slice(alloc, self.arrived.as_slice())?,
+            alloc,
+        })
+    }
+}
+
+impl Duplicate for Pull {
+    fn duplicate(&self, alloc: Global) -> Result<Self, AllocError> {
+        self.copy(alloc)
+    }
+}
+
+// Whether one of the blocks hasn't its flag.
+fn is_any_missing(flags: &[bool]) -> bool
+    ensures { IsTrue result ↔ Contains flags.now false }
+{
+    flags.contains(&false)
+}
+
+// Whether there is a block at the place, and it has its flag.
+fn is_set(flags: &[bool], place: usize) -> bool
+    ensures { IsTrue result ↔ (slice_get flags.now place ≡ Some true) }
+{
+    match flags.get(place) {
+        Some(flag) => *flag,
+        None => false,
+    }
+}
+
+// Whether the bytes are the block's. (The block's place in its file doesn't matter here.)
+fn are_of(block: &Block, bytes: &[u8]) -> bool
+    ensures { IsTrue result ↔ AreOf block.now bytes.now }
+{
+    matches(
+        bytes,
+        &[Block {
+            offset: 0,
+            size: block.size,
+            hash: block.hash,
+        }],
+    )
+}
+
+#[cfg(test)]
+mod tests {
+    use super::*;
+    use bep_blocks::blocks;
+    use bep_record::{BlockSize, DeviceId, Entry, Kind, Name, Target, Vector};
+    use std::test::Fail;
+
+    // The record of a file with these bytes.
+    fn record_of(alloc: Global, bytes: &[u8]) -> Result<Record, Fail> {
+        let made = Record::read(Entry {
+            name: Name::read(alloc, b"notes.txt")?,
+            kind: Kind::File,
+            size: bytes.len() as u64,
+            modified_s: 2000,
+            modified_ns: 0,
+            modified_by: DeviceId::read(1).ok_or("a device")?,
+            deleted: false,
+            invalid: false,
+            no_permissions: true,
+            version: Vector::empty(),
+            sequence: 1,
+            block_size: BASE_BLOCK_SIZE,
+            blocks: blocks(alloc, bytes, BlockSize::base())?,
+            target: Target::empty(alloc),
+        });
+        Ok(made.ok().ok_or("a record")?)
+    }
+
+    // Receives the block, and tells whether the bytes are its.
+    fn receive(pull: &mut Pull, place: usize, bytes: &[u8]) -> Result<bool, AllocError> {
+        let good = pull.is_block(place, bytes);
+        if good {
+            pull.add(place, bytes)?;
+        }
+        Ok(good)
+    }
+
+    fn pull_of(alloc: Global, bytes: &[u8]) -> Result<Pull, Fail> {
+        let target = record_of(alloc, bytes)?;
+        if target.entry().invalid {
+            return Err(Fail::from("a valid record"));
+        }
+        Ok(Pull::new(alloc, target)?)
+    }
+
+    #[test]
+    fn receives_blocks_in_any_order(rt: HostRuntime) -> Result<(), Fail> {
+        let alloc = rt.alloc();
+        let bytes = vec![in alloc; 7; 131073]?;
+        let first = vec![in alloc; 7; 131072]?;
+        let mut pull = pull_of(alloc, &bytes)?;
+        assert!(rt; pull.is_missing_blocks(), "nothing was received");
+        assert!(rt; !receive(&mut pull, 1, b"8")?, "another byte");
+        assert!(rt; !receive(&mut pull, 2, &[7])?, "a third block");
+
+        assert!(rt; receive(&mut pull, 1, &[7])?);
+        assert_eq!(rt; (pull.is_received(0), pull.is_received(1)), (false, true));
+        assert!(rt; receive(&mut pull, 0, &first)?);
+        assert!(rt; !pull.is_missing_blocks());
+
+        let copy = pull.copy(alloc)?;
+        let node = copy.node().ok_or("a file")?;
+        assert!(rt; node.parts().bytes.as_slice() == bytes.as_slice());
+        assert_eq!(rt; copy.target().entry().modified_s, 2000);
+        Ok(())
     }
 }

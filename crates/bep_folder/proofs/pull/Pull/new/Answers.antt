@@ -1,0 +1,18 @@
+use Rattle.std.proofs.Common.{◌≡◌, ◌∙◌, false, length, replicate, map, None, refl, ap, sym}
+use Rattle.bep_record.specs.Block.{base_block_size}
+use Rattle.bep_record.specs.declared.entry.Entry.{Entry}
+use Rattle.bep_machine.specs.Replica.{Pull}
+use Rattle.bep_folder.specs.Pulled.{bytes_in}
+use Rattle.bep_folder.specs.Pull.{received_of}
+use Rattle.bep_folder.proofs.PullFacts.{none_received}
+use Rattle.bep_folder.proofs.pull.Pull.new.Goals as goal
+
+pub returns : goal.returns
+returns c =
+    let blocks : c.as_slice.result.now ≡ c.args.target.blocks =
+    c.as_slice.ensures ∙ ap (λ (entry : Entry). entry.blocks) c.entry-entry.ensures.value in
+    let flags : c.in_ok-arrived.arrived.items ≡ replicate (length c.args.target.blocks) false =
+    c.in_ok-arrived.ensures.items_if_clones_equal (λ y same. same) ∙ ap (λ xs. replicate (length xs) false) blocks in
+    ap (λ received. record { target = c.args.target; received = received })
+    (ap (λ xs. received_of base_block_size xs (bytes_in c.in_ok-node.node)) flags
+    ∙ none_received base_block_size c.args.target.blocks (bytes_in c.in_ok-node.node))
