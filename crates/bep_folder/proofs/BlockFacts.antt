@@ -1,10 +1,10 @@
 -- What bytes a block has, by the blocks of a whole file and by itself.
-use Rattle.std.proofs.Common.{◌≡◌, ℕ, zero, suc, ◌+◌, ◌-◌, ◌*◌, ◌<◌, ◌≤◌, min, List, [], ◌∷◌, length, take, drop, map, Some, None, slice_get, refl, ap, sym, ◌∙◌, arith}
+use Rattle.std.proofs.Common.{◌≡◌, ℕ, zero, suc, ◌+◌, ◌-◌, ◌*◌, ◌<◌, min, List, [], ◌∷◌, length, map, Some, slice_get, ap, sym, ◌∙◌, arith}
 use Rattle.std.specs.List.{range_with_len}
 use Rattle.std.proofs.lemmas.List.{take_all, drop_all, length-drop}
 use Rattle.bep_record.specs.declared.block.Block.{Block}
 use Rattle.bep_record.specs.Block.{cut_at, block_count, CutWhole}
-use Rattle.bep_blocks.specs.Plain.{block_of, hash_of}
+use Rattle.bep_blocks.specs.Plain.{block_of}
 use Rattle.bep_blocks.specs.Matching.{Matches}
 use Rattle.bep_folder.specs.Pull.{AreOf}
 

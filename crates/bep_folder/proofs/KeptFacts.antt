@@ -1,5 +1,5 @@
 -- What follows of a pull from how its parts are kept.
-use Rattle.std.proofs.Common.{◌≡◌, ◌⊎◌, ℕ, zero, suc, ◌+◌, ◌-◌, ◌*◌, ◌<◌, ◌≤◌, ◌==◌, min, Bool, true, false, cond, List, [], ◌∷◌, length, take, drop, set, replicate, map, Contains, Option, Some, None, IfSome, slice_get, refl, ap, sym, ◌∙◌, inl, inr, ⊎_elim, subst, arith, eq-eqb, eqb-true}
+use Rattle.std.proofs.Common.{◌≡◌, ◌⊎◌, ℕ, zero, suc, ◌+◌, ◌-◌, ◌*◌, ◌<◌, ◌≤◌, ◌==◌, min, Bool, true, false, cond, List, [], ◌∷◌, length, drop, set, replicate, map, Contains, Option, Some, slice_get, refl, ap, sym, ◌∙◌, inl, inr, ⊎_elim, subst, arith, eq-eqb, eqb-true}
 use Rattle.std.specs.List.{range_with_len}
 use Rattle.std.proofs.lemmas.List.{length-drop, length-map, length-replicate, length-take, length-set}
 use Rattle.std.proofs.lemmas.List.Edits.{length-paste}

@@ -1,9 +1,10 @@
+mod BlockFacts
 mod ChosenFacts
 mod DeviceMapFacts
-mod HeldFacts
-mod KnownFacts
-pub mod BlockFacts
-pub mod PullFacts
-pub mod KeptFacts
-mod StoredFacts
 mod EndingFacts
+mod HeldFacts
+mod KeptFacts
+mod KnownFacts
+mod PullFacts
+mod SettleFacts
+mod StoredFacts

@@ -1,12 +1,11 @@
 -- What was received of a pull, by its flags and its file's bytes.
-use Rattle.std.proofs.Common.{◌≡◌, ◌⊎◌, ◌≢◌, ℕ, zero, suc, ◌+◌, ◌-◌, ◌*◌, ◌<◌, ◌≤◌, min, Bool, true, false, List, [], ◌∷◌, ◌++◌, length, take, drop, set, replicate, map, Contains, Option, Some, None, slice_get, unwrap_or, refl, ap, sym, ◌∙◌, inl, inr, ⊎_elim, subst, arith}
+use Rattle.std.proofs.Common.{◌≡◌, ℕ, zero, suc, ◌+◌, ◌-◌, ◌*◌, ◌<◌, ◌≤◌, min, Bool, true, false, List, [], ◌∷◌, ◌++◌, length, take, drop, set, replicate, map, Contains, Some, None, slice_get, unwrap_or, refl, ap, sym, ◌∙◌, ⊎_elim, arith}
 use Rattle.std.specs.List.{concat}
-use Rattle.std.proofs.lemmas.List.{take_all, take_at, drop_all, length-drop, length-take, drop-drop, drop-take, take-take, take-append-drop, take-append-le, drop-append-le, append-nil, nil_from_length}
+use Rattle.std.proofs.lemmas.List.{length-drop, length-take, drop-drop, drop-take, take-take, take-append-drop, take-append-le, drop-append-le, append-nil, nil_from_length}
 use Rattle.std.proofs.lemmas.Slice.{drop-append-drop}
 use Rattle.std.proofs.lemmas.List.Edits.{paste_all}
 use Rattle.std.proofs.Math.Seq.{paste, take-append-add}
 use Rattle.bep_facts.specs.Members.{not_in_none, Contains-first, Contains-more, Contains-cons_cases}
-use Rattle.bep_record.specs.declared.block.Block.{Block}
 use Rattle.bep_folder.specs.Pull.{received_of, received_with, IsReceivedAt}
 
 -- ---- which blocks are missing

@@ -1,10 +1,10 @@
 -- A store that already holds at a name what it is to hold, and what a call of it may be made for.
 use Rattle.std.proofs.Common.{◌≡◌, Bool, true, false, cond, List, ℕ, Option, Some, None, Result, Ok, Err, refl, sym, ap, ◌∙◌}
-use Rattle.std.specs.Prelude.{⊤}
+use Rattle.std.specs.Prelude.{⊤, IsSome}
 use Rattle.std.specs.Ordering.{nat_cmp, eq_by_cmp}
 use Rattle.std.specs.Cmp.{Equal-is}
 use Rattle.std.specs.Cmp.Lexicographic.{slice_cmp, nat_list_cmp_total}
-use Rattle.std.specs.FinMap.{get, remove, get-remove, same_map}
+use Rattle.std.specs.FinMap.{get, remove, get-insert, get-remove, same_map}
 use Rattle.std.proofs.lemmas.Map.Lookups.{exact_bytes}
 use Rattle.bep_facts.specs.Maps.{insert-what_is_there}
 use Rattle.bep_map.specs.NameMap.{ByName}
@@ -25,6 +25,16 @@ pub stored-held : (contents : ByName NodeParts) (name : FileName) (node : Option
     get contents name ≡ node → stored contents name node ≡ contents
 stored-held contents name None held = remove-absent contents name held
 stored-held contents name (Some node) held = insert-what_is_there nat_list_cmp_total exact_bytes contents name node held
+
+-- a name keeps its node where another one gets a copy of it
+pub kept-beside : (contents : ByName NodeParts) (copy name : FileName) (node : Option NodeParts) →
+    IsSome node → get contents name ≡ node → get (stored contents copy node) name ≡ node
+kept-beside contents copy name (Some node) some held =
+    get-insert nat_list_cmp_total contents copy node name ∙ either (eq_by_cmp (slice_cmp nat_cmp) name copy) where
+      either : (here : Bool) → cond here (Some node) (get contents name) ≡ Some node
+      either true = refl
+      either false = held
+kept-beside contents copy name None some held = absurd (cc)
 
 -- a call that is made for one reason is made for another that follows
 pub Stores-for : {called other : Type 0} (name : FileName) (after : Option NodeParts) (old new : TracedStore) (result : Result ⊤ FolderError) →

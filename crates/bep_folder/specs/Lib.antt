@@ -1,8 +1,8 @@
+pub mod Ending
 pub mod FolderError
 pub mod Held
 pub mod Known
 pub mod Makes
 pub mod Pull
-pub mod Trace
 pub mod Pulled
-pub mod Ending
+pub mod Trace

@@ -6,13 +6,14 @@ mod beside;
 mod chosen;
 mod conflict;
 mod device_map;
+mod ending;
 mod error;
 mod overriding;
 mod pull;
 mod pulled;
-mod settle;
 mod readers;
 mod replica;
+mod settle;
 mod traced;
 mod wanted;
 

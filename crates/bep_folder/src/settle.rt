@@ -1,34 +1,75 @@
 //! The writes at the end of a pull.
-ghost use Rattle.std.specs.Prelude.{◌≡◌, ◌≢◌, ◌≤◌, ◌↔◌, ⊤, IsTrue, Some, None};
+ghost use Rattle.std.specs.Prelude.{◌≡◌, ◌≢◌, ◌≤◌, ◌↔◌, ⊤, false, IsTrue, IsSome, IsErr, OnOk, Some, None};
 ghost use Rattle.std.specs.Option.{option_copied};
 ghost use Rattle.std.specs.FinMap as map;
-ghost use Rattle.bep_machine.specs.Replica.{HasContentOf};
 ghost use Rattle.bep_machine.specs.Pull.{IsFile, IsMissingBlocks, timed};
 ghost use Rattle.bep_record.specs.declared.limits.TheConstants.{MAX_NANOSECONDS};
-ghost use Rattle.bep_folder.specs.Ending.{Stores, WritesTarget};
+ghost use Rattle.bep_folder.specs.Ending.{Stores, WritesAll, WritesTarget, with_copy};
 
-use crate::beside::has_content_of;
 use crate::traced::Traced;
 use crate::{FolderError, Pull};
-use bep_record::{Entry, Name, Node, Record};
+use bep_record::{Entry, Name, Node};
 use bep_store::Store;
 
-// Brings the name to what it holds at the end of its pull, by at most one call of the store. Where the content is the
-// target's already, only the time is taken.
+// The writes at the end of a pull: the conflict copy first, where there is one to write, and then the target.
+pub(crate) fn write_all<S: Store>(
+    store: &mut Traced<S>,
+    name: &Name,
+    copy: Option<&Name>,
+    node: Option<&Node>,
+    pull: &Pull,
+    same: bool,
+) -> Result<(), FolderError>
+    requires node { map.get store.old.contents name.now ≡ option_copied node }
+    requires kept { IsSome copy → IsSome (option_copied node) }
+    requires complete { IsFile pull.now.target → same ≡ false → ¬ IsMissingBlocks pull.now }
+    ensures { WritesAll name.now pull.now same (option_copied copy.entry) (option_copied node.entry) store.old store.new result }
+{
+    match copy {
+        None => write_target(store, name, node, pull, same),
+        Some(copy) => {
+            write_copy(store, copy, node)?;
+            write_target(store, name, node, pull, same)
+        }
+    }
+}
+
+// Keeps the node under the conflict name.
+fn write_copy<S: Store>(
+    store: &mut Traced<S>,
+    copy: &Name,
+    node: Option<&Node>,
+) -> Result<(), FolderError>
+    requires { IsSome (option_copied node) }
+    ensures ok { OnOk result (store.new ≡ with_copy store.old copy.now (option_copied node.entry)) }
+    ensures err { IsErr result → Stores copy.now (option_copied node.entry) ⊤ store.old store.new result }
+{
+    match node {
+        Some(node) => {
+            store.write(copy, node)?;
+            store.note_copy();
+            Ok(())
+        }
+        None => unreachable!(),
+    }
+}
+
+// Brings the name to what it holds at the end of its pull, by at most one call of the store. Where the own content is
+// the target's already, only the time is taken.
 fn write_target<S: Store>(
     store: &mut Traced<S>,
     name: &Name,
-    own: Option<&Record>,
     node: Option<&Node>,
     pull: &Pull,
+    same: bool,
 ) -> Result<(), FolderError>
     requires node { map.get store.old.contents name.now ≡ option_copied node }
-    requires complete { IsFile pull.now.target → (¬ HasContentOf (option_copied own) pull.now.target) → ¬ IsMissingBlocks pull.now }
-    ensures { WritesTarget name.now pull.now (option_copied own.entry) (option_copied node.entry) store.old store.new result }
+    requires complete { IsFile pull.now.target → same ≡ false → ¬ IsMissingBlocks pull.now }
+    ensures { WritesTarget name.now pull.now same (option_copied node.entry) store.old store.new result }
 {
     let target = pull.target();
     let entry = target.entry();
-    if has_content_of(own, target) {
+    if same {
         return take_time(store, name, node, entry);
     }
     match pull.node() {
@@ -38,11 +79,7 @@ fn write_target<S: Store>(
 }
 
 // Gives the name the node.
-fn write_node<S: Store>(
-    store: &mut Traced<S>,
-    name: &Name,
-    node: &Node,
-) -> Result<(), FolderError>
+fn write_node<S: Store>(store: &mut Traced<S>, name: &Name, node: &Node) -> Result<(), FolderError>
     ensures { Stores name.now (Some node.now) ⊤ store.old store.new result }
 {
     store.write(name, node)

@@ -10,6 +10,7 @@ pub returns : goal.returns
 returns c =
     let flags = c.self.inside.arrived.items in
     let bytes = bytes_in c.self.inside.node in
-    subst (λ (pull : Pull). IsTrue c.is_any_missing.result ↔ IsMissingBlocks pull) c.self.view_is
-    ((λ some. missing_from base_block_size flags bytes (rw c.deref.ensures.value at (c.is_any_missing.ensures.0 some))),
-     (λ missing. c.is_any_missing.ensures.1 (rw c.deref.ensures.value (missing_to base_block_size flags bytes missing))))
+    subst (λ (pull : Pull). IsTrue c.is_any_missing.result ↔ IsMissingBlocks pull) c.self.view_is (
+      (λ some. missing_from base_block_size flags bytes (rw c.deref.ensures.value at (c.is_any_missing.ensures.0 some))),
+      (λ missing. c.is_any_missing.ensures.1 (rw c.deref.ensures.value (missing_to base_block_size flags bytes missing))),
+    )

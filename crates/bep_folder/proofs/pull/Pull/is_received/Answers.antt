@@ -10,6 +10,7 @@ pub returns : goal.returns
 returns c =
     let flags = c.self.inside.arrived.items in
     let bytes = bytes_in c.self.inside.node in
-    subst (λ (pull : Pull). IsTrue c.is_set.result ↔ IsReceivedAt pull.received c.args.place) c.self.view_is
-    ((λ set. received_at_flag base_block_size flags bytes c.args.place (rw c.deref.ensures.value at (c.is_set.ensures.0 set))),
-     (λ received. c.is_set.ensures.1 (rw c.deref.ensures.value (flag_of_received base_block_size flags bytes c.args.place received))))
+    subst (λ (pull : Pull). IsTrue c.is_set.result ↔ IsReceivedAt pull.received c.args.place) c.self.view_is (
+      (λ set. received_at_flag base_block_size flags bytes c.args.place (rw c.deref.ensures.value at (c.is_set.ensures.0 set))),
+      (λ received. c.is_set.ensures.1 (rw c.deref.ensures.value (flag_of_received base_block_size flags bytes c.args.place received))),
+    )
