@@ -5,7 +5,7 @@ use Rattle.std.proofs.Math.Nat.{min-eq_left}
 use Rattle.std.specs.FinMap.{remove}
 use Rattle.bep_map.specs.NameMap.{ByName}
 use Rattle.bep_record.specs.declared.entry.Entry.{Entry}
-use Rattle.bep_record.specs.declared.body.NodeParts.{NodeParts}
+use Rattle.bep_record.specs.declared.node.NodeParts.{NodeParts}
 use Rattle.bep_record.specs.Vector.{most_counters, ids_in_either}
 use Rattle.bep_index.specs.Listing.{Listing}
 use Rattle.bep_index.specs.declared.error.IndexError.{IndexError}
