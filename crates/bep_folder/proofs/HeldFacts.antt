@@ -1,12 +1,13 @@
 -- What holds of a folder that begins.
-use Rattle.std.proofs.Common.{◌≡◌, List, arith, ap, sym, ◌∙◌, subst, ⊎_elim, Contains, Result, Ok, Err, OnOk, OnErr}
-use Rattle.std.specs.Ordering.{nat_cmp}
-use Rattle.std.specs.Cmp.Lexicographic.{slice_cmp}
+use Rattle.std.proofs.Common.{◌≡◌, ◌≤◌, ◌-◌, List, Bool, true, false, cond, Some, None, arith, ap, sym, ◌∙◌, subst, ⊎_elim, Contains, Result, Ok, Err, OnOk, OnErr}
+use Rattle.std.specs.Ordering.{nat_cmp, eq_by_cmp}
+use Rattle.std.specs.Cmp.Lexicographic.{slice_cmp, nat_list_cmp_total}
 use Rattle.std.specs.Cmp.{nat_cmp_total}
-use Rattle.std.specs.FinMap.{nat_cmp-IsAntisymmetric, insert, empty, get, len, len-empty}
+use Rattle.std.specs.FinMap.{nat_cmp-IsAntisymmetric, insert, empty, get, len, remove, contains_key, len-empty, get-remove, len-remove}
 use Rattle.bep_index.specs.Listing.{Listing}
 use Rattle.bep_facts.specs.Maps.{nothing_in_empty, found_after_insert}
-use Rattle.bep_model.specs.Tables.{Device}
+use Rattle.bep_record.specs.declared.limits.TheConstants.{MAX_PULLS}
+use Rattle.bep_model.specs.Tables.{Device, FileName}
 use Rattle.bep_machine.specs.Replica.{ByDevice, Pull}
 use Rattle.bep_map.specs.NameMap.{ByName}
 use Rattle.bep_folder.specs.Held.{AreOthers, IsHeld, AreOfOthers}
@@ -36,3 +37,25 @@ IsHeld-viewed (Ok _) device others views after pulls other view ok err shares he
     record { sharing = held.sharing; viewed = subst (AreOfOthers others) (sym ok) (insert_kept others views other view shares held.viewed); pulled = held.pulled }
 IsHeld-viewed (Err _) device others views after pulls other view ok err shares held =
     record { sharing = held.sharing; viewed = subst (AreOfOthers others) (sym err) held.viewed; pulled = held.pulled }
+
+-- a name that has a value once another one's is gone had it before
+get-remove_some : (pulls : ByName Pull) (gone name : FileName) (pull : Pull) → get (remove pulls gone) name ≡ Some pull → get pulls name ≡ Some pull
+get-remove_some pulls gone name pull found = there (eq_by_cmp (slice_cmp nat_cmp) name gone) (sym (get-remove nat_list_cmp_total pulls gone name) ∙ found) where
+  there : (here : Bool) → cond here None (get pulls name) ≡ Some pull → get pulls name ≡ Some pull
+  there true none = absurd (cc)
+  there false some = some
+
+-- a pull that goes leaves the others as they are
+pub IsHeld-forgotten : (device : Device) (others : List Device) (views : ByDevice Listing) (pulls : ByName Pull) (name : FileName) →
+    IsHeld device others views pulls → IsHeld device others views (remove pulls name)
+IsHeld-forgotten device others views pulls name held = record {
+  sharing = held.sharing;
+  viewed = held.viewed;
+  pulled = record {
+    named = λ other pull found. held.pulled.named other pull (get-remove_some pulls name other pull found);
+    few = fewer (contains_key pulls name) (len-remove nat_list_cmp_total pulls name);
+  };
+} where
+  fewer : (here : Bool) → len (remove pulls name) ≡ cond here (len pulls - 1) (len pulls) → len (remove pulls name) ≤ MAX_PULLS
+  fewer true is = omega (arith, is, held.pulled.few)
+  fewer false is = omega (arith, is, held.pulled.few)

@@ -2,9 +2,12 @@ mod BlockFacts
 mod ChosenFacts
 mod CommitFacts
 mod DeviceMapFacts
+mod EndingFacts
 mod HeldFacts
 mod KeptFacts
 mod KnownFacts
 mod PullFacts
+mod SettleFacts
+mod StoredFacts
 mod ViewFacts
 mod WantedFacts

@@ -20,6 +20,8 @@ pub record Held : Type 0 where
   pub folder : Folder
   pub tables : Replica
   pub faults : ℕ
+  -- how many calls of the store the last call made
+  pub made : ℕ
   pub trace : Trace
 
 -- tables are stored as their parts, by the codes of a kind, an entry and a node
@@ -34,10 +36,10 @@ tables_code kind entry node =
 -- what is held is stored as its parts
 abbrev pub held_code : Coded FolderKind → Coded Entry → Coded NodeParts → Coded Held
 held_code kind entry node =
-    code_by (Device × (Folder × (Replica × (ℕ × Trace))))
-    (coded× coded_ℕ (coded× (coded_list coded_ℕ) (coded× (tables_code kind entry node) (coded× coded_ℕ trace_code))))
-    (λ h. (h.device, (h.folder, (h.tables, (h.faults, h.trace)))))
-    (λ p. record { device = p.0; folder = p.1.0; tables = p.1.1.0; faults = p.1.1.1.0; trace = p.1.1.1.1 })
+    code_by (Device × (Folder × (Replica × (ℕ × (ℕ × Trace)))))
+    (coded× coded_ℕ (coded× (coded_list coded_ℕ) (coded× (tables_code kind entry node) (coded× coded_ℕ (coded× coded_ℕ trace_code)))))
+    (λ h. (h.device, (h.folder, (h.tables, (h.faults, (h.made, h.trace))))))
+    (λ p. record { device = p.0; folder = p.1.0; tables = p.1.1.0; faults = p.1.1.1.0; made = p.1.1.1.1.0; trace = p.1.1.1.1.1 })
     (λ _. refl)
 
 -- the other devices rise, the device isn't among them, and there are at most 15
@@ -75,5 +77,6 @@ started device folder kind id others store faults = record {
     store = store;
   };
   faults = faults;
+  made = 0;
   trace = no_trace;
 }

@@ -1,4 +1,5 @@
 pub mod Commit
+pub mod Ending
 pub mod FolderError
 pub mod Held
 pub mod Known

@@ -6,8 +6,9 @@ ghost use Rattle.bep_folder.specs.Commit.{Commits};
 ghost use Rattle.bep_folder.specs.Makes.{Stays, CountsFaults};
 ghost use Rattle.bep_folder.specs.declared.error.FolderError.TheVariants.{SequenceFull, IndexFull, Memory};
 
+use crate::beside::is_clean;
 use crate::error::index_error;
-use crate::found::{found, is_clean};
+use crate::found::found;
 use crate::{FolderError, Replica, ScanResult};
 use bep_index::Index;
 use bep_machine::Moved;

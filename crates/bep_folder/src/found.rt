@@ -1,13 +1,13 @@
 //! The record that a scan makes of what it found.
-ghost use Rattle.std.specs.Prelude.{◌≡◌, ◌⊎◌, ◌↔◌, true, IfOk, IfErr, IsErrOf, IsTrue};
+ghost use Rattle.std.specs.Prelude.{◌≡◌, ◌⊎◌, ◌↔◌, true, IfOk, IfErr, IsErrOf};
 ghost use Rattle.std.specs.Option.{option_copied};
 ghost use Rattle.bep_record.specs.Node.{IsClean};
 ghost use Rattle.bep_record.specs.Vector.{counter_of, greatest_counter};
 ghost use Rattle.bep_machine.specs.Local.{Finds, IsCrowded, IsRaised, block_size_of_kind, blocks_of_kind, record_of_node};
-ghost use Rattle.bep_machine.specs.Replica.{version_of};
 ghost use Rattle.bep_folder.specs.Commit.{IsFound, IsCounterFull, IsVersionFull};
 ghost use Rattle.bep_folder.specs.declared.error.FolderError.TheVariants.{CounterFull, TooManyCounters};
 
+use crate::beside::version_of;
 use crate::deletion::deletion;
 use crate::{FolderError, ScanResult};
 use bep_blocks::plain_blocks_match;
@@ -16,16 +16,6 @@ use bep_record::{
     RecordError, Vector,
 };
 use std::alloc::Global;
-
-/// Whether a scan would leave the record, or its absence, alone.
-pub(crate) fn is_clean(node: Option<&Node>, own: Option<&Record>) -> bool
-    ensures { IsTrue result ↔ IsClean (option_copied node.entry) (option_copied own.entry) }
-{
-    match own {
-        Some(own) => own.clean(node),
-        None => node.is_none(),
-    }
-}
 
 /// The record of what was found, beside the own record of the name, which it will replace. Refuses `CounterFull` and
 /// `TooManyCounters` exactly where the version has to be raised and can't be. Takes no memory.
@@ -50,16 +40,6 @@ pub(crate) fn found(
             let raised = raised(version, device)?;
             Ok(found_with(alloc, device, scan, own, raised))
         }
-    }
-}
-
-// The record's version; without a record it is empty.
-fn version_of(own: Option<&Record>) -> Vector
-    ensures { result ≡ version_of (option_copied own.entry) }
-{
-    match own {
-        Some(own) => own.entry().version.copy(),
-        None => Vector::empty(),
     }
 }
 

@@ -1,18 +1,24 @@
 //! One folder at one device: the device's own index, its views of the others' indexes, its pulls and its store.
 #![tactic(auto)]
 
+mod adopt;
+mod beside;
 mod chosen;
 mod commit;
+mod conflict;
 mod deletion;
 mod device_map;
 mod edit;
+mod ending;
 mod error;
 mod found;
+mod overriding;
 mod pull;
 mod pulled;
 mod readers;
 mod replica;
 mod scan_result;
+mod settle;
 mod traced;
 mod views;
 mod wanted;

@@ -44,6 +44,7 @@ impl<S: Store> Model for Replica<S> {
       folder = r.folder;
       tables = record { kind = r.kind; others = r.others; index = r.index; views = r.views; pulls = r.pulls; store = r.store.contents };
       faults = r.store.faults;
+      made = r.store.made;
       trace = r.store.trace;
     } };
 

@@ -1,0 +1,47 @@
+use Rattle.std.proofs.Common.{◌≡◌, Err, refl, sym, ap, subst, ◌∙◌}
+use Rattle.std.specs.FinMap.{remove}
+use Rattle.std.specs.Option.{option_copied}
+use Rattle.bep_index.specs.Index.{after_put}
+use Rattle.bep_machine.specs.Replica.{own_at, node_at, pull_at}
+use Rattle.bep_machine.specs.Pull.{IsAdopted}
+use Rattle.bep_folder.specs.Held.{IsHeld, Held}
+use Rattle.bep_folder.specs.Ending.{IsReady, PutsAndWrites}
+use Rattle.bep_folder.proofs.HeldFacts.{IsHeld-forgotten}
+use Rattle.bep_folder.proofs.SettleFacts.{settled, ends_early, writing_begins}
+use Rattle.bep_folder.proofs.replica.Replica.settle.Goals as goal
+
+pub invariant_of-self : goal.invariant_of-self
+invariant_of-self g c =
+    subst (λ pulls. IsHeld c.self.inside.device c.self.inside.others c.self.inside.views pulls) (sym c.forget.ensures)
+    (IsHeld-forgotten c.self.inside.device c.self.inside.others c.self.inside.views c.self.inside.pulls c.args.name.now c.self.invariant)
+
+pub returns-in-Ok-clause-made : goal.returns-in-Ok-clause-made
+returns-in-Ok-clause-made g c =
+    let is = c.self.view_is in
+    let pull = c.in-Some.pull.now in
+    let name = c.args.name.now in
+    let now = c.put_and_write.new.store in
+    let same = c.in-Ok.ensures.0 in
+    let entry = c.in-Ok.ensures.3.0 in
+    let new : Held = record c.args.self.now { tables = record { kind = c.self.inside.kind; others = c.self.inside.others; index = c.put_and_write.new.index; views = c.self.inside.views; pulls = c.forget.new.pulls; store = now.contents }; trace = now.trace } in
+    settled name pull (option_copied c.args.copy) c.args.self.now new same (option_copied c.args.node) c.self.inside.store now entry
+    (writing_begins name pull c.args.self.now new same (option_copied c.args.node) c.self.inside.store now
+    (ap (λ h. pull_at h.tables name) (sym is) ∙ sym c.in-Some.ensures) c.requires.node (subst (λ h. IsReady name (own_at h.tables name) pull h.tables.index same) is c.in-Ok.ensures.1)
+    (ap (λ h. h.tables.store) is) (ap (λ h. h.trace) is) (ap (λ h. h.made) is) c.requires.untroubled c.requires.few refl)
+    (subst (λ h. IsAdopted (own_at h.tables name) pull.target entry) is c.in-Ok.ensures.3.1)
+    c.in-Ok.ensures.2
+    (ap (λ i. record new.tables { index = i }) c.in-Ok.ensures.3.2 ∙ ap (λ p. record new.tables { index = after_put c.self.inside.index entry; pulls = p }) c.forget.ensures
+    ∙ ap (λ h. record h.tables { index = after_put h.tables.index entry; pulls = remove h.tables.pulls name; store = now.contents }) is)
+
+pub returns-in-Err-clause-made : goal.returns-in-Err-clause-made
+returns-in-Err-clause-made g c =
+    let is = c.self.view_is in
+    let pull = c.in-Some.pull.now in
+    let name = c.args.name.now in
+    let now = c.put_and_write.new.store in
+    let new : Held = record c.args.self.now { tables = record { kind = c.self.inside.kind; others = c.self.inside.others; index = c.put_and_write.new.index; views = c.self.inside.views; pulls = c.self.inside.pulls; store = now.contents }; faults = now.faults; made = now.made; trace = now.trace } in
+    ends_early name pull (option_copied c.args.copy) c.args.self.now new (option_copied c.args.node) c.put_and_write.new.index c.self.inside.store now c.in-Err.error
+    (ap (λ h. pull_at h.tables name) (sym is) ∙ sym c.in-Some.ensures) c.requires.node
+    (ap (λ h. h.tables.store) is) (ap (λ h. h.trace) is) (ap (λ h. h.made) is) c.requires.untroubled c.requires.few refl
+    (subst (λ h. PutsAndWrites name pull (option_copied c.args.copy) (option_copied c.args.node) h.tables.index c.put_and_write.new.index c.self.inside.store now (Err c.in-Err.error)) is c.in-Err.ensures)
+    (ap (λ h. record h.tables { index = c.put_and_write.new.index; store = now.contents }) is)
