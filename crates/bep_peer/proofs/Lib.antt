@@ -1,2 +1,3 @@
 mod Cursors
 mod FirstRequest
+mod LastSequence

@@ -7,9 +7,15 @@
 //! ```
 #![tactic(auto)]
 
+mod announce;
+mod answer;
+mod config;
 mod requests;
 mod session;
 #[cfg(test)]
 mod tests;
 
+pub use announce::{index_message, is_all_sent, next_batch, sent_with};
+pub use answer::{answer_to, has_bytes, refuse};
+pub use config::{cursor_for, names_once};
 pub use session::Session;

@@ -1,8 +1,12 @@
-//! Sessions, by hand after what they are to do.
+//! Sessions and answers, by hand after what they are to do.
 use crate::*;
-use bep_index::Plan;
+use bep_index::{Index, IndexId, Plan};
+use bep_machine::{Announced, Code, Message, Request};
 use bep_map::FolderMap;
-use bep_record::{Block, FolderName, HASH_OF_NOTHING, Name};
+use bep_record::{
+    Block, FolderName, HASH_OF_NOTHING, Items, Kind, Name, Node, NodeParts, RecordError, Target,
+};
+use std::alloc::Global;
 use std::test::Fail;
 
 const BLOCK: Block = Block {
@@ -51,5 +55,83 @@ fn a_session_asks_for_blocks(rt: HostRuntime) -> Result<(), Fail> {
 
     assert!(rt; session.answered(2).is_none() && session.answered(1).is_some());
     assert!(rt; session.asked(1).is_none() && !session.is_asked(&docs, &name, &BLOCK));
+    Ok(())
+}
+
+// An empty file.
+fn empty_file(alloc: Global) -> Result<Node, RecordError> {
+    Node::read(NodeParts {
+        kind: Kind::File,
+        bytes: Items::new(Vec::new(alloc)),
+        target: Target::empty(alloc),
+        modified_s: 1000,
+        modified_ns: 0,
+    })
+}
+
+// A request for the whole of an empty file.
+fn request_for_nothing(alloc: Global) -> Result<Request, RecordError> {
+    Ok(Request {
+        id: 1,
+        folder: FolderName::read(alloc, b"docs")?,
+        name: Name::read(alloc, b"hello")?,
+        offset: 0,
+        size: 0,
+        hash: HASH_OF_NOTHING,
+    })
+}
+
+#[test]
+fn requests_are_answered(rt: HostRuntime) -> Result<(), Fail> {
+    let request = request_for_nothing(rt.alloc())?;
+    let node = empty_file(rt.alloc())?;
+    let response = answer_to(rt.alloc(), &request, Some(&node))?;
+    let missing = answer_to(rt.alloc(), &request, None)?;
+    assert_eq!(rt;
+        (response.code, missing.code),
+        (Code::NoError, Code::NoSuchFile)
+    );
+    assert_eq!(rt;
+        (
+            has_bytes(&response, &request),
+            has_bytes(&missing, &request)
+        ),
+        (true, false)
+    );
+    Ok(())
+}
+
+fn announced(folder: FolderName) -> Announced {
+    Announced {
+        folder,
+        index_id: 11,
+        sequence: 0,
+        known_id: 0,
+        known_sequence: 0,
+    }
+}
+
+// Of an index without records an empty Index is sent, and then nothing.
+#[test]
+fn an_empty_index_is_announced(rt: HostRuntime) -> Result<(), Fail> {
+    let alloc = rt.alloc();
+    let Some(id) = IndexId::read(11) else {
+        return Ok(());
+    };
+    let index = Index::new(alloc, id);
+    let docs = FolderName::read(alloc, b"docs")?;
+    let one = announced(docs.copy(alloc)?);
+    assert_eq!(rt; cursor_for(&index, &one), Plan::Full);
+    let batch = next_batch(alloc, &index, Plan::Full)?;
+    assert!(rt; !is_all_sent(Plan::Full, &batch) && is_all_sent(Plan::Above(0), &batch));
+    assert_eq!(rt;
+        (
+            sent_with(Plan::Full, &batch),
+            sent_with(Plan::Above(4), &batch)
+        ),
+        (0, 4)
+    );
+    let message = index_message(Plan::Full, docs, batch);
+    assert!(rt; matches!(message, Message::Index(_, _)));
     Ok(())
 }
