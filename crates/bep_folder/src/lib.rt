@@ -9,6 +9,8 @@ mod pulled;
 mod readers;
 mod replica;
 mod scan_result;
+#[cfg(test)]
+mod tests;
 mod traced;
 mod views;
 mod wanted;
