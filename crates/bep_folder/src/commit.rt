@@ -1,5 +1,5 @@
 //! Recording what a scan found.
-ghost use Rattle.std.specs.Prelude.{◌≡◌, ◌⊎◌, ◌↔◌, IfErr, IsErrOf, OnOk, OnErr, IsTrue};
+ghost use Rattle.std.specs.Prelude.{◌≡◌, false, ◌⊎◌, ◌↔◌, IfErr, IsErrOf, OnOk, OnErr, IsTrue};
 ghost use Rattle.std.specs.Option.{option_copied};
 ghost use Rattle.bep_index.specs.Index.{IsSequenceFull, IsIndexFull, after_put};
 ghost use Rattle.bep_folder.specs.Commit.{Commits};
@@ -21,11 +21,12 @@ impl<S: Store> Replica<S> {
     /// Refuses, in this order, `StoreFault` where the store fails, `Stale` where it has another node now than the one
     /// that was found, `CounterFull` and `TooManyCounters` where the version has to be raised and can't be, and
     /// `SequenceFull` and `IndexFull` where the index has no room. In a receive-only folder the record keeps its version,
-    /// and is marked local-only.
+    /// and is marked local-only. Else only want of memory is answered.
     pub fn commit(&mut self, scan: ScanResult) -> Result<Moved, FolderError>
         ensures commits { Commits scan self.old self.new result }
         ensures stays { Stays self.old self.new }
         ensures counted { CountsFaults self.old self.new result }
+        ensures uncopied { self.new.trace.copied ≡ false }
     {
         self.store.begin();
         let node = self.store.read(self.alloc, scan.name())?;

@@ -1,5 +1,5 @@
 //! The user's own changes of files, and what a file is now.
-ghost use Rattle.std.specs.Prelude.{◌≡◌, ◌⊎◌, IfOk, IfErr};
+ghost use Rattle.std.specs.Prelude.{◌≡◌, ◌⊎◌, false, IfOk, IfErr};
 ghost use Rattle.bep_machine.specs.Local.{EditRow, RemoveRow};
 ghost use Rattle.bep_machine.specs.Replica.{node_at};
 ghost use Rattle.bep_folder.specs.Makes.{Makes, Stays, CountsFaults};
@@ -19,6 +19,7 @@ impl<S: Store> Replica<S> {
 
         ensures stays { Stays self.old self.new }
         ensures counted { CountsFaults self.old self.new result }
+        ensures uncopied { self.new.trace.copied ≡ false }
     {
         self.store.begin();
         self.store.read(self.alloc, name)
@@ -30,6 +31,7 @@ impl<S: Store> Replica<S> {
         ensures edited { Makes (EditRow name.now node.now self.new.trace.failed) self.old self.new result }
         ensures stays { Stays self.old self.new }
         ensures counted { CountsFaults self.old self.new result }
+        ensures uncopied { self.new.trace.copied ≡ false }
     {
         self.store.begin();
         self.store.write(name, node)?;
@@ -42,6 +44,7 @@ impl<S: Store> Replica<S> {
         ensures removed { Makes (RemoveRow name.now self.new.trace.failed) self.old self.new result }
         ensures stays { Stays self.old self.new }
         ensures counted { CountsFaults self.old self.new result }
+        ensures uncopied { self.new.trace.copied ≡ false }
     {
         self.store.begin();
         let node = self.store.read(self.alloc, name)?;

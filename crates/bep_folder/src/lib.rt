@@ -19,6 +19,8 @@ mod readers;
 mod replica;
 mod scan_result;
 mod settle;
+#[cfg(test)]
+mod tests;
 mod traced;
 mod views;
 mod wanted;

@@ -42,7 +42,7 @@ impl Model for Pull {
 impl Pull {
     /// The pull of this record, of which nothing was received yet, or want of memory. The caller sees to it that the
     /// record isn't invalid.
-    pub fn new(alloc: Global, target: Record) -> Result<Self, AllocError>
+    pub(crate) fn new(alloc: Global, target: Record) -> Result<Self, AllocError>
         requires { target.invalid ≡ false }
         ensures { IfOk result (λ pull. pull ≡ new_pull target) }
     {
@@ -80,7 +80,7 @@ impl Pull {
     }
 
     /// Whether there is a block at this place, from 0, and these are its bytes: as many, and with its SHA-256.
-    pub fn is_block(&self, place: usize, bytes: &[u8]) -> bool
+    pub(crate) fn is_block(&self, place: usize, bytes: &[u8]) -> bool
         ensures { IsTrue result ↔ AreOfBlockAt self.now.target.blocks place bytes.now }
     {
         match self.target.entry().blocks.as_slice().get(place) {
@@ -91,7 +91,7 @@ impl Pull {
 
     /// Receives the block at this place, or answers want of memory and is as before. A block that was received stays
     /// as it is. The caller sees to it that the bytes are the block's, as `is_block` tells.
-    pub fn add(&mut self, place: usize, bytes: &[u8]) -> Result<(), AllocError>
+    pub(crate) fn add(&mut self, place: usize, bytes: &[u8]) -> Result<(), AllocError>
         requires { AreOfBlockAt self.old.target.blocks place bytes.now }
         ensures ok { OnOk result (self.new ≡ with_bytes self.old place bytes.now) }
         ensures err { OnErr result (self.new ≡ self.old) }

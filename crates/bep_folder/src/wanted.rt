@@ -40,13 +40,13 @@ impl<S: Store> Replica<S> {
     }
 
     /// The names of which the device wants a record, or want of memory.
-    pub fn wanted_names(&self, alloc: Global) -> Result<NameMap<()>, AllocError>
+    pub fn wanted_names(&self) -> Result<NameMap<()>, AllocError>
         ensures { IfOk result (λ names. (name : FileName) → IsSome (map.get names name) ↔ IsWantedName self.now.device self.now.tables name) }
     {
-        let mut names = NameMap::new(alloc);
+        let mut names = NameMap::new(self.alloc);
         let others = self.others.as_slice();
         for other in others {
-            self.add_viewed(&mut names, alloc, *other)?;
+            self.add_viewed(&mut names, self.alloc, *other)?;
         }
         Ok(names)
     }
