@@ -13,6 +13,8 @@ mod pulled;
 mod readers;
 mod replica;
 mod scan_result;
+#[cfg(test)]
+mod scan_tests;
 mod traced;
 mod views;
 mod wanted;
