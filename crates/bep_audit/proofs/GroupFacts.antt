@@ -1,12 +1,12 @@
 -- What the entries of one name say is what the tables say of it.
-use Rattle.std.proofs.Common.{◌≡◌, ◌↔◌, Bool, true, false, List, map, Contains, Option, Some, IsTrue, IsSome, refl, sym, ap, subst, inl, inr, ⊎_elim}
+use Rattle.std.proofs.Common.{◌≡◌, ◌↔◌, Bool, true, false, List, map, Contains, Option, IsTrue, IsSome, refl, sym, ap, subst, inl, inr, ⊎_elim}
 use Rattle.std.specs.Prelude.{not}
 use Rattle.std.specs.FinMap.{get}
 use Rattle.bep_facts.specs.Members.{Contains-image, Contains-from_image}
 use Rattle.bep_record.specs.declared.entry.Entry.{Entry}
 use Rattle.bep_record.specs.declared.node.NodeParts.{NodeParts}
 use Rattle.bep_model.specs.declared.row.Row.{Row}
-use Rattle.bep_model.specs.Tables.{Tables, Device, Folder, FileName, Shares}
+use Rattle.bep_model.specs.Tables.{Device, Folder, FileName, Shares}
 use Rattle.bep_model.specs.Foreign.{HasTrace, IsForeign, IsKnown}
 use Rattle.bep_model.specs.Settled.{key_of}
 use Rattle.bep_cut.specs.declared.cut.CutParts.{CutParts}

@@ -15,7 +15,7 @@ use Rattle.bep_model.specs.Settled.{key_of}
 use Rattle.bep_model.specs.Reasons.{Place, place_cmp, device_rank, Asks, AsksAt}
 use Rattle.bep_model.specs.Verdict.{number_of}
 use Rattle.bep_model.specs.Laws.{NumbersAreWithin, NumbersDiffer}
-use Rattle.bep_audit.specs.Search.{FindsFirst, FailsFirst, FindsFailing}
+use Rattle.bep_audit.specs.Search.{FindsFailing}
 use Rattle.bep_audit.specs.Walk.{Failure, failure_cmp, key_in, FindsLeast, FindsHere}
 use Rattle.bep_audit.proofs.SearchFacts.{finds_as}
 use Rattle.bep_audit.proofs.AskedAtRow.{IsOfRows, asked_if_here}

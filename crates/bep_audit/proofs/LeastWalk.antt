@@ -24,14 +24,14 @@ use Rattle.bep_cut.specs.declared.table.entry.TableEntry.{TableEntry}
 use Rattle.bep_cut.specs.Cut.{IsCut, tables_of}
 use Rattle.bep_cut.specs.Listed.{Listed, key_at, listed, is_of, group_of, AreInOrder, IsGrouped, cut_listed}
 use Rattle.bep_cut.specs.Said.{EntriesAreHeld, HoldersShare}
-use Rattle.bep_audit.specs.Group.{IsGroupOf, IsCountedIn}
-use Rattle.bep_audit.specs.Search.{FindsFirst, lesser}
+use Rattle.bep_audit.specs.Group.{IsGroupOf}
+use Rattle.bep_audit.specs.Search.{lesser}
 use Rattle.bep_audit.specs.Walk.{Failure, failure_cmp, key_in, FindsLeast, replaces, next_key, count_at, rows_about}
 use Rattle.bep_audit.proofs.SearchFacts.{finds_as, lesser_finds}
 use Rattle.bep_audit.proofs.FailingRow.{less_by_order}
 use Rattle.bep_audit.proofs.GroupFacts.{known_by_group}
 use Rattle.bep_audit.proofs.GroupRow.{unknown_holds}
-use Rattle.bep_audit.proofs.NameWalk.{Key, IsUnder, entry_key, Remains, IsNext, in_either, from_front, from_rest, under_itself, is_next, none_left, entries_part, rows_part, was_left, left_above, not_left, left_or_here, order_rest, rise_rest, shorter}
+use Rattle.bep_audit.proofs.NameWalk.{Key, IsUnder, Remains, IsNext, in_either, from_front, from_rest, under_itself, is_next, none_left, entries_part, rows_part, was_left, left_above, not_left, left_or_here, order_rest, rise_rest, shorter}
 
 -- ---- the order of failures
 place_total : IsTotalOrder place_cmp

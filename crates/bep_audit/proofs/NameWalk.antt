@@ -1,25 +1,21 @@
 -- A walk over the names of a cut's entries and of rows that rise, with the least failure so far.
-use Rattle.std.proofs.Common.{◌≡◌, ◌≢◌, ◌⊎◌, ◌↔◌, ◌≤◌, ◌<◌, ◌+◌, ℕ, zero, suc, Bool, true, false, cond, List, [], ◌∷◌, ◌++◌, map, length, take, drop, Contains, Option, Some, None, refl, sym, ap, subst, ◌∙◌, inl, inr, ⊎_elim, arith, length-append}
-use Rattle.std.specs.Prelude.{⊤, nat_lt}
+use Rattle.std.proofs.Common.{◌≡◌, ◌≢◌, ◌⊎◌, ◌≤◌, ◌<◌, ◌+◌, ℕ, zero, suc, Bool, true, false, cond, List, [], ◌∷◌, map, length, take, drop, Contains, Some, None, refl, sym, ap, subst, ◌∙◌, inl, inr, ⊎_elim, arith, length-append}
 use Rattle.std.specs.declared.cmp.Ordering.{Ordering}
 use Rattle.std.specs.declared.cmp.Ordering.TheVariants.{Less, Equal, Greater}
-use Rattle.std.specs.Ordering.{nat_cmp, is_lt, is_eq, is_gt, ordering_reverse}
+use Rattle.std.specs.Ordering.{is_lt, is_eq, is_gt, ordering_reverse}
 use Rattle.std.specs.Cmp.{Equal-is}
-use Rattle.std.specs.List.{filter}
-use Rattle.std.specs.List.Sorted.{IsStrictlySortedBy}
-use Rattle.std.proofs.lemmas.Bool.{cases_Bool, cond-true, cond-false}
 use Rattle.std.proofs.lemmas.Cmp.{tied_itself, upto}
 use Rattle.std.proofs.lemmas.List.{take-append-drop}
 use Rattle.std.proofs.lemmas.List.Elements.{Contains-append_left, Contains-append_right, Contains-append_cases}
 use Rattle.std.proofs.lemmas.Map.Keys.{sorted_tail}
-use Rattle.bep_facts.specs.Members.{Contains-image, Contains-from_image, Contains-cons_cases, Contains-first, Contains-more, Contains-one, not_in_none}
-use Rattle.bep_facts.specs.Orders.{Less_from_is_lt, order_cases, texts_total, texts_exact, not_less_itself}
+use Rattle.bep_facts.specs.Members.{Contains-image, Contains-cons_cases, Contains-first, Contains-more, Contains-one, not_in_none}
+use Rattle.bep_facts.specs.Orders.{Less_from_is_lt, texts_total, texts_exact, not_less_itself}
 use Rattle.bep_facts.specs.Rising.{below_later}
 use Rattle.bep_model.specs.declared.row.Row.{Row}
-use Rattle.bep_model.specs.Tables.{Tables, Folder, FileName}
+use Rattle.bep_model.specs.Tables.{Folder, FileName}
 use Rattle.bep_model.specs.Settled.{key_of, key_cmp, Rise}
 use Rattle.bep_cut.specs.declared.table.entry.TableEntry.{TableEntry}
-use Rattle.bep_cut.specs.Listed.{Listed, key_at, listed, is_of, group_of, AreInOrder, IsGrouped}
+use Rattle.bep_cut.specs.Listed.{key_at, listed, AreInOrder}
 use Rattle.bep_audit.specs.Walk.{next_key, count_at, rows_about}
 use Rattle.bep_audit.proofs.RowsFacts.{rows_sorted, rise_from_sorted}
 

@@ -1,11 +1,11 @@
 //! The auditor: whether a cut and a certificate are settled, or the first reason why not, and the certificate of a cut.
 //!
 //! `check` and `check_plain` answer the verdict, and `certify` the certificate. Of a store they believe no recorded
-//! hash: they hash the bytes that stand there. Nothing here takes memory but copies and `certify`. A caller reads a
-//! document and asks:
+//! hash: they hash the bytes that stand there. `check` walks once over the names of the cut, which it groups for that;
+//! `check_plain` looks for one reason after the other, and takes no memory. A caller reads a document and asks:
 //!
 //!     let (cut, rows) = read_check(alloc, bytes)?;
-//!     match check_plain(&cut, &Certificate::of(rows)) {
+//!     match check(alloc, &cut, &Certificate::of(rows))? {
 //!         Verdict::Settled => ..,
 //!         Verdict::Not(reason, folder, name, device) => ..,
 //!     }

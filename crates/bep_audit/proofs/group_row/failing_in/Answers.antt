@@ -1,4 +1,4 @@
-use Rattle.std.proofs.Common.{◌↔◌, IsTrue, [], ◌∷◌, map, option_map, subst, sym, arith}
+use Rattle.std.proofs.Common.{◌↔◌, IsTrue, map, option_map, subst, sym, arith}
 use Rattle.bep_model.specs.declared.reason.Reason.TheVariants.{NameUnknown, NotWinner}
 use Rattle.bep_model.specs.Foreign.{IsKnown}
 use Rattle.bep_model.specs.Settled.{key_of}

@@ -1,5 +1,4 @@
 use Rattle.std.proofs.Common.{◌≡◌, [], ◌∷◌, map, option_map, sym, subst}
-use Rattle.bep_model.specs.Settled.{key_of}
 use Rattle.bep_cut.specs.Cut.{tables_of}
 use Rattle.bep_cut.specs.Listed.{listed}
 use Rattle.bep_audit.specs.Group.{IsGroupOf}

@@ -1,4 +1,4 @@
-use Rattle.std.proofs.Common.{◌+◌, ◌-◌, ◌≤◌, length, drop, option_map}
+use Rattle.std.proofs.Common.{◌+◌, ◌≤◌, length, drop, option_map}
 use Rattle.bep_audit.specs.Walk.{failure_shown}
 use Rattle.bep_audit.proofs.LeastWalk.{Walked}
 use Rattle.bep_audit.proofs.walk.least_failure.Given as goal
