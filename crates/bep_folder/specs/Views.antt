@@ -25,8 +25,8 @@ IsTooMuch view batch = (¬ IsOld view.sequence batch) × (MAX_NAMES < len (with_
 
 -- the view of another device becomes this, and no call of the store was made
 abbrev pub with_viewed : Held → Device → Listing → Held
-with_viewed held other view = record held { tables = with_view held.tables other view; trace = no_trace }
+with_viewed held other view = record held { tables = with_view held.tables other view; made = 0; trace = no_trace }
 
 -- no call of the store was made, and all else is as before
 abbrev pub unchanged : Held → Held
-unchanged held = record held { trace = no_trace }
+unchanged held = record held { made = 0; trace = no_trace }

@@ -26,6 +26,7 @@ returns-in_err-put_record-clause-commits g c =
         store = c.read.new.self.contents;
       };
       faults = c.read.new.self.faults;
+      made = c.read.new.self.made;
       trace = c.read.new.self.trace;
     } in
     let error = err_from_is_err_and c.from_residual-in_err-put_record.result c.from_residual-in_err-put_record.ensures.1 in
