@@ -18,8 +18,6 @@ mod pulled;
 mod readers;
 mod replica;
 mod scan_result;
-#[cfg(test)]
-mod scan_tests;
 mod settle;
 #[cfg(test)]
 mod tests;
