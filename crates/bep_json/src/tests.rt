@@ -1,7 +1,7 @@
 //! Texts by this project's profile of documents; the hash of `hello` is that of `sha256sum`.
 use crate::texts::{HexBytes, TextBytes};
 use crate::*;
-use bep_record::{DeviceId, Entry, FolderName, Items, Kind, Name, Node, NodeParts, Record, Target};
+use bep_record::{DeviceId, Entry, FolderName, Items, Kind, Name, NodeParts, Record, Target};
 use serde_json::{Error, Value};
 use std::alloc::Global;
 use std::test::Fail;
@@ -216,29 +216,6 @@ fn nodes_are_read(rt: HostRuntime) -> Result<(), Fail> {
     assert_eq!(rt;
         told::<NamedParts>(alloc, &tree(alloc, NODE, r#","hex":"6""#)?),
         (true, false)
-    );
-    Ok(())
-}
-
-// A record and a node are written with every member, in the order of the members' names.
-#[test]
-fn every_member_is_written(rt: HostRuntime) -> Result<(), Fail> {
-    let alloc = rt.alloc();
-    let value = tree(alloc, RECORD, HELLO)?;
-    let Ok(record) = Record::read(Entry::read(alloc, &value)?) else {
-        return Err(ReadError::Range)?;
-    };
-    assert_eq!(rt;
-        record_value(alloc, &record)?.to_string(alloc)?.as_str(),
-        r#"{"block_size":131072,"blocks":["2cf24dba5fb0a30e26e83b2ac5b9e29e1b161e5c1fa7425e73043362938b9824"],"deleted":false,"invalid":false,"modified_by":1,"modified_ns":0,"modified_s":1000,"name":"hello","sequence":1,"size":5,"target":"","type":0,"version":[[1,1]]}"#
-    );
-    let node = NamedParts::read(alloc, &tree(alloc, NODE, r#","text":"hello""#)?)?;
-    let held = Node::read(node.parts)?;
-    assert_eq!(rt;
-        node_value(alloc, &node.name, &held)?
-            .to_string(alloc)?
-            .as_str(),
-        r#"{"hex":"68656c6c6f","modified_ns":0,"modified_s":1000,"name":"hello","target":"","type":0}"#
     );
     Ok(())
 }
