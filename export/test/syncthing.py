@@ -1,0 +1,143 @@
+"""Real Syncthing devices on loopback: their homes, their processes, and what their REST API says."""
+
+import json
+import os
+import re
+import signal
+import socket
+import subprocess
+import time
+import urllib.error
+import urllib.request
+import xml.etree.ElementTree as xml
+from pathlib import Path
+
+FOLDER = "docs"
+SECONDS_TO_WAIT = 120
+OPTIONS = {"globalAnnounceEnabled": "false", "localAnnounceEnabled": "false", "relaysEnabled": "false",
+           "natEnabled": "false", "crashReportingEnabled": "false", "urAccepted": "-1", "startBrowser": "false",
+           "autoUpgradeIntervalH": "0", "reconnectionIntervalS": "5", "stunKeepaliveStartS": "0"}
+
+
+def free_ports(count):
+    """Ports of 127.0.0.1 that nothing listens on."""
+    taken = [socket.create_server(("127.0.0.1", 0)) for _ in range(count)]
+    ports = [one.getsockname()[1] for one in taken]
+    for one in taken:
+        one.close()
+    return ports
+
+
+def wait_until(what, holds):
+    """Waits until something holds, and fails if that takes too long."""
+    end = time.monotonic() + SECONDS_TO_WAIT
+    while not holds():
+        if time.monotonic() > end:
+            raise AssertionError(f"waited {SECONDS_TO_WAIT} seconds until {what}")
+        time.sleep(0.5)
+
+
+class Device:
+    """A Syncthing device with its home, its folder and its process."""
+
+    def __init__(self, room, name):
+        self.home, self.files = room / name / "home", room / name / "files"
+        self.room = room
+        self.api_port, self.listen_port = free_ports(2)
+        self.process = None
+        self.log = room / f"{name}.log"
+        self.files.mkdir(parents=True)
+        (self.files / ".stfolder").mkdir()
+        made = subprocess.run(["syncthing", "generate", f"--home={self.home}", "--no-default-folder"],
+                              env=self.environment(), capture_output=True, text=True, check=True)
+        self.id = re.search(r"(?:[A-Z2-7]{7}-){7}[A-Z2-7]{7}", made.stdout + made.stderr)[0]
+        self.api_key = xml.parse(self.home / "config.xml").findtext("gui/apikey")
+
+    def environment(self):
+        """The process's environment: nothing of the user's home is touched, nothing is upgraded."""
+        return {"PATH": os.environ["PATH"], "HOME": str(self.room), "STNOUPGRADE": "1", "GOMAXPROCS": "1"}
+
+    def configure(self, devices, kind="sendreceive"):
+        """Writes the configuration: the folder shared with all these devices, everything on loopback."""
+        path = self.home / "config.xml"
+        tree = xml.parse(path)
+        root = tree.getroot()
+        for old in root.findall("device") + root.findall("folder"):
+            root.remove(old)
+        folder = xml.SubElement(root, "folder", id=FOLDER, path=str(self.files), type=kind, fsWatcherEnabled="false",
+                                rescanIntervalS="0")
+        for one in devices:
+            xml.SubElement(folder, "device", id=one.id)
+            xml.SubElement(xml.SubElement(root, "device", id=one.id), "address").text = \
+                f"tcp://127.0.0.1:{one.listen_port}"
+        root.find("gui/address").text = f"127.0.0.1:{self.api_port}"
+        options = root.find("options")
+        for name, value in {"listenAddress": f"tcp://127.0.0.1:{self.listen_port}", **OPTIONS}.items():
+            for old in options.findall(name):
+                options.remove(old)
+            xml.SubElement(options, name).text = value
+        tree.write(path)
+
+    def start(self):
+        """Starts the process and waits for its API."""
+        with self.log.open("ab") as log:
+            self.process = subprocess.Popen(["syncthing", "serve", f"--home={self.home}", "--no-browser",
+                                             "--no-restart"], env=self.environment(), stdout=log, stderr=log)
+        wait_until(f"{self.home} answers", self.answers)
+
+    def answers(self):
+        """Whether the API answers."""
+        if self.process.poll() is not None:
+            raise AssertionError(f"Syncthing ended by itself: {self.log.read_text()}")
+        try:
+            return self.api("GET", "system/ping") == {"ping": "pong"}
+        except (urllib.error.URLError, ConnectionError):
+            return False
+
+    def stop(self):
+        """Ends the process that was started here, if it still runs."""
+        if self.process is None:
+            return
+        if self.process.poll() is None:
+            self.process.send_signal(signal.SIGTERM)
+        try:
+            self.process.wait(SECONDS_TO_WAIT)
+        finally:
+            if self.process.poll() is None:
+                self.process.kill()
+            self.process = None
+
+    def api(self, method, path):
+        """What the REST API answers."""
+        asked = urllib.request.Request(f"http://127.0.0.1:{self.api_port}/rest/{path}", method=method,
+                                       headers={"X-API-Key": self.api_key})
+        with urllib.request.urlopen(asked, timeout=SECONDS_TO_WAIT) as answer:
+            text = answer.read()
+        return json.loads(text) if text else None
+
+    def scan(self):
+        """Scans the folder, and waits until that is done."""
+        self.api("POST", f"db/scan?folder={FOLDER}")
+
+    def is_in_step_with(self, other):
+        """Whether this device is idle, needs nothing, and takes the other to be complete."""
+        status = self.api("GET", f"db/status?folder={FOLDER}")
+        if status["state"] != "idle" or status["needTotalItems"] or status["errors"]:
+            return False
+        completion = self.api("GET", f"db/completion?folder={FOLDER}&device={other.id}")
+        connection = self.api("GET", "system/connections")["connections"][other.id]
+        return connection["connected"] and completion["completion"] == 100 and not completion["needDeletes"]
+
+
+def wait_until_in_step(one, other):
+    """Waits until both devices say that all is in step, and hold the same names."""
+    def names(device):
+        return sorted(path.relative_to(device.files) for path in device.files.rglob("*"))
+    wait_until("both devices are in step", lambda: names(one) == names(other) and one.is_in_step_with(other)
+               and other.is_in_step_with(one))
+
+
+def files_of(directory: Path):
+    """The bytes and times of all files below a directory."""
+    return {path: (path.read_bytes(), path.stat().st_mtime_ns) for path in sorted(directory.rglob("*"))
+            if path.is_file()}
