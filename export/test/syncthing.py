@@ -57,8 +57,9 @@ class Device:
         """The process's environment: nothing of the user's home is touched, nothing is upgraded."""
         return {"PATH": os.environ["PATH"], "HOME": str(self.room), "STNOUPGRADE": "1", "GOMAXPROCS": "1"}
 
-    def configure(self, devices, kind="sendreceive"):
-        """Writes the configuration: the folder shared with all these devices, everything on loopback."""
+    def configure(self, devices, kind="sendreceive", password=""):
+        """Writes the configuration: the folder shared with all these devices, everything on loopback. A password has
+        it shared encrypted."""
         path = self.home / "config.xml"
         tree = xml.parse(path)
         root = tree.getroot()
@@ -67,7 +68,9 @@ class Device:
         folder = xml.SubElement(root, "folder", id=FOLDER, path=str(self.files), type=kind, fsWatcherEnabled="false",
                                 rescanIntervalS="0")
         for one in devices:
-            xml.SubElement(folder, "device", id=one.id)
+            sharing = xml.SubElement(folder, "device", id=one.id)
+            if password and one is not self:
+                xml.SubElement(sharing, "encryptionPassword").text = password
             xml.SubElement(xml.SubElement(root, "device", id=one.id), "address").text = \
                 f"tcp://127.0.0.1:{one.listen_port}"
         root.find("gui/address").text = f"127.0.0.1:{self.api_port}"

@@ -9,99 +9,16 @@ exported. It installs nothing, and says what is missing.
 
 import json
 import os
-import shutil
 import subprocess
 import sys
-import tempfile
 import unittest
 from contextlib import contextmanager
-from pathlib import Path
 
-from documents import verdict
-from syncthing import FOLDER, Device, files_of, wait_until_in_step
+from exporting import Exporting, missing_packages
+from syncthing import FOLDER, files_of, wait_until, wait_until_in_step
 
-SOURCES = Path(__file__).resolve().parents[1]
-GOPATH = Path("/usr/share/gocode")
-NEEDED = {"golang-go": lambda: shutil.which("go"), "syncthing": lambda: shutil.which("syncthing"),
-          "golang-github-syncthing-syncthing-dev":
-              lambda: (GOPATH / "src/github.com/syncthing/syncthing/lib/db").is_dir()}
-
-
-def build(program):
-    """Builds the exporter from Debian's packages alone."""
-    go = {**os.environ, "GO111MODULE": "off", "GOPATH": str(GOPATH)}
-    subprocess.run(["go", "build", "-p", "1", "-o", program, "."], cwd=SOURCES, env=go, check=True)
-
-
-class TwoDevices(unittest.TestCase):
-    """Two devices in step, stopped; each case leaves them as they were."""
-
-    @classmethod
-    def setUpClass(cls):
-        os.umask(0o022)
-        room = tempfile.TemporaryDirectory(prefix="syncthing-cut-test-")
-        cls.addClassCleanup(room.cleanup)
-        cls.program = Path(room.name) / "syncthing-cut"
-        build(cls.program)
-        cls.one, cls.two = Device(Path(room.name), "one"), Device(Path(room.name), "two")
-        for device in (cls.one, cls.two):
-            cls.addClassCleanup(device.stop)
-            device.configure([cls.one, cls.two])
-        cls.start()
-        cls.synchronise()
-        cls.while_running = cls.export()
-        cls.stop()
-        cls.numbers = cls.device_numbers()
-
-    @classmethod
-    def start(cls):
-        cls.one.start()
-        cls.two.start()
-
-    @classmethod
-    def stop(cls):
-        cls.one.stop()
-        cls.two.stop()
-
-    @classmethod
-    def synchronise(cls):
-        """Makes one name of each kind and a deletion, and has them on both devices."""
-        files = cls.one.files
-        (files / "text").write_text("hello")
-        (files / "empty").touch()
-        (files / "folder").mkdir()
-        (files / "folder" / "large").write_bytes(bytes(range(256)) * 1024 + b"end")
-        (files / "link").symlink_to("folder/large")
-        (files / "doomed").write_text("doomed")
-        cls.one.scan()
-        wait_until_in_step(cls.one, cls.two)
-        (files / "doomed").unlink()
-        cls.one.scan()
-        wait_until_in_step(cls.one, cls.two)
-
-    @classmethod
-    def export(cls, *words):
-        """Runs the exporter on both homes."""
-        homes = [word for device in (cls.one, cls.two) for word in ("--home", str(device.home))]
-        return subprocess.run([cls.program, *homes, *words], capture_output=True, text=True)
-
-    @classmethod
-    def device_numbers(cls):
-        """The devices' numbers, by their ids, as the exporter tells them."""
-        lines = [line.split() for line in cls.export().stderr.splitlines() if " device " in line]
-        return {words[4]: int(words[2]) for words in lines}
-
-    def document(self, *words):
-        """The exported document."""
-        ran = self.export(*words)
-        self.assertEqual(ran.returncode, 0, ran.stderr)
-        return json.loads(ran.stdout)
-
-    def refused(self, *words):
-        """What the exporter says as it refuses."""
-        ran = self.export(*words)
-        self.assertEqual((ran.returncode, ran.stdout), (1, ""), ran.stderr)
-        return ran.stderr
+class TwoDevices(Exporting):
+    """Two devices that send and receive."""
 
     @contextmanager
     def other_bytes(self):
@@ -119,7 +36,7 @@ class TwoDevices(unittest.TestCase):
         return f"not settled: StoreDiffers {FOLDER} text on {self.numbers[self.two.id]}"
 
     def test_in_step_is_settled(self):
-        self.assertEqual(verdict(self.document()), "settled")
+        self.assertEqual(self.verdict(), "settled")
 
     def test_what_is_exported(self):
         share = self.document()["cut"]["folders"][0]["devices"][0]
@@ -141,7 +58,7 @@ class TwoDevices(unittest.TestCase):
 
     def test_other_bytes_of_same_size_and_time(self):
         with self.other_bytes():
-            self.assertEqual(verdict(self.document()), self.differs())
+            self.assertEqual(self.verdict(), self.differs())
 
     def test_syncthing_takes_the_other_bytes_to_be_in_step(self):
         with self.other_bytes():
@@ -149,14 +66,14 @@ class TwoDevices(unittest.TestCase):
             self.two.scan()
             wait_until_in_step(self.one, self.two)
             self.stop()
-            self.assertEqual(verdict(self.document()), self.differs())
+            self.assertEqual(self.verdict(), self.differs())
 
     def test_an_edit_that_no_scan_has_seen(self):
         path = self.two.files / "text"
         times = path.stat()
         os.utime(path, ns=(times.st_atime_ns, times.st_mtime_ns + 1))
         try:
-            self.assertEqual(verdict(self.document()), self.differs().replace("StoreDiffers", "StoreUnclean"))
+            self.assertEqual(self.verdict(), self.differs().replace("StoreDiffers", "StoreUnclean"))
         finally:
             os.utime(path, ns=(times.st_atime_ns, times.st_mtime_ns))
 
@@ -168,6 +85,38 @@ class TwoDevices(unittest.TestCase):
         ran = subprocess.run([self.program, "--home", self.one.home], capture_output=True, text=True)
         self.assertEqual((ran.returncode, ran.stdout), (1, ""))
         self.assertIn(f"folder {FOLDER}, device {self.numbers[self.two.id]}, name -: it shares the folder", ran.stderr)
+
+    def test_a_missing_home_is_left_out(self):
+        ran = subprocess.run([self.program, "--home", self.one.home, "--lenient"], capture_output=True, text=True)
+        self.assertIn("left out: 0 names, 1 devices, 0 folders", ran.stderr)
+        share, = json.loads(ran.stdout)["cut"]["folders"][0]["devices"]
+        self.assertEqual((share["device"], share["views"]), (self.numbers[self.one.id], []))
+
+    def test_an_encrypted_folder_is_refused_or_left_out(self):
+        self.one.configure([self.one, self.two], password="secret")
+        try:
+            self.assertIn("it is shared encrypted with device", self.refused())
+            ran = self.export("--lenient")
+            self.assertEqual(json.loads(ran.stdout)["cut"], {"folders": [], "links": []})
+            self.assertIn("left out: 0 names, 0 devices, 1 folders", ran.stderr)
+        finally:
+            self.one.configure([self.one, self.two])
+
+    def test_sharing_without_being_shared_with_is_refused(self):
+        self.two.configure([self.two])
+        try:
+            self.assertIn("it doesn't share the folder with device", self.refused())
+        finally:
+            self.two.configure([self.one, self.two])
+
+    def test_a_name_that_is_not_utf8_is_refused_or_left_out(self):
+        path = os.path.join(os.fsencode(self.two.files), b"odd\xff")
+        open(path, "xb").close()
+        try:
+            self.assertIn(r'name "odd\xff": its name', self.refused())
+            self.assert_left_out("odd")
+        finally:
+            os.remove(path)
 
     def test_other_permissions_are_refused_or_left_out(self):
         path = self.two.files / "text"
@@ -196,14 +145,6 @@ class TwoDevices(unittest.TestCase):
         finally:
             path.unlink()
 
-    def assert_left_out(self, name):
-        """A lenient export has nothing of this name, and says so."""
-        ran = self.export("--lenient")
-        self.assertEqual(ran.returncode, 0, ran.stderr)
-        self.assertNotIn(json.dumps(name), ran.stdout)
-        self.assertIn("left out: 1 names, 0 devices, 0 folders", ran.stderr)
-        self.assertEqual(verdict(json.loads(ran.stdout)), "settled")
-
     def test_a_file_over_the_limit_is_refused(self):
         path = self.one.files / "huge"
         with path.open("wb") as file:
@@ -217,9 +158,50 @@ class TwoDevices(unittest.TestCase):
         self.assertEqual(subprocess.run([self.program], capture_output=True).returncode, 3)
 
 
+class ReceiveOnly(Exporting):
+    """Local changes on a device that only receives."""
+
+    @classmethod
+    def setUpClass(cls):
+        super().setUpClass()
+        cls.two.configure([cls.one, cls.two], kind="receiveonly")
+        cls.start()
+        (cls.two.files / "text").write_text("my own")
+        (cls.two.files / "added").write_text("added")
+        (cls.two.files / "empty").unlink()
+        cls.two.scan()
+        wait_until("the other device knows of the changes", cls.are_changes_known)
+        cls.stop()
+
+    @classmethod
+    def are_changes_known(cls):
+        """Whether the first device has heard of all that changed on the second."""
+        completion = cls.one.api("GET", f"db/completion?folder={FOLDER}&device={cls.two.id}")
+        changed = cls.two.api("GET", f"db/status?folder={FOLDER}")
+        return changed["receiveOnlyTotalItems"] == 3 and completion["sequence"] == changed["sequence"]
+
+    def test_local_changes_are_local_only(self):
+        number = self.numbers[self.two.id]
+        for name in ("text", "empty"):
+            self.assertEqual(self.verdict("--names", name), f"not settled: LocalOnly {FOLDER} {name} on {number}")
+
+    def test_what_nobody_else_has_has_no_winner(self):
+        self.assertEqual(self.verdict("--names", "added"), f"not settled: NameMissing {FOLDER} added")
+
+    def test_they_go_as_over_the_wire(self):
+        shares = {share["device"]: share for share in self.document()["cut"]["folders"][0]["devices"]}
+        own = shares[self.numbers[self.two.id]]["own"]
+        viewed = shares[self.numbers[self.one.id]]["views"][0]["records"]
+        self.assertEqual(own, viewed)
+        self.assertEqual([(one["name"], one["version"]) for one in own if one.get("invalid")],
+                         [("added", []), ("empty", []), ("text", [])])
+
+    def test_the_rest_is_settled(self):
+        self.assertEqual(self.verdict("--names", "folder"), "settled")
+
+
 if __name__ == "__main__":
-    missing = [package for package, is_there in NEEDED.items() if not is_there()]
-    if missing:
-        print("missing Debian packages:", *missing, file=sys.stderr)
+    if missing_packages():
+        print("missing Debian packages:", *missing_packages(), file=sys.stderr)
         sys.exit(2)
     unittest.main()
