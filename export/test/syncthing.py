@@ -1,5 +1,6 @@
 """Real Syncthing devices on loopback: their homes, their processes, and what their REST API says."""
 
+import copy
 import json
 import os
 import re
@@ -65,8 +66,11 @@ class Device:
         root = tree.getroot()
         for old in root.findall("device") + root.findall("folder"):
             root.remove(old)
-        folder = xml.SubElement(root, "folder", id=FOLDER, path=str(self.files), type=kind, fsWatcherEnabled="false",
-                                rescanIntervalS="0")
+        folder = copy.deepcopy(root.find("defaults/folder"))
+        folder.attrib.update(id=FOLDER, path=str(self.files), type=kind, fsWatcherEnabled="false", rescanIntervalS="0")
+        for old in folder.findall("device"):
+            folder.remove(old)
+        root.append(folder)
         for one in devices:
             sharing = xml.SubElement(folder, "device", id=one.id)
             if password and one is not self:

@@ -14,6 +14,7 @@ import sys
 import unittest
 from contextlib import contextmanager
 
+from documents import verdict
 from exporting import Exporting, missing_packages
 from syncthing import FOLDER, files_of, wait_until, wait_until_in_step
 
@@ -198,6 +199,31 @@ class ReceiveOnly(Exporting):
 
     def test_the_rest_is_settled(self):
         self.assertEqual(self.verdict("--names", "folder"), "settled")
+
+
+class Conflict(Exporting):
+    """Both devices changed one file while they were off."""
+
+    def test_a_resolved_conflict_is_settled_with_its_copy(self):
+        (self.one.files / "text").write_text("changed on one")
+        (self.two.files / "text").write_text("changed on two")
+        self.assertEqual(self.verdict("--names", "text")[:25], "not settled: StoreDiffers")
+        self.start()
+        wait_until("both devices have the conflict copy", self.have_copies)
+        wait_until_in_step(self.one, self.two)
+        self.stop()
+        document = self.document("--names", "text")
+        self.assertEqual(verdict(document), "settled")
+        for share in document["cut"]["folders"][0]["devices"]:
+            texts = {one["name"][:18]: one["text"] for one in share["store"]}
+            self.assertEqual(sorted(texts), ["text", "text.sync-conflict"])
+            self.assertEqual(sorted(texts.values()), ["changed on one", "changed on two"])
+
+    def have_copies(self):
+        """Whether both devices hold a conflict copy, after a scan of each."""
+        self.one.scan()
+        self.two.scan()
+        return all(list(device.files.glob("text.sync-conflict-*")) for device in (self.one, self.two))
 
 
 if __name__ == "__main__":
