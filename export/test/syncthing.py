@@ -135,6 +135,13 @@ class Device:
         connection = self.api("GET", "system/connections")["connections"][other.id]
         return connection["connected"] and completion["completion"] == 100 and not completion["needDeletes"]
 
+    def knows_all_of(self, other):
+        """Whether this device is connected to the other and has heard of all that changed there."""
+        completion = self.api("GET", f"db/completion?folder={FOLDER}&device={other.id}")
+        connection = self.api("GET", "system/connections")["connections"][other.id]
+        return connection["connected"] and completion["sequence"] == other.api(
+            "GET", f"db/status?folder={FOLDER}")["sequence"]
+
 
 def wait_until_in_step(one, other):
     """Waits until both devices say that all is in step, and hold the same names."""

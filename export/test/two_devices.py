@@ -171,15 +171,8 @@ class ReceiveOnly(Exporting):
         (cls.two.files / "added").write_text("added")
         (cls.two.files / "empty").unlink()
         cls.two.scan()
-        wait_until("the other device knows of the changes", cls.are_changes_known)
+        wait_until("the other device knows of the changes", lambda: cls.one.knows_all_of(cls.two))
         cls.stop()
-
-    @classmethod
-    def are_changes_known(cls):
-        """Whether the first device has heard of all that changed on the second."""
-        completion = cls.one.api("GET", f"db/completion?folder={FOLDER}&device={cls.two.id}")
-        changed = cls.two.api("GET", f"db/status?folder={FOLDER}")
-        return changed["receiveOnlyTotalItems"] == 3 and completion["sequence"] == changed["sequence"]
 
     def test_local_changes_are_local_only(self):
         number = self.numbers[self.two.id]
@@ -199,6 +192,19 @@ class ReceiveOnly(Exporting):
 
     def test_the_rest_is_settled(self):
         self.assertEqual(self.verdict("--names", "folder"), "settled")
+
+
+class SendOnly(Exporting):
+    """A device that only sends, and another that changed a file."""
+
+    def test_out_of_step(self):
+        self.one.configure([self.one, self.two], kind="sendonly")
+        self.start()
+        (self.two.files / "text").write_text("changed on two")
+        self.two.scan()
+        wait_until("the other device knows of the change", lambda: self.one.knows_all_of(self.two))
+        self.stop()
+        self.assertEqual(self.verdict(), f"not settled: RecordDiffers {FOLDER} text on {self.numbers[self.one.id]}")
 
 
 class Conflict(Exporting):
