@@ -5,5 +5,4 @@ mod Values
 mod Added
 mod Known
 mod Finite
-mod Entries
 mod Said

@@ -4,6 +4,9 @@ use Rattle.std.specs.Ordering.{nat_cmp}
 use Rattle.std.specs.Cmp.{Equal-is}
 use Rattle.std.specs.FinMap.{get, entries, nat_cmp-IsAntisymmetric}
 use Rattle.std.proofs.lemmas.List.Elements.{Contains-append_left, Contains-append_right, Contains-append_cases}
+use Rattle.std.specs.Cmp.Lexicographic.{nat_list_cmp_total}
+use Rattle.std.proofs.lemmas.Map.Lookups.{exact_bytes}
+use Rattle.bep_facts.specs.Entries.{entry_stands}
 use Rattle.bep_facts.specs.Members.{Contains-from_image, Contains-image, Contains-flat_map, Contains-from_flat_map}
 use Rattle.bep_record.specs.declared.entry.Entry.{Entry}
 use Rattle.bep_record.specs.declared.node.NodeParts.{NodeParts}
@@ -22,7 +25,6 @@ use Rattle.bep_cut.specs.Cut.{IsCut, is_device, shares_of, share_of, view_of, ta
 use Rattle.bep_cut.specs.Laws.{Carries, HasRecord}
 use Rattle.bep_cut.specs.Listed.{Holding, Record, Node, Listed, recorded, stored, flying, records_listed, nodes_listed, views_listed, share_listed, folder_listed, flight_listed, link_listed, cut_listed}
 use Rattle.bep_cut.specs.Said.{Holds, EntriesAreHeld, HoldersShare}
-use Rattle.bep_cut.proofs.Entries.{entry_stands}
 use Rattle.bep_cut.proofs.Found.{find_gives}
 use Rattle.bep_cut.proofs.Tables.{folder_is_found, share_has_folder, sharing_is_said, own_is_said, node_is_said, viewed_is_said, target_is_said, flying_is_said, receiver_shares}
 
@@ -57,23 +59,23 @@ module _ (cut : CutParts) (is_cut : IsCut cut) where
   held_own : (folder : Folder) (share : Share) (one : Listed) → Contains (SharesOf folder) share → Contains (records_listed folder share.device from.Own share.own) one → IsHeldThere one
   held_own folder share one h there =
       let found = Contains-from_image (recorded folder share.device from.Own) (entries share.own) one there in
-      subst IsHeldThere found.2 (own_is_said cut folder found.0.0 share is_cut h ∙ (entry_stands share.own found.0.0 found.0.1).1 found.1, shares_it folder share h)
+      subst IsHeldThere found.2 (own_is_said cut folder found.0.0 share is_cut h ∙ (entry_stands nat_list_cmp_total exact_bytes share.own found.0.0 found.0.1).1 found.1, shares_it folder share h)
 
   held_node : (folder : Folder) (share : Share) (one : Listed) → Contains (SharesOf folder) share → Contains (nodes_listed folder share.device share.store) one → IsHeldThere one
   held_node folder share one h there =
       let found = Contains-from_image (stored folder share.device) (entries share.store) one there in
-      subst IsHeldThere found.2 (node_is_said cut folder found.0.0 share is_cut h ∙ (entry_stands share.store found.0.0 found.0.1).1 found.1, shares_it folder share h)
+      subst IsHeldThere found.2 (node_is_said cut folder found.0.0 share is_cut h ∙ (entry_stands nat_list_cmp_total exact_bytes share.store found.0.0 found.0.1).1 found.1, shares_it folder share h)
 
   held_pull : (folder : Folder) (share : Share) (one : Listed) → Contains (SharesOf folder) share → Contains (records_listed folder share.device from.Pull share.pulls) one → IsHeldThere one
   held_pull folder share one h there =
       let found = Contains-from_image (recorded folder share.device from.Pull) (entries share.pulls) one there in
-      subst IsHeldThere found.2 (target_is_said cut folder found.0.0 share is_cut h ∙ (entry_stands share.pulls found.0.0 found.0.1).1 found.1, shares_it folder share h)
+      subst IsHeldThere found.2 (target_is_said cut folder found.0.0 share is_cut h ∙ (entry_stands nat_list_cmp_total exact_bytes share.pulls found.0.0 found.0.1).1 found.1, shares_it folder share h)
 
   held_view : (folder : Folder) (share : Share) (one : Listed) → Contains (SharesOf folder) share → Contains (views_listed folder share.device share.views) one → IsHeldThere one
   held_view folder share one h there =
       let view = Contains-from_flat_map (λ (view : PeerView). records_listed folder share.device from.View view.records) share.views one there in
       let found = Contains-from_image (recorded folder share.device from.View) (entries view.0.records) one view.2 in
-      let has = (entry_stands view.0.records found.0.0 found.0.1).1 found.1 in
+      let has = (entry_stands nat_list_cmp_total exact_bytes view.0.records found.0.0 found.0.1).1 found.1 in
       subst IsHeldThere found.2 ((viewed_is_said cut folder found.0.0 found.0.1 share is_cut h).1 (view.0, view.1, has), shares_it folder share h)
 
   held_share : (folder : Folder) (share : Share) (one : Listed) → Contains (SharesOf folder) share → Contains (share_listed folder share) one → IsHeldThere one
@@ -136,7 +138,7 @@ module _ (cut : CutParts) (is_cut : IsCut cut) where
       Contains-append_left (Own folder share ++ Nodes folder share ++ Views folder share) (Pulls folder share) one
       (Contains-append_left (Own folder share ++ Nodes folder share) (Views folder share) one
       (Contains-append_left (Own folder share) (Nodes folder share) one
-      (Contains-image (recorded folder share.device from.Own) (entries share.own) (name, entry) ((entry_stands share.own name entry).0 has))))
+      (Contains-image (recorded folder share.device from.Own) (entries share.own) (name, entry) ((entry_stands nat_list_cmp_total exact_bytes share.own name entry).0 has))))
 
   listed_node : (folder : Folder) (name : FileName) (share : Share) (node : NodeParts) → Contains (SharesOf folder) share → get share.store name ≡ Some node → Contains (share_listed folder share) (stored folder share.device (name, node))
   unfolding share_listed
@@ -145,7 +147,7 @@ module _ (cut : CutParts) (is_cut : IsCut cut) where
       Contains-append_left (Own folder share ++ Nodes folder share ++ Views folder share) (Pulls folder share) one
       (Contains-append_left (Own folder share ++ Nodes folder share) (Views folder share) one
       (Contains-append_right (Own folder share) (Nodes folder share) one
-      (Contains-image (stored folder share.device) (entries share.store) (name, node) ((entry_stands share.store name node).0 has))))
+      (Contains-image (stored folder share.device) (entries share.store) (name, node) ((entry_stands nat_list_cmp_total exact_bytes share.store name node).0 has))))
 
   listed_view : (folder : Folder) (name : FileName) (share : Share) (view : PeerView) (entry : Entry) → Contains (SharesOf folder) share → Contains share.views view → get view.records name ≡ Some entry → Contains (share_listed folder share) (recorded folder share.device from.View (name, entry))
   unfolding share_listed
@@ -154,13 +156,13 @@ module _ (cut : CutParts) (is_cut : IsCut cut) where
       Contains-append_left (Own folder share ++ Nodes folder share ++ Views folder share) (Pulls folder share) one
       (Contains-append_right (Own folder share ++ Nodes folder share) (Views folder share) one
       (Contains-flat_map (λ (other : PeerView). records_listed folder share.device from.View other.records) share.views view one there
-      (Contains-image (recorded folder share.device from.View) (entries view.records) (name, entry) ((entry_stands view.records name entry).0 has))))
+      (Contains-image (recorded folder share.device from.View) (entries view.records) (name, entry) ((entry_stands nat_list_cmp_total exact_bytes view.records name entry).0 has))))
 
   listed_pull : (folder : Folder) (name : FileName) (share : Share) (entry : Entry) → Contains (SharesOf folder) share → get share.pulls name ≡ Some entry → Contains (share_listed folder share) (recorded folder share.device from.Pull (name, entry))
   unfolding share_listed
   listed_pull folder name share entry h has =
       Contains-append_right (Own folder share ++ Nodes folder share ++ Views folder share) (Pulls folder share) (recorded folder share.device from.Pull (name, entry))
-      (Contains-image (recorded folder share.device from.Pull) (entries share.pulls) (name, entry) ((entry_stands share.pulls name entry).0 has))
+      (Contains-image (recorded folder share.device from.Pull) (entries share.pulls) (name, entry) ((entry_stands nat_list_cmp_total exact_bytes share.pulls name entry).0 has))
 
   -- what is looked up of a device is of its share
   found_in_share : {A : Type 0} (look : Share → Option A) (device : Device) (folder : Folder) (value : A) → option_and_then look (share_of device (SharesOf folder)) ≡ Some value → (share : Share) × Contains (SharesOf folder) share × (share.device ≡ device)
