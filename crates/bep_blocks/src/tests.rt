@@ -1,8 +1,7 @@
 //! Block lists of small files, with hashes from outside.
 use super::*;
-use bep_record::{Block, BlockSize, Items};
+use bep_record::{Block, BlockSize};
 use std::alloc::Global;
-use std::test::Fail;
 
 // The SHA-256 of no bytes and of `abc` (FIPS 180-4), and by `sha256sum` of a zero byte and of 131072 of them.
 const OF_NOTHING: [u8; 32] = [
@@ -29,37 +28,45 @@ fn block(offset: u64, size: u32, hash: [u8; 32]) -> Block {
     Block { offset, size, hash }
 }
 
-// The block list of a file of this many zero bytes.
-fn of_zeros(alloc: Global, len: usize) -> Result<Items<Block>, BlocksError> {
+// Whether these are the blocks of the bytes.
+fn are_cut(alloc: Global, bytes: &[u8], wanted: &[Block]) -> bool {
+    match blocks(alloc, bytes, BlockSize::base()) {
+        Ok(made) => made.as_slice() == wanted,
+        Err(_) => false,
+    }
+}
+
+// Whether these are the blocks of a file of this many zero bytes.
+fn are_of_zeros(alloc: Global, len: usize, wanted: &[Block]) -> bool {
+    match vec![in alloc; 0; len] {
+        Ok(bytes) => are_cut(alloc, &bytes, wanted),
+        Err(_) => false,
+    }
+}
+
+#[test]
+fn cuts_into_plain_blocks(rt: HostRuntime) {
+    let alloc = rt.alloc();
+    let whole = block(0, 131072, OF_ZEROS);
+    assert!(rt; are_cut(alloc, &[], &[block(0, 0, OF_NOTHING)]));
+    assert!(rt; are_cut(alloc, b"abc", &[block(0, 3, OF_ABC)]));
+    assert!(rt; are_of_zeros(alloc, 131072, &[whole]));
+    assert!(rt; are_of_zeros(alloc, 131073, &[whole, block(131072, 1, OF_ZERO)]));
+}
+
+// How many blocks a file of this many zero bytes has.
+fn count_of_zeros(alloc: Global, len: usize) -> Result<usize, BlocksError> {
     let bytes = vec![in alloc; 0; len]?;
-    blocks(alloc, &bytes, BlockSize::base())
+    let made = blocks(alloc, &bytes, BlockSize::base())?;
+    Ok(made.as_slice().len())
 }
 
 #[test]
-fn cuts_into_plain_blocks(rt: HostRuntime) -> Result<(), Fail> {
-    let alloc = rt.alloc();
-    let nothing = blocks(alloc, &[], BlockSize::base())?;
-    assert_eq!(rt; nothing.as_slice(), [block(0, 0, OF_NOTHING)].as_slice());
-    let abc = blocks(alloc, b"abc", BlockSize::base())?;
-    assert_eq!(rt; abc.as_slice(), [block(0, 3, OF_ABC)].as_slice());
-    let whole = of_zeros(alloc, 131072)?;
-    assert_eq!(rt; whole.as_slice(), [block(0, 131072, OF_ZEROS)].as_slice());
-    let more = of_zeros(alloc, 131073)?;
-    let two = [block(0, 131072, OF_ZEROS), block(131072, 1, OF_ZERO)];
-    assert_eq!(rt; more.as_slice(), two.as_slice());
-    Ok(())
-}
-
-#[test]
-fn refuses_over_the_limit(rt: HostRuntime) -> Result<(), Fail> {
-    let alloc = rt.alloc();
-    assert_eq!(rt; of_zeros(alloc, 16777216)?.as_slice().len(), 128);
-    let Err(error) = of_zeros(alloc, 16777217) else {
-        panic!(rt; "a file over the limit has no block list");
-    };
-    assert_eq!(rt; error, BlocksError::FileTooLarge);
-    assert_eq!(rt; error.number(), Some(112));
-    Ok(())
+fn refuses_over_the_limit(rt: HostRuntime) {
+    assert_eq!(rt; count_of_zeros(rt.alloc(), 16777216), Ok(128));
+    let refused = Err(BlocksError::FileTooLarge);
+    assert_eq!(rt; count_of_zeros(rt.alloc(), 16777217), refused);
+    assert_eq!(rt; BlocksError::FileTooLarge.number(), Some(112));
 }
 
 #[test]
@@ -102,27 +109,25 @@ fn matches_no_bytes_by_one_block(rt: HostRuntime) {
     assert!(rt; !matches(b"abc", &[]));
 }
 
+// Whether the hashes make these blocks of a file of this size; where they are to make none, `wanted` is `None`.
+fn are_made(alloc: Global, hashes: &[[u8; 32]], size: u64, wanted: Option<&[Block]>) -> bool {
+    match blocks_of_hashes(alloc, hashes, size, BlockSize::base()) {
+        Ok(Some(made)) => wanted == Some(made.as_slice()),
+        Ok(None) => wanted.is_none(),
+        Err(_) => false,
+    }
+}
+
 #[test]
-fn makes_blocks_of_hashes(rt: HostRuntime) -> Result<(), Fail> {
+fn makes_blocks_of_hashes(rt: HostRuntime) {
     let alloc = rt.alloc();
-    let size = BlockSize::base();
-    let two = blocks_of_hashes(alloc, &[OF_ZEROS, OF_ZERO], 131073, size)?.ok_or("two blocks")?;
-    assert_eq!(rt; two.as_slice(), of_zeros(alloc, 131073)?.as_slice());
-    let nothing = blocks_of_hashes(alloc, &[OF_NOTHING], 0, size)?.ok_or("one block")?;
-    assert_eq!(rt; nothing.as_slice(), [block(0, 0, OF_NOTHING)].as_slice());
-    assert!(rt;
-        blocks_of_hashes(alloc, &[OF_ZEROS], 131073, size)?.is_none(),
-        "one too few"
-    );
-    assert!(rt;
-        blocks_of_hashes(alloc, &[], 0, size)?.is_none(),
-        "none for an empty file"
-    );
-    assert!(rt;
-        blocks_of_hashes(alloc, &[OF_ZERO], u64::MAX, size)?.is_none(),
-        "a huge file"
-    );
-    Ok(())
+    let two = [block(0, 131072, OF_ZEROS), block(131072, 1, OF_ZERO)];
+    assert!(rt; are_made(alloc, &[OF_ZEROS, OF_ZERO], 131073, Some(&two)));
+    let nothing = [block(0, 0, OF_NOTHING)];
+    assert!(rt; are_made(alloc, &[OF_NOTHING], 0, Some(&nothing)));
+    assert!(rt; are_made(alloc, &[OF_ZEROS], 131073, None), "one too few");
+    assert!(rt; are_made(alloc, &[], 0, None), "none for an empty file");
+    assert!(rt; are_made(alloc, &[OF_ZERO], u64::MAX, None), "a huge file");
 }
 
 #[test]
