@@ -16,7 +16,7 @@ type outlet struct {
 	count     int
 }
 
-// take is given each document.
+// take is given each document. Of one of several the log tells an answer that isn't settled.
 func (o *outlet) take(about string, written []byte) error {
 	o.count++
 	if o.directory != "" {
@@ -26,7 +26,7 @@ func (o *outlet) take(about string, written []byte) error {
 	}
 	if o.audit != nil {
 		line, err := o.audit.take(written)
-		if err == nil && line != settled {
+		if err == nil && line != settled && about != "" {
 			fmt.Fprintf(o.log, "syncthing-cut: %s: %s\n", about, line)
 		}
 		return err

@@ -6,7 +6,7 @@ import (
 	"sort"
 )
 
-// part is what one document says: some folders with their names, and words for what it is about.
+// part is what one document says: some folders with their names, and words for what it is about, none if that is all.
 type part struct {
 	about   string
 	folders []*folder
@@ -45,7 +45,7 @@ func partsOf(folders []*folder, isSplit bool, refused *refusals) ([]part, error)
 	if total > mostBytes {
 		return nil, errTooManyBytes
 	}
-	return []part{{"all", folders}}, nil
+	return []part{{"", folders}}, nil
 }
 
 // split gives the parts of a folder, each with consecutive names, at least one. Settled speaks of each name by itself,

@@ -82,6 +82,19 @@ class TwoDevices(Exporting):
         self.assertEqual((self.while_running.returncode, self.while_running.stdout), (2, ""))
         self.assertIn("Syncthing runs on", self.while_running.stderr)
 
+    def test_a_copy_of_a_home_and_its_folder(self):
+        home, files = self.room / "copied-home", self.room / "copied-files"
+        subprocess.run(["cp", "-a", self.two.home, home], check=True)
+        subprocess.run(["cp", "-a", self.two.files, files], check=True)
+        config = home / "config.xml"
+        config.write_text(config.read_text().replace(f'path="{self.two.files}"', f'path="{files}"'))
+        (files / "empty").unlink()
+        ran = subprocess.run([self.program, "--home", self.one.home, "--home", home, "--audit", "--syncaudit",
+                              self.auditor], capture_output=True, text=True)
+        self.assertEqual((ran.returncode, ran.stdout.splitlines()[0]),
+                         (1, self.fault("StoreDiffers", "empty", self.two)), ran.stderr)
+        self.assertEqual(self.verdict(), "settled")
+
     def test_a_missing_home_is_refused(self):
         ran = subprocess.run([self.program, "--home", self.one.home], capture_output=True, text=True)
         self.assertEqual((ran.returncode, ran.stdout), (2, ""))
