@@ -23,7 +23,7 @@ HERE = Path(__file__).resolve().parent
 # The longest first.
 CLASSES = [("large_folders", "LargeFolder"), ("three_devices", "LeftBehind"), ("three_devices", "EachKind"),
            ("two_devices", "Conflict"), ("two_devices", "TwoDevices"), ("two_devices", "SendOnly"),
-           ("two_devices", "ReceiveOnly"), ("three_devices", "ThreeDevices")]
+           ("two_devices", "ReceiveOnly"), ("three_devices", "Chain"), ("three_devices", "ThreeDevices")]
 SIDE_BY_SIDE = 4
 SYNCTHING = "syncthing v1.19"
 

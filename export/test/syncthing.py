@@ -46,6 +46,7 @@ class Device:
         self.room = room
         self.api_port, self.listen_port = free_ports(2)
         self.process = None
+        self.peers = []
         self.log = room / f"{name}.log"
         self.files.mkdir(parents=True)
         (self.files / ".stfolder").mkdir()
@@ -61,6 +62,7 @@ class Device:
     def configure(self, devices, kind="sendreceive", password=""):
         """Writes the configuration: the folder shared with all these devices, everything on loopback. A password has
         it shared encrypted."""
+        self.peers = [one for one in devices if one is not self]
         path = self.home / "config.xml"
         tree = xml.parse(path)
         root = tree.getroot()
@@ -148,13 +150,13 @@ class Device:
 
 
 def wait_until_in_step(*devices):
-    """Waits until all devices say that all is in step, and hold the same names."""
+    """Waits until all devices say that they are in step with those that they share with, and hold the same names."""
     def names(device):
         return sorted(path.relative_to(device.files) for path in device.files.rglob("*"))
 
     def are_in_step():
         return (all(names(device) == names(devices[0]) for device in devices)
-                and all(one.is_in_step_with(other) for one in devices for other in devices if one is not other))
+                and all(one.is_in_step_with(other) for one in devices for other in one.peers if other in devices))
     wait_until("all devices are in step", are_in_step)
 
 

@@ -101,6 +101,27 @@ class LeftBehind(Exporting):
         self.assertEqual(self.verdict(), "settled")
 
 
+class Chain(Exporting):
+    """The first and the third device share the folder with the second alone."""
+
+    names = ("one", "two", "three")
+
+    @classmethod
+    def configure(cls):
+        one, two, three = cls.devices
+        for device, others in ((one, [one, two]), (two, cls.devices), (three, [two, three])):
+            device.configure(others)
+
+    def test_views_and_links_of_those_that_share_with_each_other(self):
+        self.assertEqual(self.verdict(), "settled")
+        cut = self.document()["cut"]
+        numbers = [self.number(device) for device in self.devices]
+        views = {share["device"]: {view["of"] for view in share["views"]} for share in cut["folders"][0]["devices"]}
+        self.assertEqual([views[number] for number in numbers], [{numbers[1]}, {numbers[0], numbers[2]}, {numbers[1]}])
+        self.assertEqual({frozenset((link["a"], link["b"])) for link in cut["links"]},
+                         {frozenset(numbers[:2]), frozenset(numbers[1:])})
+
+
 class EachKind(Exporting):
     """A device that sends only, one that does both, one that receives only."""
 
