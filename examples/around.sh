@@ -41,9 +41,25 @@ helped() {
   help_of | sed -n '/^Commands:/,/^$/s/^  \([a-z]*\) .*/\1/p' | grep -vx help
 }
 
-# The subcommands of the man page's synopsis.
+# The lines of the man page's synopsis.
+synopsis() {
+  sed -n '/^\.SH SYNOPSIS/,/^\.SH DESCRIPTION/p' docs/syncaudit.1 | sed '/^\.SH/d; s/^\.[BI] //' |
+    awk '$0 == ".br" { print line; line = ""; next } { line = line (line ? " " : "") $0 } END { print line }'
+}
+
+# The subcommands of the synopsis.
 described() {
-  sed -n '/^\.SH SYNOPSIS/,/^\.SH DESCRIPTION/s/^\.B syncaudit \([a-z]*\)$/\1/p' docs/syncaudit.1
+  synopsis | cut -d ' ' -f 2
+}
+
+# begins_synopsis TEXT: a line of the synopsis is this text, or goes on after it.
+begins_synopsis() {
+  synopsis | grep -q -e "^$1\$" -e "^$1 "
+}
+
+# The usage line of a subcommand's help.
+usage_of() {
+  help_of "$1" | sed -n 's/^Usage: //p'
 }
 
 # The statuses of the man page, as the help has them.
@@ -65,7 +81,7 @@ has() {
 }
 
 for command in $(helped); do
-  expect "the man page's synopsis has no '$command'" is_one_of "$command" $(described)
+  expect "the man page's synopsis has no '$(usage_of "$command")'" begins_synopsis "$(usage_of "$command")"
   for file in completions/*; do
     expect "$file has no '$command'" has "$command" "$file"
   done
