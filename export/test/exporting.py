@@ -18,7 +18,6 @@ NEEDED = {"golang-go": lambda: shutil.which("go"), "syncthing": lambda: shutil.w
               lambda: (GOPATH / "src/github.com/syncthing/syncthing/lib/db").is_dir()}
 BUILT = SOURCES.parent / "crates/syncaudit/out/syncaudit"
 STAND_IN = Path(__file__).with_name("stand_in.py")
-GO = {**os.environ, "GO111MODULE": "off", "GOPATH": str(GOPATH)}
 
 
 def missing_packages():
@@ -26,9 +25,25 @@ def missing_packages():
     return [package for package, is_there in NEEDED.items() if not is_there()]
 
 
-def build(program, seconds=None):
+def go_environment(room):
+    """The environment for Go: Debian's packages alone; what it keeps stands in this room where it has no place of its own
+    that can be written."""
+    made = {**os.environ, "GO111MODULE": "off", "GOPATH": str(GOPATH)}
+    cache = subprocess.run(["go", "env", "GOCACHE"], env=made, capture_output=True, text=True).stdout.strip()
+    if cache.startswith("/"):
+        try:
+            os.makedirs(cache, exist_ok=True)
+            if os.access(cache, os.W_OK):
+                return made
+        except OSError:
+            pass
+    return {**made, "GOCACHE": str(room / "go-cache")}
+
+
+def build(program, environment, seconds=None):
     """Builds the exporter from Debian's packages alone, in so many seconds at most."""
-    subprocess.run(["go", "build", "-p", "1", "-o", program, "."], cwd=SOURCES, env=GO, check=True, timeout=seconds)
+    subprocess.run(["go", "build", "-p", "1", "-o", program, "."], cwd=SOURCES, env=environment, check=True,
+                   timeout=seconds)
 
 
 def auditor():
@@ -55,7 +70,7 @@ class Exporting(unittest.TestCase):
         cls.room = Path(room.name)
         cls.program = os.environ.get("SYNCTHING_CUT") or cls.room / "syncthing-cut"
         if "SYNCTHING_CUT" not in os.environ:
-            build(cls.program)
+            build(cls.program, go_environment(cls.room))
         cls.auditor = auditor()
         cls.devices = [Device(cls.room, name) for name in cls.names]
         cls.one, cls.two = cls.devices[:2]

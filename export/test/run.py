@@ -129,11 +129,12 @@ def main():
 
 def run_all(room, deadline):
     """Builds the exporter and runs all tests; gives how many passed and failed, and what wasn't finished."""
-    from exporting import GO, STAND_IN, auditor, build
+    from exporting import STAND_IN, auditor, build, go_environment
     program = auditor()
     print("exporter's tests, audited by", "compare/ in place of the program" if program == str(STAND_IN) else program)
-    build(room / "syncthing-cut", max(deadline - time.monotonic(), 1))
-    passed, failed = run_go(GO, deadline)
+    go = go_environment(room)
+    build(room / "syncthing-cut", go, max(deadline - time.monotonic(), 1))
+    passed, failed = run_go(go, deadline)
     environment = {**os.environ, "SYNCTHING_CUT": str(room / "syncthing-cut"), "TMPDIR": str(room)}
     more = run_classes(environment, deadline)
     return passed + more[0], failed + more[1], more[2]
