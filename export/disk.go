@@ -21,51 +21,44 @@ type found struct {
 	permissions uint32
 }
 
-// walker reads the nodes of a folder at one device.
+// walker reads the nodes of a folder at one device, without the bytes of files.
 type walker struct {
 	disk   fs.Filesystem // gives times as Syncthing sees them
 	prefix string        // only names that begin so are read
-	budget *int64        // how many bytes may still be read
 	refuse func(what scope, name, reason string)
 	nodes  map[string]found
 }
 
 // walk reads what stands in a directory and below it. Symlinks aren't followed.
-func (w *walker) walk(directory string) error {
+func (w *walker) walk(directory string) {
 	names, err := w.disk.DirNames(directory)
 	if err != nil {
 		w.refuse(scopeDevice, directory, "the directory can't be read: "+err.Error())
-		return nil
+		return
 	}
 	sort.Strings(names)
 	for _, name := range names {
-		if err := w.visit(path.Join(directory, name)); err != nil {
-			return err
-		}
+		w.visit(path.Join(directory, name))
 	}
-	return nil
 }
 
 // visit reads what stands under a name, and below it if that is a directory. What Syncthing keeps for itself and its
 // temporary files are passed over, as its scanner does.
-func (w *walker) visit(name string) error {
+func (w *walker) visit(name string) {
 	if fs.IsInternal(name) {
-		return nil
+		return
 	}
 	info, err := w.disk.Lstat(name)
 	if err != nil {
 		w.refuse(scopeName, name, "it can't be read: "+err.Error())
-		return nil
+		return
 	}
 	if strings.HasPrefix(name, w.prefix) && !fs.IsTemporary(name) {
-		if err := w.read(name, info); err != nil {
-			return err
-		}
+		w.read(name, info)
 	}
 	if info.IsDir() && mayHold(name, w.prefix) {
-		return w.walk(name)
+		w.walk(name)
 	}
-	return nil
 }
 
 // mayHold says whether names below a directory may begin with the prefix.
@@ -74,21 +67,17 @@ func mayHold(directory, prefix string) bool {
 	return strings.HasPrefix(below, prefix) || strings.HasPrefix(prefix, below)
 }
 
-// read takes a node, or refuses it; an error ends the export.
-func (w *walker) read(name string, info fs.FileInfo) error {
+// read takes a node, or refuses it.
+func (w *walker) read(name string, info fs.FileInfo) {
 	one, err := w.nodeOf(name, info)
-	if errors.Is(err, errTooManyBytes) {
-		return err
-	}
 	if err == nil {
 		err = checkName(name)
 	}
 	if err != nil {
 		w.refuse(scopeName, name, err.Error())
-		return nil
+		return
 	}
 	w.nodes[name] = found{one, one.Type, uint32(info.Mode() & fs.ModePerm)}
-	return nil
 }
 
 // nodeOf reads a node.
@@ -106,33 +95,42 @@ func (w *walker) nodeOf(name string, info fs.FileInfo) (node, error) {
 		one.Type = int(protocol.FileInfoTypeDirectory)
 	case info.IsRegular():
 		one.Type = int(protocol.FileInfoTypeFile)
-		var data []byte
-		data, err = w.bytesOf(name, info.Size())
-		one.Text, one.Hex = textOrHex(data)
+		if one.size = info.Size(); one.size > mostFileBytes {
+			err = fmt.Errorf("it has over %d bytes on the disk", mostFileBytes)
+		}
 	default:
 		err = errors.New("it is no file, directory or symlink")
 	}
 	return one, err
 }
 
-// bytesOf reads a file that has this size.
-func (w *walker) bytesOf(name string, size int64) ([]byte, error) {
-	if size > mostFileBytes {
-		return nil, fmt.Errorf("it has over %d bytes on the disk", mostFileBytes)
+// withBytes gives the node with the bytes that its file has.
+func withBytes(disk fs.Filesystem, one node) (node, error) {
+	if one.Type != int(protocol.FileInfoTypeFile) {
+		return one, nil
 	}
-	if *w.budget -= size; *w.budget < 0 {
-		return nil, errTooManyBytes
+	data, err := bytesOf(disk, one)
+	if err != nil {
+		return node{}, err
 	}
-	file, err := w.disk.Open(name)
+	one.Text, one.Hex = textOrHex(data)
+	return one, nil
+}
+
+// bytesOf reads the bytes of a file that still has this size and time.
+func bytesOf(disk fs.Filesystem, one node) ([]byte, error) {
+	file, err := disk.Open(one.Name)
 	if err != nil {
 		return nil, fmt.Errorf("it can't be read: %w", err)
 	}
 	defer file.Close()
-	data, err := io.ReadAll(io.LimitReader(file, size+1))
+	data, err := io.ReadAll(io.LimitReader(file, one.size+1))
 	if err != nil {
 		return nil, fmt.Errorf("it can't be read: %w", err)
 	}
-	if int64(len(data)) != size {
+	after, err := disk.Lstat(one.Name)
+	if err != nil || int64(len(data)) != one.size || after.ModTime().Unix() != one.ModifiedS ||
+		after.ModTime().Nanosecond() != one.ModifiedNs {
 		return nil, errors.New("it changed while it was read")
 	}
 	return data, nil

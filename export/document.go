@@ -3,6 +3,8 @@ package main
 import (
 	"bytes"
 	"encoding/json"
+
+	"github.com/syncthing/syncthing/lib/fs"
 )
 
 // document is a check document without its certificate.
@@ -32,6 +34,8 @@ type share struct {
 	Own     []record `json:"own"`
 	Store   []node   `json:"store"`
 	Views   []view   `json:"views"`
+
+	disk fs.Filesystem // where the store's bytes stand
 }
 
 // view is what a device knows of another device's index.
@@ -66,7 +70,7 @@ type record struct {
 	Target     string      `json:"target,omitempty"`
 }
 
-// node is what stands on the disk under a name.
+// node is what stands on the disk under a name. A file's bytes are read when its document is written.
 type node struct {
 	Name       string `json:"name"`
 	Type       int    `json:"type"`
@@ -75,6 +79,8 @@ type node struct {
 	Text       string `json:"text,omitempty"`
 	Hex        string `json:"hex,omitempty"`
 	Target     string `json:"target,omitempty"`
+
+	size int64 // of a file
 }
 
 // encode gives the document's one line.

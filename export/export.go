@@ -6,62 +6,91 @@ import (
 	"sort"
 )
 
-// export reads the homes and gives the document's bytes.
-func export(asked options, refused *refusals, log io.Writer) ([]byte, error) {
+// taker is given each document, with words for what it is about.
+type taker func(about string, written []byte) error
+
+// export reads the homes and gives the documents to the taker.
+func export(asked options, refused *refusals, log io.Writer, take taker) error {
 	homes, err := openHomes(asked.homes)
 	if err != nil {
-		return nil, err
+		return err
 	}
 	defer closeHomes(homes)
 	for _, one := range homes {
 		fmt.Fprintf(log, "syncthing-cut: device %d is %s (%s)\n", one.number(), one.id, one.dir)
 	}
-	made, err := readCut(homes, asked, refused)
+	holders := holdersOf(homes)
+	folders, err := readFolders(homes, holders, asked, refused)
 	if err == nil {
 		err = refused.stop()
 	}
-	if err == nil {
-		err = checkLimits(made)
+	if err != nil {
+		return err
 	}
+	parts, err := partsOf(folders, asked.split, refused)
+	if err == nil {
+		err = refused.stop()
+	}
+	if err != nil {
+		return err
+	}
+	for next := range parts {
+		if err := parts[next].write(holders, refused, take); err != nil {
+			return err
+		}
+		parts[next] = part{} // its bytes aren't needed any more
+	}
+	return nil
+}
+
+// write reads the bytes of a part's files and gives its document to the taker.
+func (p part) write(holders map[string][]holder, refused *refusals, take taker) error {
+	for _, one := range p.folders {
+		readBytes(one, refused)
+	}
+	if err := refused.stop(); err != nil {
+		return err
+	}
+	for _, one := range p.folders {
+		keep(one, refused)
+	}
+	written, err := encode(document{1, cut{p.folders, linksOf(p.folders, holders)}})
+	if err != nil {
+		return err
+	}
+	if len(written) > mostBytes {
+		return errTooManyBytes
+	}
+	return take(p.about, written)
+}
+
+// readFolders reads the chosen folders at all devices, without the bytes of files, and leaves out what was refused.
+func readFolders(homes []*home, holders map[string][]holder, asked options, refused *refusals) ([]*folder, error) {
+	ids, err := chosenFolders(holders, asked.folders)
 	if err != nil {
 		return nil, err
 	}
-	written, err := encode(document{1, made})
-	if err == nil && len(written) > mostBytes {
-		err = errTooManyBytes
-	}
-	return written, err
-}
-
-// readCut reads the chosen folders at all devices, and leaves out what was refused.
-func readCut(homes []*home, asked options, refused *refusals) (cut, error) {
-	holders := holdersOf(homes)
-	ids, err := chosenFolders(holders, asked.folders)
-	if err != nil {
-		return cut{}, err
-	}
-	budget := int64(mostBytes)
 	folders := []*folder{}
 	for _, id := range ids {
 		checkFolder(id, holders[id], homes, refused)
 		if refused.folders[id] {
 			continue
 		}
-		readings, err := readFolder(holders[id], asked.names, &budget, refused)
+		readings, err := readFolder(holders[id], asked.names, refused)
 		if err != nil {
-			return cut{}, err
+			return nil, err
 		}
 		refusePermissions(id, readings, refused)
 		folders = append(folders, folderOf(id, readings, refused))
 	}
-	return cut{folders, linksOf(folders, holders)}, nil
+	return folders, nil
 }
 
 // readFolder reads a folder at each of its devices.
-func readFolder(all []holder, prefix string, budget *int64, refused *refusals) ([]reading, error) {
+func readFolder(all []holder, prefix string, refused *refusals) ([]reading, error) {
 	var readings []reading
 	for _, one := range all {
-		next, err := (&reader{one, prefix, budget, refused}).read()
+		next, err := (&reader{one, prefix, refused}).read()
 		if err != nil {
 			return nil, err
 		}
@@ -97,47 +126,71 @@ func namesOf(one reading) []string {
 	return names
 }
 
+// readBytes reads the bytes of a folder's files, and refuses what can't be read.
+func readBytes(one *folder, refused *refusals) {
+	for _, at := range one.Devices {
+		for next := range at.Store {
+			filled, err := withBytes(at.disk, at.Store[next])
+			if err != nil {
+				refused.add(scopeName, place{one.ID, at.Device, at.Store[next].Name}, err.Error())
+				continue
+			}
+			at.Store[next] = filled
+		}
+	}
+}
+
 // folderOf gives the folder without the names and devices that are left out.
 func folderOf(id string, readings []reading, refused *refusals) *folder {
 	made := &folder{id, []*share{}}
 	for _, one := range readings {
-		if refused.leavesOutDevice(id, one.share.Device) {
-			continue
+		if !refused.leavesOutDevice(id, one.share.Device) {
+			made.Devices = append(made.Devices, one.share)
 		}
-		one.share.Own = keptRecords(id, one.share.Own, refused)
-		one.share.Store = keptNodes(id, one.share.Store, refused)
-		one.share.Views = keptViews(id, one.share.Views, refused)
-		made.Devices = append(made.Devices, one.share)
+	}
+	keep(made, refused)
+	return made
+}
+
+// keep takes the names and the viewed devices that are left out away from a folder.
+func keep(made *folder, refused *refusals) {
+	isKept := func(name string) bool { return !refused.leavesOutName(made.ID, name) }
+	for _, at := range made.Devices {
+		*at = withNames(at, isKept)
+		views := []view{}
+		for _, of := range at.Views {
+			if !refused.leavesOutDevice(made.ID, of.Of) {
+				views = append(views, of)
+			}
+		}
+		at.Views = views
+	}
+}
+
+// withNames gives the share with only the names for which this holds.
+func withNames(at *share, holds func(name string) bool) share {
+	made := *at
+	made.Own = recordsWith(at.Own, holds)
+	made.Store = []node{}
+	for _, one := range at.Store {
+		if holds(one.Name) {
+			made.Store = append(made.Store, one)
+		}
+	}
+	made.Views = []view{}
+	for _, of := range at.Views {
+		of.Records = recordsWith(of.Records, holds)
+		made.Views = append(made.Views, of)
 	}
 	return made
 }
 
-func keptRecords(id string, all []record, refused *refusals) []record {
+// recordsWith gives the records for whose names this holds.
+func recordsWith(all []record, holds func(name string) bool) []record {
 	kept := []record{}
 	for _, one := range all {
-		if !refused.leavesOutName(id, one.Name) {
+		if holds(one.Name) {
 			kept = append(kept, one)
-		}
-	}
-	return kept
-}
-
-func keptNodes(id string, all []node, refused *refusals) []node {
-	kept := []node{}
-	for _, one := range all {
-		if !refused.leavesOutName(id, one.Name) {
-			kept = append(kept, one)
-		}
-	}
-	return kept
-}
-
-func keptViews(id string, all []view, refused *refusals) []view {
-	kept := []view{}
-	for _, of := range all {
-		if !refused.leavesOutDevice(id, of.Of) {
-			of.Records = keptRecords(id, of.Records, refused)
-			kept = append(kept, of)
 		}
 	}
 	return kept

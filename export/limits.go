@@ -16,15 +16,17 @@ const (
 )
 
 // errTooManyBytes says that the document would be too long.
-var errTooManyBytes = fmt.Errorf("refused: the document would be over %d bytes: --folder and --names PREFIX make smaller ones", mostBytes)
+var errTooManyBytes = fmt.Errorf("refused: the document could be over %d bytes once it has its certificate: --split makes "+
+	"several, --folder and --names PREFIX make smaller ones", mostBytes)
 
-// checkLimits says which limit the cut is over, if any.
-func checkLimits(made cut) error {
-	if len(made.Folders) > mostFolders {
-		return fmt.Errorf("refused: %d folders, at most %d go into a document: choose with --folder", len(made.Folders), mostFolders)
+// checkLimits says which limit of a document its folders are over, if any.
+func checkLimits(folders []*folder) error {
+	if len(folders) > mostFolders {
+		return fmt.Errorf("refused: %d folders, at most %d go into a document: --split makes several, or choose with --folder",
+			len(folders), mostFolders)
 	}
 	devices := map[uint64]bool{}
-	for _, one := range made.Folders {
+	for _, one := range folders {
 		for _, at := range one.Devices {
 			devices[at.Device] = true
 			if err := checkNames(one.ID, at); err != nil {
@@ -34,6 +36,14 @@ func checkLimits(made cut) error {
 	}
 	if len(devices) > mostDevices {
 		return fmt.Errorf("refused: %d devices, at most %d go into a document", len(devices), mostDevices)
+	}
+	return nil
+}
+
+// checkDevices says whether a folder has too many devices for a document.
+func checkDevices(one *folder) error {
+	if len(one.Devices) > mostDevices {
+		return fmt.Errorf("refused: folder %s: %d devices, at most %d go into a document", one.ID, len(one.Devices), mostDevices)
 	}
 	return nil
 }
@@ -49,6 +59,6 @@ func checkNames(id string, at *share) error {
 	if most <= mostNames {
 		return nil
 	}
-	return fmt.Errorf("refused: %s: %d names in an index, at most %d go into a document: --names PREFIX makes smaller ones",
+	return fmt.Errorf("refused: %s: %d names in an index, at most %d go into a document: --split makes several",
 		place{folder: id, device: at.Device}, most, mostNames)
 }

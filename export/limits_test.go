@@ -2,16 +2,16 @@ package main
 
 import "testing"
 
-// cutOf gives a cut of so many folders, each at so many devices, with so many names in each view.
-func cutOf(folders, devices, names int) cut {
-	var made cut
-	for len(made.Folders) < folders {
+// foldersOf gives so many folders, each at so many devices, with so many names in each view.
+func foldersOf(folders, devices, names int) []*folder {
+	var made []*folder
+	for len(made) < folders {
 		one := &folder{ID: "docs"}
 		for number := 1; number <= devices; number++ {
 			views := []view{{Records: make([]record, names)}}
 			one.Devices = append(one.Devices, &share{Device: uint64(number), Views: views})
 		}
-		made.Folders = append(made.Folders, one)
+		made = append(made, one)
 	}
 	return made
 }
@@ -25,7 +25,7 @@ func TestLimits(t *testing.T) {
 		{17, 1, 0, false}, {1, 17, 0, false}, {1, 1, 4097, false},
 	}
 	for _, one := range cases {
-		if err := checkLimits(cutOf(one.folders, one.devices, one.names)); (err == nil) != one.good {
+		if err := checkLimits(foldersOf(one.folders, one.devices, one.names)); (err == nil) != one.good {
 			t.Errorf("%d folders, %d devices, %d names: %v", one.folders, one.devices, one.names, err)
 		}
 	}

@@ -9,11 +9,12 @@ import (
 	"syscall"
 )
 
-// Exit statuses.
+// Exit statuses, as syncaudit has them.
 const (
-	statusWritten = 0
-	statusRefused = 1
-	statusUsage   = 3
+	statusWritten    = 0 // or settled
+	statusNotSettled = 1
+	statusRefused    = 2
+	statusUsage      = 3
 )
 
 // meaning says once, on standard error, what an answer on the document means for real Syncthing.
@@ -23,15 +24,15 @@ which merge versions when they adopt a record, as Syncthing does not.
 `
 
 func main() {
-	document, err := takeStandardOutput()
+	output, err := takeStandardOutput()
 	if err != nil {
 		fmt.Fprintln(os.Stderr, "syncthing-cut:", err)
 		os.Exit(statusRefused)
 	}
-	os.Exit(run(os.Args[1:], document, os.Stderr))
+	os.Exit(run(os.Args[1:], output, os.Stderr))
 }
 
-// takeStandardOutput gives the document's output to the caller and sends everything else that is printed to standard
+// takeStandardOutput gives the program's output to the caller and sends everything else that is printed to standard
 // error: Syncthing's packages log to standard output.
 func takeStandardOutput() (io.Writer, error) {
 	number, err := syscall.Dup(syscall.Stdout)
@@ -45,23 +46,37 @@ func takeStandardOutput() (io.Writer, error) {
 }
 
 // run does what the words ask for and gives the exit status.
-func run(words []string, document, log io.Writer) int {
+func run(words []string, output, log io.Writer) int {
 	options, err := readOptions(words, log)
 	if err != nil {
 		return statusUsage
 	}
 	refusals := newRefusals(options.lenient, log)
-	written, err := export(options, refusals, log)
+	to := &outlet{output: output, log: log, directory: options.into}
+	if options.audit {
+		to.audit = &audit{program: options.program}
+	}
+	err = export(options, refusals, log, to.take)
 	refusals.printCount()
+	status := statusWritten
 	if err == nil {
-		_, err = document.Write(written)
+		status, err = to.finish()
 	}
 	if err != nil {
-		if !errors.Is(err, errRefused) {
-			fmt.Fprintln(log, "syncthing-cut:", err)
-		}
-		return statusRefused
+		return statusOf(err, log)
 	}
 	fmt.Fprint(log, meaning)
-	return statusWritten
+	return status
+}
+
+// statusOf tells the log of an error that it hasn't been told yet, and gives the exit status.
+func statusOf(err error, log io.Writer) int {
+	if !errors.Is(err, errRefused) {
+		fmt.Fprintln(log, "syncthing-cut:", err)
+	}
+	var failed *failedAudit
+	if errors.As(err, &failed) {
+		return failed.status
+	}
+	return statusRefused
 }

@@ -9,6 +9,7 @@ import (
 
 	"github.com/syncthing/syncthing/lib/config"
 	"github.com/syncthing/syncthing/lib/db"
+	"github.com/syncthing/syncthing/lib/fs"
 	"github.com/syncthing/syncthing/lib/ignore"
 	"github.com/syncthing/syncthing/lib/protocol"
 )
@@ -24,7 +25,6 @@ type reading struct {
 type reader struct {
 	holder
 	prefix  string
-	budget  *int64
 	refused *refusals
 }
 
@@ -36,7 +36,7 @@ func (r *reader) refuse(what scope, name, reason string) {
 	r.refused.add(what, r.place(name), reason)
 }
 
-// read reads index, views and nodes. What Syncthing's packages panic with, such as a list of blocks that the index
+// read reads index, views and nodes, without the bytes of files. What Syncthing's packages panic with, such as a list of blocks that the index
 // lacks, is the error.
 func (r *reader) read() (made reading, err error) {
 	defer func() {
@@ -52,11 +52,8 @@ func (r *reader) read() (made reading, err error) {
 	if err := r.readIndexes(files, made); err != nil {
 		return reading{}, err
 	}
-	nodes, err := r.readDisk(files)
-	if err != nil {
-		return reading{}, err
-	}
-	r.takeNodes(made, nodes)
+	made.share.disk = files.MtimeFS(r.config.Filesystem())
+	r.takeNodes(made, r.readDisk(made.share.disk))
 	r.refuseIgnored(made)
 	return made, nil
 }
@@ -125,14 +122,15 @@ func (r *reader) records(snapshot *db.Snapshot, of protocol.DeviceID, greatest i
 }
 
 // readDisk reads the folder's nodes.
-func (r *reader) readDisk(files *db.FileSet) (map[string]found, error) {
+func (r *reader) readDisk(disk fs.Filesystem) map[string]found {
 	nodes := map[string]found{}
 	if err := r.config.CheckPath(); err != nil {
 		r.refuse(scopeDevice, "", fmt.Sprintf("%s: %v", r.config.Path, err))
-		return nodes, nil
+		return nodes
 	}
-	walk := &walker{files.MtimeFS(r.config.Filesystem()), r.prefix, r.budget, r.refuse, nodes}
-	return nodes, walk.walk(".")
+	walk := &walker{disk, r.prefix, r.refuse, nodes}
+	walk.walk(".")
+	return nodes
 }
 
 // takeNodes puts the nodes into the share, their names rising, and refuses those whose permissions differ.

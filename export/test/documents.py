@@ -14,22 +14,32 @@ def encoded(value):
     return json.dumps(value).encode()
 
 
-def certified(document):
-    """The document with the winner of each name that has one."""
-    bare = {**document, "certificate": []}
-    cut = Cut(read_check(encoded(bare)))
+def with_certificate(written, rows):
+    """The bytes of an exported cut's document, which has no certificate yet, with these rows as its certificate."""
+    return written[:written.rindex(b"}")] + b',"certificate":' + encoded(rows) + b"}\n"
+
+
+def known(cut):
+    """Each known folder and name, rising."""
+    return [(folder, name) for folder in cut.folders for name in sorted(cut.known(folder))]
+
+
+def certified(written):
+    """The bytes of an exported cut's document with its certificate; without one, the first known folder and name that
+    has no winner."""
+    cut = Cut(read_check(with_certificate(written, [])))
+    own = {(folder["folder"].encode(), share["device"], record["name"].encode()): record
+           for folder in json.loads(written)["cut"]["folders"] for share in folder["devices"] for record in share["own"]}
     rows = []
-    for folder in sorted(document["cut"]["folders"], key=lambda one: one["folder"]):
-        own = {(share["device"], record["name"]): record for share in folder["devices"] for record in share["own"]}
-        for name in sorted(cut.known(folder["folder"].encode())):
-            winner = cut.winner(folder["folder"].encode(), name)
-            if winner:
-                rows.append({"folder": folder["folder"], "device": winner[0],
-                             "record": own[winner[0], name.decode()]})
-    return {**bare, "certificate": rows}
+    for folder, name in known(cut):
+        winner = cut.winner(folder, name)
+        if not winner:
+            return None, (folder, name)
+        rows.append({"folder": folder.decode(), "device": winner[0], "record": own[folder, winner[0], name]})
+    return with_certificate(written, rows), None
 
 
 def verdict(document):
-    """The first line of the report on the document, certified."""
-    lines, _ = answer(encoded(certified(document)))
+    """The first line of the report on an exported document, certified."""
+    lines, _ = answer(certified(encoded(document))[0])
     return lines.decode().splitlines()[0]

@@ -1,4 +1,4 @@
-"""Two real Syncthing devices in step, stopped, and the exporter run on them."""
+"""Real Syncthing devices in step, stopped, and the exporter run on them."""
 
 import json
 import os
@@ -9,13 +9,15 @@ import unittest
 from pathlib import Path
 
 from documents import verdict
-from syncthing import Device, wait_until_in_step
+from syncthing import FOLDER, Device, wait_until_in_step
 
 SOURCES = Path(__file__).resolve().parents[1]
 GOPATH = Path("/usr/share/gocode")
 NEEDED = {"golang-go": lambda: shutil.which("go"), "syncthing": lambda: shutil.which("syncthing"),
           "golang-github-syncthing-syncthing-dev":
               lambda: (GOPATH / "src/github.com/syncthing/syncthing/lib/db").is_dir()}
+BUILT = SOURCES.parent / "crates/syncaudit/out/syncaudit"
+STAND_IN = Path(__file__).with_name("stand_in.py")
 
 
 def missing_packages():
@@ -23,26 +25,58 @@ def missing_packages():
     return [package for package, is_there in NEEDED.items() if not is_there()]
 
 
-def build(program):
-    """Builds the exporter from Debian's packages alone."""
-    go = {**os.environ, "GO111MODULE": "off", "GOPATH": str(GOPATH)}
-    subprocess.run(["go", "build", "-p", "1", "-o", program, "."], cwd=SOURCES, env=go, check=True)
+def go_environment(room):
+    """The environment for Go: Debian's packages alone; what it keeps stands in this room where it has no place of its own
+    that can be written."""
+    made = {**os.environ, "GO111MODULE": "off", "GOPATH": str(GOPATH)}
+    cache = subprocess.run(["go", "env", "GOCACHE"], env=made, capture_output=True, text=True).stdout.strip()
+    if cache.startswith("/"):
+        try:
+            os.makedirs(cache, exist_ok=True)
+            if os.access(cache, os.W_OK):
+                return made
+        except OSError:
+            pass
+    return {**made, "GOCACHE": str(room / "go-cache")}
+
+
+def build(program, environment, seconds=None):
+    """Builds the exporter from Debian's packages alone, in so many seconds at most."""
+    subprocess.run(["go", "build", "-p", "1", "-o", program, "."], cwd=SOURCES, env=environment, check=True,
+                   timeout=seconds)
+
+
+def auditor():
+    """The program that audits: $SYNCAUDIT, the one that is built here if it can certify, or what stands for it."""
+    empty = b'{"version":1,"cut":{"folders":[]}}'
+    if os.environ.get("SYNCAUDIT"):
+        return os.environ["SYNCAUDIT"]
+    if BUILT.exists() and subprocess.run([BUILT, "certify"], input=empty, capture_output=True).returncode == 0:
+        return str(BUILT)
+    return str(STAND_IN)
 
 
 class Exporting(unittest.TestCase):
-    """Two devices in step, stopped. A case leaves them as they were."""
+    """Devices in step, stopped. A case leaves them as they were."""
+
+    names = ("one", "two")
+    kinds = {}
 
     @classmethod
     def setUpClass(cls):
         os.umask(0o022)
         room = tempfile.TemporaryDirectory(prefix="syncthing-cut-test-")
         cls.addClassCleanup(room.cleanup)
-        cls.program = Path(room.name) / "syncthing-cut"
-        build(cls.program)
-        cls.one, cls.two = Device(Path(room.name), "one"), Device(Path(room.name), "two")
-        for device in (cls.one, cls.two):
+        cls.room = Path(room.name)
+        cls.program = os.environ.get("SYNCTHING_CUT") or cls.room / "syncthing-cut"
+        if "SYNCTHING_CUT" not in os.environ:
+            build(cls.program, go_environment(cls.room))
+        cls.auditor = auditor()
+        cls.devices = [Device(cls.room, name) for name in cls.names]
+        cls.one, cls.two = cls.devices[:2]
+        for device in cls.devices:
             cls.addClassCleanup(device.stop)
-            device.configure([cls.one, cls.two])
+        cls.configure()
         cls.start()
         cls.synchronise()
         cls.while_running = cls.export()
@@ -50,18 +84,24 @@ class Exporting(unittest.TestCase):
         cls.numbers = cls.device_numbers()
 
     @classmethod
+    def configure(cls):
+        """Shares the folder among all devices, in the kind of each."""
+        for device in cls.devices:
+            device.configure(cls.devices, kind=cls.kinds.get(device.home.parent.name, "sendreceive"))
+
+    @classmethod
     def start(cls):
-        cls.one.start()
-        cls.two.start()
+        for device in cls.devices:
+            device.start()
 
     @classmethod
     def stop(cls):
-        cls.one.stop()
-        cls.two.stop()
+        for device in cls.devices:
+            device.stop()
 
     @classmethod
     def synchronise(cls):
-        """Makes one name of each kind and a deletion, and has them on both devices."""
+        """Makes one name of each kind and a deletion, and has them on all devices."""
         files = cls.one.files
         (files / "text").write_text("hello")
         (files / "empty").touch()
@@ -69,16 +109,20 @@ class Exporting(unittest.TestCase):
         (files / "folder" / "large").write_bytes(bytes(range(256)) * 1024 + b"end")
         (files / "link").symlink_to("folder/large")
         (files / "doomed").write_text("doomed")
-        cls.one.scan()
-        wait_until_in_step(cls.one, cls.two)
+        cls.scan_and_wait()
         (files / "doomed").unlink()
+        cls.scan_and_wait()
+
+    @classmethod
+    def scan_and_wait(cls):
+        """Scans the first device's folder, and waits until all devices are in step."""
         cls.one.scan()
-        wait_until_in_step(cls.one, cls.two)
+        wait_until_in_step(*cls.devices)
 
     @classmethod
     def export(cls, *words):
-        """Runs the exporter on both homes."""
-        homes = [word for device in (cls.one, cls.two) for word in ("--home", str(device.home))]
+        """Runs the exporter on all homes."""
+        homes = [word for device in cls.devices for word in ("--home", str(device.home))]
         return subprocess.run([cls.program, *homes, *words], capture_output=True, text=True)
 
     @classmethod
@@ -87,20 +131,37 @@ class Exporting(unittest.TestCase):
         lines = [line.split() for line in cls.export().stderr.splitlines() if " device " in line]
         return {words[4]: int(words[2]) for words in lines}
 
+    @classmethod
+    def number(cls, device):
+        """A device's number."""
+        return cls.numbers[device.id]
+
     def document(self, *words):
         """The exported document."""
         ran = self.export(*words)
         self.assertEqual(ran.returncode, 0, ran.stderr)
         return json.loads(ran.stdout)
 
+    def report(self, *words):
+        """The lines of the report that an audit of the devices writes."""
+        ran = self.export("--audit", "--syncaudit", self.auditor, *words)
+        lines = ran.stdout.splitlines()
+        self.assertTrue(lines, ran.stderr)
+        self.assertEqual(ran.returncode, 0 if lines[0] in ("settled", "all settled") else 1, ran.stderr)
+        return lines
+
     def verdict(self, *words):
-        """The verdict on the exported document."""
-        return verdict(self.document(*words))
+        """The first line of that report."""
+        return self.report(*words)[0]
+
+    def fault(self, reason, name, device=None):
+        """The verdict of this reason on the folder."""
+        return f"not settled: {reason} {FOLDER} {name}" + (f" on {self.number(device)}" if device else "")
 
     def refused(self, *words):
         """What the exporter says as it refuses."""
         ran = self.export(*words)
-        self.assertEqual((ran.returncode, ran.stdout), (1, ""), ran.stderr)
+        self.assertEqual((ran.returncode, ran.stdout), (2, ""), ran.stderr)
         return ran.stderr
 
     def assert_left_out(self, name):
@@ -113,3 +174,10 @@ class Exporting(unittest.TestCase):
             for items in (share["own"], share["store"], share["views"][0]["records"]):
                 self.assertEqual([one["name"] for one in items if one["name"].startswith(name)], [])
         self.assertEqual(verdict(document), "settled")
+
+
+def main():
+    """Runs the cases of the script, or says what is missing."""
+    if missing_packages():
+        raise SystemExit("missing Debian packages: " + " ".join(missing_packages()))
+    unittest.main()

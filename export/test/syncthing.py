@@ -14,7 +14,7 @@ import xml.etree.ElementTree as xml
 from pathlib import Path
 
 FOLDER = "docs"
-SECONDS_TO_WAIT = 120
+SECONDS_TO_WAIT = 300
 OPTIONS = {"globalAnnounceEnabled": "false", "localAnnounceEnabled": "false", "relaysEnabled": "false",
            "natEnabled": "false", "crashReportingEnabled": "false", "urAccepted": "-1", "startBrowser": "false",
            "autoUpgradeIntervalH": "0", "reconnectionIntervalS": "5", "stunKeepaliveStartS": "0"}
@@ -46,6 +46,7 @@ class Device:
         self.room = room
         self.api_port, self.listen_port = free_ports(2)
         self.process = None
+        self.peers = []
         self.log = room / f"{name}.log"
         self.files.mkdir(parents=True)
         (self.files / ".stfolder").mkdir()
@@ -61,6 +62,7 @@ class Device:
     def configure(self, devices, kind="sendreceive", password=""):
         """Writes the configuration: the folder shared with all these devices, everything on loopback. A password has
         it shared encrypted."""
+        self.peers = [one for one in devices if one is not self]
         path = self.home / "config.xml"
         tree = xml.parse(path)
         root = tree.getroot()
@@ -126,10 +128,14 @@ class Device:
         """Scans the folder, and waits until that is done."""
         self.api("POST", f"db/scan?folder={FOLDER}")
 
+    def shows_up_to_date(self):
+        """Whether Syncthing's own page shows 'Up to Date' for the folder: it is idle and needs nothing."""
+        status = self.api("GET", f"db/status?folder={FOLDER}")
+        return status["state"] == "idle" and not status["needTotalItems"] and not status["errors"]
+
     def is_in_step_with(self, other):
         """Whether this device is idle, needs nothing, and takes the other to be complete."""
-        status = self.api("GET", f"db/status?folder={FOLDER}")
-        if status["state"] != "idle" or status["needTotalItems"] or status["errors"]:
+        if not self.shows_up_to_date():
             return False
         completion = self.api("GET", f"db/completion?folder={FOLDER}&device={other.id}")
         connection = self.api("GET", "system/connections")["connections"][other.id]
@@ -143,12 +149,15 @@ class Device:
             "GET", f"db/status?folder={FOLDER}")["sequence"]
 
 
-def wait_until_in_step(one, other):
-    """Waits until both devices say that all is in step, and hold the same names."""
+def wait_until_in_step(*devices):
+    """Waits until all devices say that they are in step with those that they share with, and hold the same names."""
     def names(device):
         return sorted(path.relative_to(device.files) for path in device.files.rglob("*"))
-    wait_until("both devices are in step", lambda: names(one) == names(other) and one.is_in_step_with(other)
-               and other.is_in_step_with(one))
+
+    def are_in_step():
+        return (all(names(device) == names(devices[0]) for device in devices)
+                and all(one.is_in_step_with(other) for one in devices for other in one.peers if other in devices))
+    wait_until("all devices are in step", are_in_step)
 
 
 def files_of(directory: Path):

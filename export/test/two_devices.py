@@ -10,13 +10,11 @@ exported. It installs nothing, and says what is missing.
 import json
 import os
 import subprocess
-import sys
-import unittest
 from contextlib import contextmanager
 
-from documents import verdict
-from exporting import Exporting, missing_packages
+from exporting import Exporting, main
 from syncthing import FOLDER, files_of, wait_until, wait_until_in_step
+
 
 class TwoDevices(Exporting):
     """Two devices that send and receive."""
@@ -34,10 +32,10 @@ class TwoDevices(Exporting):
 
     def differs(self):
         """The verdict on the second device's text with other bytes."""
-        return f"not settled: StoreDiffers {FOLDER} text on {self.numbers[self.two.id]}"
+        return self.fault("StoreDiffers", "text", self.two)
 
     def test_in_step_is_settled(self):
-        self.assertEqual(self.verdict(), "settled")
+        self.assertEqual(self.report(), ["settled", f"folder {FOLDER}: 6 names, 1 deleted, 2 devices"])
 
     def test_what_is_exported(self):
         share = self.document()["cut"]["folders"][0]["devices"][0]
@@ -66,25 +64,40 @@ class TwoDevices(Exporting):
             self.start()
             self.two.scan()
             wait_until_in_step(self.one, self.two)
+            self.assertTrue(self.one.shows_up_to_date() and self.two.shows_up_to_date())
             self.stop()
             self.assertEqual(self.verdict(), self.differs())
+        self.assertEqual(self.verdict(), "settled")
 
     def test_an_edit_that_no_scan_has_seen(self):
         path = self.two.files / "text"
         times = path.stat()
         os.utime(path, ns=(times.st_atime_ns, times.st_mtime_ns + 1))
         try:
-            self.assertEqual(self.verdict(), self.differs().replace("StoreDiffers", "StoreUnclean"))
+            self.assertEqual(self.verdict(), self.fault("StoreUnclean", "text", self.two))
         finally:
             os.utime(path, ns=(times.st_atime_ns, times.st_mtime_ns))
 
     def test_running_devices_are_refused(self):
-        self.assertEqual((self.while_running.returncode, self.while_running.stdout), (1, ""))
+        self.assertEqual((self.while_running.returncode, self.while_running.stdout), (2, ""))
         self.assertIn("Syncthing runs on", self.while_running.stderr)
+
+    def test_a_copy_of_a_home_and_its_folder(self):
+        home, files = self.room / "copied-home", self.room / "copied-files"
+        subprocess.run(["cp", "-a", self.two.home, home], check=True)
+        subprocess.run(["cp", "-a", self.two.files, files], check=True)
+        config = home / "config.xml"
+        config.write_text(config.read_text().replace(f'path="{self.two.files}"', f'path="{files}"'))
+        (files / "empty").unlink()
+        ran = subprocess.run([self.program, "--home", self.one.home, "--home", home, "--audit", "--syncaudit",
+                              self.auditor], capture_output=True, text=True)
+        self.assertEqual((ran.returncode, ran.stdout.splitlines()[0]),
+                         (1, self.fault("StoreDiffers", "empty", self.two)), ran.stderr)
+        self.assertEqual(self.verdict(), "settled")
 
     def test_a_missing_home_is_refused(self):
         ran = subprocess.run([self.program, "--home", self.one.home], capture_output=True, text=True)
-        self.assertEqual((ran.returncode, ran.stdout), (1, ""))
+        self.assertEqual((ran.returncode, ran.stdout), (2, ""))
         self.assertIn(f"folder {FOLDER}, device {self.numbers[self.two.id]}, name -: it shares the folder", ran.stderr)
 
     def test_a_missing_home_is_left_out(self):
@@ -156,7 +169,27 @@ class TwoDevices(Exporting):
             path.unlink()
 
     def test_usage(self):
-        self.assertEqual(subprocess.run([self.program], capture_output=True).returncode, 3)
+        for words in ((), ("--split",), ("--into", "x"), ("--audit", "--into", "x"), ("now",)):
+            self.assertEqual(self.export(*words).returncode if words else
+                             subprocess.run([self.program], capture_output=True).returncode, 3, words)
+
+    def test_an_audit_without_its_program(self):
+        ran = self.export("--audit", "--syncaudit", "/nowhere/syncaudit")
+        self.assertEqual((ran.returncode, ran.stdout), (127, ""))
+        self.assertIn("/nowhere/syncaudit can't be run", ran.stderr)
+
+    def test_an_audit_by_the_environment(self):
+        os.environ["SYNCAUDIT"] = self.auditor
+        try:
+            self.assertEqual(self.export("--audit").stdout.splitlines()[0], "settled")
+        finally:
+            del os.environ["SYNCAUDIT"]
+
+    def test_two_documents_of_one_name_each(self):
+        with self.other_bytes():
+            for names, said in (("e", "settled"), ("text", self.differs())):
+                self.assertEqual(self.verdict("--names", names), said)
+            self.assertEqual(self.verdict("--split"), self.differs())
 
 
 class ReceiveOnly(Exporting):
@@ -175,12 +208,12 @@ class ReceiveOnly(Exporting):
         cls.stop()
 
     def test_local_changes_are_local_only(self):
-        number = self.numbers[self.two.id]
         for name in ("text", "empty"):
-            self.assertEqual(self.verdict("--names", name), f"not settled: LocalOnly {FOLDER} {name} on {number}")
+            self.assertEqual(self.verdict("--names", name), self.fault("LocalOnly", name, self.two))
 
     def test_what_nobody_else_has_has_no_winner(self):
-        self.assertEqual(self.verdict("--names", "added"), f"not settled: NameMissing {FOLDER} added")
+        self.assertEqual(self.report("--names", "added"),
+                         [self.fault("NotWinner", "added"), f"folder {FOLDER}: 1 names, 0 deleted, 2 devices"])
 
     def test_they_go_as_over_the_wire(self):
         shares = {share["device"]: share for share in self.document()["cut"]["folders"][0]["devices"]}
@@ -204,7 +237,7 @@ class SendOnly(Exporting):
         self.two.scan()
         wait_until("the other device knows of the change", lambda: self.one.knows_all_of(self.two))
         self.stop()
-        self.assertEqual(self.verdict(), f"not settled: RecordDiffers {FOLDER} text on {self.numbers[self.one.id]}")
+        self.assertEqual(self.verdict(), self.fault("RecordDiffers", "text", self.one))
 
 
 class Conflict(Exporting):
@@ -218,8 +251,8 @@ class Conflict(Exporting):
         wait_until("both devices have the conflict copy", self.have_copies)
         wait_until_in_step(self.one, self.two)
         self.stop()
+        self.assertEqual(self.verdict("--names", "text"), "settled")
         document = self.document("--names", "text")
-        self.assertEqual(verdict(document), "settled")
         for share in document["cut"]["folders"][0]["devices"]:
             texts = {one["name"][:18]: one["text"] for one in share["store"]}
             self.assertEqual(sorted(texts), ["text", "text.sync-conflict"])
@@ -233,7 +266,4 @@ class Conflict(Exporting):
 
 
 if __name__ == "__main__":
-    if missing_packages():
-        print("missing Debian packages:", *missing_packages(), file=sys.stderr)
-        sys.exit(2)
-    unittest.main()
+    main()

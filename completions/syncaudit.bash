@@ -1,0 +1,16 @@
+# Completion of syncaudit for bash: source this file, or put it into share/bash-completion/completions as 'syncaudit'.
+_syncaudit() {
+  local word=${COMP_WORDS[COMP_CWORD]}
+  local before=${COMP_WORDS[COMP_CWORD - 1]}
+  COMPREPLY=()
+  if [ "$before" = '<' ]; then
+    mapfile -t COMPREPLY < <(compgen -f -X '!*.json' -- "$word"; compgen -d -- "$word")
+  elif [ "$COMP_CWORD" = 1 ]; then
+    mapfile -t COMPREPLY < <(compgen -W 'check certify explain help --help --version' -- "$word")
+  elif [ "$COMP_CWORD" = 2 ] && [ "$before" = help ]; then
+    mapfile -t COMPREPLY < <(compgen -W 'check certify explain' -- "$word")
+  elif [ "$COMP_CWORD" = 2 ]; then
+    mapfile -t COMPREPLY < <(compgen -W '--help' -- "$word")
+  fi
+}
+complete -F _syncaudit syncaudit

@@ -1,0 +1,148 @@
+#!/usr/bin/env bash
+# around.sh PROGRAM: compares what stands around the built program with it: the man page and the completions with its
+# help, and tries the script that runs it and the one that installs it. The last line is 'N passed, M failed'.
+set -euo pipefail
+program=$(readlink -m "$1")
+cd "$(dirname "$0")/.."
+passed=0
+failed=0
+work=$(mktemp -d)
+trap 'rm -rf "$work"' EXIT
+
+# Subcommands that are described before the program has them.
+awaited=(certify explain)
+
+# expect WHAT COMMAND..: counts whether the command holds.
+expect() {
+  local what=$1
+  shift
+  if "$@"; then
+    passed=$((passed + 1))
+  else
+    failed=$((failed + 1))
+    echo "around: $what"
+  fi
+}
+
+if [ ! -x "$program" ]; then
+  echo "around: there is no program $1"
+  echo "0 passed, 1 failed"
+  exit 1
+fi
+
+# ---- the man page and the completions
+
+help_of() {
+  "$program" "$@" --help 2>&1 || true
+}
+
+# The subcommands that the help lists, but help itself.
+helped() {
+  help_of | sed -n '/^Commands:/,/^$/s/^  \([a-z]*\) .*/\1/p' | grep -vx help
+}
+
+# The lines of the man page's synopsis.
+synopsis() {
+  sed -n '/^\.SH SYNOPSIS/,/^\.SH DESCRIPTION/p' docs/syncaudit.1 | sed '/^\.SH/d; s/^\.[BI] //' |
+    awk '$0 == ".br" { print line; line = ""; next } { line = line (line ? " " : "") $0 } END { print line }'
+}
+
+# The subcommands of the synopsis.
+described() {
+  synopsis | cut -d ' ' -f 2
+}
+
+# begins_synopsis TEXT: a line of the synopsis is this text, or goes on after it.
+begins_synopsis() {
+  synopsis | grep -q -e "^$1\$" -e "^$1 "
+}
+
+# The usage line of a subcommand's help.
+usage_of() {
+  help_of "$1" | sed -n 's/^Usage: //p'
+}
+
+# The statuses of the man page, as the help has them.
+statuses() {
+  sed -n '/^\.SH EXIT STATUS/,/^\.PP/p' docs/syncaudit.1 |
+    awk '/^\.B [0-9]/ { number = $2; getline; all = all (all ? ", " : "") number " " $0 } END { print "Exit status: " all }'
+}
+
+# is_one_of WORD WORDS..: the word is among the others.
+is_one_of() {
+  local word=$1
+  shift
+  printf '%s\n' "$@" | grep -qx -- "$word"
+}
+
+# has WORD FILE: the word stands in the file.
+has() {
+  grep -qw -- "$1" "$2"
+}
+
+for command in $(helped); do
+  expect "the man page's synopsis has no '$(usage_of "$command")'" begins_synopsis "$(usage_of "$command")"
+  for file in completions/*; do
+    expect "$file has no '$command'" has "$command" "$file"
+  done
+done
+for command in $(described); do
+  expect "the program has no '$command', which the man page describes" is_one_of "$command" $(helped) "${awaited[@]}"
+done
+expect "no subcommand in the program's help" [ -n "$(helped)" ]
+# The help's lines are as long as the terminal allows.
+expect "the man page's statuses aren't those of 'check --help': $(statuses)" \
+  grep -qF "$(statuses)" <(help_of check | tr '\n' ' ')
+
+# ---- the script ./syncaudit without the command that builds
+
+# A place with the script, a program of its own that says its words, and the tools that the script needs but no 'rt'.
+mkdir -p "$work/top/crates/syncaudit/src" "$work/tools"
+cp syncaudit crates.txt "$work/top"
+touch "$work/top/crates/syncaudit/src/main.rt"
+for tool in bash env dirname readlink find; do
+  ln -s "$(command -v "$tool")" "$work/tools/$tool"
+done
+
+# script WORDS..: runs the script there, and keeps what it writes and its status.
+script() {
+  status=0
+  PATH=$work/tools "$work/top/syncaudit" "$@" > "$work/output" 2> "$work/error" || status=$?
+}
+
+says() {
+  grep -qF -- "$1" "$2"
+}
+
+script check
+expect "the script's status without program and rt is $status, and not 127" [ "$status" = 127 ]
+expect "the script doesn't say that rt is missing" says "isn't on PATH" "$work/error"
+mkdir -p "$work/top/crates/syncaudit/out"
+printf '#!/bin/sh\necho "$@"\nexit 1\n' > "$work/top/crates/syncaudit/out/syncaudit"
+chmod +x "$work/top/crates/syncaudit/out/syncaudit"
+touch -d tomorrow "$work/top/crates/syncaudit/src/main.rt"
+script check it
+expect "the script doesn't run a program that is older than its sources" says 'check it' "$work/output"
+expect "the script's status isn't the program's" [ "$status" = 1 ]
+expect "the script doesn't say that sources are newer" says 'sources are newer' "$work/error"
+touch -d yesterday "$work/top/crates/syncaudit/src/main.rt" "$work/top/crates.txt"
+script check it
+expect "the script says something of a program that is up to date: $(cat "$work/error")" [ ! -s "$work/error" ]
+
+# ---- the script ./install
+
+mkdir -p "$work/top/docs"
+cp install "$work/top"
+cp docs/DOCUMENTS.md docs/*.schema.json docs/syncaudit.1 "$work/top/docs"
+cp -r completions "$work/top"
+printf '#!/bin/sh\nexit 3\n' > "$work/top/crates/syncaudit/out/syncaudit"
+"$work/top/install" "$work/prefix" > "$work/output" || echo "around: install has status $?"
+for file in bin/syncaudit share/man/man1/syncaudit.1 share/bash-completion/completions/syncaudit \
+  share/zsh/site-functions/_syncaudit share/fish/vendor_completions.d/syncaudit.fish \
+  share/doc/syncaudit/DOCUMENTS.md share/doc/syncaudit/check-document.schema.json; do
+  expect "install puts no $file below its prefix" [ -f "$work/prefix/$file" ]
+  expect "install doesn't say that it puts $file" says "$work/prefix/$file" "$work/output"
+done
+expect "what install puts can't be run" [ -x "$work/prefix/bin/syncaudit" ]
+echo "$passed passed, $failed failed"
+[ "$failed" = 0 ]
