@@ -10,10 +10,11 @@ ghost use Rattle.bep_machine.specs.Pull.{ChoosesNone};
 ghost use Rattle.bep_folder.specs.Held.{AreOthers};
 ghost use Rattle.bep_folder.specs.Known.{record_in, viewed_among, known_by};
 
-use crate::{DeviceMap, Replica};
+use crate::Replica;
 use bep_choice::choose;
 use bep_choice::laws::choice_is_of_the_set;
 use bep_index::View;
+use bep_map::DeviceMap;
 use bep_record::{DeviceId, MAX_DEVICES, Name, Record};
 use bep_store::Store;
 use std::array;

@@ -7,7 +7,6 @@ mod chosen;
 mod commit;
 mod conflict;
 mod deletion;
-mod device_map;
 mod edit;
 mod ending;
 mod error;
@@ -25,7 +24,6 @@ mod traced;
 mod views;
 mod wanted;
 
-pub use device_map::DeviceMap;
 pub use error::FolderError;
 pub use pull::Pull;
 pub use replica::Replica;

@@ -4,9 +4,9 @@ ghost use Rattle.std.specs.List.Sorted.{IsStrictlyIncreasing};
 ghost use Rattle.bep_folder.specs.Held.{AreOthers, started};
 
 use crate::traced::Traced;
-use crate::{DeviceMap, Pull};
+use crate::Pull;
 use bep_index::{Index, IndexId, View};
-use bep_map::NameMap;
+use bep_map::{DeviceMap, NameMap};
 use bep_record::{DeviceId, FolderKind, FolderName, Items, MAX_DEVICES};
 use bep_store::Store;
 use std::alloc::Global;

@@ -6,8 +6,9 @@ ghost use Rattle.bep_machine.specs.Replica.{view_of};
 ghost use Rattle.bep_folder.specs.Views.{IsApart, IsTooMuch, known_view, unchanged, with_viewed};
 
 use crate::error::index_error;
-use crate::{DeviceMap, FolderError, Replica};
+use crate::{FolderError, Replica};
 use bep_index::{Batch, View};
+use bep_map::DeviceMap;
 use bep_record::DeviceId;
 use bep_store::Store;
 use std::alloc::Global;

@@ -1,5 +1,5 @@
 //! A device's own index of a folder.
-ghost use Rattle.std.specs.Prelude.{◌≡◌, ◌↔◌, ◌+◌, ◌≤◌, slice_get, IfOk, IfErr, OnOk, OnErr, IsErrOf};
+ghost use Rattle.std.specs.Prelude.{◌≡◌, ◌↔◌, ◌+◌, ◌≤◌, ℕ, take, drop, slice_get, IfOk, IfErr, OnOk, OnErr, IsErrOf};
 ghost use Rattle.std.specs.Option.{option_copied};
 ghost use Rattle.std.specs.FinMap as map;
 ghost use Rattle.bep_index.specs.Index.{IsIndex, IsSequenceFull, IsIndexFull, IsPutError, after_put};
@@ -98,9 +98,12 @@ impl Index {
         self.records.after(alloc, sequence, limit)
     }
 
-    /// How many records have at most this sequence: the place of the first one above it. Takes no memory.
+    /// How many records have at most this sequence: the place of the first one above it. What stands from there on, by
+    /// `at`, is what `after` gives. Takes no memory.
     pub fn place_above(&self, sequence: u64) -> usize
         ensures value { result ≡ count_up_to sequence (in_order self.now.records) }
+        ensures after { (limit : ℕ) → IsAfter self.now.records sequence limit (take limit (drop result (in_order self.now.records))) }
+        ensures batch { (limit : ℕ) → limit ≤ MAX_RECORDS → IsBatch (take limit (drop result (in_order self.now.records))) }
         ensures an_index { IsIndex self.now }
     {
         self.records.place_above(sequence)

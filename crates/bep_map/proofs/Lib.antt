@@ -1,1 +1,3 @@
 pub mod NameMapFacts
+pub mod DeviceMapFacts
+pub mod Lent

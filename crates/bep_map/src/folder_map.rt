@@ -1,11 +1,14 @@
 //! A map from folders to values, over a `BTreeMap`.
 ghost use Rattle.std.specs.Prelude.{◌≡◌, IfOk, IfErr, OnOk, OnErr, Some, None};
-ghost use Rattle.std.specs.Option.{option_copied};
+ghost use Rattle.std.specs.Option.{option_copied, option_copied_mut};
+ghost use Rattle.std.specs.Borrow.{LendsIf, sem};
 ghost use Rattle.std.specs.FinMap as map;
+ghost use Rattle.bep_map.specs.contracts.folder_map.FolderMap.{the_row};
 
 use bep_record::FolderName;
 use std::alloc::{AllocError, Global};
 use std::collections::BTreeMap;
+use std::collections::btree_map::Iter;
 use std::marker::Model;
 use std::mem;
 
@@ -43,6 +46,21 @@ impl<V> FolderMap<V> {
         ensures { option_copied result ≡ map.get self.now folder.now }
     {
         self.entries.get(folder)
+    }
+
+    /// The folders with their values, in the order of their names.
+    pub fn iter(&self) -> Iter<'_, FolderName, V>
+        ensures { result ≡ map.entries self.now }
+    {
+        self.entries.iter()
+    }
+
+    /// The value of the folder, if it has one, to be changed in place.
+    pub fn get_mut(&mut self, folder: &FolderName) -> Option<&mut V>
+        ensures* writes_back { sem 𝓛 (LendsIf (the_row V.row) V.row self.entry result (λ value. map.insert self.old folder.now value) self.old) }
+        ensures value { option_copied_mut result ≡ map.get self.old folder.now }
+    {
+        self.entries.get_mut(folder)
     }
 }
 

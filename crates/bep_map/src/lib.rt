@@ -1,4 +1,5 @@
-//! Finite maps whose keys are the names of files, on which indexes, views and stores stand, and maps of folders.
+//! Finite maps whose keys are the names of files, on which indexes, views and stores stand, and maps of folders and of
+//! devices.
 //!
 //! ```rust
 //! let mut nodes = NameMap::new(alloc);
@@ -7,8 +8,10 @@
 //! ```
 #![tactic(auto)]
 
+mod device_map;
 mod folder_map;
 mod name_map;
 
+pub use device_map::DeviceMap;
 pub use folder_map::FolderMap;
 pub use name_map::NameMap;

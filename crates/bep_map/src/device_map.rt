@@ -1,7 +1,9 @@
 //! A map from devices to values, over a `BTreeMap`.
 ghost use Rattle.std.specs.Prelude.{◌≡◌, IfOk, IfErr, OnOk, OnErr, Some, None};
-ghost use Rattle.std.specs.Option.{option_copied};
+ghost use Rattle.std.specs.Option.{option_copied, option_copied_mut};
+ghost use Rattle.std.specs.Borrow.{LendsIf, sem};
 ghost use Rattle.std.specs.FinMap as map;
+ghost use Rattle.bep_map.specs.contracts.device_map.DeviceMap.{the_row};
 
 use bep_record::DeviceId;
 use std::alloc::{AllocError, Global};
@@ -18,9 +20,10 @@ pub struct DeviceMap<V> {
 impl<V> Model for DeviceMap<V> {
     ghost use Rattle.std.specs.FinMap as map;
     ghost use Rattle.std.specs.Coded.{coded_ℕ};
-    ghost use Rattle.bep_machine.specs.Replica.{ByDevice};
+    ghost use Rattle.std.specs.FinMap.{FinMap};
+    ghost use Rattle.std.specs.Ordering.{nat_cmp};
 
-    ghost Value = { ByDevice V };
+    ghost Value = { FinMap nat_cmp V };
 
     ghost coded = { map.code coded_ℕ V.code };
 
@@ -42,6 +45,14 @@ impl<V> DeviceMap<V> {
         ensures { option_copied result ≡ map.get self.now device }
     {
         self.entries.get(&device)
+    }
+
+    /// The device's value, if it has one, to be changed in place.
+    pub fn get_mut(&mut self, device: DeviceId) -> Option<&mut V>
+        ensures* writes_back { sem 𝓛 (LendsIf (the_row V.row) V.row self.entry result (λ value. map.insert self.old device value) self.old) }
+        ensures value { option_copied_mut result ≡ map.get self.old device }
+    {
+        self.entries.get_mut(&device)
     }
 }
 
@@ -71,5 +82,13 @@ impl<V: Drop> DeviceMap<V> {
             None => return Err(value),
         };
         Ok(mem::replace(held, value))
+    }
+
+    /// Takes the device's value away and answers it. Takes no memory.
+    pub fn remove(&mut self, device: DeviceId) -> Option<V>
+        ensures old { result ≡ map.get self.old device }
+        ensures removed { self.new ≡ map.remove self.old device }
+    {
+        self.entries.remove(&device)
     }
 }

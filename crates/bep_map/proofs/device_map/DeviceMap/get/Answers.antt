@@ -1,7 +1,7 @@
 use Rattle.std.proofs.Common.{ap, sym, ◌∙◌}
 use Rattle.std.specs.FinMap as map
-use Rattle.bep_folder.proofs.DeviceMapFacts.{get-device}
-use Rattle.bep_folder.proofs.device_map.DeviceMap.get.Goals as goal
+use Rattle.bep_map.proofs.DeviceMapFacts.{get-device}
+use Rattle.bep_map.proofs.device_map.DeviceMap.get.Goals as goal
 
 pub returns : goal.returns
 returns g c =

@@ -1,7 +1,7 @@
 use Rattle.std.proofs.Common.{rules, ap, sym, ◌∙◌, Some}
 use Rattle.std.specs.FinMap as map
-use Rattle.bep_folder.proofs.DeviceMapFacts.{get-device, device_given}
-use Rattle.bep_folder.proofs.device_map.DeviceMap.replace.Goals as goal
+use Rattle.bep_map.proofs.DeviceMapFacts.{get-device, device_given}
+use Rattle.bep_map.proofs.device_map.DeviceMap.replace.Goals as goal
 
 pub returns-in-None-clause-absent : goal.returns-in-None-clause-absent
 returns-in-None-clause-absent g c =
