@@ -60,7 +60,7 @@ shares_faultless folder range once good numbered = all_four share_faultless fold
 
 folder_faultless : (devices : List ℕ) → length devices ≤ MAX_DEVICES → (folder : FolderParts) → AllByRecursion IsFaultlessShare folder.devices → IsOnceIn folder → AreOfOthers folder → AllByRecursion (λ share. is_one_of devices share.device ≡ true) folder.devices → IsFaultlessFolder folder
 folder_faultless devices few folder shares once others known = record {
-  few = omega (arith, no_more devices folder.devices once.different known, few);
+  few = omega (arith, no_more (λ (share : ShareParts). share.device) devices folder.devices once.different known, few);
   different = once.different;
   shares = shares;
   views = others;

@@ -1,5 +1,5 @@
 -- What holds of each document that is read: none of the faults is in it (this project's profile).
-use Rattle.std.specs.Prelude.{◌≡◌, ◌≢◌, ◌<◌, ◌≤◌, ℕ, false, ⊤, List, [], ◌∷◌, length, Any, Contains}
+use Rattle.std.specs.Prelude.{◌≡◌, ◌≢◌, ◌<◌, ◌≤◌, ℕ, IsTrue, false, ⊤, List, [], ◌∷◌, length, None, Any, Contains}
 use Rattle.std.specs.List.{AllByRecursion}
 use Rattle.bep_record.specs.declared.entry.Entry.{Entry}
 use Rattle.bep_record.specs.Entry.{IsWellFormed}
@@ -7,7 +7,8 @@ use Rattle.bep_record.specs.Node.{IsNode}
 use Rattle.bep_index.specs.Batch.{IsBatch, NamesDiffer}
 use Rattle.bep_index.specs.declared.limits.TheConstants.{MAX_NAMES, MAX_SEQUENCE}
 use Rattle.serde_json.specs.Data.{Data}
-use Rattle.bep_document.specs.Reading.{Read, reading_of, reading_of_cut}
+use Rattle.bep_document.specs.Reading.{Read, first_fault, reading_of, reading_of_cut}
+use Rattle.bep_document.specs.read.Devices.{has_few_devices}
 use Rattle.bep_record.specs.declared.limits.TheConstants.{MAX_FOLDERS, MAX_DEVICES, MAX_PULLS, MAX_MESSAGES}
 use Rattle.bep_document.specs.declared.parts.ShareParts.{ShareParts}
 use Rattle.bep_document.specs.declared.parts.ViewParts.{ViewParts}
@@ -123,3 +124,10 @@ ReadingsAreFaultless = (bytes : List ℕ) (parts : CheckParts) → reading_of by
 
 abbrev pub CutsAreFaultless : Type 0
 CutsAreFaultless = (tree : Data) (parts : CheckParts) → reading_of_cut tree ≡ Read parts → IsFaultless parts
+
+-- no fault that has a place is found in parts that have none, and their devices are few
+abbrev pub FaultlessHasNoFault : Type 0
+FaultlessHasNoFault = (parts : CheckParts) → IsFaultless parts → first_fault parts ≡ None
+
+abbrev pub FaultlessHasFewDevices : Type 0
+FaultlessHasFewDevices = (parts : CheckParts) → IsFaultless parts → IsTrue (has_few_devices parts.folders)

@@ -1,5 +1,5 @@
 //! What holds of each document that is read, as laws.
-ghost use Rattle.bep_document.specs.Faultless.{ReadingsAreFaultless, CutsAreFaultless};
+ghost use Rattle.bep_document.specs.Faultless.{ReadingsAreFaultless, CutsAreFaultless, FaultlessHasNoFault, FaultlessHasFewDevices};
 ghost use Rattle.bep_document.specs.Laws.{RecordsAreTold, NodesAreTold};
 
 /// That what is read has no fault: folders, devices, views, links and names stand once, views and messages are of what is
@@ -8,6 +8,13 @@ ghost use Rattle.bep_document.specs.Laws.{RecordsAreTold, NodesAreTold};
 pub fn readings_are_faultless()
     ensures documents { ReadingsAreFaultless }
     ensures cuts { CutsAreFaultless }
+{}
+
+/// That nothing else is asked of what is read: in parts of which all this holds, no fault that has a place is found, and
+/// their different devices are counted as few. A law, which does nothing when it runs.
+pub fn faultless_parts_are_read()
+    ensures no_fault { FaultlessHasNoFault }
+    ensures few_devices { FaultlessHasFewDevices }
 {}
 
 /// That the tests by which records and nodes are found bad tell what fields are a record and what parts are a node: a

@@ -26,6 +26,6 @@ mod tests;
 
 pub use error::DocError;
 pub use fault::{DocFault, Fault};
-pub use laws::{readings_are_faultless, records_are_told};
+pub use laws::{faultless_parts_are_read, readings_are_faultless, records_are_told};
 pub use parts::{CheckParts, FlightParts, FolderParts, LinkParts, RowParts, ShareParts, ViewParts};
 pub use reading::{MAX_BYTES, read_cut_parts, read_parts};

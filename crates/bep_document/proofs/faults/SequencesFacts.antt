@@ -61,7 +61,7 @@ unfolding sequence_at_folder
 numbered_in_folder earlier folder none = all_where_none (sequence_at_share folder.folder) IsNumberedAt (numbered_at_share folder.folder) [] folder.devices none
 
 -- ---- messages
-last_of_more : (low : ℕ) (earlier : List Entry) (entry : Entry) → last_sequence low (earlier ++ entry ∷ []) ≡ entry.sequence
+pub last_of_more : (low : ℕ) (earlier : List Entry) (entry : Entry) → last_sequence low (earlier ++ entry ∷ []) ≡ entry.sequence
 last_of_more low [] entry = refl
 last_of_more low (first ∷ more) entry = last_of_more first.sequence more entry
 

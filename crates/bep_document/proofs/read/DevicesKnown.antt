@@ -102,13 +102,13 @@ without_has n q (m ∷ more) other e = step (m == n) refl (without_has n q more 
   step true is rest = here (m == q) refl is e
   step false is rest = there (m == q) rest e
 
-others_there : (n : ℕ) (known : List ℕ) (shares : List ShareParts) → HasNoKey (λ s. s.device) n shares → AllByRecursion (λ s. is_one_of known s.device ≡ true) shares → AllByRecursion (λ s. is_one_of (without n known) s.device ≡ true) shares
-others_there n known [] others all = tt
-others_there n known (share ∷ more) others all = (without_has n share.device known others.0 all.0, others_there n known more others.1 all.1)
+others_there : {A : Type 0} (key : A → ℕ) (n : ℕ) (known : List ℕ) (xs : List A) → HasNoKey key n xs → AllByRecursion (λ x. is_one_of known (key x) ≡ true) xs → AllByRecursion (λ x. is_one_of (without n known) (key x) ≡ true) xs
+others_there key n known [] others all = tt
+others_there key n known (x ∷ more) others all = (without_has n (key x) known others.0 all.0, others_there key n known more others.1 all.1)
 
--- different devices that are all known are no more than the known ones
-pub no_more : (known : List ℕ) (shares : List ShareParts) → KeysDiffer (λ s. s.device) shares → AllByRecursion (λ s. is_one_of known s.device ≡ true) shares → length shares ≤ length known
-no_more known [] differ all = omega arith
-no_more known (share ∷ more) differ all =
-    let n = share.device in
-    omega (arith, without_len n known all.0, no_more (without n known) more differ.1 (others_there n known more differ.0 all.1))
+-- things with different keys that are all known are no more than the known ones
+pub no_more : {A : Type 0} (key : A → ℕ) (known : List ℕ) (xs : List A) → KeysDiffer key xs → AllByRecursion (λ x. is_one_of known (key x) ≡ true) xs → length xs ≤ length known
+no_more key known [] differ all = omega arith
+no_more key known (x ∷ more) differ all =
+    let n = key x in
+    omega (arith, without_len n known all.0, no_more key (without n known) more differ.1 (others_there key n known more differ.0 all.1))
