@@ -7,7 +7,7 @@ use Rattle.bep_record.specs.Node.{IsNode}
 use Rattle.bep_index.specs.Batch.{IsBatch, NamesDiffer}
 use Rattle.bep_index.specs.declared.limits.TheConstants.{MAX_NAMES, MAX_SEQUENCE}
 use Rattle.serde_json.specs.Data.{Data}
-use Rattle.bep_document.specs.Reading.{Read, reading_of, reading_of_cut}
+use Rattle.bep_document.specs.Reading.{Read, reading_of, reading_of_cut, reading_of_cut_document}
 use Rattle.bep_record.specs.declared.limits.TheConstants.{MAX_FOLDERS, MAX_DEVICES, MAX_PULLS, MAX_MESSAGES}
 use Rattle.bep_document.specs.declared.parts.ShareParts.{ShareParts}
 use Rattle.bep_document.specs.declared.parts.ViewParts.{ViewParts}
@@ -117,9 +117,12 @@ pub record IsFaultless (parts : CheckParts) : Type 0 where
   pub each_link : AllByRecursion (IsFaultlessLink parts.folders) parts.links
   pub rows : AllByRecursion (λ row. IsWellFormed row.entry) parts.certificate
 
--- what is read has no fault, of the bytes of a document or of the tree of a cut
+-- what is read has no fault, of the bytes of a document, of the tree of a cut, or of the cut of a document
 abbrev pub ReadingsAreFaultless : Type 0
 ReadingsAreFaultless = (bytes : List ℕ) (parts : CheckParts) → reading_of bytes ≡ Read parts → IsFaultless parts
 
 abbrev pub CutsAreFaultless : Type 0
 CutsAreFaultless = (tree : Data) (parts : CheckParts) → reading_of_cut tree ≡ Read parts → IsFaultless parts
+
+abbrev pub CutDocumentsAreFaultless : Type 0
+CutDocumentsAreFaultless = (bytes : List ℕ) (parts : CheckParts) → reading_of_cut_document bytes ≡ Read parts → IsFaultless parts

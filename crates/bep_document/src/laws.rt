@@ -1,5 +1,5 @@
 //! What holds of each document that is read, as laws.
-ghost use Rattle.bep_document.specs.Faultless.{ReadingsAreFaultless, CutsAreFaultless};
+ghost use Rattle.bep_document.specs.Faultless.{ReadingsAreFaultless, CutsAreFaultless, CutDocumentsAreFaultless};
 ghost use Rattle.bep_document.specs.Laws.{RecordsAreTold, NodesAreTold};
 
 /// That what is read has no fault: folders, devices, views, links and names stand once, views and messages are of what is
@@ -8,6 +8,7 @@ ghost use Rattle.bep_document.specs.Laws.{RecordsAreTold, NodesAreTold};
 pub fn readings_are_faultless()
     ensures documents { ReadingsAreFaultless }
     ensures cuts { CutsAreFaultless }
+    ensures cut_documents { CutDocumentsAreFaultless }
 {}
 
 /// That the tests by which records and nodes are found bad tell what fields are a record and what parts are a node: a
