@@ -8,5 +8,5 @@ mod trees;
 mod written;
 
 pub use laws::cut_is_as_written;
-pub use reading::read_check;
-pub use trees::check_value;
+pub use reading::{read_check, read_cut};
+pub use trees::{check_document, check_value};

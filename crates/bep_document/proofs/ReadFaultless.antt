@@ -1,7 +1,8 @@
 -- What is read has no fault.
-use Rattle.std.proofs.Common.{◌≡◌, ◌≤◌, ℕ, true, List, [], length, subst, leb-true, arith}
+use Rattle.std.proofs.Common.{◌≡◌, ◌≤◌, ℕ, true, List, [], length, codes, subst, leb-true, arith}
 use Rattle.std.specs.List.{AllByRecursion}
 use Rattle.serde_json.specs.Data.{Data}
+use Rattle.serde_json.specs.Find.{get}
 use Rattle.bep_index.specs.Batch.{NamesDiffer}
 use Rattle.bep_record.specs.Entry.{IsWellFormed}
 use Rattle.bep_record.specs.declared.entry.Entry.{Entry}
@@ -12,9 +13,10 @@ use Rattle.bep_document.specs.declared.parts.FolderParts.{FolderParts}
 use Rattle.bep_document.specs.declared.parts.FlightParts.{FlightParts}
 use Rattle.bep_document.specs.declared.parts.LinkParts.{LinkParts}
 use Rattle.bep_document.specs.declared.parts.CheckParts.{CheckParts}
-use Rattle.bep_document.specs.read.Checks.{is_cut, read_cut, has_version, is_check, read_check}
+use Rattle.bep_json.specs.Tree.{has_only}
+use Rattle.bep_document.specs.read.Checks.{is_cut, read_cut, has_version, check_members, is_check, read_check}
 use Rattle.bep_document.specs.read.Devices.{is_one_of, with_devices}
-use Rattle.bep_document.specs.Reading.{Read, is_short, tree_of, first_fault, reading_of_tree, reading_of, without_rows, reading_of_cut}
+use Rattle.bep_document.specs.Reading.{Read, is_short, tree_of, first_fault, reading_of_tree, reading_of, without_rows, reading_of_cut, reading_of_cut_in, reading_of_cut_document}
 use Rattle.bep_document.specs.Faultless.{IsFaultlessIndex, IsFaultlessShare, IsFaultlessFolder, IsFaultlessFlight, IsFaultlessLink, IsFaultless}
 use Rattle.bep_document.proofs.read.DevicesKnown.{devices_known, known_are_of, no_more}
 use Rattle.bep_document.proofs.FaultlessFacts.{HasNoFault, has_no_fault}
@@ -139,3 +141,18 @@ cut_faultless tree parts e =
     let found = given_and Range (read_cut tree) _ shaped in
     let clean = no_fault_and (first_fault (without_rows found.0)) found.2 in
     subst IsFaultless clean.1 (faultless (without_rows found.0) (cut_in_range tree found.0 found.1) (has_no_fault (without_rows found.0) clean.0))
+
+cut_in_faultless : (tree : Data) (parts : CheckParts) → reading_of_cut_in tree ≡ Read parts → IsFaultless parts
+unfolding reading_of_cut_in
+cut_in_faultless tree parts e =
+    let known = passed_and VersionBad has_version tree _ e in
+    let listed = passed_and Shape (has_only check_members) tree _ known in
+    let cut = given_and Shape (get (codes "cut") tree) _ listed in
+    cut_faultless cut.0 parts cut.2
+
+pub cut_document_faultless : (bytes : List ℕ) (parts : CheckParts) → reading_of_cut_document bytes ≡ Read parts → IsFaultless parts
+unfolding reading_of_cut_document
+cut_document_faultless bytes parts e =
+    let short = passed_and Range is_short bytes _ e in
+    let tree = given_and NotJson (tree_of bytes) _ short in
+    cut_in_faultless tree.0 parts tree.2

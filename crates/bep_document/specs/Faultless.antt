@@ -7,7 +7,7 @@ use Rattle.bep_record.specs.Node.{IsNode}
 use Rattle.bep_index.specs.Batch.{IsBatch, NamesDiffer}
 use Rattle.bep_index.specs.declared.limits.TheConstants.{MAX_NAMES, MAX_SEQUENCE}
 use Rattle.serde_json.specs.Data.{Data}
-use Rattle.bep_document.specs.Reading.{Read, first_fault, reading_of, reading_of_cut}
+use Rattle.bep_document.specs.Reading.{Read, first_fault, reading_of, reading_of_cut, reading_of_cut_document}
 use Rattle.bep_document.specs.read.Devices.{has_few_devices}
 use Rattle.bep_record.specs.declared.limits.TheConstants.{MAX_FOLDERS, MAX_DEVICES, MAX_PULLS, MAX_MESSAGES}
 use Rattle.bep_document.specs.declared.parts.ShareParts.{ShareParts}
@@ -118,7 +118,7 @@ pub record IsFaultless (parts : CheckParts) : Type 0 where
   pub each_link : AllByRecursion (IsFaultlessLink parts.folders) parts.links
   pub rows : AllByRecursion (λ row. IsWellFormed row.entry) parts.certificate
 
--- what is read has no fault, of the bytes of a document or of the tree of a cut
+-- what is read has no fault, of the bytes of a document, of the tree of a cut, or of the cut of a document
 abbrev pub ReadingsAreFaultless : Type 0
 ReadingsAreFaultless = (bytes : List ℕ) (parts : CheckParts) → reading_of bytes ≡ Read parts → IsFaultless parts
 
@@ -131,3 +131,6 @@ FaultlessHasNoFault = (parts : CheckParts) → IsFaultless parts → first_fault
 
 abbrev pub FaultlessHasFewDevices : Type 0
 FaultlessHasFewDevices = (parts : CheckParts) → IsFaultless parts → IsTrue (has_few_devices parts.folders)
+
+abbrev pub CutDocumentsAreFaultless : Type 0
+CutDocumentsAreFaultless = (bytes : List ℕ) (parts : CheckParts) → reading_of_cut_document bytes ≡ Read parts → IsFaultless parts

@@ -1,8 +1,9 @@
 -- The reading of a check document: what its bytes say, or the one fault for which it is refused. The smallest number
 -- that applies is told, at its first place (this project's profile).
-use Rattle.std.specs.Prelude.{◌≡◌, ℕ, nat_le, Bool, ⊤, List, [], length, Option, Some, None, Result, Ok, Err, if◌then◌else◌}
+use Rattle.std.specs.Prelude.{◌≡◌, ℕ, nat_le, Bool, ⊤, List, [], length, Option, Some, None, Result, Ok, Err, if◌then◌else◌, codes}
 use Rattle.std.specs.Str.{is_utf8}
 use Rattle.serde_json.specs.Data.{Data}
+use Rattle.serde_json.specs.Find.{get}
 use Rattle.serde_json.specs.Read as json
 use Rattle.bep_document.specs.declared.error.DocError.{DocError}
 use Rattle.bep_document.specs.declared.error.DocError.TheVariants as errors
@@ -19,7 +20,8 @@ use Rattle.bep_document.specs.faults.Unshared.{first_unshared}
 use Rattle.bep_document.specs.faults.Records.{first_bad}
 use Rattle.bep_document.specs.faults.Sequences.{first_bad_sequence}
 use Rattle.bep_document.specs.faults.Links.{first_bad_link}
-use Rattle.bep_document.specs.read.Checks.{is_cut, read_cut, has_version, is_check, read_check}
+use Rattle.bep_json.specs.Tree.{has_only}
+use Rattle.bep_document.specs.read.Checks.{is_cut, read_cut, has_version, check_members, is_check, read_check}
 
 -- a thing, or the fault in place of it
 pub data Reading (T : Type 0) : Type 0 where
@@ -108,3 +110,18 @@ reading_of_cut tree = do
   shaped ← passed Shape is_cut tree
   cut ← given Range (read_cut shaped)
   unless (first_fault (without_rows cut)) (without_rows cut)
+
+-- what the tree of a check document says of its cut; a certificate may be missing, and isn't looked at
+unfoldable pub reading_of_cut_in : Data → Reading CheckParts
+reading_of_cut_in tree = do
+  known ← passed VersionBad has_version tree
+  listed ← passed Shape (has_only check_members) known
+  cut ← given Shape (get (codes "cut") listed)
+  reading_of_cut cut
+
+-- what the bytes of a check document say of its cut
+unfoldable pub reading_of_cut_document : List ℕ → Reading CheckParts
+reading_of_cut_document bytes = do
+  short ← passed Range is_short bytes
+  tree ← given NotJson (tree_of short)
+  reading_of_cut_in tree

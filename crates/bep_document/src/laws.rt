@@ -1,5 +1,5 @@
 //! What holds of each document that is read, as laws.
-ghost use Rattle.bep_document.specs.Faultless.{ReadingsAreFaultless, CutsAreFaultless, FaultlessHasNoFault, FaultlessHasFewDevices};
+ghost use Rattle.bep_document.specs.Faultless.{ReadingsAreFaultless, CutsAreFaultless, CutDocumentsAreFaultless, FaultlessHasNoFault, FaultlessHasFewDevices};
 ghost use Rattle.bep_document.specs.Laws.{RecordsAreTold, NodesAreTold};
 
 /// That what is read has no fault: folders, devices, views, links and names stand once, views and messages are of what is
@@ -8,6 +8,7 @@ ghost use Rattle.bep_document.specs.Laws.{RecordsAreTold, NodesAreTold};
 pub fn readings_are_faultless()
     ensures documents { ReadingsAreFaultless }
     ensures cuts { CutsAreFaultless }
+    ensures cut_documents { CutDocumentsAreFaultless }
 {}
 
 /// That nothing else is asked of what is read: in parts of which all this holds, no fault that has a place is found, and

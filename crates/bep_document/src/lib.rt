@@ -28,4 +28,4 @@ pub use error::DocError;
 pub use fault::{DocFault, Fault};
 pub use laws::{faultless_parts_are_read, readings_are_faultless, records_are_told};
 pub use parts::{CheckParts, FlightParts, FolderParts, LinkParts, RowParts, ShareParts, ViewParts};
-pub use reading::{MAX_BYTES, read_cut_parts, read_parts};
+pub use reading::{MAX_BYTES, read_cut_document, read_cut_parts, read_parts};

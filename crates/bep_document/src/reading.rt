@@ -1,14 +1,14 @@
 //! The reading of a document: from its bytes to what it says, or to its fault.
 ghost use Rattle.std.specs.Prelude.{◌≡◌};
 ghost use Rattle.serde_json.specs.View.{view};
-ghost use Rattle.bep_document.specs.Reading.{Answers, AnswersBy, given, tree_of, unless, first_fault, reading_of_tree, reading_of, reading_of_cut};
+ghost use Rattle.bep_document.specs.Reading.{Answers, AnswersBy, given, tree_of, unless, first_fault, reading_of_tree, reading_of, reading_of_cut, reading_of_cut_in, reading_of_cut_document};
 ghost use Rattle.bep_document.specs.Fault.{nowhere};
 ghost use Rattle.bep_document.specs.declared.fault.Fault.TheVariants.{NotJson};
 
 use crate::faults::fault_of;
 use crate::read::{CutLists, has_version};
 use crate::{CheckParts, DocError, DocFault, Fault};
-use bep_json::{ReadError, Readable};
+use bep_json::{ReadError, Readable, has_only};
 use bep_record::Items;
 use serde_json::Value;
 use serde_json::error::Category;
@@ -95,5 +95,37 @@ pub fn read_cut_parts(alloc: Global, tree: &Value) -> Result<CheckParts, DocErro
         Ok(cut) => judged(alloc, cut.with_rows(Items::new(Vec::new(alloc)))),
         Err(ReadError::Range) => Err(refused(Fault::Range)),
         Err(ReadError::Memory) => Err(DocError::Memory),
+    }
+}
+
+/// What the bytes of a check document say of its cut, with no rows, or the fault for which it is refused, as `read_parts`
+/// has them. The document's certificate may be missing, and isn't looked at. `Memory` may come in place of any answer.
+#[tactic(auto, unfolding(crate::specs::Reading::reading_of_cut_document))]
+pub fn read_cut_document(alloc: Global, bytes: &[u8]) -> Result<CheckParts, DocError>
+    ensures { Answers result (reading_of_cut_document bytes.now) }
+{
+    if bytes.len() > MAX_BYTES {
+        return Err(refused(Fault::Range));
+    }
+    match tree_of(alloc, bytes) {
+        Ok(tree) => cut_in(alloc, &tree),
+        Err(error) => Err(error),
+    }
+}
+
+// What the tree of a check document says of its cut.
+#[tactic(auto, unfolding(crate::specs::Reading::reading_of_cut_in))]
+fn cut_in(alloc: Global, tree: &Value) -> Result<CheckParts, DocError>
+    ensures { Answers result (reading_of_cut_in (view tree.now)) }
+{
+    if !has_version(tree) {
+        return Err(refused(Fault::VersionBad));
+    }
+    if !has_only(tree, &["version", "cut", "certificate"]) {
+        return Err(refused(Fault::Shape));
+    }
+    match tree.get("cut") {
+        Some(cut) => read_cut_parts(alloc, cut),
+        None => Err(refused(Fault::Shape)),
     }
 }

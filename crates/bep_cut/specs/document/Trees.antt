@@ -3,6 +3,7 @@
 use Rattle.std.specs.Prelude.{ℕ, List, map, codes}
 use Rattle.std.specs.FinMap.{entries, values}
 use Rattle.serde_json.specs.Data.{Data, boolean, string, object, no_members, member}
+use Rattle.serde_json.specs.Written.{compact_text}
 use Rattle.bep_map.specs.NameMap.{ByName}
 use Rattle.bep_record.specs.declared.entry.Entry.{Entry}
 use Rattle.bep_record.specs.declared.folder_kind.FolderKind.{FolderKind}
@@ -101,3 +102,7 @@ check_tree cut rows =
     (member (codes "certificate") (list_of (map row_tree rows))
     (member (codes "cut") (cut_tree cut)
     (member (codes "version") (whole 1) no_members)))
+
+-- its text: JSON without spaces
+unfoldable pub check_text : CutParts → List Row → List ℕ
+check_text cut rows = compact_text (check_tree cut rows)

@@ -3,12 +3,14 @@ ghost use Rattle.std.specs.Prelude.{◌≡◌, IfOk, map};
 ghost use Rattle.bep_document.specs.Faultless.{IsFaultless};
 ghost use Rattle.serde_json.specs.View.{view};
 ghost use Rattle.bep_document.specs.Reading.{Answers, AnswersBy};
-ghost use Rattle.bep_cut.specs.document.Written.{cut_written, row_written, check_of, cut_of_tree};
+ghost use Rattle.bep_cut.specs.document.Written.{cut_written, row_written, check_of, cut_of_document, cut_of_tree};
 
 use crate::document::records::rows_from;
 use crate::document::written::all_in_order;
 use crate::{Cut, CutParts, DocError};
-use bep_document::{CheckParts, read_cut_parts, read_parts, readings_are_faultless};
+use bep_document::{
+    CheckParts, read_cut_document, read_cut_parts, read_parts, readings_are_faultless,
+};
 use bep_index::records_make_an_index;
 use bep_model::Row;
 use serde_json::Value;
@@ -27,6 +29,18 @@ pub fn read_check(alloc: Global, bytes: &[u8]) -> Result<(Cut, Vec<Row>), DocErr
         },
         Err(error) => Err(error),
     }
+}
+
+/// The cut that the bytes of a check document say, or the one fault for which the document is refused: the smallest number
+/// that applies, at its first place. The certificate may be missing, and what stands there isn't looked at. `Memory` may
+/// come in place of any answer.
+pub fn read_cut(alloc: Global, bytes: &[u8]) -> Result<Cut, DocError>
+    ensures { Answers result (cut_of_document bytes.now) }
+{
+    readings_are_faultless();
+    let parts = read_cut_document(alloc, bytes)?;
+    let (cut, _rows) = check_from(alloc, parts)?;
+    Ok(cut)
 }
 
 impl Cut {

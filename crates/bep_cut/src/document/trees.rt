@@ -1,5 +1,5 @@
 //! Cuts and certificates as JSON trees, which are read again.
-ghost use Rattle.std.specs.Prelude.{◌≡◌, ◌≤◌, map, IfOk, OnOk};
+ghost use Rattle.std.specs.Prelude.{◌≡◌, ◌≤◌, map, IfOk, OnOk, string_bytes};
 ghost use Rattle.std.specs.FinMap.{entries, values};
 ghost use Rattle.std.specs.List.{AllByRecursion};
 ghost use Rattle.serde_json.specs.Data.{Data, string};
@@ -8,7 +8,7 @@ ghost use Rattle.bep_json.specs.Numbers.{is_whole, read_number, greatest_id};
 ghost use Rattle.bep_json.specs.Texts.{is_text, read_folder_name};
 ghost use Rattle.bep_json.specs.Says.{Says};
 ghost use Rattle.bep_json.specs.Written.{whole, list_of, record_written};
-ghost use Rattle.bep_cut.specs.document.Trees.{name_of_kind, records_tree, nodes_tree, view_tree, share_tree, folder_tree, flight_tree, link_tree, cut_tree, row_tree, check_tree};
+ghost use Rattle.bep_cut.specs.document.Trees.{name_of_kind, records_tree, nodes_tree, view_tree, share_tree, folder_tree, flight_tree, link_tree, cut_tree, row_tree, check_tree, check_text};
 ghost use Rattle.bep_cut.specs.document.Told.{IsRecordTold, IsNodeTold, IsViewTold, IsShareTold, IsFolderTold, IsFlightTold, IsLinkTold, IsReadAgain};
 
 use crate::{Cut, Flight, LinkState, PeerView, Row, Share, SharedFolder};
@@ -325,4 +325,13 @@ pub fn check_value(alloc: Global, cut: &Cut, rows: &[Row]) -> Result<Value, Allo
     let certificate = list_tree(alloc, rows)?;
     let cut = cut.to_value(alloc)?;
     json!(in alloc; {"certificate": certificate, "cut": cut, "version": 1u64})
+}
+
+/// The check document of a cut and the rows of a certificate for it, as JSON without spaces, or want of memory.
+pub fn check_document(alloc: Global, cut: &Cut, rows: &[Row]) -> Result<String, AllocError>
+    ensures { IfOk result (λ text. string_bytes text ≡ check_text cut.now rows.now) }
+{
+    let tree = check_value(alloc, cut, rows)?;
+    let text = tree.to_string(alloc)?;
+    Ok(text)
 }

@@ -1,5 +1,5 @@
-use Rattle.bep_document.proofs.ReadFaultless.{reading_faultless, cut_faultless}
+use Rattle.bep_document.proofs.ReadFaultless.{reading_faultless, cut_faultless, cut_document_faultless}
 use Rattle.bep_document.proofs.laws.readings_are_faultless.Goals as goal
 
 pub returns : goal.returns
-returns c = record { documents = reading_faultless; cuts = cut_faultless }
+returns c = record { documents = reading_faultless; cuts = cut_faultless; cut_documents = cut_document_faultless }
