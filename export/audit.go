@@ -139,8 +139,8 @@ func (a *audit) ask(word string, document []byte) (int, []byte, error) {
 	if status < 0 {
 		status = statusCannotRun
 	}
-	return 0, nil, &failedAudit{status, fmt.Sprintf("'%s %s' ended with %v: %s%s", a.program, word, ended,
-		firstLine(written.Bytes()), firstLine(told.Bytes()))}
+	return 0, nil, &failedAudit{status, fmt.Sprintf("'%s %s' ended with %v: %s", a.program, word, ended,
+		firstLine(append(written.Bytes(), told.Bytes()...)))}
 }
 
 // firstLine gives the first line of a text.

@@ -15,18 +15,26 @@ from pathlib import Path
 
 FOLDER = "docs"
 SECONDS_TO_WAIT = 300
+PORTS = list(range(12000, 32000))
+PORTS_OF_A_PROCESS = 16
 OPTIONS = {"globalAnnounceEnabled": "false", "localAnnounceEnabled": "false", "relaysEnabled": "false",
            "natEnabled": "false", "crashReportingEnabled": "false", "urAccepted": "-1", "startBrowser": "false",
            "autoUpgradeIntervalH": "0", "reconnectionIntervalS": "5", "stunKeepaliveStartS": "0"}
 
 
-def free_ports(count):
-    """Ports of 127.0.0.1 that nothing listens on."""
-    taken = [socket.create_server(("127.0.0.1", 0)) for _ in range(count)]
-    ports = [one.getsockname()[1] for one in taken]
-    for one in taken:
-        one.close()
-    return ports
+def ports_of_this_process():
+    """Ports of 127.0.0.1 that nothing listens on, below those that systems give out by themselves; each once. Another
+    process of these tests begins elsewhere."""
+    first = os.getpid() * PORTS_OF_A_PROCESS % len(PORTS)
+    for port in PORTS[first:] + PORTS[:first]:
+        try:
+            socket.create_server(("127.0.0.1", port)).close()
+        except OSError:
+            continue
+        yield port
+
+
+free_ports = ports_of_this_process()
 
 
 def wait_until(what, holds):
@@ -44,7 +52,7 @@ class Device:
     def __init__(self, room, name):
         self.home, self.files = room / name / "home", room / name / "files"
         self.room = room
-        self.api_port, self.listen_port = free_ports(2)
+        self.api_port, self.listen_port = next(free_ports), next(free_ports)
         self.process = None
         self.peers = []
         self.log = room / f"{name}.log"

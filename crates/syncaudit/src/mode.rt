@@ -14,8 +14,14 @@ pub enum Mode {
     Check,
 }
 
-const STATUSES: &str =
-    "Exit status: 0 settled, 1 not settled, 2 document refused, 3 usage or help, 4 out of memory, \
+const COMMANDS_HELP: &str =
+    "Each command reads a document on standard input, as in 'syncaudit check < FILE'.\n\
+     'syncaudit <COMMAND> --help' tells its exit statuses.";
+
+const CHECK_HELP: &str =
+    "The document FILE is a cut of the cluster with its certificate: DOCUMENTS.md describes it.\n\n\
+     Example: syncaudit check < examples/one-equal-file.json\n\n\
+     Exit status: 0 settled, 1 not settled, 2 document refused, 3 usage or help, 4 out of memory, \
      5 read or write fault";
 
 // The command line of the program.
@@ -24,11 +30,13 @@ fn command<'a>(alloc: Global) -> Result<Command<'a>, AllocError>
 {
     let check = Command::new(alloc, "check")
         .about("Audits the check document on standard input")
-        .after_help(STATUSES);
+        .override_usage("syncaudit check < FILE")
+        .after_help(CHECK_HELP);
     Command::new(alloc, "syncaudit")
         .bin_name("syncaudit")?
         .version("0.1.0")
         .about("Says whether a Syncthing cluster is settled, and if not, why")
+        .after_help(COMMANDS_HELP)
         .subcommand_required(true)
         .arg_required_else_help(true)
         .subcommand(check)

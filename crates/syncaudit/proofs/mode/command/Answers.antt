@@ -16,10 +16,10 @@ with_help = on_top (λ s. record s { arg_required_else_help = true })
 
 pub returns : goal.returns
 returns c =
-    let check : app_of c.after_help-check.result ≡ new_app (codes "check") = ap app_of_fields c.after_help-check.ensures ∙ ap app_of_fields c.about.ensures ∙ c.new.ensures.app in
-    let local : (out-Command c.after_help-check.result).has_globals ≡ false = ap (λ f. f.has_globals) c.after_help-check.ensures ∙ ap (λ f. f.has_globals) c.about.ensures ∙ c.new.ensures.local in
+    let check : app_of c.after_help-check.result ≡ new_app (codes "check") = ap app_of_fields c.after_help-check.ensures ∙ ap app_of_fields c.override_usage.ensures ∙ ap app_of_fields c.about.ensures ∙ c.new.ensures.app in
+    let local : (out-Command c.after_help-check.result).has_globals ≡ false = ap (λ f. f.has_globals) c.after_help-check.ensures ∙ ap (λ f. f.has_globals) c.override_usage.ensures ∙ ap (λ f. f.has_globals) c.about.ensures ∙ c.new.ensures.local in
     let named : app_of c.in_ok-bin_name.field-0 ≡ new_app (codes "syncaudit") = ap app_of_fields c.in_ok-bin_name.ensures.0 ∙ c.new-2.ensures.app in
-    let versioned : app_of c.about-2.result ≡ with_version (new_app (codes "syncaudit")) = ap app_of_fields c.about-2.ensures ∙ ap app_of_fields c.version.ensures ∙ ap with_version named in
+    let versioned : app_of c.after_help.result ≡ with_version (new_app (codes "syncaudit")) = ap app_of_fields c.after_help.ensures ∙ ap app_of_fields c.about-2.ensures ∙ ap app_of_fields c.version.ensures ∙ ap with_version named in
     let required : app_of c.subcommand_required.result ≡ with_required (with_version (new_app (codes "syncaudit"))) = ap app_of_fields c.subcommand_required.ensures ∙ ap with_required versioned in
     let helping = ap app_of_fields c.arg_required_else_help.ensures ∙ ap with_help required in
     IfOk-weaker c.subcommand.result _ _ (λ made h. h.shape local ∙ ap₂ with_subcommand helping (ap (λ (a : App). a.top) check)) c.subcommand.ensures
