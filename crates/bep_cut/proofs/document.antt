@@ -9,3 +9,4 @@ mod AsWrittenViews
 mod AsWrittenLinks
 mod ToldFacts
 pub mod RangeTold
+pub mod back

@@ -17,7 +17,7 @@ use Rattle.bep_document.specs.declared.parts.FolderParts.{FolderParts}
 use Rattle.bep_document.specs.declared.parts.FlightParts.{FlightParts}
 use Rattle.bep_document.specs.declared.parts.LinkParts.{LinkParts}
 use Rattle.bep_document.specs.declared.parts.RowParts.{RowParts}
-use Rattle.bep_document.specs.Reading.{Reading, Read, ◌>>=◌, reading_of, reading_of_cut}
+use Rattle.bep_document.specs.Reading.{Reading, Read, ◌>>=◌, reading_of, reading_of_tree, reading_of_cut}
 use Rattle.bep_model.specs.declared.flight.Flight.{Flight}
 use Rattle.bep_model.specs.declared.row.Row.{Row}
 use Rattle.bep_cut.specs.declared.share.Share.{Share}
@@ -120,3 +120,7 @@ check_of bytes = reading_of bytes >>= λ parts. Read (cut_written parts.folders 
 -- the cut that the tree of a cut says by itself, or the fault for which it is refused
 abbrev pub cut_of_tree : Data → Reading CutParts
 cut_of_tree tree = reading_of_cut tree >>= λ parts. Read (cut_written parts.folders parts.links)
+
+-- the cut and the rows that the tree of a check document says, or the fault for which it is refused
+abbrev pub check_of_tree : Data → Reading (CutParts × List Row)
+check_of_tree tree = reading_of_tree tree >>= λ parts. Read (cut_written parts.folders parts.links, map row_written parts.certificate)
