@@ -10,3 +10,4 @@ mod AsWrittenLinks
 mod ToldFacts
 pub mod RangeTold
 mod WholeNumbers
+pub mod back

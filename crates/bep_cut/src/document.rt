@@ -5,8 +5,9 @@ mod reading;
 mod records;
 mod sorting;
 mod trees;
+mod whole;
 mod written;
 
 pub use laws::cut_is_as_written;
 pub use reading::{read_check, read_cut};
-pub use trees::{check_document, check_value};
+pub use whole::{check_document, check_value};

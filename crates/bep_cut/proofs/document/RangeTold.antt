@@ -15,8 +15,10 @@ use Rattle.bep_index.specs.Index.{IsIndex}
 use Rattle.bep_index.specs.declared.limits.TheConstants.{MAX_NAMES, MAX_SEQUENCE}
 use Rattle.bep_model.specs.Tables.{Device}
 use Rattle.bep_model.specs.declared.flight.Flight.{Flight}
+use Rattle.bep_document.specs.read.Few.{read_few}
 use Rattle.bep_document.specs.read.Folders.{is_folder, read_folder}
 use Rattle.bep_document.specs.read.Links.{is_link, read_link}
+use Rattle.bep_json.specs.Lists.{is_list, read_list}
 use Rattle.bep_json.specs.Says.{Says, list_says}
 use Rattle.bep_json.specs.Written.{list_of}
 use Rattle.bep_cut.specs.declared.share.Share.{Share}
@@ -25,19 +27,19 @@ use Rattle.bep_cut.specs.declared.link.LinkState.{LinkState}
 use Rattle.bep_cut.specs.declared.cut.CutParts.{CutParts}
 use Rattle.bep_cut.specs.Cut.{AreViews, ArePulls, AreShares, IsFlight, IsLink, IsCut, devices_of, index_of, known_of}
 use Rattle.bep_cut.specs.document.Trees.{folder_tree, link_tree}
-use Rattle.bep_cut.specs.document.Told.{folder_parts, link_parts, AreInRange, IsIndexInRange, IsViewInRange, IsShareInRange, IsFlightInRange, IsLinkInRange, IsFolderTold, IsLinkTold, IsReadAgain}
+use Rattle.bep_cut.specs.document.Told.{folder_parts, link_parts, AreInRange, IsIndexInRange, IsViewInRange, IsShareInRange, IsFlightInRange, IsLinkInRange, IsFolderTold, IsLinkTold}
 use Rattle.bep_cut.proofs.Found.{all_from_each}
 use Rattle.bep_cut.proofs.document.ToldFacts.{each_told, few_read}
 
 -- ---- lists
-each_of : {A : Type 0} (P : A → Type 0) (xs : List A) → ((x : A) → Contains xs x → P x) → AllByRecursion P xs
+pub each_of : {A : Type 0} (P : A → Type 0) (xs : List A) → ((x : A) → Contains xs x → P x) → AllByRecursion P xs
 each_of P xs each = recursion_from_All P xs (all_from_each P xs each)
 
-all_map : {A : Type 0} (P Q : A → Type 0) → ((x : A) → P x → Q x) → (xs : List A) → AllByRecursion P xs → AllByRecursion Q xs
+pub all_map : {A : Type 0} (P Q : A → Type 0) → ((x : A) → P x → Q x) → (xs : List A) → AllByRecursion P xs → AllByRecursion Q xs
 all_map P Q each [] all = tt
 all_map P Q each (x ∷ more) all = (each x all.0, all_map P Q each more all.1)
 
-all_three : {A : Type 0} (P Q R S : A → Type 0) → ((x : A) → P x → Q x → R x → S x) → (xs : List A) → AllByRecursion P xs → AllByRecursion Q xs → AllByRecursion R xs → AllByRecursion S xs
+pub all_three : {A : Type 0} (P Q R S : A → Type 0) → ((x : A) → P x → Q x → R x → S x) → (xs : List A) → AllByRecursion P xs → AllByRecursion Q xs → AllByRecursion R xs → AllByRecursion S xs
 all_three P Q R S each [] p q r = tt
 all_three P Q R S each (x ∷ more) p q r = (each x p.0 q.0 r.0, all_three P Q R S each more p.1 q.1 r.1)
 
@@ -48,7 +50,7 @@ values_in_range records within =
     each_of (λ entry. entry.sequence ≤ MAX_SEQUENCE) (values records) (λ entry h.
     let found = key_of_value nat_list_cmp_total exact_bytes records entry h in within found.0 entry found.1)
 
-few_values : (most : ℕ) (records : ByName Entry) → len records ≤ most → length (values records) ≤ most
+pub few_values : (most : ℕ) (records : ByName Entry) → len records ≤ most → length (values records) ≤ most
 few_values most records few =
     let same = length-map (entries records) (λ e. e.1) in
     let all = len-entries records in
@@ -101,6 +103,11 @@ link_in_range folders link is =
     }
 
 -- ---- the whole
+-- the folders and the links that are written of a cut have their shape, and are read again as the cut's, within all ranges
+pub record IsReadAgain (cut : CutParts) : Type 0 where
+  pub folders : Says (is_list is_folder) (read_few MAX_FOLDERS read_folder) (map folder_parts cut.folders) (list_of (map folder_tree cut.folders))
+  pub links : Says (is_list is_link) (read_list read_link) (map link_parts cut.links) (list_of (map link_tree cut.links))
+
 pub cut_says : (cut : CutParts) → IsCut cut → AllByRecursion IsFolderTold cut.folders → AllByRecursion IsLinkTold cut.links → IsReadAgain cut
 cut_says cut is folders_told links_told =
     let HasShares : SharedFolder → Type 0 = λ shared. AreShares shared.shares in

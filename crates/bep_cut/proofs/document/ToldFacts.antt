@@ -20,17 +20,18 @@ use Rattle.bep_json.specs.Nodes.{is_node, read_node}
 use Rattle.bep_json.specs.Says.{Says, both_are, then_read, number_says, list_says}
 use Rattle.bep_json.specs.Written.{whole, list_of, record_written, node_written}
 use Rattle.bep_document.specs.read.Few.{if_few, read_few}
-use Rattle.bep_document.specs.read.Folders.{is_folder, read_folder}
+use Rattle.bep_document.specs.read.Folders.{is_folder, read_folder, is_row, read_row}
 use Rattle.bep_document.specs.read.Links.{is_flight, read_flight, has_link_members, is_link, read_link}
 use Rattle.bep_document.specs.read.Shares.{is_share, has_share_members, may_have_share_members, read_share}
 use Rattle.bep_document.specs.read.Views.{is_view, read_view}
 use Rattle.bep_model.specs.declared.flight.Flight.{Flight}
+use Rattle.bep_model.specs.declared.row.Row.{Row}
 use Rattle.bep_cut.specs.declared.share.Share.{Share}
 use Rattle.bep_cut.specs.declared.share.PeerView.{PeerView}
 use Rattle.bep_cut.specs.declared.share.SharedFolder.{SharedFolder}
 use Rattle.bep_cut.specs.declared.link.LinkState.{LinkState}
-use Rattle.bep_cut.specs.document.Trees.{name_of_kind, view_tree, share_tree, folder_tree, flight_tree, link_tree}
-use Rattle.bep_cut.specs.document.Told.{node_parts, view_parts, share_parts, flight_parts, AreInRange, IsViewInRange, IsShareInRange, IsFlightInRange, IsRecordTold, IsNodeTold, IsViewTold, IsShareTold, IsFolderTold, IsFlightTold, IsLinkTold}
+use Rattle.bep_cut.specs.document.Trees.{name_of_kind, view_tree, share_tree, folder_tree, flight_tree, link_tree, row_tree}
+use Rattle.bep_cut.specs.document.Told.{node_parts, view_parts, share_parts, flight_parts, AreInRange, IsViewInRange, IsShareInRange, IsFlightInRange, IsRecordTold, IsNodeTold, IsViewTold, IsShareTold, IsFolderTold, IsFlightTold, IsLinkTold, IsRowTold}
 
 where_true : {A : Type 0} {b : Bool} (x y : A) → b ≡ true → (if b then x else y) ≡ x
 where_true x y e = ap (λ c. if c then x else y) e
@@ -134,4 +135,13 @@ link_says link a b to_a_told to_b_told range =
           (then_read _ (number_says 0 MAX_SEQUENCE link.epoch (omega arith) range.epoch).1
           (then_read _ (few_read read_flight MAX_MESSAGES (list_of (map flight_tree link.to_a)) (map flight_parts link.to_a) to_a.1 (few_parts link.to_a range.few_to_a))
           (then_read _ (few_read read_flight MAX_MESSAGES (list_of (map flight_tree link.to_b)) (map flight_parts link.to_b) to_b.1 (few_parts link.to_b range.few_to_b)) refl)))),
+    )
+
+-- ---- rows
+pub row_says : (row : Row) → Says is_text read_folder_name row.folder (string row.folder) → Says is_whole (read_number 1 greatest_id) row.device (whole row.device) → IsRecordTold row.entry → IsRowTold row
+unfolding is_row read_row row_tree
+row_says row name device told range =
+    let entry = told range in (
+      both_are refl (both_are refl (both_are refl entry.0)),
+      then_read _ name.1 (then_read _ device.1 (then_read _ entry.1 refl)),
     )

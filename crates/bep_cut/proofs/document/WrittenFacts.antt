@@ -95,7 +95,7 @@ pulls_written found parts faultless = record {
 }
 
 -- ---- what is written in order
-differ_written : {A B K : Type 0} (key : B → K) (written : A → B) (parts : List A) → KeysDiffer (λ part. key (written part)) parts → KeysDiffer key (map written parts)
+pub differ_written : {A B K : Type 0} (key : B → K) (written : A → B) (parts : List A) → KeysDiffer (λ part. key (written part)) parts → KeysDiffer key (map written parts)
 differ_written key written [] differ = tt
 differ_written {A = A} {K = K} key written (part ∷ more) differ = (none (key (written part)) more differ.0, differ_written key written more differ.1) where
   none : (k : K) (parts : List A) → HasNoKey (λ p. key (written p)) k parts → HasNoKey key k (map written parts)

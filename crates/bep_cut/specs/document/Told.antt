@@ -1,35 +1,39 @@
 -- What is written of a cut is read again as its lists (this project's profile).
-use Rattle.std.specs.Prelude.{◌≤◌, ℕ, List, length, map}
+use Rattle.std.specs.Prelude.{◌≡◌, ◌≤◌, ℕ, List, [], length, map}
 use Rattle.std.specs.FinMap.{entries, values}
 use Rattle.std.specs.List.{AllByRecursion}
 use Rattle.bep_record.specs.declared.entry.Entry.{Entry}
 use Rattle.bep_record.specs.declared.node.NodeParts.{NodeParts}
-use Rattle.bep_record.specs.declared.limits.TheConstants.{MAX_FOLDERS, MAX_PULLS, MAX_MESSAGES}
+use Rattle.bep_record.specs.declared.limits.TheConstants.{MAX_PULLS, MAX_MESSAGES}
 use Rattle.bep_index.specs.declared.limits.TheConstants.{MAX_NAMES, MAX_RECORDS, MAX_SEQUENCE}
 use Rattle.bep_map.specs.NameMap.{ByName}
 use Rattle.bep_json.specs.declared.nodes.NamedParts.{NamedParts}
-use Rattle.bep_json.specs.Lists.{is_list, read_list}
 use Rattle.bep_json.specs.Records.{is_record, read_record}
 use Rattle.bep_json.specs.Nodes.{is_node, read_node}
 use Rattle.bep_json.specs.Says.{Says}
-use Rattle.bep_json.specs.Written.{list_of, record_written, node_written}
+use Rattle.bep_json.specs.Written.{record_written, node_written}
 use Rattle.bep_document.specs.declared.parts.ShareParts.{ShareParts}
 use Rattle.bep_document.specs.declared.parts.ViewParts.{ViewParts}
 use Rattle.bep_document.specs.declared.parts.FolderParts.{FolderParts}
 use Rattle.bep_document.specs.declared.parts.FlightParts.{FlightParts}
 use Rattle.bep_document.specs.declared.parts.LinkParts.{LinkParts}
-use Rattle.bep_document.specs.read.Few.{read_few}
-use Rattle.bep_document.specs.read.Folders.{is_folder, read_folder}
+use Rattle.bep_document.specs.declared.parts.RowParts.{RowParts}
+use Rattle.bep_document.specs.declared.parts.CheckParts.{CheckParts}
+use Rattle.bep_document.specs.Faultless.{IsFaultless}
+use Rattle.bep_document.specs.read.Checks.{is_cut, read_cut}
+use Rattle.bep_document.specs.read.Folders.{is_folder, read_folder, is_row, read_row}
 use Rattle.bep_document.specs.read.Links.{is_flight, read_flight, is_link, read_link}
 use Rattle.bep_document.specs.read.Shares.{is_share, read_share}
 use Rattle.bep_document.specs.read.Views.{is_view, read_view}
 use Rattle.bep_model.specs.declared.flight.Flight.{Flight}
+use Rattle.bep_model.specs.declared.row.Row.{Row}
 use Rattle.bep_cut.specs.declared.share.Share.{Share}
 use Rattle.bep_cut.specs.declared.share.PeerView.{PeerView}
 use Rattle.bep_cut.specs.declared.share.SharedFolder.{SharedFolder}
 use Rattle.bep_cut.specs.declared.link.LinkState.{LinkState}
 use Rattle.bep_cut.specs.declared.cut.CutParts.{CutParts}
-use Rattle.bep_cut.specs.document.Trees.{view_tree, share_tree, folder_tree, flight_tree, link_tree}
+use Rattle.bep_cut.specs.document.Trees.{view_tree, share_tree, folder_tree, flight_tree, link_tree, cut_tree, row_tree}
+use Rattle.bep_cut.specs.document.Written.{cut_written}
 
 -- ---- the lists of a cut, as a document has them
 -- a node with its name
@@ -72,6 +76,14 @@ link_parts link = record {
   to_b = map flight_parts link.to_b;
 }
 
+-- a row of a certificate
+abbrev pub row_parts : Row → RowParts
+row_parts row = record { folder = row.folder; device = row.device; entry = row.entry }
+
+-- the cut, with these rows
+abbrev pub parts_of : CutParts → List Row → CheckParts
+parts_of cut rows = record { folders = map folder_parts cut.folders; links = map link_parts cut.links; certificate = map row_parts rows }
+
 -- ---- what is in range
 -- the sequences of these records are
 abbrev pub AreInRange : List Entry → Type 0
@@ -107,6 +119,10 @@ pub record IsLinkInRange (link : LinkState) : Type 0 where
   pub to_a : AllByRecursion IsFlightInRange link.to_a
   pub to_b : AllByRecursion IsFlightInRange link.to_b
 
+-- the rows of a certificate are
+abbrev pub AreRowsInRange : List Row → Type 0
+AreRowsInRange = AllByRecursion (λ row. row.entry.sequence ≤ MAX_SEQUENCE)
+
 -- ---- what is read again, where it is in range
 abbrev pub IsRecordTold : Entry → Type 0
 IsRecordTold entry = entry.sequence ≤ MAX_SEQUENCE → Says is_record read_record entry (record_written entry)
@@ -129,7 +145,12 @@ IsFlightTold flight = IsFlightInRange flight → Says is_flight read_flight (fli
 abbrev pub IsLinkTold : LinkState → Type 0
 IsLinkTold link = IsLinkInRange link → Says is_link read_link (link_parts link) (link_tree link)
 
--- the folders and the links that are written of a cut have their shape, and are read again as the cut's, within all ranges
-pub record IsReadAgain (cut : CutParts) : Type 0 where
-  pub folders : Says (is_list is_folder) (read_few MAX_FOLDERS read_folder) (map folder_parts cut.folders) (list_of (map folder_tree cut.folders))
-  pub links : Says (is_list is_link) (read_list read_link) (map link_parts cut.links) (list_of (map link_tree cut.links))
+-- a row of a certificate
+abbrev pub IsRowTold : Row → Type 0
+IsRowTold row = row.entry.sequence ≤ MAX_SEQUENCE → Says is_row read_row (row_parts row) (row_tree row)
+
+-- what is written of a cut is read as the cut's lists, in which there is no fault, and which write down the cut
+pub record IsCutTold (cut : CutParts) : Type 0 where
+  pub lists : Says is_cut read_cut (map folder_parts cut.folders, map link_parts cut.links) (cut_tree cut)
+  pub faultless : IsFaultless (parts_of cut [])
+  pub same : cut_written (map folder_parts cut.folders) (map link_parts cut.links) ≡ cut

@@ -1,5 +1,5 @@
-//! Cuts and certificates as JSON trees, which are read again.
-ghost use Rattle.std.specs.Prelude.{◌≡◌, ◌≤◌, map, IfOk, OnOk, string_bytes};
+//! Folders, links and rows as JSON trees, which are read again.
+ghost use Rattle.std.specs.Prelude.{◌≡◌, ◌≤◌, map, IfOk, OnOk};
 ghost use Rattle.std.specs.FinMap.{entries, values};
 ghost use Rattle.std.specs.List.{AllByRecursion};
 ghost use Rattle.serde_json.specs.Data.{Data, string};
@@ -8,10 +8,12 @@ ghost use Rattle.bep_json.specs.Numbers.{is_whole, read_number, greatest_id};
 ghost use Rattle.bep_json.specs.Texts.{is_text, read_folder_name};
 ghost use Rattle.bep_json.specs.Says.{Says};
 ghost use Rattle.bep_json.specs.Written.{whole, list_of, record_written};
-ghost use Rattle.bep_cut.specs.document.Trees.{name_of_kind, records_tree, nodes_tree, view_tree, share_tree, folder_tree, flight_tree, link_tree, cut_tree, row_tree, check_tree, check_text};
-ghost use Rattle.bep_cut.specs.document.Told.{IsRecordTold, IsNodeTold, IsViewTold, IsShareTold, IsFolderTold, IsFlightTold, IsLinkTold, IsReadAgain};
+ghost use Rattle.bep_cut.specs.document.Trees.{name_of_kind, records_tree, nodes_tree, view_tree, share_tree, folder_tree, flight_tree, link_tree, row_tree};
+ghost use Rattle.bep_record.specs.Entry.{IsWellFormed};
+ghost use Rattle.bep_cut.specs.document.Sound.{AreRecords, AreNodes, IsViewSound, IsShareSound, IsFolderSound, IsFlightSound, IsLinkSound};
+ghost use Rattle.bep_cut.specs.document.Told.{IsRecordTold, IsNodeTold, IsViewTold, IsShareTold, IsFolderTold, IsFlightTold, IsLinkTold, IsRowTold};
 
-use crate::{Cut, Flight, LinkState, PeerView, Row, Share, SharedFolder};
+use crate::{Flight, LinkState, PeerView, Row, Share, SharedFolder};
 use bep_index::IndexId;
 use bep_json::{node_value, record_value, texts_are_told};
 use bep_map::NameMap;
@@ -27,16 +29,21 @@ pub(crate) trait Written {
     /// That this is read again, where it is in range.
     ghost is_told: { Self → Type 0 };
 
+    /// That its records and nodes are ones.
+    ghost is_sound: { Self → Type 0 };
+
     /// The tree that is written of it, or want of memory.
     fn tree(&self, alloc: Global) -> Result<Value, AllocError>
         ensures value { IfOk result (λ v. view v ≡ tree_of self.now) }
-        ensures told { OnOk result (is_told self.now) };
+        ensures told { OnOk result (is_told self.now) }
+        ensures sound { OnOk result (is_sound self.now) };
 }
 
 // The trees of these, in order.
-fn list_tree<T: Written>(alloc: Global, items: &[T]) -> Result<Value, AllocError>
+pub(crate) fn list_tree<T: Written>(alloc: Global, items: &[T]) -> Result<Value, AllocError>
     ensures value { IfOk result (λ v. view v ≡ list_of (map T.tree_of items.now)) }
     ensures told { OnOk result (AllByRecursion T.is_told items.now) }
+    ensures sound { OnOk result (AllByRecursion T.is_sound items.now) }
 {
     let mut trees = Vec::with_capacity(alloc, items.len())?;
     for item in items {
@@ -50,10 +57,11 @@ fn list_tree<T: Written>(alloc: Global, items: &[T]) -> Result<Value, AllocError
 fn records_tree(alloc: Global, records: &NameMap<Record>) -> Result<Value, AllocError>
     ensures value { IfOk result (λ v. view v ≡ records_tree records.now) }
     ensures told { OnOk result (AllByRecursion IsRecordTold (values records.now)) }
+    ensures sound { OnOk result (AreRecords records.now) }
 {
     let mut trees = Vec::with_capacity(alloc, records.len())?;
     for entry in records.values() {
-        let tree = record_value(alloc, entry)?;
+        let tree = entry.tree(alloc)?;
         trees.push(tree)?;
     }
     Ok(Value::Array(trees))
@@ -63,9 +71,11 @@ fn records_tree(alloc: Global, records: &NameMap<Record>) -> Result<Value, Alloc
 fn nodes_tree(alloc: Global, nodes: &NameMap<Node>) -> Result<Value, AllocError>
     ensures value { IfOk result (λ v. view v ≡ nodes_tree nodes.now) }
     ensures told { OnOk result (AllByRecursion IsNodeTold (entries nodes.now)) }
+    ensures sound { OnOk result (AreNodes nodes.now) }
 {
     let mut trees = Vec::with_capacity(alloc, nodes.len())?;
     for (name, node) in nodes.iter() {
+        node.parts();
         let tree = node_value(alloc, name, node)?;
         trees.push(tree)?;
     }
@@ -116,6 +126,8 @@ impl Written for PeerView {
 
     ghost is_told = { IsViewTold };
 
+    ghost is_sound = { IsViewSound };
+
     fn tree(&self, alloc: Global) -> Result<Value, AllocError> {
         device_is_told(self.of);
         number_is_told(self.index_id);
@@ -142,6 +154,8 @@ impl Written for Share {
     ghost tree_of = { share_tree };
 
     ghost is_told = { IsShareTold };
+
+    ghost is_sound = { IsShareSound };
 
     fn tree(&self, alloc: Global) -> Result<Value, AllocError> {
         device_is_told(self.device);
@@ -187,6 +201,8 @@ impl Written for SharedFolder {
 
     ghost is_told = { IsFolderTold };
 
+    ghost is_sound = { IsFolderSound };
+
     fn tree(&self, alloc: Global) -> Result<Value, AllocError> {
         folder_is_told(&self.folder);
         let devices = list_tree(alloc, self.shares.as_slice())?;
@@ -208,7 +224,10 @@ impl Written for Record {
 
     ghost is_told = { IsRecordTold };
 
+    ghost is_sound = { IsWellFormed };
+
     fn tree(&self, alloc: Global) -> Result<Value, AllocError> {
+        self.entry();
         record_value(alloc, self)
     }
 }
@@ -217,6 +236,8 @@ impl Written for Flight {
     ghost tree_of = { flight_tree };
 
     ghost is_told = { IsFlightTold };
+
+    ghost is_sound = { IsFlightSound };
 
     fn tree(&self, alloc: Global) -> Result<Value, AllocError> {
         folder_is_told(&self.folder);
@@ -238,6 +259,8 @@ impl Written for LinkState {
     ghost tree_of = { link_tree };
 
     ghost is_told = { IsLinkTold };
+
+    ghost is_sound = { IsLinkSound };
 
     fn tree(&self, alloc: Global) -> Result<Value, AllocError> {
         device_is_told(self.a);
@@ -273,10 +296,14 @@ fn link_members(
 impl Written for Row {
     ghost tree_of = { row_tree };
 
-    ghost is_told = { λ row. IsRecordTold row.entry };
+    ghost is_told = { IsRowTold };
+
+    ghost is_sound = { λ row. IsWellFormed row.entry };
 
     fn tree(&self, alloc: Global) -> Result<Value, AllocError> {
-        let entry = record_value(alloc, &self.entry)?;
+        folder_is_told(&self.folder);
+        device_is_told(self.device);
+        let entry = self.entry.tree(alloc)?;
         let tree = row_members(alloc, self, entry)?;
         Ok(tree)
     }
@@ -292,46 +319,4 @@ fn row_members(alloc: Global, row: &Row, entry: Value) -> Result<Value, AllocErr
         "folder": row.folder.as_str(),
         "record": entry
     })
-}
-
-impl Cut {
-    /// The cut as a tree, with every member, bytes in hexadecimal digits and all lists rising; or want of memory.
-    /// Its folders and links are read again as the cut's, within all ranges.
-    pub fn to_value(&self, alloc: Global) -> Result<Value, AllocError>
-        ensures value { IfOk result (λ v. view v ≡ cut_tree self.now) }
-        ensures read_again { OnOk result (IsReadAgain self.now) }
-    {
-        let folders = list_tree(alloc, self.folders())?;
-        let links = list_tree(alloc, self.links())?;
-        let tree = cut_members(alloc, self, folders, links)?;
-        Ok(tree)
-    }
-}
-
-#[tactic(auto, unfolding(crate::specs::document::Trees::cut_tree))]
-fn cut_members(alloc: Global, cut: &Cut, folders: Value, links: Value) -> Result<Value, AllocError>
-    requires folders { view folders ≡ list_of (map folder_tree cut.now.folders) }
-    requires links { view links ≡ list_of (map link_tree cut.now.links) }
-    ensures { IfOk result (λ v. view v ≡ cut_tree cut.now) }
-{
-    json!(in alloc; {"folders": folders, "links": links})
-}
-
-/// The check document of a cut and the rows of a certificate for it, as a tree, or want of memory.
-#[tactic(auto, unfolding(crate::specs::document::Trees::check_tree))]
-pub fn check_value(alloc: Global, cut: &Cut, rows: &[Row]) -> Result<Value, AllocError>
-    ensures { IfOk result (λ v. view v ≡ check_tree cut.now rows.now) }
-{
-    let certificate = list_tree(alloc, rows)?;
-    let cut = cut.to_value(alloc)?;
-    json!(in alloc; {"certificate": certificate, "cut": cut, "version": 1u64})
-}
-
-/// The check document of a cut and the rows of a certificate for it, as JSON without spaces, or want of memory.
-pub fn check_document(alloc: Global, cut: &Cut, rows: &[Row]) -> Result<String, AllocError>
-    ensures { IfOk result (λ text. string_bytes text ≡ check_text cut.now rows.now) }
-{
-    let tree = check_value(alloc, cut, rows)?;
-    let text = tree.to_string(alloc)?;
-    Ok(text)
 }

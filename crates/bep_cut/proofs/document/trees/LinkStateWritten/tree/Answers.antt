@@ -1,5 +1,6 @@
 use Rattle.std.proofs.Common.{subst}
 use Rattle.std.specs.List.{AllByRecursion}
+use Rattle.bep_cut.specs.document.Sound.{IsFlightSound}
 use Rattle.bep_cut.specs.document.Told.{IsFlightTold}
 use Rattle.bep_cut.proofs.document.ToldFacts.{link_says}
 use Rattle.bep_cut.proofs.document.trees.LinkStateWritten.tree.Goals as goal
@@ -9,3 +10,9 @@ returns-clause-told c =
     let to_a = subst (AllByRecursion IsFlightTold) c.as_slice.ensures c.in_ok-to_a.ensures.told in
     let to_b = subst (AllByRecursion IsFlightTold) c.as_slice-2.ensures c.in_ok-to_b.ensures.told in
     link_says c.args.self.now c.device_is_told.ensures c.device_is_told-2.ensures to_a to_b
+
+pub returns-clause-sound : goal.returns-clause-sound
+returns-clause-sound c = record {
+  to_a = subst (AllByRecursion IsFlightSound) c.as_slice.ensures c.in_ok-to_a.ensures.sound;
+  to_b = subst (AllByRecursion IsFlightSound) c.as_slice-2.ensures c.in_ok-to_b.ensures.sound;
+}
