@@ -78,8 +78,8 @@ pub struct DocFault {
 }
 
 impl DocFault {
-    // A fault of the whole document.
-    pub(crate) fn nowhere(fault: Fault) -> Self
+    /// A fault of the whole document.
+    pub fn nowhere(fault: Fault) -> Self
         ensures { result ≡ nowhere fault }
     {
         DocFault {
@@ -135,8 +135,8 @@ impl DocFault {
         }
     }
 
-    // A fault at a name that a device holds in a folder.
-    pub(crate) fn at_name(
+    /// A fault at a name that a device holds in a folder, or want of memory.
+    pub fn at_name(
         alloc: Global,
         fault: Fault,
         folder: &FolderName,

@@ -12,13 +12,15 @@ mod unshared;
 mod walks;
 
 use crate::CheckParts;
-use judge::Found;
-use links::first_bad_link;
 use records::first_bad;
 use sequences::first_bad_sequence;
 use std::alloc::Global;
-use twice::first_twice;
 use unshared::first_unshared;
+
+pub use judge::{Found, Judge, first_fault};
+pub use links::first_bad_link;
+pub use records::is_node;
+pub use twice::first_twice;
 
 // The first fault that has a place, or want of memory.
 #[tactic(auto, unfolding(crate::specs::Reading::first_fault))]

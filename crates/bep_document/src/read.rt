@@ -8,4 +8,7 @@ mod links;
 mod shares;
 mod views;
 
-pub(crate) use checks::{CutLists, has_version};
+pub(crate) use checks::CutLists;
+pub use checks::has_version;
+pub use devices::has_few_devices;
+pub use few::Few;

@@ -34,15 +34,15 @@ pub fn read_parts(alloc: Global, bytes: &[u8]) -> Result<CheckParts, DocError>
     }
 }
 
-// The error of a fault of the whole document.
-fn refused(fault: Fault) -> DocError
+/// The error of a fault of the whole document.
+pub fn refused(fault: Fault) -> DocError
     ensures { result ≡ DocError.Refused (nowhere fault) }
 {
     DocError::Refused(DocFault::nowhere(fault))
 }
 
-// The tree of the bytes.
-fn tree_of(alloc: Global, bytes: &[u8]) -> Result<Value, DocError>
+/// The tree of a document's bytes. Refuses `NotJson` where they aren't JSON; `Memory` may come in place of any answer.
+pub fn tree_of(alloc: Global, bytes: &[u8]) -> Result<Value, DocError>
     ensures { AnswersBy view result (given NotJson (tree_of bytes.now)) }
 {
     match Value::from_slice(alloc, bytes) {

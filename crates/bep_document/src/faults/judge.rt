@@ -8,10 +8,10 @@ use std::alloc::{AllocError, Global};
 use std::collections::BTreeSet;
 
 /// The first fault, if there is one, or want of memory.
-pub(crate) type Found = Result<Option<DocFault>, AllocError>;
+pub type Found = Result<Option<DocFault>, AllocError>;
 
 /// A judge of the items of a list, which looks for one kind of fault.
-pub(crate) trait Judge<T> {
+pub trait Judge<T> {
     /// The first fault at an item, given the items before it.
     ghost fault_at: { Self → List T → T → Option DocFault };
 
@@ -20,9 +20,9 @@ pub(crate) trait Judge<T> {
         ensures { IfOk result (λ found. found ≡ fault_at self.now earlier.now item.now) };
 }
 
-// The first fault among the items, or want of memory.
+/// The first fault among the items, or want of memory.
 #[tactic(auto, using(crate::proofs::faults::JudgeFacts::first_in_next))]
-pub(crate) fn first_fault<T, J: Judge<T>>(alloc: Global, judge: &J, items: &[T]) -> Found
+pub fn first_fault<T, J: Judge<T>>(alloc: Global, judge: &J, items: &[T]) -> Found
     ensures { IfOk result (λ found. found ≡ first_in (J.fault_at judge.now) [] items.now) }
 {
     for (i, item) in items.iter().enumerate() {

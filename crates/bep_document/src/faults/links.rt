@@ -25,9 +25,9 @@ impl<'a> Judge<LinkParts> for BadLinks<'a> {
     }
 }
 
-// The first link that can't be, or want of memory.
+/// The first link that can't be, or want of memory.
 #[tactic(auto, unfolding(crate::specs::faults::Links::first_bad_link))]
-pub(crate) fn first_bad_link(alloc: Global, parts: &CheckParts) -> Found
+pub fn first_bad_link(alloc: Global, parts: &CheckParts) -> Found
     ensures { IfOk result (λ found. found ≡ first_bad_link parts.now) }
 {
     let judge = BadLinks {

@@ -142,9 +142,9 @@ fn is_well_formed(entry: &Entry) -> bool
     entry.is_well_formed()
 }
 
-// Whether the parts are a node.
+/// Whether the parts are a node.
 #[tactic(auto, using(crate::proofs::faults::RecordTests::node_decides))]
-fn is_node(parts: &NodeParts) -> bool
+pub fn is_node(parts: &NodeParts) -> bool
     ensures { result ≡ is_node parts.now }
 {
     parts.is_node()

@@ -197,9 +197,9 @@ fn first_at_links(alloc: Global, links: &[LinkParts]) -> Found
     first_keyed(alloc, &TwiceInCut, links)
 }
 
-// What stands twice first, in the folders or else among the links, or want of memory.
+/// What stands twice first, in the folders or else among the links, or want of memory.
 #[tactic(auto, unfolding(crate::specs::faults::Twice::first_twice))]
-pub(crate) fn first_twice(alloc: Global, parts: &CheckParts) -> Found
+pub fn first_twice(alloc: Global, parts: &CheckParts) -> Found
     ensures { IfOk result (λ found. found ≡ first_twice parts.now) }
 {
     match first_fault(alloc, &TwiceInCut, parts.folders.as_slice())? {

@@ -68,8 +68,8 @@ impl Readable for CutLists {
     }
 }
 
-// Whether the version of the document is the whole number 1.
-pub(crate) fn has_version(value: &Value) -> bool
+/// Whether the version of the document is the whole number 1.
+pub fn has_version(value: &Value) -> bool
     ensures { result ≡ has_version (view value.now) }
 {
     match value.get("version") {

@@ -8,8 +8,8 @@ use crate::{FolderParts, ShareParts};
 use bep_record::{DeviceId, MAX_DEVICES};
 use std::alloc::{AllocError, Global};
 
-// Whether at most 16 different devices share the folders, or want of memory.
-pub(crate) fn has_few_devices(alloc: Global, folders: &[FolderParts]) -> Result<bool, AllocError>
+/// Whether at most 16 different devices share the folders, or want of memory.
+pub fn has_few_devices(alloc: Global, folders: &[FolderParts]) -> Result<bool, AllocError>
     ensures { IfOk result (λ few. few ≡ has_few_devices folders.now) }
 {
     let mut known = Vec::new(alloc);

@@ -9,9 +9,9 @@ use serde_json::Value;
 use std::alloc::Global;
 use std::marker::Model;
 
-// A list of at most so many things.
+/// A list of at most so many things, as it is read.
 #[derive(Debug, Drop)]
-pub(crate) struct Few<T, const MOST: usize> {
+pub struct Few<T, const MOST: usize> {
     items: Items<T>,
 }
 
@@ -24,8 +24,8 @@ impl<T, const MOST: usize> Model for Few<T, MOST> {
 }
 
 impl<T, const MOST: usize> Few<T, MOST> {
-    // The list without things.
-    pub(crate) fn none(alloc: Global) -> Self
+    /// The list without things.
+    pub fn none(alloc: Global) -> Self
         ensures { result ≡ [] }
     {
         Few {
@@ -33,8 +33,8 @@ impl<T, const MOST: usize> Few<T, MOST> {
         }
     }
 
-    // The things, in order.
-    pub(crate) fn into_items(self) -> Items<T>
+    /// The things, in order.
+    pub fn into_items(self) -> Items<T>
         ensures { result ≡ self }
     {
         self.items

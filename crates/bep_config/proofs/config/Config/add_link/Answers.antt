@@ -1,0 +1,15 @@
+use Rattle.std.proofs.Common.{rules}
+use Rattle.std.proofs.lemmas.Map.Views.{All-insert_key}
+use Rattle.bep_config.specs.Config.{by_ends, Joins}
+use Rattle.bep_config.proofs.config.Config.add_link.Goals as goal
+
+pub invariant_of-self-2 : goal.invariant_of-self-2
+invariant_of-self-2 g c = record {
+  few_folders = c.self.invariant.few_folders;
+  named = c.self.invariant.named;
+  few_devices = c.self.invariant.few_devices;
+  of_folders = c.self.invariant.of_folders;
+  of_devices = c.self.invariant.of_devices;
+  sharing = c.self.invariant.sharing;
+  joined = rw c.in_ok-insert.ensures.keys (All-insert_key by_ends (c.args.a, c.args.b) (Joins c.self.inside.devices.keys) c.self.inside.links.keys c.self.invariant.joined (search rules, search rules, search rules));
+}

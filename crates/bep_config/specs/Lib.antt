@@ -1,0 +1,2 @@
+pub mod ConfigError
+pub mod Config

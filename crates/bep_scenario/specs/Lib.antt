@@ -1,0 +1,6 @@
+pub mod Items
+pub mod Words
+pub mod Steps
+pub mod Fresh
+pub mod Faults
+pub mod Reading

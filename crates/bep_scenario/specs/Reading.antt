@@ -1,0 +1,55 @@
+-- The reading of a scenario document: what its bytes say, or the one fault for which it is refused. The smallest number
+-- that applies is told, at its first place (this project's profile).
+use Rattle.std.specs.Prelude.{ℕ, ◌&&◌, Bool, List, [], ◌∷◌, Option, Some, codes}
+use Rattle.serde_json.specs.Data.{Data}
+use Rattle.bep_record.specs.declared.limits.TheConstants.{MAX_FOLDERS}
+use Rattle.bep_json.specs.Tree.{has_only, has_member}
+use Rattle.bep_json.specs.Reading as json
+use Rattle.bep_json.specs.Reading.{read_member}
+use Rattle.bep_json.specs.Numbers.{is_whole}
+use Rattle.bep_json.specs.Lists.{is_list, read_list, is_pair}
+use Rattle.bep_document.specs.declared.fault.Fault.TheVariants.{NotJson, VersionBad, Shape, Range}
+use Rattle.bep_document.specs.read.Few.{read_few}
+use Rattle.bep_document.specs.read.Checks.{if_few_devices, has_version}
+use Rattle.bep_document.specs.Reading.{Reading, ◌>>=◌, given, passed, unless, is_short, tree_of, without_rows}
+use Rattle.bep_scenario.specs.declared.parts.ScenarioParts.{ScenarioParts}
+use Rattle.bep_scenario.specs.Steps.{is_step, read_step}
+use Rattle.bep_scenario.specs.Fresh.{is_fresh_folder, read_fresh_folder, read_fresh_link}
+use Rattle.bep_scenario.specs.Faults.{first_fault}
+
+-- the members of a scenario document
+abbrev pub scenario_members : List (List ℕ)
+scenario_members = codes "version" ∷ codes "folders" ∷ codes "links" ∷ codes "steps" ∷ []
+
+-- a scenario document: each member of its kind, and no others
+unfoldable pub is_scenario : Data → Bool
+is_scenario d =
+    has_only scenario_members d
+    && (has_member (codes "version") is_whole d
+    && (has_member (codes "folders") (is_list is_fresh_folder) d
+    && (has_member (codes "links") (is_list is_pair) d
+    && has_member (codes "steps") (is_list is_step) d)))
+
+-- the folders and links, and the steps
+unfoldable pub read_scenario : Data → Option ScenarioParts
+read_scenario d =
+    json.◌>>=◌ (read_member (codes "folders") (read_few MAX_FOLDERS read_fresh_folder) d) (λ folders.
+    json.◌>>=◌ (if_few_devices folders) (λ few.
+    json.◌>>=◌ (read_member (codes "links") (read_list read_fresh_link) d) (λ links.
+    json.◌>>=◌ (read_member (codes "steps") (read_list read_step) d) (λ steps.
+    Some (record { cluster = without_rows (few, links); steps = steps })))))
+
+-- what the tree of a document says
+unfoldable pub reading_of_tree : Data → Reading ScenarioParts
+reading_of_tree tree = do
+  known ← passed VersionBad has_version tree
+  shaped ← passed Shape is_scenario known
+  parts ← given Range (read_scenario shaped)
+  unless (first_fault parts) parts
+
+-- what the bytes of a document say
+unfoldable pub reading_of : List ℕ → Reading ScenarioParts
+reading_of bytes = do
+  short ← passed Range is_short bytes
+  tree ← given NotJson (tree_of short)
+  reading_of_tree tree

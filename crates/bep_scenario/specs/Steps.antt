@@ -1,0 +1,134 @@
+-- Steps as lists in JSON trees (this project's profile).
+use Rattle.std.specs.Prelude.{ℕ, ◌&&◌, Bool, false, List, Option, Some, None}
+use Rattle.serde_json.specs.Data.{Data}
+use Rattle.bep_json.specs.Reading.{◌>>=◌}
+use Rattle.bep_json.specs.Numbers.{is_whole, read_number, greatest_id}
+use Rattle.bep_json.specs.Texts.{is_text, read_name, read_folder_name}
+use Rattle.bep_json.specs.Nodes.{is_node, read_node}
+use Rattle.bep_machine.specs.declared.step.Step.{Step}
+use Rattle.bep_machine.specs.declared.step.Step.TheVariants as steps
+use Rattle.bep_scenario.specs.declared.words.NameWord.{NameWord}
+use Rattle.bep_scenario.specs.declared.words.NameWord.TheVariants as of_name
+use Rattle.bep_scenario.specs.declared.words.PairWord.{PairWord}
+use Rattle.bep_scenario.specs.declared.words.PairWord.TheVariants as of_pair
+use Rattle.bep_scenario.specs.declared.words.Word.{Word}
+use Rattle.bep_scenario.specs.declared.words.Word.TheVariants.{Edit, OfName, OfPair, Announce, Ask, Restart}
+use Rattle.bep_scenario.specs.declared.parts.StepParts.{StepParts}
+use Rattle.bep_scenario.specs.declared.parts.StepParts.TheVariants as parts
+use Rattle.bep_scenario.specs.Items.{has_item, ends_at, read_item}
+use Rattle.bep_scenario.specs.Words.{read_word}
+
+-- ---- shapes, behind the word
+
+-- a device, a folder and a node
+unfoldable pub is_edit : Data → Bool
+is_edit d = has_item 1 is_whole d && (has_item 2 is_text d && (has_item 3 is_node d && ends_at 4 d))
+
+-- a device, a folder and a name
+unfoldable pub is_name_step : Data → Bool
+is_name_step d = has_item 1 is_whole d && (has_item 2 is_text d && (has_item 3 is_text d && ends_at 4 d))
+
+-- two devices
+unfoldable pub is_pair_step : Data → Bool
+is_pair_step d = has_item 1 is_whole d && (has_item 2 is_whole d && ends_at 3 d)
+
+-- two devices and a folder
+unfoldable pub is_announce : Data → Bool
+is_announce d = has_item 1 is_whole d && (has_item 2 is_whole d && (has_item 3 is_text d && ends_at 4 d))
+
+-- two devices, a folder and a name
+unfoldable pub is_ask : Data → Bool
+is_ask d =
+    has_item 1 is_whole d && (has_item 2 is_whole d && (has_item 3 is_text d && (has_item 4 is_text d && ends_at 5 d)))
+
+-- a device
+unfoldable pub is_restart : Data → Bool
+is_restart d = has_item 1 is_whole d && ends_at 2 d
+
+-- what belongs to the word
+abbrev pub has_form : Option Word → Data → Bool
+has_form None d = false
+has_form (Some Edit) d = is_edit d
+has_form (Some (OfName word)) d = is_name_step d
+has_form (Some (OfPair word)) d = is_pair_step d
+has_form (Some Announce) d = is_announce d
+has_form (Some Ask) d = is_ask d
+has_form (Some Restart) d = is_restart d
+
+-- a step: a list of a word and what belongs to it, and of nothing else
+unfoldable pub is_step : Data → Bool
+is_step d = has_form (read_item 0 read_word d) d
+
+-- ---- steps
+
+-- a device, by its number
+abbrev pub read_device : Data → Option ℕ
+read_device = read_number 1 greatest_id
+
+abbrev pub name_step : NameWord → ℕ → List ℕ → List ℕ → Step
+name_step of_name.Remove device folder name = steps.Remove device folder name
+name_step of_name.Scan device folder name = steps.Scan device folder name
+name_step of_name.Override device folder name = steps.Override device folder name
+name_step of_name.Revert device folder name = steps.Revert device folder name
+name_step of_name.Pull device folder name = steps.StartPull device folder name
+name_step of_name.Finish device folder name = steps.Finish device folder name
+
+abbrev pub pair_step : PairWord → ℕ → ℕ → Step
+pair_step of_pair.Connect one other = steps.Connect one other
+pair_step of_pair.Lose one other = steps.Lose one other
+pair_step of_pair.Begin one other = steps.Begin one other
+pair_step of_pair.Deliver one other = steps.Deliver one other
+
+unfoldable pub read_edit : Data → Option StepParts
+read_edit d = do
+  device ← read_item 1 read_device d
+  folder ← read_item 2 read_folder_name d
+  node ← read_item 3 read_node d
+  Some (parts.Edit device folder node)
+
+unfoldable pub read_name_step : NameWord → Data → Option StepParts
+read_name_step word d = do
+  device ← read_item 1 read_device d
+  folder ← read_item 2 read_folder_name d
+  name ← read_item 3 read_name d
+  Some (parts.Other (name_step word device folder name))
+
+unfoldable pub read_pair_step : PairWord → Data → Option StepParts
+read_pair_step word d = do
+  one ← read_item 1 read_device d
+  other ← read_item 2 read_device d
+  Some (parts.Other (pair_step word one other))
+
+unfoldable pub read_announce : Data → Option StepParts
+read_announce d = do
+  device ← read_item 1 read_device d
+  other ← read_item 2 read_device d
+  folder ← read_item 3 read_folder_name d
+  Some (parts.Other (steps.Announce device other folder))
+
+unfoldable pub read_ask : Data → Option StepParts
+read_ask d = do
+  device ← read_item 1 read_device d
+  other ← read_item 2 read_device d
+  folder ← read_item 3 read_folder_name d
+  name ← read_item 4 read_name d
+  Some (parts.Other (steps.Ask device other folder name))
+
+unfoldable pub read_restart : Data → Option StepParts
+read_restart d = do
+  device ← read_item 1 read_device d
+  Some (parts.Other (steps.Restart device))
+
+abbrev pub read_by : Word → Data → Option StepParts
+read_by Edit d = read_edit d
+read_by (OfName word) d = read_name_step word d
+read_by (OfPair word) d = read_pair_step word d
+read_by Announce d = read_announce d
+read_by Ask d = read_ask d
+read_by Restart d = read_restart d
+
+-- the step, whose node, if it is an edit, may not fit its kind
+unfoldable pub read_step : Data → Option StepParts
+read_step d = do
+  word ← read_item 0 read_word d
+  read_by word d

@@ -1,0 +1,21 @@
+//! The scenario document: from bytes to a cluster and the list of its steps, or to the one fault for which it is refused.
+//!
+//! A caller reads a scenario so:
+//!
+//!     match read_scenario_parts(alloc, bytes) {
+//!         Ok(parts) => use_steps(parts.steps.as_slice()),
+//!         Err(DocError::Refused(fault)) => tell(fault.fault.number(), fault.fault.name()),
+//!         Err(DocError::Memory) => give_up(),
+//!     }
+#![tactic(auto)]
+
+mod faults;
+mod fresh;
+mod items;
+mod parts;
+mod reading;
+mod step;
+mod words;
+
+pub use parts::{ScenarioParts, StepParts};
+pub use reading::read_scenario_parts;

@@ -1,0 +1,96 @@
+//! The reading of a scenario document: from its bytes to what it says, or to its fault.
+ghost use Rattle.std.specs.Prelude.{◌≡◌};
+ghost use Rattle.serde_json.specs.View.{view};
+ghost use Rattle.bep_document.specs.Reading.{Answers, unless};
+ghost use Rattle.bep_scenario.specs.Faults.{first_fault};
+ghost use Rattle.bep_scenario.specs.Reading.{is_scenario, read_scenario, reading_of_tree, reading_of};
+
+use crate::faults::fault_of;
+use crate::fresh::{FreshFolder, FreshLink, folders_of, links_of};
+use crate::{ScenarioParts, StepParts};
+use bep_document::{
+    CheckParts, DocError, Fault, Few, MAX_BYTES, has_few_devices, has_version, refused, tree_of,
+};
+use bep_json::{ReadError, Readable, Whole, has, has_only, member};
+use bep_record::{Items, MAX_FOLDERS};
+use serde_json::Value;
+use std::alloc::Global;
+
+impl Readable for ScenarioParts {
+    ghost has_shape = { is_scenario };
+
+    ghost reads = { read_scenario };
+
+    #[tactic(auto, unfolding(crate::specs::Reading::is_scenario))]
+    fn has_shape(value: &Value) -> bool {
+        has_only(value, &["version", "folders", "links", "steps"])
+            && has::<Whole<1, 1>>(value, "version")
+            && has::<Items<FreshFolder>>(value, "folders")
+            && has::<Items<FreshLink>>(value, "links")
+            && has::<Items<StepParts>>(value, "steps")
+    }
+
+    #[tactic(auto, unfolding(crate::specs::Reading::read_scenario))]
+    fn read(alloc: Global, value: &Value) -> Result<Self, ReadError> {
+        let fresh = member::<Few<FreshFolder, MAX_FOLDERS>>(alloc, value, "folders")?.into_items();
+        let folders = folders_of(alloc, fresh)?;
+        if !has_few_devices(alloc, folders.as_slice())? {
+            return Err(ReadError::Range);
+        }
+        let fresh = member::<Items<FreshLink>>(alloc, value, "links")?;
+        let links = links_of(alloc, fresh)?;
+        let steps = member::<Items<StepParts>>(alloc, value, "steps")?;
+        let certificate = Items::new(Vec::new(alloc));
+        let cluster = CheckParts {
+            folders,
+            links,
+            certificate,
+        };
+        Ok(ScenarioParts { cluster, steps })
+    }
+}
+
+/// What the bytes of a scenario document say, or the fault for which it is refused: the one with the smallest number that
+/// applies, at its first place. `Memory` may come in place of any answer.
+///
+/// This project's profile.
+#[tactic(auto, unfolding(crate::specs::Reading::reading_of))]
+pub fn read_scenario_parts(alloc: Global, bytes: &[u8]) -> Result<ScenarioParts, DocError>
+    ensures { Answers result (reading_of bytes.now) }
+{
+    if bytes.len() > MAX_BYTES {
+        return Err(refused(Fault::Range));
+    }
+    match tree_of(alloc, bytes) {
+        Ok(tree) => parts_of(alloc, &tree),
+        Err(error) => Err(error),
+    }
+}
+
+// What the tree of a document says.
+#[tactic(auto, unfolding(crate::specs::Reading::reading_of_tree))]
+fn parts_of(alloc: Global, tree: &Value) -> Result<ScenarioParts, DocError>
+    ensures { Answers result (reading_of_tree (view tree.now)) }
+{
+    if !has_version(tree) {
+        return Err(refused(Fault::VersionBad));
+    }
+    if !ScenarioParts::has_shape(tree) {
+        return Err(refused(Fault::Shape));
+    }
+    match ScenarioParts::read(alloc, tree) {
+        Ok(parts) => judged(alloc, parts),
+        Err(ReadError::Range) => Err(refused(Fault::Range)),
+        Err(ReadError::Memory) => Err(DocError::Memory),
+    }
+}
+
+// The parts, if they have no fault.
+fn judged(alloc: Global, parts: ScenarioParts) -> Result<ScenarioParts, DocError>
+    ensures { Answers result (unless (first_fault parts) parts) }
+{
+    match fault_of(alloc, &parts)? {
+        Some(fault) => Err(DocError::Refused(fault)),
+        None => Ok(parts),
+    }
+}
