@@ -11,6 +11,7 @@ mod device_map;
 mod edit;
 mod ending;
 mod error;
+mod finish;
 mod found;
 mod overriding;
 mod pull;
