@@ -1,8 +1,10 @@
 mod BlockFacts
 mod ChosenFacts
 mod CommitFacts
+mod CopyFacts
 mod DeviceMapFacts
 mod EndingFacts
+mod FinishFacts
 mod HeldFacts
 mod KeptFacts
 mod KnownFacts

@@ -1,20 +1,23 @@
 -- The end of a pull, in the parts in which it is done: each is a row, or the rest of one (this project's profile).
-use Rattle.std.specs.Prelude.{◌≡◌, ℕ, ◌+◌, ◌≢◌, ◌⊎◌, ◌↔◌, ◌<◌, ⊤, Bool, true, false, Option, Some, None, Result, Ok, Err, IsErr}
+use Rattle.std.specs.Prelude.{◌≡◌, ℕ, ◌+◌, ◌≢◌, ◌⊎◌, ◌↔◌, ◌<◌, ⊤, Bool, true, false, Option, Some, None, IsSome, Result, Ok, Err, IsErr}
 use Rattle.std.specs.FinMap.{get, insert, remove}
 use Rattle.bep_map.specs.NameMap.{ByName}
 use Rattle.bep_record.specs.declared.entry.Entry.{Entry}
 use Rattle.bep_record.specs.declared.node.NodeParts.{NodeParts}
 use Rattle.bep_record.specs.Vector.{most_counters, ids_in_either}
+use Rattle.bep_record.specs.Node.{IsClean}
 use Rattle.bep_index.specs.Listing.{Listing}
 use Rattle.bep_index.specs.Index.{IsSequenceFull, IsIndexFull, after_put}
 use Rattle.bep_model.specs.Tables.{FileName}
-use Rattle.bep_machine.specs.declared.refusal.Refusal.TheVariants.{StoreFault}
-use Rattle.bep_machine.specs.Answer.{Refused, Row, ◌answers◌when◌else◌}
+use Rattle.bep_machine.specs.declared.moved.Moved.{Moved}
+use Rattle.bep_machine.specs.declared.refusal.Refusal.TheVariants.{StoreFault, Unscanned}
+use Rattle.bep_machine.specs.Answer.{Refused, Row, when◌then◌else◌, ◌answers◌when◌else◌}
 use Rattle.bep_machine.specs.Replica.{Pull, Replica, HasContentOf, own_at, node_at, pull_at, version_of, with_node}
 use Rattle.bep_machine.specs.Local.{Fails}
-use Rattle.bep_machine.specs.Pull.{RoomRow, SettlingRow, IsAdopted, timed, written}
+use Rattle.bep_machine.specs.Pull.{CopyingRow, RoomRow, SettlingRow, IsAdopted, IsConflictDue, IsFile, IsMissingBlocks, timed, written}
 use Rattle.bep_folder.specs.declared.error.FolderError.{FolderError}
 use Rattle.bep_folder.specs.declared.error.FolderError.TheVariants as errors
+use Rattle.bep_folder.specs.Held.{Held}
 use Rattle.bep_folder.specs.Trace.{TracedStore, next_call, failed_now}
 
 -- the row of the name's pull
@@ -29,6 +32,20 @@ WritingRow name pull None call failed old =
 WritingRow name pull (Some copy) call failed old =
     old answers Refused StoreFault when Fails call failed else
     SettlingRow name pull (call + 1) failed (own_at old name) (node_at old name) (with_node old copy (node_at old name))
+
+-- some block is missing of a file whose content isn't there yet
+abbrev pub IsIncomplete : Option Entry → Pull → Type 0
+IsIncomplete own pull = IsFile pull.target × (¬ HasContentOf own pull.target) × IsMissingBlocks pull
+
+-- the end of a pull once its blocks are there and the node is read
+abbrev pub CleanRow : FileName → Pull → Option ℕ → Replica → Row Replica
+CleanRow name pull failed old =
+    let own = own_at old name in
+    let node = node_at old name in
+    old answers Refused Unscanned when ¬ IsClean node own else
+    (when IsConflictDue own pull.target
+    then CopyingRow name pull failed own node old
+    else RoomRow name own pull.target old (SettlingRow name pull 2 failed own node old))
 
 -- there is room for the record, and the writes are made
 abbrev pub RoomyRow : FileName → Pull → Option FileName → ℕ → Option ℕ → Replica → Row Replica
@@ -95,6 +112,13 @@ LacksRoom name own target index errors.IndexFull =
     (¬ (most_counters < ids_in_either (version_of own) target.version)) × (¬ IsSequenceFull index) × IsIndexFull index name
 LacksRoom name own target index errors.Memory = ⊤
 LacksRoom name own target index _ = ⊥
+
+-- What the trace tells of the copy that is to be written, and what an error leaves: the copy was written, and stands there;
+-- or it wasn't, and after an error all is as before.
+abbrev pub WroteCopy : Option FileName → Held → Held → Result Moved FolderError → Type 0
+WroteCopy None old new result = (new.trace.copied ≡ old.trace.copied) × (IsErr result → new.tables ≡ old.tables)
+WroteCopy (Some copy) old new result =
+    ((new.trace.copied ≡ true) × IsSome (node_at new.tables copy)) ⊎ ((new.trace.copied ≡ old.trace.copied) × IsErr result × (new.tables ≡ old.tables))
 
 -- what is known where the writes begin: whether the own content is the target's, and that there is room
 pub record IsReady (name : FileName) (own : Option Entry) (pull : Pull) (index : Listing) (same : Bool) : Type 0 where

@@ -1,5 +1,6 @@
 pub mod Commit
 pub mod Ending
+pub mod Finish
 pub mod FolderError
 pub mod Held
 pub mod Known

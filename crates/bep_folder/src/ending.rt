@@ -5,7 +5,9 @@ ghost use Rattle.std.specs.FinMap as map;
 ghost use Rattle.bep_machine.specs.Replica.{HasContentOf, own_at, node_at, pull_at};
 ghost use Rattle.bep_machine.specs.Replica as machine;
 ghost use Rattle.bep_machine.specs.Pull.{IsFile, IsMissingBlocks};
-ghost use Rattle.bep_folder.specs.Ending.{PulledRow, PutsAndWrites, RoomyRow};
+ghost use Rattle.bep_model.specs.Tables.{FileName};
+ghost use Rattle.bep_folder.specs.Ending.{PulledRow, PutsAndWrites, RoomyRow, WroteCopy};
+ghost use Rattle.bep_folder.specs.Finish.{FailsLater};
 ghost use Rattle.bep_folder.specs.Makes.{Makes, Stays, CountsFaults};
 
 use crate::adopt::put_adopted;
@@ -36,7 +38,10 @@ impl<S: Store> Replica<S> {
         requires complete { (pull : machine.Pull) → pull_at self.old.tables name.now ≡ Some pull → IsFile pull.target → (¬ HasContentOf (own_at self.old.tables name.now) pull.target) → ¬ IsMissingBlocks pull }
         requires untroubled { self.old.trace.failed ≡ None }
         requires few { self.old.made ≤ 2 }
+        requires free { (other : FileName) → option_copied copy ≡ Some other → node_at self.old.tables other ≡ None }
         ensures made { Makes (λ old. PulledRow name.now (λ pull. RoomyRow name.now pull (option_copied copy.entry) (self.old.made + 1) self.new.trace.failed old) old) self.old self.new result }
+        ensures copied { WroteCopy (option_copied copy.entry) self.old self.new result }
+        ensures later { FailsLater self.old self.new }
         ensures same { Stays self.old self.new }
         ensures counted { CountsFaults self.old self.new result }
     {
@@ -62,7 +67,7 @@ impl<S: Store> Replica<S> {
 }
 
 // The name's pull goes.
-fn forget(pulls: &mut NameMap<Pull>, name: &Name)
+pub(crate) fn forget(pulls: &mut NameMap<Pull>, name: &Name)
     ensures { pulls.new ≡ map.remove pulls.old name.now }
 {
     let _ended = pulls.remove(name);

@@ -10,6 +10,7 @@ mod deletion;
 mod edit;
 mod ending;
 mod error;
+mod finish;
 mod found;
 mod overriding;
 mod pull;

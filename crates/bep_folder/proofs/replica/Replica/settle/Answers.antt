@@ -1,12 +1,14 @@
-use Rattle.std.proofs.Common.{◌≡◌, Err, refl, sym, ap, subst, ◌∙◌}
+use Rattle.std.proofs.Common.{◌≤◌, Err, refl, sym, ap, subst, ◌∙◌}
 use Rattle.std.specs.FinMap.{remove}
 use Rattle.std.specs.Option.{option_copied}
 use Rattle.bep_index.specs.Index.{after_put}
-use Rattle.bep_machine.specs.Replica.{own_at, node_at, pull_at}
+use Rattle.bep_machine.specs.Replica.{own_at, pull_at}
 use Rattle.bep_machine.specs.Pull.{IsAdopted}
 use Rattle.bep_folder.specs.Held.{IsHeld, Held}
 use Rattle.bep_folder.specs.Ending.{IsReady, PutsAndWrites}
 use Rattle.bep_folder.proofs.HeldFacts.{IsHeld-forgotten}
+use Rattle.bep_machine.specs.declared.moved.Moved.TheVariants.{Changed}
+use Rattle.bep_folder.proofs.CopyFacts.{seen, wrote, wrote_none, fails_late, fails_late_given_up}
 use Rattle.bep_folder.proofs.SettleFacts.{settled, ends_early, writing_begins}
 use Rattle.bep_folder.proofs.replica.Replica.settle.Goals as goal
 
@@ -45,3 +47,37 @@ returns-in-Err-clause-made g c =
     (ap (λ h. h.tables.store) is) (ap (λ h. h.trace) is) (ap (λ h. h.made) is) c.requires.untroubled c.requires.few refl
     (subst (λ h. PutsAndWrites name pull (option_copied c.args.copy) (option_copied c.args.node) h.tables.index c.put_and_write.new.index c.self.inside.store now (Err c.in-Err.error)) is c.in-Err.ensures)
     (ap (λ h. record h.tables { index = c.put_and_write.new.index; store = now.contents }) is)
+
+pub returns-in-Ok-clause-copied : goal.returns-in-Ok-clause-copied
+returns-in-Ok-clause-copied g c =
+    let is = c.self.view_is in
+    let now = c.put_and_write.new.store in
+    let new : Held = record { device = c.self.inside.device; folder = c.self.inside.folder; tables = record { kind = c.self.inside.kind; others = c.self.inside.others; index = c.put_and_write.new.index; views = c.self.inside.views; pulls = c.forget.new.pulls; store = now.contents }; faults = now.faults; made = now.made; trace = now.trace } in
+    wrote c.args.name.now c.in-Some.pull.now c.in-Ok.ensures.0 (option_copied c.args.copy) (option_copied c.args.node) c.args.self.now new c.self.inside.store now Changed
+    (seen c.args.name.now c.args.copy (option_copied c.args.node) c.args.self.now new c.self.inside.store now c.requires.node c.requires.kept c.requires.free (ap (λ h. h.tables.store) is) (ap (λ h. h.trace) is) refl)
+    refl c.in-Ok.ensures.2
+
+pub returns-in-Err-clause-copied : goal.returns-in-Err-clause-copied
+returns-in-Err-clause-copied g c =
+    let is = c.self.view_is in
+    let name = c.args.name.now in
+    let now = c.put_and_write.new.store in
+    let new : Held = record { device = c.self.inside.device; folder = c.self.inside.folder; tables = record { kind = c.self.inside.kind; others = c.self.inside.others; index = c.put_and_write.new.index; views = c.self.inside.views; pulls = c.self.inside.pulls; store = now.contents }; faults = now.faults; made = now.made; trace = now.trace } in
+    wrote_none name c.in-Some.pull.now (option_copied c.args.copy) (option_copied c.args.node) c.args.self.now new c.put_and_write.new.index c.self.inside.store now c.in-Err.error
+    (seen name c.args.copy (option_copied c.args.node) c.args.self.now new c.self.inside.store now c.requires.node c.requires.kept c.requires.free (ap (λ h. h.tables.store) is) (ap (λ h. h.trace) is) refl)
+    (subst (λ h. PutsAndWrites name c.in-Some.pull.now (option_copied c.args.copy) (option_copied c.args.node) h.tables.index c.put_and_write.new.index c.self.inside.store now (Err c.in-Err.error)) is c.in-Err.ensures)
+    (ap (λ h. record h.tables { index = c.put_and_write.new.index; store = now.contents }) is)
+
+pub returns-in-Ok-clause-later : goal.returns-in-Ok-clause-later
+returns-in-Ok-clause-later g c =
+    let is = c.self.view_is in
+    λ call before. fails_late c.args.name.now c.in-Some.pull.now (option_copied c.args.node) c.self.inside.store c.put_and_write.new.store
+    (subst (λ h. h.made ≤ 2) (sym is) c.requires.few) (ap (λ h. h.trace.failed) is ∙ c.requires.untroubled) (option_copied c.args.copy) c.in-Ok.ensures.0 c.in-Ok.ensures.2
+    call (subst (λ h. call ≤ h.made) (sym is) before)
+
+pub returns-in-Err-clause-later : goal.returns-in-Err-clause-later
+returns-in-Err-clause-later g c =
+    let is = c.self.view_is in
+    λ call before. fails_late_given_up c.args.name.now c.in-Some.pull.now (option_copied c.args.node) c.self.inside.store c.put_and_write.new.store
+    (subst (λ h. h.made ≤ 2) (sym is) c.requires.few) (ap (λ h. h.trace.failed) is ∙ c.requires.untroubled) (option_copied c.args.copy) c.self.inside.index c.put_and_write.new.index c.in-Err.error c.in-Err.ensures
+    call (subst (λ h. call ≤ h.made) (sym is) before)
