@@ -18,6 +18,8 @@ mod pulled;
 mod readers;
 mod replica;
 mod scan_result;
+#[cfg(test)]
+mod scan_tests;
 mod settle;
 #[cfg(test)]
 mod tests;

@@ -9,25 +9,17 @@ use bep_store::MemStore;
 use std::alloc::Global;
 
 // The folder `docs` at device 2, which shares it with device 1.
-fn folder(alloc: Global) -> Option<Replica<MemStore>> {
+pub(crate) fn folder(alloc: Global, kind: FolderKind) -> Option<Replica<MemStore>> {
     let device = DeviceId::read(2)?;
     let id = IndexId::read(12)?;
     let others = Vec::from_slice(alloc, &[DeviceId::read(1)?]).ok()?;
     let docs = FolderName::read(alloc, b"docs").ok()?;
     let store = MemStore::new(alloc);
-    Replica::new(
-        alloc,
-        device,
-        docs,
-        FolderKind::SendReceive,
-        id,
-        others,
-        store,
-    )
+    Replica::new(alloc, device, docs, kind, id, others, store)
 }
 
 // Device 1's record of the directory of this one letter, under this sequence.
-fn directory(alloc: Global, letter: u8, sequence: u64) -> Option<Record> {
+pub(crate) fn directory(alloc: Global, letter: u8, sequence: u64) -> Option<Record> {
     let modified_by = DeviceId::read(1)?;
     let version = Vector::read(&[(1, 1)])?;
     let name = Name::read(alloc, &[letter]).ok()?;
@@ -88,7 +80,7 @@ fn amended(
 }
 
 fn views(alloc: Global) -> Option<[(u64, u64, usize); 4]> {
-    let mut replica = folder(alloc)?;
+    let mut replica = folder(alloc, FolderKind::SendReceive)?;
     Some([
         cleared(&mut replica, 11)?,
         replaced(alloc, &mut replica, b'a')?,
