@@ -4,3 +4,4 @@ pub mod Steps
 pub mod Fresh
 pub mod Faults
 pub mod Reading
+pub mod Faultless

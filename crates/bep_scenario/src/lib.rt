@@ -12,10 +12,16 @@
 mod faults;
 mod fresh;
 mod items;
+mod laws;
+mod making;
 mod parts;
 mod reading;
 mod step;
+#[cfg(test)]
+mod tests;
 mod words;
 
+pub use laws::scenarios_are_faultless;
+pub use making::steps_of;
 pub use parts::{ScenarioParts, StepParts};
 pub use reading::read_scenario_parts;

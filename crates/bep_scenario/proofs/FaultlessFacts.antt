@@ -1,0 +1,58 @@
+-- What is read has no fault.
+use Rattle.std.proofs.Common.{◌≡◌, ℕ, List, [], Option, None, subst}
+use Rattle.std.specs.List.{AllByRecursion}
+use Rattle.serde_json.specs.Data.{Data}
+use Rattle.bep_document.specs.declared.fault.Fault.TheVariants.{NotJson, VersionBad, Shape, Range, RecordBad}
+use Rattle.bep_document.specs.Fault.{at_name}
+use Rattle.bep_document.specs.faults.Judge.{first_in}
+use Rattle.bep_document.specs.faults.Twice.{first_twice}
+use Rattle.bep_document.specs.faults.Records.{is_node}
+use Rattle.bep_document.specs.faults.Links.{first_bad_link}
+use Rattle.bep_document.specs.read.Checks.{has_version}
+use Rattle.bep_document.specs.Reading.{Read, is_short, tree_of}
+use Rattle.bep_document.proofs.Steps.{passed_and, given_and, no_fault_and}
+use Rattle.bep_document.proofs.faults.NoFault.{neither, passes_where_none, all_map, all_where_none}
+use Rattle.bep_document.proofs.faults.RecordTests.{node_decides}
+use Rattle.bep_document.proofs.faults.TwiceFacts.{nothing_twice}
+use Rattle.bep_document.proofs.faults.LinksFacts.{all_links}
+use Rattle.bep_scenario.specs.declared.parts.StepParts.{StepParts}
+use Rattle.bep_scenario.specs.declared.parts.StepParts.TheVariants.{Edit, Other}
+use Rattle.bep_scenario.specs.declared.parts.ScenarioParts.{ScenarioParts}
+use Rattle.bep_scenario.specs.Faults.{bad_step, first_fault}
+use Rattle.bep_scenario.specs.Reading.{is_scenario, read_scenario, reading_of_tree, reading_of}
+use Rattle.bep_scenario.specs.Faultless.{HasNode, IsFaultless}
+
+good_step : (earlier : List StepParts) (part : StepParts) → bad_step earlier part ≡ None → HasNode part
+good_step earlier (Edit device folder node) none =
+    (node_decides node.parts).0 (passes_where_none (is_node node.parts) (at_name RecordBad folder device node.name) none)
+good_step earlier (Other step) none = tt
+
+faultless : (parts : ScenarioParts) → first_fault parts ≡ None → IsFaultless parts
+unfolding first_fault
+faultless parts none =
+    let twice = neither (first_twice parts.cluster) _ none in
+    let rest = neither (first_in bad_step [] parts.steps) (first_bad_link parts.cluster) twice.1 in
+    let once = nothing_twice parts.cluster twice.0 in
+    record {
+      folders = once.different_folders;
+      devices = all_map (λ _ folder. folder.different) parts.cluster.folders once.each_folder;
+      links = once.different_links;
+      joined = all_map (λ _ link. (link.ends, link.a_device, link.b_device)) parts.cluster.links (all_links parts.cluster rest.1);
+      nodes = all_where_none bad_step HasNode good_step [] parts.steps rest.0;
+    }
+
+tree_faultless : (tree : Data) (parts : ScenarioParts) → reading_of_tree tree ≡ Read parts → IsFaultless parts
+unfolding reading_of_tree
+tree_faultless tree parts e =
+    let unshaped = passed_and VersionBad has_version tree _ e in
+    let shaped = passed_and Shape is_scenario tree _ unshaped in
+    let found = given_and Range (read_scenario tree) _ shaped in
+    let clean = no_fault_and (first_fault found.0) found.2 in
+    subst IsFaultless clean.1 (faultless found.0 clean.0)
+
+pub scenario_faultless : (bytes : List ℕ) (parts : ScenarioParts) → reading_of bytes ≡ Read parts → IsFaultless parts
+unfolding reading_of
+scenario_faultless bytes parts e =
+    let short = passed_and Range is_short bytes _ e in
+    let tree = given_and NotJson (tree_of bytes) _ short in
+    tree_faultless tree.0 parts tree.2
