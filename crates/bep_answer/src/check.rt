@@ -97,7 +97,8 @@ fn refusal(alloc: Global, fault: &DocFault) -> Result<(Outcome, Vec<u8>), AllocE
     Ok((Outcome::Refused, text))
 }
 
-fn push_fault(text: &mut Vec<u8>, fault: &DocFault) -> Result<(), AllocError>
+// Appends the line of a fault.
+pub(crate) fn push_fault(text: &mut Vec<u8>, fault: &DocFault) -> Result<(), AllocError>
     ensures { AppendsWhole result text.old.items text.new.items (fault_text fault.now) }
 {
     push_refused(

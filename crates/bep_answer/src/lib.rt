@@ -9,10 +9,12 @@
 //!     }
 #![tactic(auto)]
 
+mod certify;
 mod check;
 mod outcome;
 #[cfg(test)]
 mod tests;
 
+pub use certify::certify_text;
 pub use check::check_text;
-pub use outcome::Outcome;
+pub use outcome::{Certified, Outcome};

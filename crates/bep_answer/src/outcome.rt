@@ -10,3 +10,14 @@ pub enum Outcome {
     /// The document couldn't be read as a cut and a certificate.
     Refused,
 }
+
+/// What is answered where a certificate is asked for.
+#[derive(Clone, Copy, Debug, PartialEq, Eq)]
+pub enum Certified {
+    /// The document's cut was written with the list of its names' winners.
+    Written,
+    /// A known name of the cut has no winner.
+    NoWinner,
+    /// The document couldn't be read as a cut.
+    Refused,
+}

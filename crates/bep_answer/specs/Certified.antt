@@ -1,0 +1,79 @@
+-- What the program answers where it is asked for a certificate of the cut of a document, and what it has written after it.
+use Rattle.std.specs.Prelude.{◌≡◌, ◌++◌, ℕ, List, Option, None}
+use Rattle.std.specs.Io.KnownBytes.{Appends, Keeps}
+use Rattle.bep_audit.specs.Certifier.{IsSettledIfAny, IsNeverSettled}
+use Rattle.bep_document.specs.Reading.{Reading, Read, Refused}
+use Rattle.bep_model.specs.declared.reason.Reason.TheVariants.{NotWinner}
+use Rattle.bep_model.specs.declared.row.Row.{Row}
+use Rattle.bep_model.specs.Settled.{IsListOfWinners}
+use Rattle.bep_model.specs.Tables.{Folder, FileName}
+use Rattle.bep_model.specs.Verdict.{Not}
+use Rattle.bep_model.specs.WithoutWinner.{IsFirstWithoutWinner}
+use Rattle.bep_cut.specs.declared.cut.CutParts.{CutParts}
+use Rattle.bep_cut.specs.Cut.{tables_of}
+use Rattle.bep_cut.specs.document.Trees.{check_text}
+use Rattle.bep_cut.specs.document.Written.{cut_of_document}
+use Rattle.bep_report.specs.declared.error.ReportError.{ReportError}
+use Rattle.bep_report.specs.declared.error.ReportError.TheVariants.{Memory}
+use Rattle.bep_report.specs.declared.error.ReportError.TheVariants as faults
+use Rattle.bep_report.specs.Input.{IsRead}
+use Rattle.bep_report.specs.Lines.{verdict_line, newline}
+use Rattle.bep_report.specs.Output.{AppendsBeginning}
+use Rattle.bep_answer.specs.Answer.{fault_text}
+use Rattle.bep_answer.specs.declared.outcome.Certified.{Certified}
+use Rattle.bep_answer.specs.declared.outcome.Certified.TheVariants.{Written, NoWinner}
+use Rattle.bep_answer.specs.declared.outcome.Certified.TheVariants as outcomes
+
+-- the document of this cut with these rows, on a line
+abbrev pub document_text : CutParts → List Row → List ℕ
+document_text cut rows = check_text cut rows ++ newline
+
+-- the text is the document of this cut with the one list of its names' winners, for which it is settled if it is for any
+pub record IsDocumentOf (cut : CutParts) (text : List ℕ) : Type 0 where
+  pub rows : List Row
+  pub winners : IsListOfWinners (tables_of cut) rows
+  pub settled_if_any : IsSettledIfAny (tables_of cut) rows
+  pub written : text ≡ document_text cut rows
+
+-- the text is the line of the cut's first known name without a winner, and the cut is settled for no list of rows
+pub record IsLineWithout (cut : CutParts) (text : List ℕ) : Type 0 where
+  pub folder : Folder
+  pub name : FileName
+  pub without : IsFirstWithoutWinner (tables_of cut) folder name
+  pub never_settled : IsNeverSettled (tables_of cut)
+  pub told : text ≡ verdict_line (Not NotWinner folder name None)
+
+-- the outcome and the text for a cut
+abbrev pub IsCertificate : CutParts → Certified → List ℕ → Type 0
+IsCertificate cut Written text = IsDocumentOf cut text
+IsCertificate cut NoWinner text = IsLineWithout cut text
+IsCertificate cut outcomes.Refused text = ⊥
+
+-- the outcome and the text for what a document says of its cut: a certificate for it, or the fault for which it is refused
+abbrev pub IsCertified : Reading CutParts → Certified → List ℕ → Type 0
+IsCertified (Read cut) outcome text = IsCertificate cut outcome text
+IsCertified (Refused fault) outcome text = (outcome ≡ outcomes.Refused) × (text ≡ fault_text fault)
+
+-- a document was read, its outcome was told and its text written, and nothing else
+pub record IsCertifiedWhole (unread left held now : Option (List ℕ)) (outcome : Certified) : Type 0 where
+  pub bytes : List ℕ
+  pub read : IsRead unread left bytes
+  pub text : List ℕ
+  pub certified : IsCertified (cut_of_document bytes) outcome text
+  pub written : Appends held now text
+
+-- a document was read, and a beginning of its text written
+pub record IsCertifiedInPart (unread left held now : Option (List ℕ)) : Type 0 where
+  pub bytes : List ℕ
+  pub read : IsRead unread left bytes
+  pub outcome : Certified
+  pub text : List ℕ
+  pub certified : IsCertified (cut_of_document bytes) outcome text
+  pub written : AppendsBeginning held now text
+
+-- what is written where there is no answer: nothing after a read fault or want of memory, a beginning of the text after
+-- a write fault
+abbrev pub IsUncertified : Option (List ℕ) → Option (List ℕ) → Option (List ℕ) → Option (List ℕ) → ReportError → Type 0
+IsUncertified unread left held now Memory = Keeps held now
+IsUncertified unread left held now faults.Read = Keeps held now
+IsUncertified unread left held now faults.Write = IsCertifiedInPart unread left held now
