@@ -6,7 +6,9 @@ mod EndingFacts
 mod HeldFacts
 mod KeptFacts
 mod KnownFacts
+mod OverrideFacts
 mod PullFacts
+mod RevertFacts
 mod SettleFacts
 mod StoredFacts
 mod ViewFacts
