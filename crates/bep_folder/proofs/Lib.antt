@@ -8,7 +8,9 @@ mod FinishFacts
 mod HeldFacts
 mod KeptFacts
 mod KnownFacts
+mod OverrideFacts
 mod PullFacts
+mod RevertFacts
 mod SettleFacts
 mod StoredFacts
 mod ViewFacts

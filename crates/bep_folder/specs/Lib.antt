@@ -5,8 +5,10 @@ pub mod FolderError
 pub mod Held
 pub mod Known
 pub mod Makes
+pub mod Override
 pub mod Pull
 pub mod Pulled
+pub mod Revert
 pub mod ScanResult
 pub mod Trace
 pub mod Views

@@ -1,5 +1,5 @@
 //! Recording what a scan found.
-ghost use Rattle.std.specs.Prelude.{◌≡◌, false, ◌⊎◌, ◌↔◌, IfErr, IsErrOf, OnOk, OnErr, IsTrue};
+ghost use Rattle.std.specs.Prelude.{◌≡◌, false, ◌⊎◌, ◌↔◌, Some, IfErr, IsErrOf, OnOk, OnErr, IsTrue};
 ghost use Rattle.std.specs.Option.{option_copied};
 ghost use Rattle.bep_index.specs.Index.{IsSequenceFull, IsIndexFull, after_put};
 ghost use Rattle.bep_folder.specs.Commit.{Commits};
@@ -24,6 +24,7 @@ impl<S: Store> Replica<S> {
     /// and is marked local-only. Else only want of memory is answered.
     pub fn commit(&mut self, scan: ScanResult) -> Result<Moved, FolderError>
         ensures commits { Commits scan self.old self.new result }
+        ensures first { IsErrOf result FolderError.StoreFault → self.new.trace.failed ≡ Some 1 }
         ensures stays { Stays self.old self.new }
         ensures counted { CountsFaults self.old self.new result }
         ensures uncopied { self.new.trace.copied ≡ false }

@@ -1,5 +1,5 @@
 //! The user's own changes of files, and what a file is now.
-ghost use Rattle.std.specs.Prelude.{◌≡◌, ◌⊎◌, false, IfOk, IfErr};
+ghost use Rattle.std.specs.Prelude.{◌≡◌, ◌⊎◌, false, Some, IfOk, IfErr, IsErrOf};
 ghost use Rattle.bep_machine.specs.Local.{EditRow, RemoveRow};
 ghost use Rattle.bep_machine.specs.Replica.{node_at};
 ghost use Rattle.bep_folder.specs.Makes.{Makes, Stays, CountsFaults};
@@ -16,6 +16,7 @@ impl<S: Store> Replica<S> {
         ensures node { IfOk result (λ node. node ≡ node_at self.old.tables name.now) }
         ensures same { self.new.tables ≡ self.old.tables }
         ensures only { IfErr result (λ e. (e ≡ FolderError.StoreFault) ⊎ (e ≡ FolderError.Memory)) }
+        ensures first { IsErrOf result FolderError.StoreFault → self.new.trace.failed ≡ Some 1 }
 
         ensures stays { Stays self.old self.new }
         ensures counted { CountsFaults self.old self.new result }

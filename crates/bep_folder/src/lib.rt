@@ -17,6 +17,7 @@ mod pull;
 mod pulled;
 mod readers;
 mod replica;
+mod reverting;
 mod scan_result;
 #[cfg(test)]
 mod scan_tests;

@@ -1,16 +1,81 @@
-//! The records of an override and of a revert.
-ghost use Rattle.std.specs.Prelude.{◌≡◌, ◌↔◌, ◌⊎◌, ◌<◌, max, IfOk, IfErr, IsErrOf, IsTrue};
+//! Override: in a send-only folder the own record wins over another device's.
+ghost use Rattle.std.specs.Prelude.{◌≡◌, false, ◌↔◌, ◌⊎◌, ◌<◌, max, IfOk, IfErr, IsErrOf, IsTrue};
 ghost use Rattle.std.specs.Option.{option_copied};
 ghost use Rattle.bep_record.specs.Vector.{counter_of, greatest_counter, most_counters, IsVersion};
 ghost use Rattle.bep_machine.specs.Replica.{version_of};
-ghost use Rattle.bep_machine.specs.Local.{IsOverridable, IsMergedAndRaised, ids_with, overriding};
+ghost use Rattle.bep_machine.specs.Local.{IsOverridable, IsMergedAndRaised, OverrideRow, ids_with, overriding};
+ghost use Rattle.bep_folder.specs.Makes.{Makes, Stays, CountsFaults};
+ghost use Rattle.bep_folder.specs.Override.{Overrides, WinsOver};
 
-use crate::FolderError;
 use crate::adopt::merged;
 use crate::beside::version_of;
+use crate::commit::put_record;
 use crate::deletion::deletion;
-use bep_record::{DeviceId, Name, Record, Vector};
+use crate::{FolderError, Replica};
+use bep_machine::Moved;
+use bep_record::{DeviceId, FolderKind, Name, Record, Vector};
+use bep_store::Store;
 use std::alloc::{AllocError, Global};
+
+impl<S: Store> Replica<S> {
+    /// Lets the own record win over the one that is chosen for the name, as a user of a send-only folder does; without
+    /// an own record, a deletion wins. It is put as the device's change under both versions merged, with the device's
+    /// counter raised.
+    ///
+    /// Refuses, in this order, `KindForbids` where the folder isn't send only, `NothingToDo` where no record is chosen
+    /// that the own one is behind and differs from, `CounterFull` and `TooManyCounters` where the version can't be made,
+    /// and `SequenceFull` and `IndexFull` where the index has no room. Else only want of memory is answered. After an
+    /// error the folder is as before.
+    ///
+    /// Syncthing, 'Folder Types', in this project's profile.
+    pub fn override_one(&mut self, name: &Name) -> Result<Moved, FolderError>
+        ensures overridden { Makes (OverrideRow self.old.device name.now) self.old self.new result }
+        ensures stays { Stays self.old self.new }
+        ensures counted { CountsFaults self.old self.new result }
+        ensures uncopied { self.new.trace.copied ≡ false }
+    {
+        let made = self.overriding_record(name);
+        self.store.begin();
+        let entry = match made {
+            Ok(entry) => entry,
+            Err(error) => return Err(error),
+        };
+        put_record(&mut self.index, entry)?;
+        Ok(Moved::Changed)
+    }
+
+    // The record that wins over the chosen one, if the folder is send only.
+    fn overriding_record(&self, name: &Name) -> Result<Record, FolderError>
+        ensures made { Overrides self.now.device name.now self.now.tables result }
+        ensures named { IfOk result (λ entry. entry.name ≡ name.now) }
+    {
+        if self.kind != FolderKind::SendOnly {
+            return Err(FolderError::KindForbids);
+        }
+        let Some(chosen) = self.chosen(name) else {
+            return Err(FolderError::NothingToDo);
+        };
+        let own = self.index.get(name);
+        if !is_overridable(own, chosen) {
+            return Err(FolderError::NothingToDo);
+        }
+        winning(self.alloc, self.device, name, own, chosen)
+    }
+}
+
+// The record that wins over the chosen one, or why its version can't be made.
+fn winning(
+    alloc: Global,
+    device: DeviceId,
+    name: &Name,
+    own: Option<&Record>,
+    chosen: &Record,
+) -> Result<Record, FolderError>
+    ensures { WinsOver device name.now (option_copied own.entry) chosen.now result }
+{
+    let version = merged_and_raised(device, own, chosen)?;
+    Ok(overriding(alloc, device, name, own, chosen, version)?)
+}
 
 // Whether the own record is behind the chosen one and differs from it; without one, whether there is something to
 // delete.
