@@ -22,7 +22,7 @@ use std::alloc::{AllocError, Global};
 ///
 /// Of rows that don't rise only the first out of order fails for that; each row is judged all the same.
 ///
-/// Asks each reason of each row and device, hashes each file once, and looks through what is on its way for each row and
+/// Asks each reason of each row and device, hashes each file once a row, and looks through what is on its way for each row and
 /// device; only where the rows don't rise it looks through all rows for each name.
 pub fn failures<'a>(
     alloc: Global,

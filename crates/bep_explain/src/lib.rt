@@ -11,5 +11,7 @@
 mod collect;
 mod gather;
 mod missing;
+#[cfg(test)]
+mod tests;
 
 pub use gather::failures;
