@@ -110,6 +110,11 @@ module _ (said : CutSays) (cut : CutParts) (is_cut : IsCut cut) (row : Row) (rea
   finds_by shares is found finds = found_exactly found (subst (λ (all : List Share). FindsFirst nat_cmp (Among all) found) is finds)
 
 module _ (said : CutSays) (asked_here : ShareIsAsked) (cut : CutParts) (is_cut : IsCut cut) (row : Row) where
+  -- what is asked of a share is what is asked of its device
+  pub share_asked : (reason : Reason) (share : Share) → Contains (shares_of row.folder cut.folders) share → AsksOf reason row cut.links share ↔ AsksShare (tables_of cut) reason row share.device
+  unfolding AsksTables IsShare
+  share_asked = asked_exactly said asked_here cut is_cut row
+
   -- what is found among the shares is what is found at the row
   pub finds_device : (reason : Reason) → IsOfDevices reason → (links : List LinkState) → links ≡ cut.links → (shares : List Share) → shares ≡ shares_of row.folder cut.folders → (found : Option Device) → FindsFirst nat_cmp (AsksAmong reason row links shares) found → FindsFailing (tables_of cut) (row ∷ []) reason (option_map (part_of row) found)
   unfolding AsksTables IsShare

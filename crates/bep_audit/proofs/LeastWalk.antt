@@ -4,11 +4,9 @@ use Rattle.std.specs.Prelude.{⊤, nat_lt, ◌==◌}
 use Rattle.std.specs.declared.cmp.Ordering.{Ordering}
 use Rattle.std.specs.declared.cmp.Ordering.TheVariants.{Less, Equal, Greater}
 use Rattle.std.specs.Ordering.{nat_cmp, is_lt, is_eq, ordering_then, ordering_reverse}
-use Rattle.std.specs.Cmp.{IsTotalOrder, nat_cmp_total}
-use Rattle.std.specs.Cmp.Lexicographic.{slice_cmp, nat_list_cmp_total}
-use Rattle.std.specs.List.{filter}
-use Rattle.std.proofs.lemmas.Cmp.{then_total, on_total, tied_itself}
-use Rattle.bep_facts.specs.Members.{Contains-image, Contains-from_image, Contains-cons_cases, Contains-first, Contains-more, not_in_none}
+use Rattle.std.specs.Cmp.Lexicographic.{slice_cmp}
+use Rattle.std.proofs.lemmas.Cmp.{nat_cmp_total, tied_itself}
+use Rattle.bep_facts.specs.Members.{Contains-image, Contains-from_image, not_in_none}
 use Rattle.bep_facts.specs.Orders.{order_cases, texts_total, texts_exact, Equal_from_same}
 use Rattle.bep_model.specs.declared.row.Row.{Row}
 use Rattle.bep_model.specs.declared.reason.Reason.{Reason}
@@ -22,8 +20,10 @@ use Rattle.bep_model.specs.Laws.{RowsRiseInOrder, SettledIsFaultless}
 use Rattle.bep_cut.specs.declared.cut.CutParts.{CutParts}
 use Rattle.bep_cut.specs.declared.table.entry.TableEntry.{TableEntry}
 use Rattle.bep_cut.specs.Cut.{IsCut, tables_of}
-use Rattle.bep_cut.specs.Listed.{Listed, key_at, listed, is_of, group_of, AreInOrder, IsGrouped, cut_listed}
+use Rattle.bep_cut.specs.Listed.{Listed, key_at, listed, AreInOrder, IsGrouped, cut_listed}
 use Rattle.bep_cut.specs.Said.{EntriesAreHeld, HoldersShare}
+use Rattle.bep_audit.specs.FailureOrder.{failure_total}
+use Rattle.bep_audit.specs.Grouped.{same_group_same}
 use Rattle.bep_audit.specs.Group.{IsGroupOf}
 use Rattle.bep_audit.specs.Search.{lesser}
 use Rattle.bep_audit.specs.Walk.{Failure, failure_cmp, key_in, FindsLeast, replaces, next_key, count_at, rows_about}
@@ -34,14 +34,6 @@ use Rattle.bep_audit.proofs.GroupRow.{unknown_holds}
 use Rattle.bep_audit.proofs.NameWalk.{Key, IsUnder, Remains, IsNext, in_either, from_front, from_rest, under_itself, is_next, none_left, entries_part, rows_part, was_left, left_above, not_left, left_or_here, order_rest, rise_rest, shorter}
 
 -- ---- the order of failures
-place_total : IsTotalOrder place_cmp
-place_total =
-    then_total (on_total (λ (place : Place). place.folder) nat_list_cmp_total)
-    (then_total (on_total (λ (place : Place). place.name) nat_list_cmp_total)
-    (on_total (λ (place : Place). device_rank place.device) nat_cmp_total))
-
-failure_total : IsTotalOrder failure_cmp
-failure_total = then_total (on_total (λ (one : Failure). number_of one.reason) nat_cmp_total) (on_total (λ (one : Failure). one.place) place_total)
 
 -- of two at names in order the later one is less where its reason is
 greater_first : (a b c : Ordering) → ordering_then a b ≡ Greater → ordering_then a (ordering_then b c) ≡ Greater
@@ -110,37 +102,6 @@ same_or_not one other =
 fails_there : (t : Tables) (rows : List Row) (key : Key) (failure : Failure) → FindsLeast t rows (λ k. k ≡ key) (Some failure) → key_in failure.place ≡ key
 fails_there t rows key failure first =
     ⊎_elim (λ same. same) (λ apart. absurd (first.fails (λ same. absurd (apart same)))) (same_or_not (key_in failure.place) key)
-
--- ---- members of a list that pass a test
-in_filter : (test : Listed → Bool) (all : List Listed) (one : Listed) → Contains all one → test one ≡ true → Contains (filter test all) one
-in_filter test [] one member passes = absurd (not_in_none one member)
-in_filter test (first ∷ more) one member passes = cases (test first) refl (λ later. in_filter test more one later passes) where
-  cases : (b : Bool) → test first ≡ b → (Contains more one → Contains (filter test more) one) → Contains (cond b (first ∷ filter test more) (filter test more)) one
-  cases true is rest =
-      ⊎_elim
-      (λ same. subst (Contains (first ∷ filter test more)) same (Contains-first first (filter test more)))
-      (λ later. Contains-more first (filter test more) one (rest later))
-      (Contains-cons_cases first more one member)
-  cases false not rest =
-      ⊎_elim
-      (λ same. let e : test first ≡ true = ap test same ∙ passes in absurd (cc))
-      rest
-      (Contains-cons_cases first more one member)
-
-from_filter : (test : Listed → Bool) (all : List Listed) (one : Listed) → Contains (filter test all) one → Contains all one
-from_filter test [] one member = member
-from_filter test (first ∷ more) one member = cases (test first) (from_filter test more one) member where
-  cases : (b : Bool) → (Contains (filter test more) one → Contains more one) → Contains (cond b (first ∷ filter test more) (filter test more)) one → Contains (first ∷ more) one
-  cases true rest here =
-      ⊎_elim
-      (λ same. subst (Contains (first ∷ more)) same (Contains-first first more))
-      (λ later. Contains-more first more one (rest later))
-      (Contains-cons_cases first (filter test more) one here)
-  cases false rest here = Contains-more first more one (rest here)
-
-same_group_same : (one : Listed) (from to : List Listed) → group_of (key_at one) from ≡ group_of (key_at one) to → Contains from one → Contains to one
-same_group_same one from to same member =
-    from_filter (is_of (key_at one)) to one (subst (λ l. Contains l one) same (in_filter (is_of (key_at one)) from one member (ap is_eq (tied_itself texts_total (key_at one)))))
 
 -- ---- the walk
 module _ (cut : CutParts) (rows : List Row) where

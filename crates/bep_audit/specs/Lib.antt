@@ -1,7 +1,9 @@
 pub mod Candidates
 pub mod Certifier
+pub mod FailureOrder
 pub mod Foreign
 pub mod Group
+pub mod Grouped
 pub mod Held
 pub mod Known
 pub mod Missing

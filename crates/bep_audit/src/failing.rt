@@ -1,12 +1,13 @@
 //! The first place at which a reason fails.
-ghost use Rattle.std.specs.Prelude.{◌≡◌, ◌≢◌, ◌∷◌, ◌<◌, ◌↔◌, [], IsTrue, Some, None, option_map, if◌then◌else◌};
+ghost use Rattle.std.specs.Prelude.{◌≡◌, ◌≢◌, ◌∷◌, ◌<◌, ◌↔◌, [], Contains, IsTrue, Some, None, option_map, if◌then◌else◌};
 ghost use Rattle.std.specs.Ordering.{nat_cmp};
 ghost use Rattle.std.specs.List.Sorted.{IsStrictlyIncreasing};
 ghost use Rattle.bep_model.specs.declared.reason.Reason.TheVariants.{CertificateOrder, NameMissing, NotWinner};
 ghost use Rattle.bep_model.specs.Tables.{Tables};
 ghost use Rattle.bep_model.specs.Settled.{Rise};
+ghost use Rattle.bep_model.specs.Reasons.{AsksShare};
 ghost use Rattle.bep_model.specs.Verdict.{number_of};
-ghost use Rattle.bep_cut.specs.Cut.{tables_of, devices_of};
+ghost use Rattle.bep_cut.specs.Cut.{tables_of, shares_of, devices_of};
 ghost use Rattle.bep_audit.specs.Held.{AsksOf, AsksAmong};
 ghost use Rattle.bep_audit.specs.Search.{FindsFirst, FindsFailing};
 ghost use Rattle.bep_audit.specs.Shown.{place_shown, name_of};
@@ -99,6 +100,17 @@ fn first_unmet(shares: &[Share], links: &[LinkState], row: &Row, reason: Reason)
         }
     }
     None
+}
+
+/// Whether the device of this share meets what the reason asks of it beside the row. Reasons that ask nothing of devices
+/// are met. Takes no memory.
+pub fn meets_asked(cut: &Cut, row: &Row, share: &Share, reason: Reason) -> bool
+    requires { Contains (shares_of row.now.folder cut.now.folders) share.now }
+    ensures { IsTrue result ↔ AsksShare (tables_of cut.now) reason row.now share.now.device }
+{
+    cut_says();
+    share_is_asked();
+    meets(reason, row, cut.links(), share)
 }
 
 // Whether the device meets what the reason asks of it beside the row.

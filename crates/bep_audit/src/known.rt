@@ -9,7 +9,7 @@ use bep_map::NameMap;
 use bep_record::{FolderName, Name, Record};
 
 /// Whether the name is known in the folder. Takes no memory.
-pub(crate) fn is_known(cut: &Cut, folder: &FolderName, name: &Name) -> bool
+pub fn is_known(cut: &Cut, folder: &FolderName, name: &Name) -> bool
     ensures { IsTrue result ↔ IsKnown (tables_of cut.now) folder.now name.now }
 {
     cut_says();

@@ -35,12 +35,16 @@ mod walk;
 mod winner;
 
 pub use certifier::certify;
-pub use checkers::{check, check_plain};
+pub use checkers::{REASONS, check, check_plain};
 pub use error::CertifyError;
+pub use failing::meets_asked;
+pub use failure::Failure;
+pub use known::is_known;
 pub use rows::{Certificate, compare_row, compare_rows, find_row, first_disordered};
 pub use share::{
     is_clean, is_harmless, is_there, is_valid, meets_share, says_as_winner, share_is_asked,
     store_holds,
 };
+pub use spot::Spot;
 pub use verdict::Verdict;
 pub use winner::{is_winner, winner_of};

@@ -1,10 +1,11 @@
 //! A place at which a reason fails.
 ghost use Rattle.std.specs.Prelude.{◌≡◌, None};
-ghost use Rattle.bep_model.specs.Reasons.{Place};
+ghost use Rattle.bep_model.specs.Reasons.{Place, place_cmp, device_rank};
 ghost use Rattle.bep_audit.specs.Shown.{place_shown, name_of, part_of};
 
 use bep_model::Row;
 use bep_record::{DeviceId, FolderName, Name};
+use std::cmp::Ordering;
 
 /// Where a reason fails, lent: a name in a folder, and the device where it fails at one.
 #[derive(Clone, Copy, Debug, PartialEq, Eq)]
@@ -45,5 +46,24 @@ impl<'a> Spot<'a> {
             name: &row.entry.entry().name,
             device: Some(device),
         }
+    }
+
+    /// How two places stand: by folder, then by name, then by device, where none comes before each.
+    pub fn compare(&self, other: &Spot<'_>) -> Ordering
+        ensures { result ≡ place_cmp (place_shown self.now) (place_shown other.now) }
+    {
+        let devices = rank_of(self.device).cmp(&rank_of(other.device));
+        let names = self.name.cmp(other.name);
+        self.folder.cmp(other.folder).then(names.then(devices))
+    }
+}
+
+// The device's place among all devices, where none is the first.
+fn rank_of(device: Option<DeviceId>) -> u128
+    ensures { result ≡ device_rank device }
+{
+    match device {
+        None => 0,
+        Some(device) => u128::from(device.number()) + 1,
     }
 }

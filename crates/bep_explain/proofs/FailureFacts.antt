@@ -1,0 +1,51 @@
+-- Only equal failures tie, so it can be decided whether two are equal.
+use Rattle.std.proofs.Common.{◌≡◌, ℕ, Option, Some, None, refl, sym, ap, ◌∙◌, inl, inr, ⊎_elim, arith}
+use Rattle.std.specs.declared.cmp.Ordering.TheVariants.{Less, Equal, Greater}
+use Rattle.std.specs.Ordering.{nat_cmp, ordering_then}
+use Rattle.std.specs.Cmp.Lexicographic.{slice_cmp}
+use Rattle.std.proofs.lemmas.Cmp.{ranked}
+use Rattle.std.proofs.lemmas.Map.Lookups.{exact_bytes}
+use Rattle.bep_facts.specs.Decided.{OrNot}
+use Rattle.bep_facts.specs.Orders.{order_cases, both_tied, Equal_from_same}
+use Rattle.bep_model.specs.Tables.{Device}
+use Rattle.bep_model.specs.Reasons.{Place, place_cmp, device_rank}
+use Rattle.bep_model.specs.Verdict.{number_of}
+use Rattle.bep_model.specs.Laws.{NumbersDiffer}
+use Rattle.bep_audit.specs.FailureOrder.{failure_total}
+use Rattle.bep_audit.specs.Walk.{Failure, failure_cmp}
+
+same_number : (m n : ℕ) → nat_cmp m n ≡ Equal → m ≡ n
+same_number m n e = ranked m n Equal (sym e)
+
+same_device : (one other : Option Device) → device_rank one ≡ device_rank other → one ≡ other
+same_device None None e = refl
+same_device None (Some device) e = absurd (omega (arith, e))
+same_device (Some device) None e = absurd (omega (arith, e))
+same_device (Some one) (Some other) e = let same : one ≡ other = omega (arith, e) in ap Some same
+
+same_place : (one other : Place) → place_cmp one other ≡ Equal → one ≡ other
+same_place one other tied =
+    let by_device = nat_cmp (device_rank one.device) (device_rank other.device) in
+    let folders = both_tied (slice_cmp nat_cmp one.folder other.folder) (ordering_then (slice_cmp nat_cmp one.name other.name) by_device) tied in
+    let names = both_tied (slice_cmp nat_cmp one.name other.name) by_device folders.1 in
+    let folder = exact_bytes one.folder other.folder folders.0 in
+    let name = exact_bytes one.name other.name names.0 in
+    let device = same_device one.device other.device (same_number (device_rank one.device) (device_rank other.device) names.1) in
+    λ i. record { folder = folder i; name = name i; device = device i }
+
+module _ (different : NumbersDiffer) where
+  pub failure_exact : (one other : Failure) → failure_cmp one other ≡ Equal → one ≡ other
+  failure_exact one other tied =
+      let both = both_tied (nat_cmp (number_of one.reason) (number_of other.reason)) (place_cmp one.place other.place) tied in
+      let reason = different one.reason other.reason (same_number (number_of one.reason) (number_of other.reason) both.0) in
+      let place = same_place one.place other.place both.1 in
+      λ i. record { reason = reason i; place = place i }
+
+  pub same_or_not : (one other : Failure) → OrNot (one ≡ other)
+  same_or_not one other =
+      ⊎_elim
+      (λ less. inr (λ same. let e : Less ≡ Equal = sym less ∙ Equal_from_same failure_total one other same in cc))
+      (⊎_elim
+      (λ equal. inl (failure_exact one other equal))
+      (λ greater. inr (λ same. let e : Greater ≡ Equal = sym greater ∙ Equal_from_same failure_total one other same in cc)))
+      (order_cases (failure_cmp one other))

@@ -1,0 +1,126 @@
+-- What the sorted list of all failures, each once, says: it is all of them, and its first is the verdict.
+use Rattle.std.proofs.Common.{◌≡◌, ◌⊎◌, ◌↔◌, false, List, [], ◌∷◌, Contains, map, get_or, refl, sym, ap, subst, ◌∙◌, inl, inr, ⊎_elim, arith}
+use Rattle.std.specs.declared.cmp.Ordering.{Ordering}
+use Rattle.std.specs.declared.cmp.Ordering.TheVariants.{Less, Equal, Greater}
+use Rattle.std.specs.Ordering.{nat_cmp, is_lt, ordering_then}
+use Rattle.std.specs.List.Sorted.{IsStrictlySortedBy, IsSorted, IsPermutation}
+use Rattle.std.proofs.lemmas.Cmp.{tied_itself}
+use Rattle.std.proofs.lemmas.List.Sorted.{Contains-permutation, IsPermutation-sym}
+use Rattle.std.specs.Cmp.{nat_cmp_total, nat_cmp_is}
+use Rattle.bep_facts.specs.Members.{Contains-first, Contains-cons_cases, Contains-image, Contains-from_image, not_in_none}
+use Rattle.bep_facts.specs.Orders.{not_less_itself}
+use Rattle.bep_facts.specs.Rising.{below_later}
+use Rattle.bep_model.specs.declared.row.Row.{Row}
+use Rattle.bep_model.specs.Tables.{Tables}
+use Rattle.bep_model.specs.Settled.{IsSettled}
+use Rattle.bep_model.specs.Reasons.{place_cmp}
+use Rattle.bep_model.specs.Verdict.{number_of, IsVerdict}
+use Rattle.bep_model.specs.Laws.{NumbersDiffer, SettledIsFaultless}
+use Rattle.bep_audit.specs.declared.failure.Failure as lends
+use Rattle.bep_audit.specs.FailureOrder.{failure_total, lent_cmp, lent_total}
+use Rattle.bep_audit.specs.Walk.{Failure, failure_cmp, failure_shown}
+use Rattle.bep_explain.specs.Adding.{AddsFailing}
+use Rattle.bep_explain.specs.Distinct.{distinct}
+use Rattle.bep_explain.specs.Found.{IsMet, AreFailures, verdict_of}
+use Rattle.bep_explain.proofs.DistinctFacts.{distinct_shown, Steps, steps_from_sorted, distinct_rises, kept_in_distinct, distinct_from}
+use Rattle.bep_explain.proofs.FailureFacts.{failure_exact}
+
+abbrev shown : List lends.Failure → List Failure
+shown = map failure_shown
+
+steps_shown : (lent : List lends.Failure) → Steps lent_cmp lent → Steps failure_cmp (shown lent)
+steps_shown [] steps = tt
+steps_shown (one ∷ []) steps = tt
+steps_shown (one ∷ next ∷ more) steps = (steps.0, steps_shown (next ∷ more) steps.1)
+
+-- what stands before the first of a list that rises doesn't stand in it
+not_before : (one : Failure) (more : List Failure) → IsStrictlySortedBy failure_cmp (one ∷ more) → (before : Failure) → failure_cmp before one ≡ Less → ¬ Contains (one ∷ more) before
+not_before one more rise before less member =
+    ⊎_elim
+    (λ same. not_less_itself failure_total one (subst (λ x. failure_cmp x one ≡ Less) (sym same) less))
+    (λ later. not_less_itself failure_total one (failure_total.trans one before one (below_later failure_cmp (λ x. x) one more (subst (IsStrictlySortedBy failure_cmp) (sym (map_same (one ∷ more))) rise) before later) less))
+    (Contains-cons_cases one more before member)
+  where
+    map_same : (xs : List Failure) → map (λ x. x) xs ≡ xs
+    map_same [] = refl
+    map_same (x ∷ xs) = ap (λ rest. x ∷ rest) (map_same xs)
+
+module _ (t : Tables) (rows : List Row) where
+  -- all that fails stands in the list, and nothing else
+  pub record Tells (found : List Failure) : Type 0 where
+    pub fails : (one : Failure) → Contains found one → ¬ IsMet t rows one
+    pub rest : (one : Failure) → Contains found one ⊎ IsMet t rows one
+    pub rise : IsStrictlySortedBy failure_cmp found
+
+  pub tells : NumbersDiffer → (gathered sorted kept : List lends.Failure) → AddsFailing (IsMet t rows) [] (shown gathered) → IsPermutation gathered sorted → IsSorted lent_cmp sorted → kept ≡ distinct lent_cmp sorted → Tells (shown kept)
+  tells different gathered sorted kept adds permutation in_order is = record {
+    fails = λ one there.
+        ⊎_elim (λ none. absurd (not_in_none one none)) (λ unmet. unmet) (adds.fails one (to_gathered one (subst (λ all. Contains all one) same there)));
+    rest = λ one. ⊎_elim (λ there. inl (subst (λ all. Contains all one) (sym same) (from_gathered one there))) (λ met. inr met) (adds.rest one);
+    rise = subst (IsStrictlySortedBy failure_cmp) (sym same) (distinct_rises failure_cmp failure_total (shown sorted) steps);
+  }
+    where
+      same : shown kept ≡ distinct failure_cmp (shown sorted)
+      same = ap shown is ∙ distinct_shown failure_shown failure_cmp sorted
+
+      steps : Steps failure_cmp (shown sorted)
+      steps =
+          steps_shown sorted
+          (steps_from_sorted lent_cmp lent_total sorted
+          (λ k n d next below. subst (λ m. is_lt (lent_cmp (get_or sorted m d) (get_or sorted k d)) ≡ false) (sym next) (in_order k d (omega arith) (omega (arith, next, below)))))
+
+      to_gathered : (one : Failure) → Contains (distinct failure_cmp (shown sorted)) one → Contains (shown gathered) one
+      to_gathered one there =
+          let found = Contains-from_image failure_shown sorted one (distinct_from failure_cmp (shown sorted) one there) in
+          subst (Contains (shown gathered)) found.2
+          (Contains-image failure_shown gathered found.0 (Contains-permutation sorted gathered found.0 (IsPermutation-sym gathered sorted permutation) found.1))
+
+      from_gathered : (one : Failure) → Contains (shown gathered) one → Contains (distinct failure_cmp (shown sorted)) one
+      from_gathered one there =
+          let found = Contains-from_image failure_shown gathered one there in
+          kept_in_distinct failure_cmp failure_total (failure_exact different) (shown sorted) steps one
+          (subst (Contains (shown sorted)) found.2 (Contains-image failure_shown sorted found.0 (Contains-permutation gathered sorted found.0 permutation found.1)))
+
+  -- ---- what the caller is told
+
+  pub are_failures : (found : List Failure) → Tells found → AreFailures t rows found
+  are_failures found told = record {
+    exact = λ one. (told.fails one, λ unmet. ⊎_elim (λ there. there) (λ met. absurd (unmet met)) (told.rest one));
+    rise = told.rise;
+  }
+
+  pub empty_exactly : SettledIsFaultless → (found : List lends.Failure) → Tells (shown found) → (found ≡ []) ↔ IsSettled t rows
+  empty_exactly faultless [] told = (
+    λ _. (faultless t rows).1 (λ reason place. ⊎_elim (λ there. absurd (not_in_none (record { reason = reason; place = place }) there)) (λ met. met) (told.rest (record { reason = reason; place = place }))),
+    λ _. refl,
+  )
+  empty_exactly faultless (one ∷ more) told = (
+    λ e. absurd (cc),
+    λ settled. absurd (told.fails (failure_shown one) (Contains-first (failure_shown one) (shown more)) ((faultless t rows).0 settled (failure_shown one).reason (failure_shown one).place)),
+  )
+
+  met_before : (one : Failure) (more : List Failure) → Tells (one ∷ more) → (before : Failure) → failure_cmp before one ≡ Less → IsMet t rows before
+  met_before one more told before less = ⊎_elim (λ there. absurd (not_before one more told.rise before less there)) (λ met. met) (told.rest before)
+
+  then_second : (o p : Ordering) → o ≡ Equal → p ≡ Less → ordering_then o p ≡ Less
+  then_second Less p e f = absurd (cc)
+  then_second Equal p e f = f
+  then_second Greater p e f = absurd (cc)
+
+  then_first : (o p : Ordering) → o ≡ Less → ordering_then o p ≡ Less
+  then_first Less p e = refl
+  then_first Equal p e = absurd (cc)
+  then_first Greater p e = absurd (cc)
+
+  pub tells_verdict : SettledIsFaultless → (found : List Failure) → Tells found → IsVerdict t rows (verdict_of found)
+  tells_verdict faultless [] told =
+      (faultless t rows).1 (λ reason place. ⊎_elim (λ there. absurd (not_in_none (record { reason = reason; place = place }) there)) (λ met. met) (told.rest (record { reason = reason; place = place })))
+  tells_verdict faultless (one ∷ more) told = record {
+    fails = told.fails one (Contains-first one more);
+    least = λ lesser any below.
+        met_before one more told (record { reason = lesser; place = any })
+        (then_first (nat_cmp (number_of lesser) (number_of one.reason)) (place_cmp any one.place) (sym (nat_cmp_is (number_of lesser) (number_of one.reason) Less below)));
+    first = λ earlier less.
+        met_before one more told (record { reason = one.reason; place = earlier })
+        (then_second (nat_cmp (number_of one.reason) (number_of one.reason)) (place_cmp earlier one.place) (tied_itself nat_cmp_total (number_of one.reason)) less);
+  }

@@ -1,0 +1,10 @@
+use Rattle.std.proofs.Common.{map, take}
+use Rattle.bep_cut.specs.Cut.{tables_of}
+use Rattle.bep_audit.specs.Walk.{failure_shown}
+use Rattle.bep_explain.specs.Adding.{AddsFailing, Each}
+use Rattle.bep_explain.specs.Says.{SaysShare}
+use Rattle.bep_explain.proofs.collect.add_devices.Given as goal
+
+-- what fails on the devices so far is there
+abbrev pub invariant-loop-share : goal.invariant-loop-share
+invariant-loop-share l = AddsFailing (Each (SaysShare (tables_of l.cut) l.row) (take l.share-index l.share-items)) (map failure_shown l.initial.found.items) (map failure_shown l.found.items)

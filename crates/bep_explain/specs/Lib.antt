@@ -1,0 +1,4 @@
+pub mod Adding
+pub mod Distinct
+pub mod Found
+pub mod Says
