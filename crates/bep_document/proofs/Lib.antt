@@ -3,3 +3,4 @@ pub mod TreeFacts
 pub mod Steps
 pub mod FaultlessFacts
 pub mod ReadFaultless
+pub mod CleanFacts
