@@ -4,3 +4,4 @@ pub mod Steps
 pub mod FaultlessFacts
 pub mod ReadFaultless
 pub mod faultless
+pub mod CleanFacts

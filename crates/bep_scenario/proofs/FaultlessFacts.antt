@@ -1,20 +1,15 @@
 -- What is read has no fault.
 use Rattle.std.proofs.Common.{◌≡◌, ℕ, List, [], Option, None, subst}
-use Rattle.std.specs.List.{AllByRecursion}
 use Rattle.serde_json.specs.Data.{Data}
 use Rattle.bep_document.specs.declared.fault.Fault.TheVariants.{NotJson, VersionBad, Shape, Range, RecordBad}
 use Rattle.bep_document.specs.Fault.{at_name}
 use Rattle.bep_document.specs.faults.Judge.{first_in}
 use Rattle.bep_document.specs.faults.Twice.{first_twice}
-use Rattle.bep_document.specs.faults.Records.{is_node}
 use Rattle.bep_document.specs.faults.Links.{first_bad_link}
 use Rattle.bep_document.specs.read.Checks.{has_version}
 use Rattle.bep_document.specs.Reading.{Read, is_short, tree_of}
 use Rattle.bep_document.proofs.Steps.{passed_and, given_and, no_fault_and}
-use Rattle.bep_document.proofs.faults.NoFault.{neither, passes_where_none, all_map, all_where_none}
-use Rattle.bep_document.proofs.faults.RecordTests.{node_decides}
-use Rattle.bep_document.proofs.faults.TwiceFacts.{nothing_twice}
-use Rattle.bep_document.proofs.faults.LinksFacts.{all_links}
+use Rattle.bep_document.proofs.CleanFacts.{neither_fault, each_without_fault, node_without_fault, folders_differ, devices_differ, links_differ, links_join}
 use Rattle.bep_scenario.specs.declared.parts.StepParts.{StepParts}
 use Rattle.bep_scenario.specs.declared.parts.StepParts.TheVariants.{Edit, Other}
 use Rattle.bep_scenario.specs.declared.parts.ScenarioParts.{ScenarioParts}
@@ -23,22 +18,20 @@ use Rattle.bep_scenario.specs.Reading.{is_scenario, read_scenario, reading_of_tr
 use Rattle.bep_scenario.specs.Faultless.{HasNode, IsFaultless}
 
 good_step : (earlier : List StepParts) (part : StepParts) → bad_step earlier part ≡ None → HasNode part
-good_step earlier (Edit device folder node) none =
-    (node_decides node.parts).0 (passes_where_none (is_node node.parts) (at_name RecordBad folder device node.name) none)
+good_step earlier (Edit device folder node) none = node_without_fault node.parts (at_name RecordBad folder device node.name) none
 good_step earlier (Other step) none = tt
 
 faultless : (parts : ScenarioParts) → first_fault parts ≡ None → IsFaultless parts
 unfolding first_fault
 faultless parts none =
-    let twice = neither (first_twice parts.cluster) _ none in
-    let rest = neither (first_in bad_step [] parts.steps) (first_bad_link parts.cluster) twice.1 in
-    let once = nothing_twice parts.cluster twice.0 in
+    let twice = neither_fault (first_twice parts.cluster) _ none in
+    let rest = neither_fault (first_in bad_step [] parts.steps) (first_bad_link parts.cluster) twice.1 in
     record {
-      folders = once.different_folders;
-      devices = all_map (λ _ folder. folder.different) parts.cluster.folders once.each_folder;
-      links = once.different_links;
-      joined = all_map (λ _ link. (link.ends, link.a_device, link.b_device)) parts.cluster.links (all_links parts.cluster rest.1);
-      nodes = all_where_none bad_step HasNode good_step [] parts.steps rest.0;
+      folders = folders_differ parts.cluster twice.0;
+      devices = devices_differ parts.cluster twice.0;
+      links = links_differ parts.cluster twice.0;
+      joined = links_join parts.cluster rest.1;
+      nodes = each_without_fault bad_step HasNode good_step [] parts.steps rest.0;
     }
 
 tree_faultless : (tree : Data) (parts : ScenarioParts) → reading_of_tree tree ≡ Read parts → IsFaultless parts

@@ -5,3 +5,4 @@ pub mod Fresh
 pub mod Faults
 pub mod Reading
 pub mod Faultless
+pub mod Configured

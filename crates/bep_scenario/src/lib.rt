@@ -16,6 +16,7 @@ mod laws;
 mod making;
 mod parts;
 mod reading;
+mod start;
 mod step;
 #[cfg(test)]
 mod tests;
@@ -25,3 +26,4 @@ pub use laws::scenarios_are_faultless;
 pub use making::steps_of;
 pub use parts::{ScenarioParts, StepParts};
 pub use reading::read_scenario_parts;
+pub use start::config_of;
