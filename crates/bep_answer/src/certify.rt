@@ -70,11 +70,7 @@ fn answer_for(alloc: Global, cut: &Cut) -> Result<(Certified, Vec<u8>), AllocErr
 }
 
 // The document of the cut with this certificate.
-fn document_of(
-    alloc: Global,
-    cut: &Cut,
-    certificate: &Certificate,
-) -> Result<Vec<u8>, AllocError>
+fn document_of(alloc: Global, cut: &Cut, certificate: &Certificate) -> Result<Vec<u8>, AllocError>
     ensures { IfOk result (λ text. text.items ≡ document_text cut.now certificate.now) }
 {
     let mut text = check_document(alloc, cut, certificate.rows())?.into_bytes();
