@@ -1,6 +1,6 @@
 //! A name that a user changes, and what a scan, an override and a revert record of it: worked out by hand, by BEP v1,
 //! 'Vector', and by this project's profile.
-use crate::tests::{directory, folder};
+use crate::tests::{batch, directory, folder};
 use crate::*;
 use bep_machine::Moved;
 use bep_record::{DeviceId, FolderKind, Items, Kind, Name, Node, NodeParts, Target};
@@ -79,4 +79,49 @@ fn scans_record_what_changed(rt: HostRuntime) {
         (Moved::Changed, (3, 999, [1, 2], true, false)),
     ];
     assert_eq!(rt; scans(rt.alloc()), Some(wanted));
+}
+
+// What an override puts over device 1's record of `a`, which is later than the own one.
+fn overridden(alloc: Global, replica: &mut Replica<MemStore>) -> Option<(Moved, Own)> {
+    edited(alloc, replica)?;
+    scanned(alloc, replica)?;
+    let name = Name::read(alloc, b"a").ok()?;
+    let answer = replica.override_one(&name).ok()?;
+    Some((answer, own(alloc, replica)?))
+}
+
+fn overrides(alloc: Global) -> Option<(Moved, Own)> {
+    let mut replica = folder(alloc, FolderKind::SendOnly)?;
+    let one = DeviceId::read(1)?;
+    replica.amend_view(one, batch(alloc, b'a', 7)?).ok()?;
+    overridden(alloc, &mut replica)
+}
+
+// Both versions merged, and the own counter raised once more.
+#[test]
+fn an_override_wins(rt: HostRuntime) {
+    let wanted = (Moved::Changed, (2, 999, [1, 2], false, false));
+    assert_eq!(rt; overrides(rt.alloc()), Some(wanted));
+}
+
+// What a local change in a receive-only folder is, and what its revert leaves.
+fn reverted(alloc: Global, replica: &mut Replica<MemStore>) -> Option<[Own; 2]> {
+    edited(alloc, replica)?;
+    scanned(alloc, replica)?;
+    let changed = own(alloc, replica)?;
+    let name = Name::read(alloc, b"a").ok()?;
+    replica.revert_one(&name).ok()?;
+    Some([changed, own(alloc, replica)?])
+}
+
+fn reverts(alloc: Global) -> Option<[Own; 2]> {
+    let mut replica = begun(alloc, FolderKind::ReceiveOnly)?;
+    reverted(alloc, &mut replica)
+}
+
+// A local change keeps the old version and is marked; its revert is a deletion under the empty version.
+#[test]
+fn a_revert_gives_up_a_local_change(rt: HostRuntime) {
+    let wanted = [(2, 999, [1, 0], false, true), (3, 999, [0, 0], true, false)];
+    assert_eq!(rt; reverts(rt.alloc()), Some(wanted));
 }

@@ -42,7 +42,7 @@ pub(crate) fn directory(alloc: Global, letter: u8, sequence: u64) -> Option<Reco
     made.ok()
 }
 
-fn batch(alloc: Global, letter: u8, sequence: u64) -> Option<Batch> {
+pub(crate) fn batch(alloc: Global, letter: u8, sequence: u64) -> Option<Batch> {
     let records = Vec::from_array(alloc, [directory(alloc, letter, sequence)?]).ok()?;
     Batch::new(records).ok()
 }
