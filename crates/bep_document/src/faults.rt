@@ -12,15 +12,14 @@ mod unshared;
 mod walks;
 
 use crate::CheckParts;
-use records::first_bad;
-use sequences::first_bad_sequence;
-use std::alloc::Global;
-use unshared::first_unshared;
-
 pub use judge::{Found, Judge, first_fault};
 pub use links::first_bad_link;
+use records::first_bad;
 pub use records::is_node;
+use sequences::first_bad_sequence;
+use std::alloc::Global;
 pub use twice::first_twice;
+use unshared::first_unshared;
 
 // The first fault that has a place, or want of memory.
 #[tactic(auto, unfolding(crate::specs::Reading::first_fault))]
