@@ -9,7 +9,9 @@ mod HeldFacts
 mod KeptFacts
 mod KnownFacts
 mod PullFacts
+mod ReceivedFacts
 mod SettleFacts
+mod StartPullFacts
 mod StoredFacts
 mod ViewFacts
 mod WantedFacts

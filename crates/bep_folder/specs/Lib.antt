@@ -7,7 +7,9 @@ pub mod Known
 pub mod Makes
 pub mod Pull
 pub mod Pulled
+pub mod Received
 pub mod ScanResult
+pub mod StartPull
 pub mod Trace
 pub mod Views
 pub mod Wanted

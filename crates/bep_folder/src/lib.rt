@@ -1,6 +1,7 @@
 //! One folder at one device: the device's own index, its views of the others' indexes, its pulls and its store.
 #![tactic(auto)]
 
+mod add_block;
 mod adopt;
 mod beside;
 mod chosen;
@@ -20,6 +21,7 @@ mod readers;
 mod replica;
 mod scan_result;
 mod settle;
+mod start_pull;
 #[cfg(test)]
 mod tests;
 mod traced;
