@@ -1,15 +1,18 @@
 -- What holds of a folder that begins.
-use Rattle.std.proofs.Common.{◌≡◌, ◌≤◌, ◌-◌, List, Bool, true, false, cond, Some, None, arith, ap, sym, ◌∙◌, subst, ⊎_elim, Contains, Result, Ok, Err, OnOk, OnErr}
+use Rattle.std.proofs.Common.{◌≡◌, ℕ, ◌≤◌, ◌+◌, ◌-◌, List, Bool, true, false, cond, Some, None, arith, ap, sym, ◌∙◌, subst, ⊎_elim, Contains, Result, Ok, Err, OnOk, OnErr}
 use Rattle.std.specs.Ordering.{nat_cmp, eq_by_cmp}
 use Rattle.std.specs.Cmp.Lexicographic.{slice_cmp, nat_list_cmp_total}
 use Rattle.std.specs.Cmp.{nat_cmp_total}
 use Rattle.std.specs.FinMap.{nat_cmp-IsAntisymmetric, insert, empty, get, len, remove, contains_key, len-empty, get-remove, len-remove}
+use Rattle.std.proofs.lemmas.Map.Lookups.{exact_bytes}
 use Rattle.bep_index.specs.Listing.{Listing}
-use Rattle.bep_facts.specs.Maps.{nothing_in_empty, found_after_insert}
+use Rattle.bep_facts.specs.Maps.{nothing_in_empty, found_after_insert, len-insert_le}
 use Rattle.bep_record.specs.declared.limits.TheConstants.{MAX_PULLS}
 use Rattle.bep_model.specs.Tables.{Device, FileName}
 use Rattle.bep_machine.specs.Replica.{ByDevice, Pull}
 use Rattle.bep_map.specs.NameMap.{ByName}
+use Rattle.bep_folder.specs.Pull.{with_bytes}
+use Rattle.bep_folder.specs.Received.{AddsTo}
 use Rattle.bep_folder.specs.Held.{AreOthers, IsHeld, AreOfOthers}
 
 -- nothing is known and nothing is pulled
@@ -59,3 +62,39 @@ IsHeld-forgotten device others views pulls name held = record {
   fewer : (here : Bool) → len (remove pulls name) ≡ cond here (len pulls - 1) (len pulls) → len (remove pulls name) ≤ MAX_PULLS
   fewer true is = omega (arith, is, held.pulled.few)
   fewer false is = omega (arith, is, held.pulled.few)
+
+-- a pull of the name takes the place of any other
+pub IsHeld-pulled : (device : Device) (others : List Device) (views : ByDevice Listing) (pulls : ByName Pull) (name : FileName) (pull : Pull) →
+    pull.target.name ≡ name → (get pulls name ≡ None → len pulls + 1 ≤ MAX_PULLS) →
+    IsHeld device others views pulls → IsHeld device others views (insert pulls name pull)
+IsHeld-pulled device others views pulls name pull named room held = record {
+  sharing = held.sharing;
+  viewed = held.viewed;
+  pulled = record {
+    named = λ other found is.
+        ⊎_elim
+        (λ here. ap (λ (p : Pull). p.target.name) here.1 ∙ named ∙ sym here.0)
+        (λ before. held.pulled.named other found before.1)
+        (found_after_insert nat_list_cmp_total exact_bytes pulls name pull other found is);
+    few = len-insert_le nat_list_cmp_total pulls name pull MAX_PULLS held.pulled.few room;
+  };
+}
+
+-- whether there was memory for it or not
+pub IsHeld-put : {A E : Type 0} (result : Result A E) (device : Device) (others : List Device) (views : ByDevice Listing) (pulls after : ByName Pull) (name : FileName) (pull : Pull) →
+    OnOk result (after ≡ insert pulls name pull) → OnErr result (after ≡ pulls) → pull.target.name ≡ name → (¬ ((get pulls name ≡ None) × (MAX_PULLS ≤ len pulls))) →
+    IsHeld device others views pulls → IsHeld device others views after
+IsHeld-put (Ok _) device others views pulls after name pull ok err named room held =
+    subst (IsHeld device others views) (sym ok)
+    (IsHeld-pulled device others views pulls name pull named
+    (λ none. let few : ¬ (MAX_PULLS ≤ len pulls) = λ full. room (none, full) in omega (arith, few)) held)
+IsHeld-put (Err _) device others views pulls after name pull ok err named room held = subst (IsHeld device others views) (sym err) held
+
+-- a pull received a block
+pub IsHeld-added : {A E : Type 0} (result : Result A E) (device : Device) (others : List Device) (views : ByDevice Listing) (pulls after : ByName Pull) (name : FileName) (place : ℕ) (bytes : List ℕ) →
+    OnOk result (AddsTo name place bytes pulls after) → OnErr result (after ≡ pulls) → IsHeld device others views pulls → IsHeld device others views after
+IsHeld-added (Ok _) device others views pulls after name place bytes ok err held =
+    subst (IsHeld device others views) (sym ok.2)
+    (IsHeld-pulled device others views pulls name (with_bytes ok.0 place bytes) (held.pulled.named name ok.0 ok.1)
+    (λ none. absurd (let e : None ≡ Some ok.0 = sym none ∙ ok.1 in cc)) held)
+IsHeld-added (Err _) device others views pulls after name place bytes ok err held = subst (IsHeld device others views) (sym err) held

@@ -14,6 +14,7 @@ use Rattle.std.proofs.lemmas.Map.Keys.{sorted_from_strictly_increasing, IsStrict
 use Rattle.std.proofs.lemmas.List.Elements.{Contains-append_left, Contains-append_right, Contains-append_cases}
 use Rattle.std.proofs.lemmas.Option.{none-some}
 use Rattle.std.specs.Option.{option_copied}
+use Rattle.bep_facts.specs.Members.{not_in_none, Contains-one}
 use Rattle.bep_facts.specs.Rising.{below_all}
 use Rattle.bep_record.specs.declared.entry.Entry.{Entry}
 use Rattle.bep_index.specs.Listing.{Listing}
@@ -23,7 +24,7 @@ use Rattle.bep_model.specs.Winner.{beside}
 use Rattle.bep_machine.specs.Replica.{ByDevice, Replica, viewed_by, candidates, own_at, Chooses}
 use Rattle.bep_machine.specs.Pull.{ChoosesNone}
 use Rattle.bep_folder.specs.Held.{Held}
-use Rattle.bep_folder.specs.Known.{record_in, viewed_among, known_by}
+use Rattle.bep_folder.specs.Known.{AreNamed, IsOwn, record_in, viewed_among, known_by}
 
 -- ---- a device at its place among the others
 
@@ -199,3 +200,39 @@ chosen_is h name device own views others known (Some one) chosen = (chosen.0, (c
 pub none_chosen : (device : Device) (replica : Replica) (name : FileName) (found : Option (Bor Entry)) → ((one : Entry) → Chooses device replica name one → option_copied found ≡ Some one) → IfNone found (ChoosesNone device replica name)
 none_chosen device replica name None only = λ one chooses. absurd (none-some one (only one chooses))
 none_chosen device replica name (Some one) only = tt
+
+-- ---- they stand under the name
+
+no_names : (name : FileName) → AreNamed name []
+no_names name one member = absurd (not_in_none one member)
+
+beside_named : (name : FileName) (device : Device) (own : Option Entry) → IsOwn name own → AreNamed name (beside device own)
+beside_named name device None owns one member = absurd (not_in_none one member)
+beside_named name device (Some entry) owns one member = ap (λ (c : Candidate). c.1.name) (sym (Contains-one (device, entry) one member)) ∙ owns entry refl
+
+both_named : (name : FileName) (candidates more : List Candidate) → AreNamed name candidates → AreNamed name more → AreNamed name (candidates ++ more)
+both_named name candidates more named rest one member = ⊎_elim (λ first. named one first) (λ later. rest one later) (Contains-append_cases candidates more one member)
+
+-- what is lent is the record itself
+pub lent_own : (name : FileName) (found : Option (Bor Entry)) (own : Option Entry) → option_copied found ≡ own → IfSome found (λ one. one.now.name ≡ name) → IsOwn name own
+lent_own name None own is named one there = absurd (let e : None ≡ Some one = is ∙ there in cc)
+lent_own name (Some lent) own is named one there = let e : Some lent.now ≡ Some one = is ∙ there in let same : lent.now ≡ one = cc in ap (λ (entry : Entry). entry.name) (sym same) ∙ named
+
+-- the view of one more device
+pub viewed_named : (views : ByDevice Listing) (name : FileName) (others : List Device) (other : Device) → AreNamed name (viewed_among views name others) → IsOwn name (record_in views name other) →
+    AreNamed name (viewed_among views name (others ++ other ∷ []))
+viewed_named views name others other named has =
+    subst (AreNamed name) (sym (flat_map-append (λ (device : Device). beside device (record_in views name device)) others (other ∷ [])))
+    (both_named name (viewed_among views name others) (viewed_among views name (other ∷ [])) named
+    (both_named name (beside other (record_in views name other)) [] (beside_named name other (record_in views name other) has) (no_names name)))
+
+pub in_order_named : (views : ByDevice Listing) (name : FileName) (device : Device) (own : Option Entry) (lower upper : List Device) → AreNamed name (viewed_among views name lower) → IsOwn name own →
+    AreNamed name (viewed_among views name upper) → AreNamed name (in_order views name device own lower upper)
+in_order_named views name device own lower upper first owns last =
+    both_named name (viewed_among views name lower) (beside device own ++ viewed_among views name upper) first
+    (both_named name (beside device own) (viewed_among views name upper) (beside_named name device own owns) last)
+
+-- and so does the choice
+pub choice_named : (name : FileName) (device : Device) (all : List Candidate) → AreNamed name all → (found : Option (Bor Entry)) → IfSome found (λ one. (from : ℕ) × IsChoice device all (from, one.now)) → IfSome found (λ one. one.now.name ≡ name)
+choice_named name device all named None chosen = tt
+choice_named name device all named (Some one) chosen = named (chosen.0, one.now) chosen.1.left.valid.0

@@ -11,7 +11,9 @@ mod KnownFacts
 mod OverrideFacts
 mod PullFacts
 mod RevertFacts
+mod ReceivedFacts
 mod SettleFacts
+mod StartPullFacts
 mod StoredFacts
 mod ViewFacts
 mod WantedFacts

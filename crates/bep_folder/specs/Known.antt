@@ -1,5 +1,5 @@
 -- The candidates for a name, as the code finds them.
-use Rattle.std.specs.Prelude.{List, ◌++◌, Option, unwrap_or}
+use Rattle.std.specs.Prelude.{◌≡◌, List, ◌++◌, Option, Some, Contains, unwrap_or}
 use Rattle.std.specs.List.{flat_map}
 use Rattle.std.specs.FinMap.{get}
 use Rattle.bep_record.specs.declared.entry.Entry.{Entry}
@@ -21,3 +21,10 @@ viewed_among views name = flat_map (λ (other : Device). beside other (record_in
 -- the own record and those of the views
 abbrev pub known_by : Device → Option Entry → ByDevice Listing → FileName → List Device → List Candidate
 known_by device own views name others = beside device own ++ viewed_among views name others
+
+-- the own record, if there is one, stands under the name, and so do all of these
+abbrev pub IsOwn : FileName → Option Entry → Type 0
+IsOwn name own = (one : Entry) → own ≡ Some one → one.name ≡ name
+
+abbrev pub AreNamed : FileName → List Candidate → Type 0
+AreNamed name candidates = (one : Candidate) → Contains candidates one → one.1.name ≡ name

@@ -9,7 +9,9 @@ pub mod Override
 pub mod Pull
 pub mod Pulled
 pub mod Revert
+pub mod Received
 pub mod ScanResult
+pub mod StartPull
 pub mod Trace
 pub mod Views
 pub mod Wanted

@@ -8,7 +8,7 @@ ghost use Rattle.bep_model.specs.Winner.{beside};
 ghost use Rattle.bep_machine.specs.Replica.{Chooses};
 ghost use Rattle.bep_machine.specs.Pull.{ChoosesNone};
 ghost use Rattle.bep_folder.specs.Held.{AreOthers};
-ghost use Rattle.bep_folder.specs.Known.{record_in, viewed_among, known_by};
+ghost use Rattle.bep_folder.specs.Known.{AreNamed, IsOwn, record_in, viewed_among, known_by};
 
 use crate::Replica;
 use bep_choice::choose;
@@ -25,6 +25,7 @@ impl<S: Store> Replica<S> {
         ensures chosen { IfSome result (λ one. Chooses self.now.device self.now.tables name.now one.now) }
         ensures only { (one : Entry) → Chooses self.now.device self.now.tables name.now one → option_copied result ≡ Some one }
         ensures none { IfNone result (ChoosesNone self.now.device self.now.tables name.now) }
+        ensures named { IfSome result (λ one. one.now.name ≡ name.now) }
     {
         let own = self.index.get(name);
         best_known(self.device, own, &self.views, self.others.as_slice(), name)
@@ -39,9 +40,11 @@ fn best_known<'a>(
     others: &[DeviceId],
     name: &Name,
 ) -> Option<&'a Record>
-    requires { AreOthers device others.now }
+    requires others { AreOthers device others.now }
+    requires own { IsOwn name.now (option_copied own) }
     ensures chosen { IfSome result (λ one. (from : ℕ) × IsChoice device (known_by device (option_copied own.entry) views.now name.now others.now) (from, one.now)) }
     ensures only { (one : Candidate) → IsChoice device (known_by device (option_copied own.entry) views.now name.now others.now) one → option_copied result ≡ Some one.1 }
+    ensures named { IfSome result (λ one. one.now.name ≡ name.now) }
 {
     let any = any_known(own, views, others, name)?;
     let mut found: [_; MAX_DEVICES] = array::from_fn(|_| (device, any));
@@ -90,8 +93,10 @@ fn best_within<'a>(
 ) -> Option<&'a Record>
     requires room { length others.now < length found.old }
     requires others { AreOthers device others.now }
+    requires own { IsOwn name.now (option_copied own) }
     ensures chosen { IfSome result (λ one. (from : ℕ) × IsChoice device (known_by device (option_copied own.entry) views.now name.now others.now) (from, one.now)) }
     ensures only { (one : Candidate) → IsChoice device (known_by device (option_copied own.entry) views.now name.now others.now) one → option_copied result ≡ Some one.1 }
+    ensures named { IfSome result (λ one. one.now.name ≡ name.now) }
 {
     choice_is_of_the_set();
     let place = place_among(device, others);
@@ -126,6 +131,7 @@ fn gather<'a>(
 ) -> usize
     requires { first + length devices.now ≤ length found.old }
     ensures candidates { candidates_of (take result found.new) ≡ candidates_of (take first found.old) ++ viewed_among views.now name.now devices.now }
+    ensures named { AreNamed name.now (viewed_among views.now name.now devices.now) }
     ensures within { result ≤ first + length devices.now }
     ensures length { length found.new ≡ length found.old }
 {
@@ -159,7 +165,8 @@ fn put<'a>(
 
 // The record of the name in the view of a device.
 fn viewed<'a>(views: &'a DeviceMap<View>, other: DeviceId, name: &Name) -> Option<&'a Record>
-    ensures { option_copied result ≡ record_in views.now name.now other }
+    ensures value { option_copied result ≡ record_in views.now name.now other }
+    ensures named { IfSome result (λ one. one.now.name ≡ name.now) }
 {
     match views.get(other) {
         Some(view) => view.get(name),

@@ -53,7 +53,7 @@ impl<S: Store> Replica<S> {
     }
 
     // Begins a call, which has made no call of the store yet.
-    fn begin(&mut self)
+    pub(crate) fn begin(&mut self)
         ensures { self.new ≡ unchanged self.old }
     {
         self.store.begin();

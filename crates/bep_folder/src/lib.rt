@@ -1,6 +1,7 @@
 //! One folder at one device: the device's own index, its views of the others' indexes, its pulls and its store.
 #![tactic(auto)]
 
+mod add_block;
 mod adopt;
 mod beside;
 mod chosen;
@@ -22,6 +23,7 @@ mod scan_result;
 #[cfg(test)]
 mod scan_tests;
 mod settle;
+mod start_pull;
 #[cfg(test)]
 mod tests;
 mod traced;

@@ -33,7 +33,7 @@ impl<S: Store> Replica<S> {
     }
 
     // Whether the device needs the record, were it chosen.
-    fn needs(&self, name: &Name, chosen: &Record) -> bool
+    pub(crate) fn needs(&self, name: &Name, chosen: &Record) -> bool
         ensures { IsTrue result ↔ IsNeeded self.now.tables.kind (own_at self.now.tables name.now) chosen.now }
     {
         needed(self.kind, self.index.get(name), chosen)

@@ -7,6 +7,6 @@ use Rattle.bep_index.specs.Listing.{Listing}
 use Rattle.bep_index.specs.View.{cleared}
 use Rattle.bep_folder.proofs.chosen.viewed.Goals as goal
 
-pub returns-in-None : goal.returns-in-None
-returns-in-None c =
+pub returns-in-None-clause-value : goal.returns-in-None-clause-value
+returns-in-None-clause-value c =
     sym (ap (λ (view : Option Listing). get (unwrap_or view (cleared 0)).records c.args.name.now) (sym c.in-None.ensures) ∙ get-empty (slice_cmp nat_cmp) c.args.name.now)

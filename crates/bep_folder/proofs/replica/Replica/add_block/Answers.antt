@@ -1,0 +1,18 @@
+use Rattle.std.proofs.Common.{◌≡◌, ◌∙◌, true, Some, sym, ap, refl}
+use Rattle.bep_machine.specs.Replica.{pull_at}
+use Rattle.bep_folder.specs.Held.{Held}
+use Rattle.bep_folder.proofs.HeldFacts.{IsHeld-added}
+use Rattle.bep_folder.proofs.replica.Replica.add_block.Goals as goal
+
+pub returns-then-not-is_block-clause-hash_bad : goal.returns-then-not-is_block-clause-hash_bad
+returns-then-not-is_block-clause-hash_bad g c =
+    let pulled : pull_at c.args.self.now.tables c.args.name.now ≡ Some c.in-Some.pull.now =
+    ap (λ (h : Held). pull_at h.tables c.args.name.now) (sym c.begin.ensures) ∙ ap (λ (h : Held). pull_at h.tables c.args.name.now) (sym c.self.view_is) ∙ sym c.in-Some.ensures in (
+      (λ bad. (c.in-Some.pull.now, pulled, λ at. absurd (let yes : c.is_block.result ≡ true = c.is_block.ensures.1 at in let no = c.if-not-is_block.true in cc))),
+      (λ lacks. refl),
+    )
+
+pub invariant_of-self : goal.invariant_of-self
+invariant_of-self g c =
+    IsHeld-added c.add_in.result c.self.inside.device c.self.inside.others c.self.inside.views c.self.inside.pulls c.add_in.new.pulls c.args.name.now c.args.place c.args.bytes.now
+    c.add_in.ensures.ok c.add_in.ensures.err c.self.invariant
