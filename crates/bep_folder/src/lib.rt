@@ -32,5 +32,5 @@ mod wanted;
 
 pub use error::FolderError;
 pub use pull::Pull;
-pub use replica::Replica;
+pub use replica::{Replica, are_others};
 pub use scan_result::ScanResult;

@@ -3,8 +3,8 @@ ghost use Rattle.std.specs.Prelude.{◌≡◌, ◌↔◌, ◌<◌, ◌+◌, ℕ,
 ghost use Rattle.std.specs.List.Sorted.{IsStrictlyIncreasing};
 ghost use Rattle.bep_folder.specs.Held.{AreOthers, started};
 
-use crate::traced::Traced;
 use crate::Pull;
+use crate::traced::Traced;
 use bep_index::{Index, IndexId, View};
 use bep_map::{DeviceMap, NameMap};
 use bep_record::{DeviceId, FolderKind, FolderName, Items, MAX_DEVICES};
@@ -83,8 +83,9 @@ impl<S: Store> Replica<S> {
     }
 }
 
-// Whether these can be the other devices that share a folder with this one.
-fn are_others(device: DeviceId, others: &[DeviceId]) -> bool
+/// Whether these can be the other devices that share a folder with this one, or that it has links with: they rise, it
+/// isn't among them, and there are at most 15.
+pub fn are_others(device: DeviceId, others: &[DeviceId]) -> bool
     ensures { IsTrue result ↔ AreOthers device others.now }
 {
     others.len() < MAX_DEVICES && rise(others) && !others.contains(&device)

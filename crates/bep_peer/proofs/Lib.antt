@@ -1,3 +1,5 @@
+mod BeginFacts
+mod Mapped
 mod Cursors
 mod FirstRequest
 mod LastSequence

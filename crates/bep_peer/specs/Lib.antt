@@ -1,1 +1,5 @@
+pub mod Config
+pub mod Lent
+pub mod Member
+pub mod PeerError
 pub mod Session

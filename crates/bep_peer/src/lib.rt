@@ -9,13 +9,21 @@
 
 mod announce;
 mod answer;
+mod begin;
 mod config;
+mod ends;
+mod error;
+mod peer;
 mod requests;
 mod session;
 #[cfg(test)]
 mod tests;
+mod trace;
 
 pub use announce::{index_message, is_all_sent, next_batch, sent_with};
 pub use answer::{answer_to, has_bytes, refuse};
 pub use config::{cursor_for, names_once};
+pub use error::PeerError;
+pub use peer::Peer;
 pub use session::Session;
+pub use trace::Trace;

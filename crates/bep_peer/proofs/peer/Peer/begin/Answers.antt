@@ -1,0 +1,18 @@
+use Rattle.std.proofs.lemmas.Result.{err_from_is_err_and}
+use Rattle.bep_peer.proofs.BeginFacts.{not_shared_at, refused_as, opened_as}
+use Rattle.bep_peer.proofs.peer.Peer.begin.Goals as goal
+
+pub returns-in_default-clause-step : goal.returns-in_default-clause-step
+returns-in_default-clause-step g c =
+    not_shared_at (record { member = c.args.self.now; link = c.args.link.now }) c.tell_nothing.new.self c.tell_nothing.ensures c.in_default.ensures.none
+
+pub returns-in_err-may_begin-clause-step : goal.returns-in_err-may_begin-clause-step
+returns-in_err-may_begin-clause-step g c =
+    let error = err_from_is_err_and c.from_residual.result c.from_residual.ensures.1 in
+    rw (error.1, error.2)
+    (refused_as (record { member = c.args.self.now; link = c.args.link.now }) c.tell_nothing.new.self c.in-Some.other c.in_err-may_begin.field-0.0 c.tell_nothing.ensures c.in-Some.ensures.some c.in_err-may_begin.ensures.refused)
+
+pub returns-clause-step : goal.returns-clause-step
+returns-clause-step g c =
+    opened_as (record { member = c.args.self.now; link = c.args.link.now }) c.tell_nothing.new.self c.open_session.new.self c.open_session.new.link c.in-Some.other c.tell_nothing.ensures c.in-Some.ensures.some
+    c.in_ok-may_begin.ensures.ok c.in_ok-open_session.ensures.ok.0 c.in_ok-open_session.ensures.ok.1

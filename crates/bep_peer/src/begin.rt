@@ -1,0 +1,117 @@
+//! Beginning a session.
+ghost use Rattle.std.specs.Prelude.{◌≡◌, true, false, Some, IsSome, IfErr, OnOk, OnErr, Err};
+ghost use Rattle.std.specs.FinMap as map;
+ghost use Rattle.bep_links.specs.Side.{end_at};
+ghost use Rattle.bep_machine.specs.declared.message.Message.TheVariants as messages;
+ghost use Rattle.bep_machine.specs.Exchange.{BeginRow};
+ghost use Rattle.bep_machine.specs.Link.{end_of, sight_of, sending, after_deed};
+ghost use Rattle.bep_machine.specs.Peer.{idle, new_session};
+ghost use Rattle.bep_peer.specs.Config.{config_of};
+ghost use Rattle.bep_peer.specs.Lent.{NamesNone, StepOver, OnlySessions, IsOpenTo, with_before};
+ghost use Rattle.bep_peer.specs.Member.{tables_of, untold};
+ghost use Rattle.bep_peer.specs.PeerError.{Gives};
+ghost use Rattle.bep_peer.specs.declared.error.PeerError.TheVariants.{Memory};
+
+use crate::config::config_for;
+use crate::ends::{is_full, send, side_of};
+use crate::{Peer, PeerError, Session};
+use bep_links::{Link, Side};
+use bep_machine::{Message, Moved, Refusal};
+use bep_map::DeviceMap;
+use bep_record::{DeviceId, Items};
+use bep_store::Store;
+
+impl<S: Store> Peer<S> {
+    /// Begins a session over the link, in place of an older one, and sends the other device a ClusterConfig. Refuses, in
+    /// this order, `NotShared` where the link isn't one of the device's, `LinkDown`, `NothingToDo` where there is a
+    /// session of the link's epoch, and `LinkFull`; else only for want of memory. After an error all is as before.
+    ///
+    /// BEP v1, 'Cluster Config'.
+    pub fn begin(&mut self, link: &mut Link) -> Result<Moved, PeerError>
+        ensures step { Gives (StepOver BeginRow NamesNone (record { member = self.old; link = link.old })) (record { member = self.new; link = link.new }) result }
+        ensures rest { OnlySessions self.old self.new }
+        ensures err { OnErr result ((self.new ≡ untold self.old) × (link.new ≡ link.old)) }
+    {
+        self.tell_nothing();
+        let Some(other) = self.across(link) else {
+            return Err(PeerError::Refused(Refusal::NotShared));
+        };
+        self.may_begin(link, other)?;
+        self.open_session(link, other)?;
+        Ok(Moved::Changed)
+    }
+
+    // The first refusal of a new session that is due.
+    fn may_begin(&self, link: &Link, other: DeviceId) -> Result<(), PeerError>
+        ensures ok { OnOk result (IsOpenTo other (sight_of (end_of self.now.number other) link.now.link) (tables_of self.now)) }
+        ensures refused { IfErr result (λ e. Gives (BeginRow other (sight_of (end_of self.now.number other) link.now.link) (tables_of self.now)) (idle (tables_of self.now)) (Err e)) }
+    {
+        if !link.is_up() {
+            return Err(PeerError::Refused(Refusal::LinkDown));
+        }
+        if self.current(link, other).is_some() {
+            return Err(PeerError::Refused(Refusal::NothingToDo));
+        }
+        if is_full(link, side_of(self.number, other)) {
+            return Err(PeerError::Refused(Refusal::LinkFull));
+        }
+        Ok(())
+    }
+
+    // Opens the session, where nothing forbids it. It fails only for want of memory, and then all is as before.
+    fn open_session(&mut self, link: &mut Link, other: DeviceId) -> Result<(), PeerError>
+        requires { IsOpenTo other (sight_of (end_of self.old.number other) link.old.link) (tables_of self.old) }
+        ensures ok { OnOk result (let message = messages.ClusterConfig (config_of other self.old.folders) in (self.new ≡ record self.old { sessions = map.insert self.old.sessions other (new_session link.old.link.epoch); trace = record self.old.trace { put = Some (message, message) } }) × (link.new ≡ record link.old { link = after_deed (end_of self.old.number other) (sending message) link.old.link })) }
+        ensures only { IfErr result (λ e. e ≡ Memory) }
+        ensures err { OnErr result ((self.new ≡ self.old) × (link.new ≡ link.old)) }
+    {
+        let named = Items::new(config_for(self.alloc, &self.folders, other)?);
+        let message = Message::ClusterConfig(named);
+        let told = (message.copy(self.alloc)?, message.copy(self.alloc)?);
+        let session = Session::new(self.alloc, link.epoch())?;
+        let side = side_of(self.number, other);
+        give_and_send(&mut self.sessions, other, session, link, side, message)?;
+        self.trace.put = Some(told);
+        Ok(())
+    }
+}
+
+// Gives the other device's session and sends the message, or neither.
+fn give_and_send(
+    sessions: &mut DeviceMap<Session>,
+    other: DeviceId,
+    session: Session,
+    link: &mut Link,
+    side: Side,
+    message: Message,
+) -> Result<(), PeerError>
+    requires up { link.old.link.up ≡ true }
+    requires room { (sight_of (end_at side) link.old.link).full ≡ false }
+    ensures ok { OnOk result ((sessions.new ≡ map.insert sessions.old other session) × (link.new ≡ record link.old { link = after_deed (end_at side) (sending message) link.old.link })) }
+    ensures only { IfErr result (λ e. e ≡ Memory) }
+    ensures err { OnErr result ((sessions.new ≡ sessions.old) × (link.new ≡ link.old)) }
+{
+    let before = sessions.insert(other, session)?;
+    match send(link, side, message) {
+        Ok(()) => Ok(()),
+        Err(error) => {
+            give_back(sessions, other, before);
+            Err(error)
+        }
+    }
+}
+
+// Gives the other device's session again, or none if there was none.
+fn give_back(sessions: &mut DeviceMap<Session>, other: DeviceId, before: Option<Session>)
+    requires { IsSome (map.get sessions.old other) }
+    ensures { sessions.new ≡ with_before sessions.old other before }
+{
+    match before {
+        Some(session) => {
+            let _new = sessions.replace(other, session);
+        }
+        None => {
+            let _new = sessions.remove(other);
+        }
+    }
+}

@@ -1,0 +1,29 @@
+//! What an action of a device did besides its effect.
+ghost use Rattle.std.specs.Prelude.{◌≡◌};
+ghost use Rattle.bep_peer.specs.Member.{nothing_told};
+
+use bep_machine::Message;
+
+/// What the last action of a device did to the store of its folder, and what it sent.
+#[derive(Debug, Drop)]
+pub struct Trace {
+    /// Which of its calls of the store failed, counted from 1.
+    pub failed: Option<u32>,
+    /// Whether it wrote a conflict copy.
+    pub copied: bool,
+    /// Two copies of the message that it sent.
+    pub put: Option<(Message, Message)>,
+}
+
+impl Trace {
+    // Nothing failed, nothing was copied, and nothing was sent.
+    pub(crate) fn nothing() -> Self
+        ensures { result ≡ nothing_told }
+    {
+        Trace {
+            failed: None,
+            copied: false,
+            put: None,
+        }
+    }
+}
