@@ -1,5 +1,0 @@
-use Rattle.syncaudit.proofs.StatusFacts.{without_memory}
-use Rattle.syncaudit.proofs.run.run.Goals as goal
-
-pub returns-in-Err-clause-end : goal.returns-in-Err-clause-end
-returns-in-Err-clause-end g c = without_memory _ _ _ c.end.ensures
