@@ -1,19 +1,13 @@
--- What words ask for, and the end of the program where nothing was read, since memory ran out before.
-use Rattle.std.proofs.Common.{◌≡◌, ℕ, List, [], Option, Some, Err, codes, sym, ◌∙◌}
+-- What comes of words where nothing was read, since memory ran out before.
+use Rattle.std.proofs.Common.{◌≡◌, ℕ, List, [], Option, Err}
 use Rattle.std.proofs.KnownBytes.{Keeps-refl}
 use Rattle.bep_report.specs.declared.error.ReportError.TheVariants.{Memory}
 use Rattle.clap.specs.Words.{Text, fault_of}
-use Rattle.syncaudit.specs.Mode.{Asks, program}
+use Rattle.syncaudit.specs.Mode.{program}
 use Rattle.syncaudit.specs.Status.{IsDone, IsFollowed, status_of}
 use Rattle.syncaudit.specs.declared.mode.Mode.{Mode}
 use Rattle.syncaudit.specs.declared.mode.Mode.TheVariants.{Check, Certify}
 use Rattle.syncaudit.proofs.ModeFacts.{asked_mode}
-
--- no words ask for both
-pub asks_one : (words : List Text) → Asks words Certify → Asks words Check → ⊥
-asks_one words certify check =
-    let same : Some (codes "certify") ≡ Some (codes "check") = sym certify ∙ check in
-    absurd cc
 
 done_without_memory : (mode : Mode) (unread held : Option (List ℕ)) (status : ℕ) → status ≡ status_of (Err Memory) → IsDone mode unread unread held held status
 done_without_memory Check unread held status told = record { answer = Err Memory; told = told; done = Keeps-refl held }
