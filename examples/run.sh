@@ -53,6 +53,10 @@ fi
 # A row of the first table has a file's name, what it shows, what is written, and the status.
 while IFS='|' read -r _ name _ output status _; do
   check_row "syncaudit check < examples/$(lines_of "$name")" "$output" '' "$status"
+  # Where the certificate isn't at fault, the one that is made anew is the same.
+  if [ "${status// /}" != 2 ] && ! grep -qE 'CertificateOrder|NameMissing|NameUnknown|NotWinner' <<< "$output"; then
+    check_row "syncaudit check < <(syncaudit certify < examples/$(lines_of "$name"))" "$output" '' "$status"
+  fi
 done < <(grep '^| `[a-z-]*\.json` |' examples/README.md)
 
 # A row of the second table has the words, what they show, what is written, what is told, and the status.

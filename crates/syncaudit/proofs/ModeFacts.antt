@@ -12,7 +12,9 @@ use Rattle.clap.specs.Walk.{Held, Names, Outcome, Step, Waiting, Walk, after_fla
 use Rattle.clap.specs.Faults.{check_fault, defaults_fault, entered_fault, level_fault, other_fault, settle_fault, turn_fault, walk_fault, word_fault}
 use Rattle.clap.specs.declared.parser.matches.ArgMatches.{ArgMatches}
 use Rattle.clap.specs.declared.parser.matches.ArgMatches.TheViews.{out-ArgMatches}
-use Rattle.syncaudit.specs.Mode.{program}
+use Rattle.syncaudit.specs.Mode.{Asks, program}
+use Rattle.syncaudit.specs.declared.mode.Mode.{Mode}
+use Rattle.syncaudit.specs.declared.mode.Mode.TheVariants.{Check, Certify}
 
 -- a parse of the program's words in which nothing is at fault
 pub no_fault : (app : App) (words : List Text) → app ≡ program → (is_simple_and_free app ≡ true → fault_of app words ≡ []) → fault_of program words ≡ []
@@ -151,40 +153,61 @@ level_none s names h words has below required none =
 
 -- ---- the program's subcommand
 
-abbrev IsCheck : Text → Type 0
-IsCheck name = name ≡ codes "check"
+-- the program's own subcommands
+abbrev IsMode : Text → Type 0
+IsMode name = (name ≡ codes "check") ⊎ (name ≡ codes "certify")
 
-abbrev names_found : Bool → Bool → Option (Text × List Text)
-names_found check help = cond check (Some (codes "check", [])) (cond help (Some (codes "help", [])) None)
+abbrev names_found : Bool → Bool → Bool → Option (Text × List Text)
+names_found check certify help =
+    cond check (Some (codes "check", [])) (cond certify (Some (codes "certify", [])) (cond help (Some (codes "help", [])) None))
 
-known_name : (check help : Bool) → IfSome (option_map (λ n. n.0) (names_found check help)) (λ name. IsCheck name ⊎ (name ≡ codes "help"))
-known_name true help = inl refl
-known_name false true = inr refl
-known_name false false = tt
+known_name : (check certify help : Bool) → IfSome (option_map (λ n. n.0) (names_found check certify help)) (λ name. IsMode name ⊎ (name ≡ codes "help"))
+known_name true certify help = inl (inl refl)
+known_name false true help = inl (inr refl)
+known_name false false true = inr refl
+known_name false false false = tt
 
-only_check : HasOnly (built program).top (names_of (built program)) IsCheck
-only_check = record { helps = refl; known = λ word. known_name _ _ }
+only_modes : HasOnly (built program).top (names_of (built program)) IsMode
+only_modes = record { helps = refl; known = λ word. known_name _ _ _ }
 
-entered_check : (stop : Option (Text × List Text)) → IfSome stop (λ p. IsCheck p.0) → is_some (entered (built program) stop) ≡ true
-    → option_map (λ met. met.0) (entered (built program) stop) ≡ Some (codes "check")
-entered_check None is has = absurd cc
-entered_check (Some p) is has = subst (λ name. option_map (λ met. met.0) (entered (built program) (Some (name, p.1))) ≡ Some (codes "check")) (sym is) refl
+-- the words name one of them
+abbrev pub NamesMode : Option Text → Type 0
+NamesMode name = (name ≡ Some (codes "check")) ⊎ (name ≡ Some (codes "certify"))
 
--- where nothing is at fault, the words name `check`
-asks_check : (words : List Text) → fault_of program words ≡ [] → option_map (λ met. met.0) (subcommand_of program words) ≡ Some (codes "check")
-asks_check words none =
+-- and no word names none
+pub not_named : NamesMode None → ⊥
+not_named (inl is) = absurd cc
+not_named (inr is) = absurd cc
+
+entered_mode : (stop : Option (Text × List Text)) → IfSome stop (λ p. IsMode p.0) → is_some (entered (built program) stop) ≡ true
+    → NamesMode (option_map (λ met. met.0) (entered (built program) stop))
+entered_mode None is has = absurd cc
+entered_mode (Some p) (inl is) has = inl (subst (λ name. option_map (λ met. met.0) (entered (built program) (Some (name, p.1))) ≡ Some (codes "check")) (sym is) refl)
+entered_mode (Some p) (inr is) has = inr (subst (λ name. option_map (λ met. met.0) (entered (built program) (Some (name, p.1))) ≡ Some (codes "certify")) (sym is) refl)
+
+-- where nothing is at fault, the words name one of the program's subcommands
+asks_mode : (words : List Text) → fault_of program words ≡ [] → NamesMode (option_map (λ met. met.0) (subcommand_of program words))
+asks_mode words none =
     let app = built program in
     let given = argument_words program words in
     let stop = (walk app.top.rules (names_of app) nothing_held given).stopped in
     let level = level_none app.top (names_of app) nothing_held given (is_some (entered app stop)) (entered_fault app stop) refl none in
-    entered_check stop (walk_is_own app.top (names_of app) IsCheck only_check (walk_from nothing_held) given tt level.0) level.1
+    entered_mode stop (walk_is_own app.top (names_of app) IsMode only_modes (walk_from nothing_held) given tt level.0) level.1
+
+mode_named : (words : List Text) → NamesMode (option_map (λ met. met.0) (subcommand_of program words)) → (mode : Mode) × Asks words mode
+mode_named words (inl is) = (Check, is)
+mode_named words (inr is) = (Certify, is)
+
+-- so they ask for a mode
+pub asked_mode : (words : List Text) → fault_of program words ≡ [] → (mode : Mode) × Asks words mode
+asked_mode words none = mode_named words (asks_mode words none)
 
 map_twice : {X Y Z : Type 0} (f : Y → Z) (g : X → Y) (o : Option X) → option_map (λ x. f (g x)) o ≡ option_map f (option_map g o)
 map_twice f g None = refl
 map_twice f g (Some x) = refl
 
 -- the subcommand that the matches tell
-pub tells_check : (app : App) (words : List Text) (m : ArgMatches) → app ≡ program → HasMatchesOf app words m → fault_of program words ≡ [] → subcommand_name_of m ≡ Some (codes "check")
-tells_check app words m is matches none =
+pub tells_mode : (app : App) (words : List Text) (m : ArgMatches) → app ≡ program → HasMatchesOf app words m → fault_of program words ≡ [] → NamesMode (subcommand_name_of m)
+tells_mode app words m is matches none =
     let rows : subcommand_rows_of m ≡ subcommand_of program words = (matches (ap is_simple is)).1 ∙ ap (λ a. subcommand_of a words) is in
-    map_twice _ _ (out-ArgMatches m).subcommand ∙ ap (option_map (λ met. met.0)) rows ∙ asks_check words none
+    subst NamesMode (sym (map_twice _ _ (out-ArgMatches m).subcommand ∙ ap (option_map (λ met. met.0)) rows)) (asks_mode words none)

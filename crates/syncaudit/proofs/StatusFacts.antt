@@ -1,11 +1,21 @@
--- The end of the program where nothing was read, since memory ran out before.
-use Rattle.std.proofs.Common.{◌≡◌, ℕ, List, Option, Err, inr}
+-- What comes of words where nothing was read, since memory ran out before.
+use Rattle.std.proofs.Common.{◌≡◌, ℕ, List, [], Option, Err}
 use Rattle.std.proofs.KnownBytes.{Keeps-refl}
 use Rattle.bep_report.specs.declared.error.ReportError.TheVariants.{Memory}
-use Rattle.syncaudit.specs.Status.{IsEnd, IsTold, status_of}
+use Rattle.clap.specs.Words.{Text, fault_of}
+use Rattle.syncaudit.specs.Mode.{program}
+use Rattle.syncaudit.specs.Status.{IsDone, IsFollowed, status_of}
+use Rattle.syncaudit.specs.declared.mode.Mode.{Mode}
+use Rattle.syncaudit.specs.declared.mode.Mode.TheVariants.{Check, Certify}
+use Rattle.syncaudit.proofs.ModeFacts.{asked_mode}
 
-pub told_without_memory : (unread held : Option (List ℕ)) (status : ℕ) → status ≡ status_of (Err Memory) → IsTold unread unread held held status
-told_without_memory unread held status told = record { answer = Err Memory; told = told; done = Keeps-refl held }
+done_without_memory : (mode : Mode) (unread held : Option (List ℕ)) (status : ℕ) → status ≡ status_of (Err Memory) → IsDone mode unread unread held held status
+done_without_memory Check unread held status told = record { answer = Err Memory; told = told; done = Keeps-refl held }
+done_without_memory Certify unread held status told = record { answer = Err Memory; told = told; done = Keeps-refl held }
 
-pub without_memory : (unread held : Option (List ℕ)) (status : ℕ) → status ≡ status_of (Err Memory) → IsEnd unread unread held held status
-without_memory unread held status told = inr (told_without_memory unread held status told)
+-- words at which nothing is at fault are followed, also where memory ran out first
+pub followed_without_memory : (words : List Text) (unread held : Option (List ℕ)) (status : ℕ) → status ≡ status_of (Err Memory) → fault_of program words ≡ []
+    → IsFollowed words unread unread held held status
+followed_without_memory words unread held status told none =
+    let asked = asked_mode words none in
+    (asked.0, asked.1, done_without_memory asked.0 unread held status told)

@@ -2,11 +2,12 @@
 use Rattle.std.specs.Prelude.{◌≡◌, List, Some, true, option_map, codes}
 use Rattle.clap.specs.Words.{App, Text, new_app, with_subcommand, subcommand_of}
 use Rattle.syncaudit.specs.declared.mode.Mode.{Mode}
-use Rattle.syncaudit.specs.declared.mode.Mode.TheVariants.{Check}
+use Rattle.syncaudit.specs.declared.mode.Mode.TheVariants.{Check, Certify}
 
 -- the subcommand of a mode
 abbrev pub subcommand_for : Mode → Text
 subcommand_for Check = codes "check"
+subcommand_for Certify = codes "certify"
 
 -- the program's own level: it has a version, and wants a subcommand
 abbrev top_level : App
@@ -16,7 +17,9 @@ top_level =
 
 -- what the command line of the program is
 abbrev pub program : App
-program = with_subcommand top_level (new_app (codes "check")).top
+program =
+    let check = with_subcommand top_level (new_app (codes "check")).top in
+    with_subcommand check (new_app (codes "certify")).top
 
 -- the words name the subcommand of this mode
 abbrev pub Asks : List Text → Mode → Type 0

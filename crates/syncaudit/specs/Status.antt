@@ -2,10 +2,17 @@
 use Rattle.std.specs.Prelude.{◌≡◌, ◌⊎◌, ℕ, List, Option, Result, Ok, Err, MatchResult}
 use Rattle.std.specs.Io.KnownBytes.{Keeps}
 use Rattle.bep_answer.specs.Answer.{IsAnswered, IsCutShort}
+use Rattle.bep_answer.specs.Certified.{IsCertifiedWhole, IsUncertified}
+use Rattle.bep_answer.specs.declared.outcome.Certified.{Certified}
+use Rattle.bep_answer.specs.declared.outcome.Certified.TheVariants as certificates
 use Rattle.bep_answer.specs.declared.outcome.Outcome.{Outcome}
 use Rattle.bep_answer.specs.declared.outcome.Outcome.TheVariants.{Settled, NotSettled, Refused}
 use Rattle.bep_report.specs.declared.error.ReportError.{ReportError}
 use Rattle.bep_report.specs.declared.error.ReportError.TheVariants.{Memory, Read, Write}
+use Rattle.clap.specs.Words.{Text}
+use Rattle.syncaudit.specs.Mode.{Asks}
+use Rattle.syncaudit.specs.declared.mode.Mode.{Mode}
+use Rattle.syncaudit.specs.declared.mode.Mode.TheVariants.{Check, Certify}
 
 -- the status after an answer, or where there is none
 abbrev pub status_of : Result Outcome ReportError → ℕ
@@ -15,6 +22,15 @@ status_of (Ok Refused) = 2
 status_of (Err Memory) = 4
 status_of (Err Read) = 5
 status_of (Err Write) = 5
+
+-- the status after a certificate was asked for
+abbrev pub certified_status_of : Result Certified ReportError → ℕ
+certified_status_of (Ok certificates.Written) = 0
+certified_status_of (Ok certificates.NoWinner) = 1
+certified_status_of (Ok certificates.Refused) = 2
+certified_status_of (Err Memory) = 4
+certified_status_of (Err Read) = 5
+certified_status_of (Err Write) = 5
 
 -- the status where the words aren't understood, or ask for help
 abbrev pub usage : ℕ
@@ -26,6 +42,23 @@ pub record IsTold (unread left held now : Option (List ℕ)) (status : ℕ) : Ty
   pub told : status ≡ status_of answer
   pub done : MatchResult answer (IsAnswered unread left held now) (IsCutShort unread left held now)
 
--- the status tells that the words weren't followed, and then nothing was written, or what came of the document
-abbrev pub IsEnd : Option (List ℕ) → Option (List ℕ) → Option (List ℕ) → Option (List ℕ) → ℕ → Type 0
-IsEnd unread left held now status = ((status ≡ usage) × Keeps held now) ⊎ IsTold unread left held now status
+-- a certificate was written or refused, or cut short, and the status tells which
+pub record IsCertificateTold (unread left held now : Option (List ℕ)) (status : ℕ) : Type 0 where
+  pub answer : Result Certified ReportError
+  pub told : status ≡ certified_status_of answer
+  pub done : MatchResult answer (IsCertifiedWhole unread left held now) (IsUncertified unread left held now)
+
+-- what came of the document in each mode
+abbrev pub IsDone : Mode → Option (List ℕ) → Option (List ℕ) → Option (List ℕ) → Option (List ℕ) → ℕ → Type 0
+IsDone Check = IsTold
+IsDone Certify = IsCertificateTold
+
+-- the words ask for a mode, and this came of the document in it
+abbrev pub IsFollowed : List Text → Option (List ℕ) → Option (List ℕ) → Option (List ℕ) → Option (List ℕ) → ℕ → Type 0
+IsFollowed words unread left held now status = (mode : Mode) × Asks words mode × IsDone mode unread left held now status
+
+-- the status tells that the words weren't followed, or that there was no memory for them, and then nothing was written;
+-- or they were followed
+abbrev pub IsEnd : List Text → Option (List ℕ) → Option (List ℕ) → Option (List ℕ) → Option (List ℕ) → ℕ → Type 0
+IsEnd words unread left held now status =
+    (((status ≡ usage) ⊎ (status ≡ status_of (Err Memory))) × Keeps held now) ⊎ IsFollowed words unread left held now status

@@ -1,4 +1,4 @@
-//! `syncaudit`: says whether a Syncthing cluster is settled, and why not.
+//! `syncaudit`: says whether a Syncthing cluster is settled, and why not; and makes the certificate that this rests on.
 #![tactic(auto)]
 
 mod mode;
@@ -7,12 +7,15 @@ mod status;
 #[cfg(test)]
 mod tests;
 
-use crate::run::run;
-pub use bep_answer::{Outcome, check_text};
+use crate::run::{run, run_without_words, words_of};
+pub use bep_answer::{Certified, Outcome, certify_text, check_text};
 pub use mode::{Mode, mode_of};
-pub use status::status_of;
+pub use status::{certified_status_of, status_of};
 use std::process::ExitCode;
 
 fn main(rt: HostRuntime) -> ExitCode {
-    ExitCode::from(run(&rt, &mut rt.stdin(), &mut rt.stdout()))
+    ExitCode::from(match words_of(&rt) {
+        Ok(words) => run(&rt, &mut rt.stdin(), &mut rt.stdout(), words.as_slice()),
+        Err(error) => run_without_words(&rt, error),
+    })
 }

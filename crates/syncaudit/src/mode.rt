@@ -12,6 +12,8 @@ use std::convert::AsStr;
 pub enum Mode {
     /// Audit the check document that comes on standard input.
     Check,
+    /// Write the cut that comes on standard input as a check document, with its certificate.
+    Certify,
 }
 
 const COMMANDS_HELP: &str =
@@ -24,6 +26,13 @@ const CHECK_HELP: &str =
      Exit status: 0 settled, 1 not settled, 2 document refused, 3 usage or help, 4 out of memory, \
      5 read or write fault";
 
+const CERTIFY_HELP: &str =
+    "The document FILE is a check document, whose certificate may be missing and isn't looked at: DOCUMENTS.md \
+     describes it.\n\n\
+     Example: syncaudit certify < examples/cut-alone.json\n\n\
+     Exit status: 0 certificate written, 1 a name has no winner, 2 document refused, 3 usage or help, 4 out of memory, \
+     5 read or write fault";
+
 // The command line of the program.
 fn command<'a>(alloc: Global) -> Result<Command<'a>, AllocError>
     ensures { IfOk result (λ made. app_of made ≡ program) }
@@ -32,6 +41,10 @@ fn command<'a>(alloc: Global) -> Result<Command<'a>, AllocError>
         .about("Audits the check document on standard input")
         .override_usage("syncaudit check < FILE")
         .after_help(CHECK_HELP);
+    let certify = Command::new(alloc, "certify")
+        .about("Writes the check document on standard input with the certificate of its cut")
+        .override_usage("syncaudit certify < FILE")
+        .after_help(CERTIFY_HELP);
     Command::new(alloc, "syncaudit")
         .bin_name("syncaudit")?
         .version("0.1.0")
@@ -39,7 +52,8 @@ fn command<'a>(alloc: Global) -> Result<Command<'a>, AllocError>
         .after_help(COMMANDS_HELP)
         .subcommand_required(true)
         .arg_required_else_help(true)
-        .subcommand(check)
+        .subcommand(check)?
+        .subcommand(certify)
 }
 
 /// What the words ask for, of which the first is the program's name.
@@ -53,6 +67,7 @@ pub fn mode_of<'a, S: AsStr>(alloc: Global, words: &'a [S]) -> Result<Mode, Erro
     let matches = command(alloc)?.try_get_matches_from(words)?;
     match matches.subcommand_name() {
         Some("check") => Ok(Mode::Check),
+        Some("certify") => Ok(Mode::Certify),
         _ => unreachable!(),
     }
 }

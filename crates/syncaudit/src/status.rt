@@ -2,7 +2,7 @@
 ghost use Rattle.std.specs.Prelude.{◌≡◌};
 ghost use Rattle.syncaudit.specs.Status as spec;
 
-use bep_answer::Outcome;
+use bep_answer::{Certified, Outcome};
 use bep_report::ReportError;
 
 /// The exit status for words that aren't understood, and for help.
@@ -16,6 +16,20 @@ pub fn status_of(answer: Result<Outcome, ReportError>) -> u8
         Ok(Outcome::Settled) => 0,
         Ok(Outcome::NotSettled) => 1,
         Ok(Outcome::Refused) => 2,
+        Err(ReportError::Memory) => 4,
+        Err(ReportError::Read | ReportError::Write) => 5,
+    }
+}
+
+/// The exit status where a certificate was asked for: 0 written, 1 a name without a winner, 2 refused, 4 memory, 5 a read
+/// or write fault.
+pub fn certified_status_of(answer: Result<Certified, ReportError>) -> u8
+    ensures { result ≡ spec.certified_status_of answer }
+{
+    match answer {
+        Ok(Certified::Written) => 0,
+        Ok(Certified::NoWinner) => 1,
+        Ok(Certified::Refused) => 2,
         Err(ReportError::Memory) => 4,
         Err(ReportError::Read | ReportError::Write) => 5,
     }

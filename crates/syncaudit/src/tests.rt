@@ -4,18 +4,19 @@ use bep_report::ReportError;
 use clap::error::ErrorKind;
 use std::alloc::Global;
 
-// Why clap refuses these words, `None` where they ask for a check.
+// Why clap refuses these words, `None` where they ask for an audit or a certificate.
 fn refusal(alloc: Global, words: &[&str]) -> Option<ErrorKind> {
     match mode_of(alloc, words) {
-        Ok(Mode::Check) => None,
+        Ok(Mode::Check | Mode::Certify) => None,
         Err(error) => Some(error.kind()),
     }
 }
 
 #[test]
-fn only_check_is_understood(rt: HostRuntime) {
+fn only_the_subcommands_are_understood(rt: HostRuntime) {
     for (words, wanted) in [
         (["syncaudit", "check"].as_slice(), None),
+        (["syncaudit", "certify"].as_slice(), None),
         (
             ["syncaudit"].as_slice(),
             Some(ErrorKind::DisplayHelpOnMissingArgumentOrSubcommand),
