@@ -1,12 +1,13 @@
-//! A file that another device changed, as it is pulled, also into a store that fails. What each end leaves was worked out
-//! by hand, by BEP v1, 'Vector', and by this project's profile.
+//! A file that another device changed, as it is pulled: without an own file, over one that changed too, and into a store
+//! that fails. What each end leaves was worked out by hand, by BEP v1, 'Vector', and by this project's profile.
 use crate::tests::folder_over;
 use crate::*;
 use bep_blocks::blocks;
 use bep_index::Batch;
 use bep_machine::Moved;
 use bep_record::{
-    BASE_BLOCK_SIZE, BlockSize, DeviceId, Entry, FolderKind, Kind, Name, Record, Target, Vector,
+    BASE_BLOCK_SIZE, BlockSize, DeviceId, Entry, FolderKind, Items, Kind, Name, Node, NodeParts,
+    Record, Target, Vector,
 };
 use bep_store::{FaultStore, MemStore, Store};
 use std::alloc::Global;
@@ -50,6 +51,18 @@ fn record(alloc: Global, device: u64, version: &[(u64, u64)], bytes: &[u8]) -> O
         block_size: BASE_BLOCK_SIZE,
         blocks,
         target: Target::empty(alloc),
+    });
+    made.ok()
+}
+
+fn node(alloc: Global, bytes: &[u8]) -> Option<Node> {
+    let bytes = Vec::from_slice(alloc, bytes).ok()?;
+    let made = Node::read(NodeParts {
+        kind: Kind::File,
+        bytes: Items::new(bytes),
+        target: Target::empty(alloc),
+        modified_s: 2000,
+        modified_ns: 0,
     });
     made.ok()
 }
@@ -148,5 +161,60 @@ fn a_file_is_pulled(rt: HostRuntime) {
         (2, [(fault, (Some(2), false), none), done]),
     ] {
         assert_eq!(rt; pulls(rt.alloc(), call), Some((begun, ends)));
+    }
+}
+
+// The own file `abc`, which was changed beside device 1's.
+fn changed<S: Store>(alloc: Global, replica: &mut Replica<S>) -> Option<()> {
+    let own = record(alloc, 2, &[(1, 1), (2, 1)], b"abc")?;
+    replica.index.put(own).ok()?;
+    let name = notes(alloc)?;
+    replica.edit(&name, &node(alloc, b"abc")?).ok()?;
+    Some(())
+}
+
+// Another file under the conflict name.
+fn taken<S: Store>(alloc: Global, replica: &mut Replica<S>) -> Option<()> {
+    let name = copy(alloc)?;
+    replica.edit(&name, &node(alloc, b"hello")?).ok()?;
+    Some(())
+}
+
+fn conflicted<S: Store>(
+    alloc: Global,
+    replica: &mut Replica<S>,
+    is_taken: bool,
+) -> Option<[Ended; 2]> {
+    changed(alloc, replica)?;
+    if is_taken {
+        taken(alloc, replica)?;
+    }
+    Some(pulled(alloc, replica)?.1)
+}
+
+// The pull at a device whose own file was changed too, and whose conflict name may be taken.
+fn conflicts(alloc: Global, call: u64, is_taken: bool) -> Option<[Ended; 2]> {
+    let store = FaultStore::new(MemStore::new(alloc), call);
+    let mut replica = folder_over(alloc, FolderKind::SendReceive, store)?;
+    conflicted(alloc, &mut replica, is_taken)
+}
+
+#[test]
+fn a_losing_file_is_kept(rt: HostRuntime) {
+    let both = ([b'h', b'a'], 0x2c, [2, 1]);
+    let copied = ([b'a', b'a'], 0xba, [1, 1]);
+    let other = (
+        Err(FolderError::CopyExists),
+        (None, false),
+        ([b'a', b'h'], 0xba, [1, 1]),
+    );
+    let fault = (Err(FolderError::StoreFault), (Some(4), true), copied);
+    let again = (Err(FolderError::NotNeeded), (None, false), both);
+    for (call, is_taken, ends) in [
+        (0, false, [(Ok(Moved::Changed), (None, true), both), again]),
+        (5, false, [fault, (Ok(Moved::Changed), (None, false), both)]),
+        (0, true, [other, other]),
+    ] {
+        assert_eq!(rt; conflicts(rt.alloc(), call, is_taken), Some(ends));
     }
 }
