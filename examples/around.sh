@@ -9,9 +9,6 @@ failed=0
 work=$(mktemp -d)
 trap 'rm -rf "$work"' EXIT
 
-# Subcommands that are described before the program has them.
-awaited=(certify explain)
-
 # expect WHAT COMMAND..: counts whether the command holds.
 expect() {
   local what=$1
@@ -87,7 +84,7 @@ for command in $(helped); do
   done
 done
 for command in $(described); do
-  expect "the program has no '$command', which the man page describes" is_one_of "$command" $(helped) "${awaited[@]}"
+  expect "the program has no '$command', which the man page describes" is_one_of "$command" $(helped)
 done
 expect "no subcommand in the program's help" [ -n "$(helped)" ]
 # The help's lines are as long as the terminal allows.
