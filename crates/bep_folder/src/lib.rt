@@ -15,6 +15,8 @@ mod finish;
 mod found;
 mod overriding;
 mod pull;
+#[cfg(test)]
+mod pull_tests;
 mod pulled;
 mod readers;
 mod replica;

@@ -5,7 +5,7 @@ use bep_index::{Batch, IndexId};
 use bep_record::{
     DeviceId, Entry, FolderKind, FolderName, Items, Kind, Name, Record, Target, Vector,
 };
-use bep_store::MemStore;
+use bep_store::{MemStore, Store};
 use std::alloc::Global;
 
 // The folder `docs` at device 2, which shares it with device 1.
@@ -15,6 +15,19 @@ pub(crate) fn folder(alloc: Global, kind: FolderKind) -> Option<Replica<MemStore
     let others = Vec::from_slice(alloc, &[DeviceId::read(1)?]).ok()?;
     let docs = FolderName::read(alloc, b"docs").ok()?;
     let store = MemStore::new(alloc);
+    Replica::new(alloc, device, docs, kind, id, others, store)
+}
+
+// That folder over any store.
+pub(crate) fn folder_over<S: Store>(
+    alloc: Global,
+    kind: FolderKind,
+    store: S,
+) -> Option<Replica<S>> {
+    let device = DeviceId::read(2)?;
+    let id = IndexId::read(12)?;
+    let others = Vec::from_slice(alloc, &[DeviceId::read(1)?]).ok()?;
+    let docs = FolderName::read(alloc, b"docs").ok()?;
     Replica::new(alloc, device, docs, kind, id, others, store)
 }
 
