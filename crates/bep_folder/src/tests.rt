@@ -10,12 +10,7 @@ use std::alloc::Global;
 
 // The folder `docs` at device 2, which shares it with device 1.
 pub(crate) fn folder(alloc: Global, kind: FolderKind) -> Option<Replica<MemStore>> {
-    let device = DeviceId::read(2)?;
-    let id = IndexId::read(12)?;
-    let others = Vec::from_slice(alloc, &[DeviceId::read(1)?]).ok()?;
-    let docs = FolderName::read(alloc, b"docs").ok()?;
-    let store = MemStore::new(alloc);
-    Replica::new(alloc, device, docs, kind, id, others, store)
+    folder_over(alloc, kind, MemStore::new(alloc))
 }
 
 // That folder over any store.
