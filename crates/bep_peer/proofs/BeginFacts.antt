@@ -21,7 +21,7 @@ use Rattle.bep_folder.specs.Held.{Held}
 use Rattle.bep_peer.specs.declared.error.PeerError.{PeerError}
 use Rattle.bep_peer.specs.declared.error.PeerError.TheVariants.{Refused, Stale, Memory}
 use Rattle.bep_peer.specs.Config.{said_of, config_of}
-use Rattle.bep_peer.specs.Lent.{Lent, Joins, NamesNone, StepOver, quiet, IsOpenTo, with_before}
+use Rattle.bep_peer.specs.Lent.{Lent, Joins, NamesNone, StepOver, untold_over, IsOpenTo, with_before}
 use Rattle.bep_peer.specs.Member.{Member, tables_of, untold}
 use Rattle.bep_peer.specs.PeerError.{Gives}
 use Rattle.bep_peer.proofs.Mapped.{changed, entries-changed}
@@ -45,13 +45,13 @@ nothing_carried : (end : End) (link : Link) → link ≡ after_deed end nothing_
 nothing_carried Lower link = refl
 nothing_carried Upper link = refl
 
-pub not_shared : (old : Lent) → ((other : Device) → ¬ Joins old other) → StepOver BeginRow NamesNone old (quiet old) (Refuses NotShared)
+pub not_shared : (old : Lent) → ((other : Device) → ¬ Joins old other) → StepOver BeginRow NamesNone old (untold_over old) (Refuses NotShared)
 not_shared old none = inr (inl (λ there. none there.0 there.1, (refl, refl)))
 
 -- a refusal of the row is one of the step
 refused_at : (old : Lent) (other : Device) (error : PeerError) → Joins old other →
     Gives (BeginRow other (sight_of (end_of old.member.number other) old.link.link) (tables_of old.member)) (idle (tables_of old.member)) (Err error) →
-    Gives (StepOver BeginRow NamesNone old) (quiet old) (Err error)
+    Gives (StepOver BeginRow NamesNone old) (untold_over old) (Err error)
 refused_at old other (Refused refusal) joins row = inr (inr (
   λ apart. apart (other, joins, tt),
   (
@@ -67,11 +67,11 @@ refused_at old other (Refused refusal) joins row = inr (inr (
   ),
 ))
 refused_at old other Stale joins row = absurd row
-refused_at old other Memory joins row = inl (refl, refl)
+refused_at old other Memory joins row = inl (record { tables = refl; link = refl; silent = refl }, refl)
 
-pub refused : (old : Lent) (other : Device) (error : PeerError) → Joins (quiet old) other →
+pub refused : (old : Lent) (other : Device) (error : PeerError) → Joins (untold_over old) other →
     Gives (BeginRow other (sight_of (end_of old.member.number other) old.link.link) (tables_of old.member)) (idle (tables_of old.member)) (Err error) →
-    Gives (StepOver BeginRow NamesNone old) (quiet old) (Err error)
+    Gives (StepOver BeginRow NamesNone old) (untold_over old) (Err error)
 refused old other error joins row = refused_at old other error (record { ends = joins.ends; linked = joins.linked }) row
 
 -- what the device and the link are once the session was opened
@@ -83,7 +83,7 @@ opened old other =
       link = record old.link { link = after_deed (end_of old.member.number other) (sending message) old.link.link };
     }
 
-pub session_opened : (old : Lent) (other : Device) → Joins (quiet old) other → IsOpenTo other (sight_of (end_of old.member.number other) old.link.link) (tables_of old.member) →
+pub session_opened : (old : Lent) (other : Device) → Joins (untold_over old) other → IsOpenTo other (sight_of (end_of old.member.number other) old.link.link) (tables_of old.member) →
     StepOver BeginRow NamesNone old (opened old other) (Done Changed)
 session_opened old other joins room = inr (inr (
   λ apart. apart (other, lent, tt),

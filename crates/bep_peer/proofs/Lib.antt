@@ -1,5 +1,7 @@
 mod BeginFacts
 mod Mapped
+mod OwnFacts
 mod Cursors
 mod FirstRequest
 mod LastSequence
+mod SessionFacts

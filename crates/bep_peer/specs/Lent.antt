@@ -1,14 +1,14 @@
 -- What a device does over a link that it is lent: a step of the cluster that these two are (this project's profile).
 use Rattle.std.specs.Prelude.{◌≡◌, ◌⊎◌, ⊤, true, false, Option, Some, None, Contains}
 use Rattle.std.specs.FinMap.{insert, remove}
-use Rattle.bep_model.specs.Tables.{Device}
+use Rattle.bep_model.specs.Tables.{Device, Folder}
 use Rattle.bep_machine.specs.declared.message.Message.{Message}
 use Rattle.bep_machine.specs.declared.refusal.Refusal.TheVariants.{NotShared}
-use Rattle.bep_machine.specs.Answer.{Answer, Refused, OutOfMemory, Row, becomes, ◌answers◌when◌else◌}
+use Rattle.bep_machine.specs.Answer.{Answer, Refused, OutOfMemory, Row, ◌answers◌when◌else◌}
 use Rattle.bep_machine.specs.Link.{End, Sight, end_of, sight_of, after_deed}
 use Rattle.bep_machine.specs.Replica.{ByDevice}
 use Rattle.bep_machine.specs.Peer.{Session, Peer, Acted}
-use Rattle.bep_machine.specs.Exchange.{HasSession}
+use Rattle.bep_machine.specs.Exchange.{HasSession, SharesWith}
 use Rattle.bep_links.specs.Link.{LinkBetween}
 use Rattle.bep_peer.specs.Member.{Member, tables_of, nothing_told, untold}
 
@@ -22,13 +22,17 @@ pub record Joins (lent : Lent) (other : Device) : Type 0 where
   pub ends : (lent.link.ends ≡ (lent.member.number, other)) ⊎ (lent.link.ends ≡ (other, lent.member.number))
   pub linked : Contains lent.member.linked other
 
--- all that the step names is there
-abbrev pub IsThere : (Device → Peer → Type 0) → Lent → Type 0
-IsThere shares lent = (other : Device) × Joins lent other × shares other (tables_of lent.member)
+-- all that the step names is at hand
+abbrev pub IsAtHand : (Device → Peer → Type 0) → Lent → Type 0
+IsAtHand shares lent = (other : Device) × Joins lent other × shares other (tables_of lent.member)
 
 -- a step that names no folder
 abbrev pub NamesNone : Device → Peer → Type 0
 NamesNone other peer = ⊤
+
+-- a step that names this folder
+abbrev pub NamesFolder : Folder → Device → Peer → Type 0
+NamesFolder folder other peer = SharesWith other peer folder
 
 -- a message that was sent is told of twice
 abbrev pub twice : Option Message → Option (Message × Message)
@@ -45,15 +49,21 @@ pub record Acts (row : Sight → Peer → Row Acted) (end : End) (old new : Lent
   pub told : new.member.trace.put ≡ twice acted.deed.sends
 
 -- as before, with nothing told
-abbrev pub quiet : Lent → Lent
-quiet lent = record lent { member = untold lent.member }
+abbrev pub untold_over : Lent → Lent
+untold_over lent = record lent { member = untold lent.member }
 
--- Memory may be wanting, and all is as before then. Else the step is refused where something that it names isn't there, or
--- the device makes the row at its end of the link.
+-- Nothing was done: the tables and the link are as before, and nothing was sent. (A file may have been read.)
+pub record IsLeft (old new : Lent) : Type 0 where
+  pub tables : tables_of new.member ≡ tables_of old.member
+  pub link : new.link ≡ old.link
+  pub silent : new.member.trace.put ≡ None
+
+-- Memory may be wanting, and nothing was done then. Else the step is refused where something that it names isn't at hand,
+-- or the device makes the row at its end of the link.
 abbrev pub StepOver : (Device → Sight → Peer → Row Acted) → (Device → Peer → Type 0) → Lent → Row Lent
 StepOver row shares old new answer =
-    becomes (quiet old) OutOfMemory new answer ⊎
-    (quiet old answers Refused NotShared when ¬ IsThere shares old else
+    (IsLeft old new × (answer ≡ OutOfMemory)) ⊎
+    (untold_over old answers Refused NotShared when ¬ IsAtHand shares old else
     (λ new answer. (other : Device) × Joins old other × Acts (row other) (end_of old.member.number other) old new answer)) new answer
 
 -- the sessions alone change, and the message that was sent is told: no call of a store was made

@@ -3,3 +3,4 @@ pub mod Lent
 pub mod Member
 pub mod PeerError
 pub mod Session
+pub mod Within
