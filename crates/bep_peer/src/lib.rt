@@ -13,6 +13,7 @@ mod begin;
 mod config;
 mod ends;
 mod error;
+mod in_session;
 mod peer;
 mod requests;
 mod session;
