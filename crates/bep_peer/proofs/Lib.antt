@@ -4,3 +4,4 @@ mod Cursors
 mod FirstRequest
 mod LastSequence
 mod StepFacts
+mod SharingFacts

@@ -1,5 +1,5 @@
 -- The ends of a device's action over a link, as a step of the table: refused, want of memory, or done.
-use Rattle.std.proofs.Common.{◌≡◌, Option, None, Result, Ok, Err, refl, sym, ap, subst, ◌∙◌, inl, inr, absurd}
+use Rattle.std.proofs.Common.{◌≡◌, Option, None, Result, Ok, Err, refl, sym, ap, subst, ◌∙◌, inl, inr}
 use Rattle.bep_model.specs.Tables.{Device, Folder}
 use Rattle.bep_machine.specs.declared.refusal.Refusal.TheVariants.{NotShared}
 use Rattle.bep_machine.specs.Answer.{Answer, Row, Refused as Refuses}
@@ -27,7 +27,7 @@ module _ (row : Device → Sight → Peer → Row Acted) (shares : Device → Pe
       StepOver row shares old (begun_with old begun) (Refuses NotShared)
   refused_as_not_shared old begun same none =
       subst (λ (member : Member). (¬ IsAtHand shares (begun_with old member)) → StepOver row shares old (begun_with old member) (Refuses NotShared)) (sym same)
-      (λ none. inr (inl (λ there. none (there.0, record { ends = there.1.0.ends; linked = there.1.0.linked }, there.1.1), (refl, refl)))) none
+      (λ none. inr (inl (λ there. none (there.0, record { ends = there.1.ends; linked = there.1.linked }, there.2), (refl, refl)))) none
 
   -- a refusal of the row, or want of memory, before anything was done
   refused_at : (old : Lent) (other : Device) (error : PeerError) → Joins old other → shares other (tables_of old.member) →
@@ -67,7 +67,7 @@ session_refused_with : (other : Device) (sight : Sight) (old : Peer) (rest : Ses
     SessionRow other sight old NothingDone new answer → SessionRow other sight old rest new answer
 session_refused_with other sight old rest new answer (inl down) = inl down
 session_refused_with other sight old rest new answer (inr (up, inl none)) = inr (up, inl none)
-session_refused_with other sight old rest new answer (inr (up, inr (begun, there))) = absurd there.1.1
+session_refused_with other sight old rest new answer (inr (up, inr (begun, there))) = absurd there.2
 
 pub session_refused : (other : Device) (sight : Sight) (old : Peer) (rest : Session → Row Acted) (error : PeerError) →
     Gives (SessionRow other sight old NothingDone) (idle old) (Err error) → Gives (SessionRow other sight old rest) (idle old) (Err error)
