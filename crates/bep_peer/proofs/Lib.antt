@@ -1,7 +1,9 @@
 mod BeginFacts
 mod Mapped
+mod OwnFacts
 mod Cursors
 mod FirstRequest
 mod LastSequence
 mod StepFacts
 mod SharingFacts
+mod SessionFacts

@@ -13,10 +13,11 @@ ghost use Rattle.bep_peer.specs.PeerError.{Gives};
 
 use crate::announce::{index_message, is_all_sent, next_batch, sent_with};
 use crate::ends::{is_full, side_of};
-use crate::{Peer, PeerError};
+use crate::{Peer, PeerError, Session};
 use bep_index::Plan;
 use bep_links::Link;
 use bep_machine::{Message, Moved, Refusal};
+use bep_map::DeviceMap;
 use bep_record::{DeviceId, FolderName};
 use bep_store::Store;
 
@@ -92,13 +93,18 @@ impl<S: Store> Peer<S> {
 
     // The folder's records were sent up to this sequence.
     fn keep_sent(&mut self, other: DeviceId, folder: &FolderName, sequence: u64)
+        requires { (session : SessionOf) × (map.get self.old.sessions other ≡ Some session) × IsNamed session folder.now }
         ensures { (session : SessionOf) → map.get self.old.sessions other ≡ Some session → IsNamed session folder.now → self.new ≡ record self.old { sessions = map.insert self.old.sessions other (with_sent session folder.now sequence) } }
     {
-        match self.sessions.get_mut(other) {
-            Some(session) => {
-                let _old = session.advance(folder, sequence);
-            }
-            None => {}
-        }
+        advance(&mut self.sessions, other, folder, sequence);
+    }
+}
+
+// The folder's records were sent to the other device up to this sequence.
+fn advance(sessions: &mut DeviceMap<Session>, other: DeviceId, folder: &FolderName, sequence: u64)
+    ensures { (session : SessionOf) → map.get sessions.old other ≡ Some session → IsNamed session folder.now → sessions.new ≡ map.insert sessions.old other (with_sent session folder.now sequence) }
+{
+    if let Some(session) = sessions.get_mut(other) {
+        let _old = session.advance(folder, sequence);
     }
 }
