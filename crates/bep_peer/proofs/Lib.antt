@@ -6,4 +6,5 @@ mod FirstRequest
 mod LastSequence
 mod StepFacts
 mod SharingFacts
+mod AnnounceFacts
 mod SessionFacts
