@@ -4,4 +4,7 @@ mod OwnFacts
 mod Cursors
 mod FirstRequest
 mod LastSequence
+mod StepFacts
+mod SharingFacts
+mod AnnounceFacts
 mod SessionFacts

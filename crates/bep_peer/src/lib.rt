@@ -8,11 +8,14 @@
 #![tactic(auto)]
 
 mod announce;
+mod announcing;
 mod answer;
 mod begin;
 mod config;
 mod ends;
 mod error;
+mod in_session;
+mod over;
 mod peer;
 mod requests;
 mod session;
