@@ -1,7 +1,9 @@
 mod BeginFacts
 mod Mapped
+mod OthersKept
 mod OwnFacts
 mod Cursors
 mod FirstRequest
 mod LastSequence
 mod SessionFacts
+mod WithinFacts

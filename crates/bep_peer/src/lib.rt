@@ -13,6 +13,7 @@ mod begin;
 mod config;
 mod ends;
 mod error;
+mod local;
 mod peer;
 mod requests;
 mod session;
