@@ -1,5 +1,6 @@
 mod BeginFacts
 mod Mapped
+mod OthersKept
 mod OwnFacts
 mod Cursors
 mod FirstRequest
@@ -8,3 +9,4 @@ mod StepFacts
 mod SharingFacts
 mod AnnounceFacts
 mod SessionFacts
+mod WithinFacts

@@ -15,6 +15,7 @@ mod config;
 mod ends;
 mod error;
 mod in_session;
+mod local;
 mod over;
 mod peer;
 mod requests;
