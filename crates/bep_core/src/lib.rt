@@ -10,5 +10,9 @@ mod begin;
 mod cluster;
 mod folders;
 mod others;
+#[cfg(test)]
+mod tests;
+mod why;
 
 pub use cluster::Cluster;
+pub use why::Why;
