@@ -7,3 +7,4 @@ mod FirstRequest
 mod LastSequence
 mod SessionFacts
 mod WithinFacts
+mod ScanFacts

@@ -16,6 +16,7 @@ mod error;
 mod local;
 mod peer;
 mod requests;
+mod scanning;
 mod session;
 #[cfg(test)]
 mod tests;
