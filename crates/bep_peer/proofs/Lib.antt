@@ -10,3 +10,4 @@ mod SharingFacts
 mod AnnounceFacts
 mod SessionFacts
 mod WithinFacts
+mod ScanFacts

@@ -47,7 +47,7 @@ at_folder old folder before after row answer is made = inr (inr (
 ))
 
 -- the folder's tables are as before
-same_tables : (old : Member) (folder : Folder) (before after : Held) → get old.folders folder ≡ Some before → after.tables ≡ before.tables → tables_of (with_folder old folder after) ≡ tables_of old
+pub same_tables : (old : Member) (folder : Folder) (before after : Held) → get old.folders folder ≡ Some before → after.tables ≡ before.tables → tables_of (with_folder old folder after) ≡ tables_of old
 same_tables old folder before after is same =
     tables_with old folder after
     ∙ ap (with_replica (tables_of old) folder) same
@@ -111,7 +111,7 @@ left_with begun folder after trace = record begun { folders = insert begun.folde
 pub told_by : (trace : Trace) (pair : Option ℕ × Bool) (held : HeldTrace) → trace ≡ told_of (record { failed = pair.0; copied = pair.1 }) → pair ≡ (held.failed, held.copied) → trace ≡ told_of held
 told_by trace pair held is same = is ∙ ap (λ (p : Option ℕ × Bool). told_of (record { failed = p.0; copied = p.1 })) same
 
-left_within : (old begun : Member) (folder : Folder) (after : Held) (trace : Trace) → begun ≡ untold old → trace ≡ told_of after.trace → left_with begun folder after trace ≡ with_folder old folder after
+pub left_within : (old begun : Member) (folder : Folder) (after : Held) (trace : Trace) → begun ≡ untold old → trace ≡ told_of after.trace → left_with begun folder after trace ≡ with_folder old folder after
 left_within old begun folder after trace same told =
     ap (left_with begun folder after) told ∙ ap (λ (m : Member). left_with m folder after (told_of after.trace)) same
 
@@ -232,7 +232,7 @@ member_within number folders sessions linked folder before after member there st
 
 -- ---- a conflict copy
 
-its_value : (one other : Held) (found : Option Held) → found ≡ Some one → found ≡ Some other → one ≡ other
+pub its_value : (one other : Held) (found : Option Held) → found ≡ Some one → found ≡ Some other → one ≡ other
 its_value one other found is also = let same = sym is ∙ also in cc
 
 pub copied_within : (old begun : Member) (folder : Folder) (name : FileName) (before after : Held) (trace : Trace) → begun ≡ untold old → Some before ≡ get begun.folders folder → trace ≡ told_of after.trace →

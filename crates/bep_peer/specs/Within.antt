@@ -1,12 +1,13 @@
 -- What a device does with one of its folders: the folder's replica makes a row, and all else stays (this project's profile).
-use Rattle.std.specs.Prelude.{◌≡◌, ◌⊎◌, ⊤, Some, None, IsSome, Result, Ok, Err}
+use Rattle.std.specs.Prelude.{◌≡◌, ◌⊎◌, ⊤, Option, Some, None, IsSome, Result, Ok, Err}
 use Rattle.std.specs.FinMap.{get, insert}
+use Rattle.bep_record.specs.declared.node.NodeParts.{NodeParts}
 use Rattle.bep_model.specs.Tables.{Folder, FileName}
 use Rattle.bep_machine.specs.declared.moved.Moved.{Moved}
 use Rattle.bep_machine.specs.declared.refusal.Refusal.TheVariants.{CounterFull, TooManyCounters, NameBad, SequenceFull, IndexFull, StoreFault, Unscanned, NotNeeded, BlocksMissing, CopyExists, PullsFull, KindForbids, NotShared, NothingToDo}
 use Rattle.bep_machine.specs.Answer.{Refused, OutOfMemory, Row, ◌answers◌when◌else◌}
 use Rattle.bep_machine.specs.Local.{ScanRow}
-use Rattle.bep_machine.specs.Replica.{Replica}
+use Rattle.bep_machine.specs.Replica.{Replica, node_at}
 use Rattle.bep_machine.specs.Peer.{Peer, with_replica}
 use Rattle.bep_folder.specs.Commit.{IsFresh}
 use Rattle.bep_folder.specs.Finish.{GainsCopy}
@@ -101,3 +102,14 @@ IsOfStep error = ⊤
 abbrev pub answer_of : {A : Type 0} → Result A FolderError → Result A PeerError
 answer_of (Ok done) = Ok done
 answer_of (Err error) = Err (error_of error)
+
+-- ---- looking
+
+-- what the folder's store has at the name is answered; or the device doesn't have the folder, or the first call of its
+-- store failed, or memory was wanting
+abbrev pub FindsWithin : Folder → FileName → Member → Member → Result (Option NodeParts) PeerError → Type 0
+FindsWithin folder name old new (Ok node) = (held : Held) × (get old.folders folder ≡ Some held) × (node ≡ node_at held.tables name)
+FindsWithin folder name old new (Err (Of NotShared)) = get old.folders folder ≡ None
+FindsWithin folder name old new (Err (Of StoreFault)) = IsSome (get old.folders folder) × (new.trace.failed ≡ Some 1)
+FindsWithin folder name old new (Err Memory) = IsSome (get old.folders folder)
+FindsWithin folder name old new (Err error) = ⊥

@@ -19,6 +19,7 @@ mod local;
 mod over;
 mod peer;
 mod requests;
+mod scanning;
 mod session;
 #[cfg(test)]
 mod tests;
