@@ -23,7 +23,7 @@ use Rattle.bep_peer.specs.declared.error.PeerError.TheVariants as peer_errors
 use Rattle.bep_peer.specs.declared.trace.Trace.{Trace}
 use Rattle.bep_peer.specs.Member.{Member, AreOwn, IsMember, HasFailed, Remains, tables_of, untold}
 use Rattle.bep_peer.specs.PeerError.{Gives}
-use Rattle.bep_peer.specs.Within.{StepWithin, GainsCopyIn, OnlyFolder, told_of, with_folder, IsOfStep, answer_of}
+use Rattle.bep_peer.specs.Within.{StepWithin, GainsCopyIn, OnlyFolder, TellsFault, told_of, with_folder, IsOfStep, answer_of}
 use Rattle.bep_peer.proofs.Mapped.{get-changed, insert-changed}
 
 -- ---- the tables
@@ -229,6 +229,35 @@ member_within number folders sessions linked folder before after member there st
               subst (λ (devices : List Device). Contains devices other) (sym others) (subst (λ (h : Held). Contains h.tables.others other) one shared.2),
             )
         cases false apart = (shared.0, get-insert nat_list_cmp_total folders folder after name ∙ ap (λ (b : Bool). cond b (Some after) (get folders name)) apart ∙ shared.1, shared.2)
+
+-- ---- what is told of a fault
+
+tells_of_it : {A : Type 0} (old : Member) (folder : Folder) (before after : Held) (answer : Result A FolderError) → CountsFaults before after answer → TellsFault (with_folder old folder after) (answer_of answer)
+tells_of_it old folder before after (Ok done) same = same.1
+tells_of_it old folder before after (Err errors.StoreFault) rose = rose.1
+tells_of_it old folder before after (Err errors.Memory) same = same.1
+tells_of_it old folder before after (Err errors.CounterFull) same = same.1
+tells_of_it old folder before after (Err errors.TooManyCounters) same = same.1
+tells_of_it old folder before after (Err errors.NameBad) same = same.1
+tells_of_it old folder before after (Err errors.SequenceFull) same = same.1
+tells_of_it old folder before after (Err errors.IndexFull) same = same.1
+tells_of_it old folder before after (Err errors.BatchOld) same = same.1
+tells_of_it old folder before after (Err errors.Unscanned) same = same.1
+tells_of_it old folder before after (Err errors.NotNeeded) same = same.1
+tells_of_it old folder before after (Err errors.BlocksMissing) same = same.1
+tells_of_it old folder before after (Err errors.HashBad) same = same.1
+tells_of_it old folder before after (Err errors.CopyExists) same = same.1
+tells_of_it old folder before after (Err errors.PullsFull) same = same.1
+tells_of_it old folder before after (Err errors.KindForbids) same = same.1
+tells_of_it old folder before after (Err errors.Stale) same = same.1
+tells_of_it old folder before after (Err errors.NotShared) same = same.1
+tells_of_it old folder before after (Err errors.NothingToDo) same = same.1
+
+pub tells_within : {A : Type 0} (old begun : Member) (folder : Folder) (before after : Held) (trace : Trace) (answer : Result A FolderError) (said : Result A PeerError) →
+    begun ≡ untold old → trace ≡ told_of after.trace → said ≡ answer_of answer → CountsFaults before after answer → TellsFault (left_with begun folder after trace) said
+tells_within {A} old begun folder before after trace answer said same told says counted =
+    subst (λ (one : Result A PeerError). TellsFault (left_with begun folder after trace) one) (sym says)
+    (subst (λ (m : Member). TellsFault m (answer_of answer)) (sym (left_within old begun folder after trace same told)) (tells_of_it old folder before after answer counted))
 
 -- ---- a conflict copy
 

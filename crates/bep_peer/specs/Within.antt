@@ -53,6 +53,11 @@ abbrev pub GainsCopyIn : Folder → FileName → Member → Member → Type 0
 GainsCopyIn folder name old new =
     (before after : Held) × (get old.folders folder ≡ Some before) × (get new.folders folder ≡ Some after) × GainsCopy name before.tables after.tables
 
+-- a failed call of a store is told exactly where the store's failure is answered
+abbrev pub TellsFault : {A : Type 0} → Member → Result A PeerError → Type 0
+TellsFault new (Err (Of StoreFault)) = IsSome new.trace.failed
+TellsFault new _ = new.trace.failed ≡ None
+
 -- ---- scanning
 
 -- the store has another node than the one that was found

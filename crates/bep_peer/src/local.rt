@@ -4,7 +4,7 @@ ghost use Rattle.bep_machine.specs.Local.{EditRow, OverrideRow, RemoveRow, Rever
 ghost use Rattle.bep_machine.specs.Pull.{FinishRow, StartPullRow};
 ghost use Rattle.bep_peer.specs.Member.{Remains, tables_of};
 ghost use Rattle.bep_peer.specs.PeerError.{Gives};
-ghost use Rattle.bep_peer.specs.Within.{GainsCopyIn, OnlyFolder, StepWithin};
+ghost use Rattle.bep_peer.specs.Within.{GainsCopyIn, OnlyFolder, StepWithin, TellsFault};
 
 use crate::error::answered;
 use crate::{Peer, PeerError};
@@ -24,6 +24,7 @@ impl<S: Store> Peer<S> {
         ensures step { Gives (StepWithin folder.now (EditRow name.now node.now self.new.trace.failed) self.old) self.new result }
         ensures rest { Remains self.old self.new }
         ensures only { OnlyFolder folder.now self.old self.new }
+        ensures fault { TellsFault self.new result }
         ensures uncopied { self.new.trace.copied ≡ false }
     {
         self.tell_nothing();
@@ -42,6 +43,7 @@ impl<S: Store> Peer<S> {
         ensures step { Gives (StepWithin folder.now (RemoveRow name.now self.new.trace.failed) self.old) self.new result }
         ensures rest { Remains self.old self.new }
         ensures only { OnlyFolder folder.now self.old self.new }
+        ensures fault { TellsFault self.new result }
         ensures uncopied { self.new.trace.copied ≡ false }
     {
         self.tell_nothing();
@@ -60,6 +62,7 @@ impl<S: Store> Peer<S> {
         ensures step { Gives (StepWithin folder.now (StartPullRow self.old.number name.now) self.old) self.new result }
         ensures rest { Remains self.old self.new }
         ensures only { OnlyFolder folder.now self.old self.new }
+        ensures fault { TellsFault self.new result }
         ensures uncopied { self.new.trace.copied ≡ false }
     {
         self.tell_nothing();
@@ -79,6 +82,7 @@ impl<S: Store> Peer<S> {
         ensures step { Gives (StepWithin folder.now (FinishRow self.old.number name.now self.new.trace.failed) self.old) self.new result }
         ensures rest { Remains self.old self.new }
         ensures only { OnlyFolder folder.now self.old self.new }
+        ensures fault { TellsFault self.new result }
         ensures copied { (self.new.trace.copied ≡ true) ↔ GainsCopyIn folder.now name.now self.old self.new }
         ensures kept { IsErr result → self.new.trace.copied ≡ false → tables_of self.new ≡ tables_of self.old }
     {
@@ -99,6 +103,7 @@ impl<S: Store> Peer<S> {
         ensures step { Gives (StepWithin folder.now (OverrideRow self.old.number name.now) self.old) self.new result }
         ensures rest { Remains self.old self.new }
         ensures only { OnlyFolder folder.now self.old self.new }
+        ensures fault { TellsFault self.new result }
         ensures uncopied { self.new.trace.copied ≡ false }
     {
         self.tell_nothing();
@@ -118,6 +123,7 @@ impl<S: Store> Peer<S> {
         ensures step { Gives (StepWithin folder.now (RevertRow self.old.number name.now self.new.trace.failed) self.old) self.new result }
         ensures rest { Remains self.old self.new }
         ensures only { OnlyFolder folder.now self.old self.new }
+        ensures fault { TellsFault self.new result }
         ensures uncopied { self.new.trace.copied ≡ false }
     {
         self.tell_nothing();

@@ -1,7 +1,7 @@
 //! What a device finds in the files of one of its folders, and records of them.
 ghost use Rattle.std.specs.Prelude.{◌≡◌, false};
 ghost use Rattle.bep_peer.specs.Member.{Remains, tables_of};
-ghost use Rattle.bep_peer.specs.Within.{CommitsWithin, FindsWithin, OnlyFolder};
+ghost use Rattle.bep_peer.specs.Within.{CommitsWithin, FindsWithin, OnlyFolder, TellsFault};
 
 use crate::error::answered;
 use crate::{Peer, PeerError};
@@ -18,6 +18,7 @@ impl<S: Store> Peer<S> {
         ensures same { tables_of self.new ≡ tables_of self.old }
         ensures rest { Remains self.old self.new }
         ensures only { OnlyFolder folder.now self.old self.new }
+        ensures fault { TellsFault self.new result }
         ensures uncopied { self.new.trace.copied ≡ false }
     {
         self.tell_nothing();
@@ -37,6 +38,7 @@ impl<S: Store> Peer<S> {
         ensures commits { CommitsWithin folder.now scan self.old self.new result }
         ensures rest { Remains self.old self.new }
         ensures only { OnlyFolder folder.now self.old self.new }
+        ensures fault { TellsFault self.new result }
         ensures uncopied { self.new.trace.copied ≡ false }
     {
         self.tell_nothing();

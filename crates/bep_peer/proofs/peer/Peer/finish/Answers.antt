@@ -1,7 +1,7 @@
 use Rattle.std.proofs.Common.{◌∙◌}
 use Rattle.bep_machine.specs.Pull.{FinishRow}
 use Rattle.bep_peer.proofs.OthersKept.{makes_keeps, finish_keeps}
-use Rattle.bep_peer.proofs.WithinFacts.{told_by, steps_within, remains_within, only_within, copied_within, kept_within, member_within}
+use Rattle.bep_peer.proofs.WithinFacts.{told_by, steps_within, remains_within, only_within, copied_within, kept_within, member_within, tells_within}
 use Rattle.bep_peer.proofs.peer.Peer.finish.Goals as goal
 
 pub invariant_of-self-2 : goal.invariant_of-self-2
@@ -34,3 +34,8 @@ pub returns-clause-kept : goal.returns-clause-kept
 returns-clause-kept g c =
     kept_within c.args.self.now _ c.args.folder.now c.in-Some.replica.now c.finish-answer.new.self c.tell_of.new.self c.finish-answer.result c.answered.result
     (c.self.view_is ∙ c.tell_nothing.ensures) c.in-Some.ensures.value (told_by _ _ _ c.tell_of.ensures c.trace.ensures) c.answered.ensures c.finish-answer.ensures.kept
+
+pub returns-clause-fault : goal.returns-clause-fault
+returns-clause-fault g c =
+    tells_within c.args.self.now _ c.args.folder.now c.in-Some.replica.now c.finish-answer.new.self c.tell_of.new.self c.finish-answer.result c.answered.result
+    (c.self.view_is ∙ c.tell_nothing.ensures) (told_by _ _ _ c.tell_of.ensures c.trace.ensures) c.answered.ensures c.finish-answer.ensures.counted

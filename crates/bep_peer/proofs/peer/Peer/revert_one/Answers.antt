@@ -1,7 +1,7 @@
 use Rattle.std.proofs.Common.{◌∙◌}
 use Rattle.bep_machine.specs.Local.{RevertRow}
 use Rattle.bep_peer.proofs.OthersKept.{makes_keeps, revert_keeps}
-use Rattle.bep_peer.proofs.WithinFacts.{told_by, steps_within, remains_within, only_within, member_within}
+use Rattle.bep_peer.proofs.WithinFacts.{told_by, steps_within, remains_within, only_within, member_within, tells_within}
 use Rattle.bep_peer.proofs.peer.Peer.revert_one.Goals as goal
 
 pub invariant_of-self-2 : goal.invariant_of-self-2
@@ -24,3 +24,8 @@ pub returns-clause-only : goal.returns-clause-only
 returns-clause-only g c =
     only_within c.args.self.now _ c.args.folder.now c.in-Some.replica.now c.revert_one-answer.new.self c.tell_of.new.self
     (c.self.view_is ∙ c.tell_nothing.ensures) c.in-Some.ensures.value (told_by _ _ _ c.tell_of.ensures c.trace.ensures)
+
+pub returns-clause-fault : goal.returns-clause-fault
+returns-clause-fault g c =
+    tells_within c.args.self.now _ c.args.folder.now c.in-Some.replica.now c.revert_one-answer.new.self c.tell_of.new.self c.revert_one-answer.result c.answered.result
+    (c.self.view_is ∙ c.tell_nothing.ensures) (told_by _ _ _ c.tell_of.ensures c.trace.ensures) c.answered.ensures c.revert_one-answer.ensures.counted

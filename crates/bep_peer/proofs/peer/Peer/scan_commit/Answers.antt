@@ -1,6 +1,6 @@
 use Rattle.std.proofs.Common.{◌∙◌}
 use Rattle.bep_peer.proofs.ScanFacts.{commit_keeps, commits_within}
-use Rattle.bep_peer.proofs.WithinFacts.{told_by, remains_within, only_within, member_within}
+use Rattle.bep_peer.proofs.WithinFacts.{told_by, remains_within, only_within, member_within, tells_within}
 use Rattle.bep_peer.proofs.peer.Peer.scan_commit.Goals as goal
 
 pub invariant_of-self-2 : goal.invariant_of-self-2
@@ -23,3 +23,8 @@ pub returns-clause-only : goal.returns-clause-only
 returns-clause-only g c =
     only_within c.args.self.now _ c.args.folder.now c.in-Some.replica.now c.commit-answer.new.self c.tell_of.new.self
     (c.self.view_is ∙ c.tell_nothing.ensures) c.in-Some.ensures.value (told_by _ _ _ c.tell_of.ensures c.trace.ensures)
+
+pub returns-clause-fault : goal.returns-clause-fault
+returns-clause-fault g c =
+    tells_within c.args.self.now _ c.args.folder.now c.in-Some.replica.now c.commit-answer.new.self c.tell_of.new.self c.commit-answer.result c.answered.result
+    (c.self.view_is ∙ c.tell_nothing.ensures) (told_by _ _ _ c.tell_of.ensures c.trace.ensures) c.answered.ensures c.commit-answer.ensures.counted
