@@ -1,7 +1,7 @@
 #!/usr/bin/env bash
-# Measures 'syncaudit check' on a settled document near the limits, beside a Rust program that parses the same bytes with
+# Measures 'syncaudit check' on settled documents near the limits, beside a Rust program that parses the same bytes with
 # Rust's own serde_json (Debian's package librust-serde-json-dev) and does nothing else: seconds of the whole process
-# (the best of RUNS runs each) and peak memory.
+# (the best of RUNS runs each) and peak memory. The kinds of documents are those of make_document.py.
 set -euo pipefail
 runs=${1:-3}
 top=$(cd "$(dirname "$0")/.." && pwd)
@@ -44,8 +44,12 @@ fn main() {
 PROGRAM
 (cd "$work/serde" && cargo build --release --offline > "$work/log" 2>&1) || { cat "$work/log"; exit 1; }
 
-measure serde_json "$work/serde/target/release/parse"
-measure check "$top/crates/syncaudit/out/syncaudit" check
-grep -qx true "$work/serde_json.out"
-grep -qx settled "$work/check.out"
-compare serde_json check
+for kind in settled flights devices names bytes; do
+  make_document "$kind"
+  measure serde_json "$work/serde/target/release/parse"
+  measure check "$top/crates/syncaudit/out/syncaudit" check
+  grep -qx true "$work/serde_json.out"
+  grep -qx settled "$work/check.out"
+  echo "== $kind"
+  compare serde_json check
+done

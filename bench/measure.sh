@@ -1,11 +1,15 @@
-# For the scripts beside it, which set top, work and runs: the document, and the times and memory of programs on it.
+# For the scripts beside it, which set top, work and runs: a document, and the times and memory of programs on it.
 
-python3 "$top/bench/make_document.py" > "$work/document"
+# make_document KIND: the document of this kind (see make_document.py) is the one that is measured from now on.
+make_document() {
+  python3 "$top/bench/make_document.py" "$1" > "$work/document"
+}
 
 # measure NAME COMMAND..: runs the command RUNS times on the document, and keeps its seconds and its peak memory in KiB.
 measure() {
   local name=$1
   shift
+  rm -f "$work/$name.times"
   for _ in $(seq "$runs"); do
     /usr/bin/time -a -o "$work/$name.times" -f '%e %M' "$@" < "$work/document" > "$work/$name.out"
   done

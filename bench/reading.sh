@@ -35,6 +35,7 @@ fn main(rt: HostRuntime) -> io::Result<()> {
 PROGRAM
 rt run > "$work/log" 2>&1 || { cat "$work/log"; exit 1; }
 
+make_document settled
 measure parser out/read_speed
 measure reading out/read_speed whole
 grep -qx true "$work/parser.out"

@@ -1,6 +1,6 @@
 #!/usr/bin/env python3
-"""Compares the program's answers with those of a second reading (reading.py), on the examples, on links with as many
-messages as they may have and one more, and on random documents.
+"""Compares the program's answers, of `check` and of `explain`, with those of a second reading (reading.py), on the
+examples, on links with as many messages as they may have and one more, and on random documents.
 
     compare/compare.py [COUNT [SEED]]
 
@@ -199,9 +199,11 @@ def is_number(value):
     return isinstance(value, int) and not isinstance(value, bool)
 
 
-def is_same(document, wanted):
-    ran = subprocess.run([PROGRAM, "check"], input=document, capture_output=True, check=False)
-    if (ran.stdout, ran.returncode, ran.stderr) == (*wanted, b""):
+def is_same(command, document, wanted):
+    ran = subprocess.run([PROGRAM, command], input=document, capture_output=True, check=False)
+    lines = ran.stdout.splitlines(keepends=True)
+    written = b"".join(line for line in lines if command != "explain" or not line.startswith(b"  "))
+    if (written, ran.returncode, ran.stderr) == (*wanted, b""):
         return True
     print("differs:", document.decode(errors="replace"), "wanted:", wanted, "program:", ran, sep="\n")
     return False
@@ -220,7 +222,8 @@ def main():
     fixed = list(full_links())
     for document in [path.read_bytes() for path in examples] + fixed + [documents.bytes() for _ in range(count)]:
         wanted = reading.answer(document)
-        if not is_same(document, wanted):
+        told = reading.answer(document, reading.explanation)
+        if not is_same("check", document, wanted) or not is_same("explain", document, told):
             sys.exit(1)
         kinds[kind_of(wanted[0])] += 1
     for kind, number in kinds.most_common():

@@ -453,6 +453,9 @@ DEVICE_REASONS = [
 ]
 
 
+REASONS = ["CertificateOrder", "NameMissing", "NameUnknown", "NotWinner", *(reason for reason, _ in DEVICE_REASONS)]
+
+
 class Cut:
     """The devices of each folder, folders and devices rising."""
 
@@ -495,6 +498,22 @@ class Cut:
                         return reason, folder, name, device.number
         return None
 
+    def all_faults(self, rows):
+        """Each reason that fails, with each folder, name and device at which it does: by reason, then by these."""
+        keys = [(row["folder"], row["record"]["name"]) for row in rows]
+        orders = [key for before, key in zip(keys, keys[1:]) if not before < key]
+        found = [("CertificateOrder", *key, None) for key in orders[:1]]
+        found += [("NameMissing", folder, name, None) for folder in self.folders
+                  for name in self.known(folder) if (folder, name) not in keys]
+        for row, (folder, name) in zip(rows, keys):
+            if name not in self.known(folder):
+                found.append(("NameUnknown", folder, name, None))
+            if self.winner(folder, name) != (row["device"], row["record"]):
+                found.append(("NotWinner", folder, name, None))
+            found += [(reason, folder, name, device.number) for device in self.folders.get(folder, [])
+                      for reason, holds in DEVICE_REASONS if not holds(device, name, content(row["record"]))]
+        return sorted(set(found), key=lambda one: (REASONS.index(one[0]), *one[1:3], one[3] or 0))
+
 
 # ---- the report
 
@@ -502,20 +521,25 @@ def printed(text):
     return b"".join(b"\\x%02x" % byte if byte < 0x21 or byte in (0x5c, 0x7f) else bytes([byte]) for byte in text)
 
 
+def fault_line(reason, folder, name, device):
+    place = b"" if device is None else b" on %d" % device
+    return b"%s %s %s%s" % (reason.encode(), folder, printed(name), place)
+
+
 def report(read):
     cut = Cut(read)
     fault = cut.first_fault(read["rows"])
-    if fault is None:
-        lines = [b"settled"]
-    else:
-        reason, folder, name, device = fault
-        place = b"" if device is None else b" on %d" % device
-        lines = [b"not settled: %s %s %s%s" % (reason.encode(), folder, printed(name), place)]
+    lines = [b"settled" if fault is None else b"not settled: " + fault_line(*fault)]
     for folder, devices in cut.folders.items():
         names = cut.known(folder)
         deleted = sum(not any(name in device.store for device in devices) for name in names)
         lines.append(b"folder %s: %d names, %d deleted, %d devices" % (folder, len(names), deleted, len(devices)))
     return lines, 0 if fault is None else 1
+
+
+def explanation(read):
+    lines = [fault_line(*fault) for fault in Cut(read).all_faults(read["rows"])]
+    return lines or [b"settled"], 1 if lines else 0
 
 
 def refusal(fault):
@@ -527,10 +551,11 @@ def refusal(fault):
     return [line], 2
 
 
-def answer(document):
-    """What `syncaudit check` should write for the document, and its exit status."""
+def answer(document, told=report):
+    """What `syncaudit check` should write for the document, and its exit status; told `explanation`, what `syncaudit
+    explain` should write but for what is indented."""
     try:
-        lines, status = report(read_check(document))
+        lines, status = told(read_check(document))
     except Fault as fault:
         lines, status = refusal(fault)
     return b"".join(line + b"\n" for line in lines), status

@@ -53,13 +53,20 @@ fi
 # A row of the first table has a file's name, what it shows, what is written, and the status.
 while IFS='|' read -r _ name _ output status _; do
   check_row "syncaudit check < examples/$(lines_of "$name")" "$output" '' "$status"
+  # All that fails is told by a row of the third table; where nothing does, or the document is refused, there is one line.
+  if [ "${status// /}" != 1 ]; then
+    check_row "syncaudit explain < examples/$(lines_of "$name")" "${output%%<br>*}" '' "$status"
+  elif ! grep -qF "| \`syncaudit explain < examples/$(lines_of "$name")\` |" examples/README.md; then
+    failed=$((failed + 1))
+    echo "examples: $(lines_of "$name") isn't settled, and README.md doesn't say all that fails"
+  fi
   # Where the certificate isn't at fault, the one that is made anew is the same.
   if [ "${status// /}" != 2 ] && ! grep -qE 'CertificateOrder|NameMissing|NameUnknown|NotWinner' <<< "$output"; then
     check_row "syncaudit check < <(syncaudit certify < examples/$(lines_of "$name"))" "$output" '' "$status"
   fi
 done < <(grep '^| `[a-z-]*\.json` |' examples/README.md)
 
-# A row of the second table has the words, what they show, what is written, what is told, and the status.
+# A row of the other tables has the words, what they show, what is written, what is told, and the status.
 while IFS='|' read -r _ words _ output error status _; do
   check_row "$(lines_of "$words")" "$output" "$error" "$status"
 done < <(grep '^| `' examples/README.md | grep -v '^| `[a-z-]*\.json` |')

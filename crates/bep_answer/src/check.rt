@@ -88,8 +88,8 @@ fn outcome_of(verdict: &Verdict<'_>) -> Outcome
     }
 }
 
-// That the document is refused, and the fault's line.
-fn refusal(alloc: Global, fault: &DocFault) -> Result<(Outcome, Vec<u8>), AllocError>
+/// That the document is refused, and the fault's line.
+pub(crate) fn refusal(alloc: Global, fault: &DocFault) -> Result<(Outcome, Vec<u8>), AllocError>
     ensures { IfOk result (λ answer. (answer.0 ≡ outcomes.Refused) × (answer.1.items ≡ fault_text fault.now)) }
 {
     let mut text = Vec::new(alloc);

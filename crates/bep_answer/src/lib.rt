@@ -11,10 +11,12 @@
 
 mod certify;
 mod check;
+mod explain;
 mod outcome;
 #[cfg(test)]
 mod tests;
 
 pub use certify::certify_text;
 pub use check::check_text;
+pub use explain::explain_text;
 pub use outcome::{Certified, Outcome};

@@ -104,3 +104,16 @@ fn what_is_cut_short_is_told(rt: HostRuntime) {
     assert_eq!(rt; answer, Err(ReportError::Read));
     assert!(rt; taken.is_empty());
 }
+
+#[test]
+fn all_that_fails_is_written(rt: HostRuntime) {
+    let text = "NameMissing docs a\n  winner: none\n  store of 1: directory, time 1 s 0 ns\n";
+    let mut reader = DIRECTORY_WITHOUT_ROW.as_bytes();
+    let mut writer = Narrow {
+        taken: Vec::new(rt.alloc()),
+        room: 99,
+    };
+    let answer = explain_text(rt.alloc(), &mut reader, &mut writer);
+    assert_eq!(rt; answer, Ok(Outcome::NotSettled));
+    assert!(rt; writer.taken.as_slice() == text.as_bytes());
+}

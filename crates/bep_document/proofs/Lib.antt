@@ -5,3 +5,4 @@ pub mod FaultlessFacts
 pub mod ReadFaultless
 pub mod faultless
 pub mod CleanFacts
+pub mod Given

@@ -29,3 +29,21 @@ fn what_fails_is_told(rt: HostRuntime) -> Result<(), Fail> {
     assert_eq!(rt; failing(rt.alloc(), UNRECORDED)?, (1, true));
     Ok(())
 }
+
+// The text of all that fails.
+fn text_of(alloc: Global, text: &str) -> Result<Vec<u8>, DocError> {
+    let (cut, rows) = read_check(alloc, text.as_bytes())?;
+    let certificate = Certificate::of(rows);
+    match explain(alloc, &cut, &certificate) {
+        Ok(told) => Ok(explanation(alloc, told.as_slice())?),
+        Err(_) => Err(DocError::Memory),
+    }
+}
+
+#[test]
+fn what_fails_is_explained(rt: HostRuntime) -> Result<(), Fail> {
+    let wanted = "NameMissing docs a\n  winner: none\n  store of 1: directory, time 9 s 0 ns\n";
+    let text = text_of(rt.alloc(), UNRECORDED)?;
+    assert!(rt; text.as_slice() == wanted.as_bytes());
+    Ok(())
+}

@@ -1,6 +1,8 @@
+mod AskedFacts
 mod BlockFacts
 mod ChosenFacts
 mod CommitFacts
+mod ContentsFacts
 mod CopyFacts
 mod DeviceMapFacts
 mod EndingFacts
@@ -11,7 +13,6 @@ mod KnownFacts
 mod OverrideFacts
 mod PullFacts
 mod RevertFacts
-mod ReceivedFacts
 mod SettleFacts
 mod StartPullFacts
 mod StoredFacts

@@ -4,7 +4,7 @@ ghost use Rattle.std.specs.Option.{option_copied};
 ghost use Rattle.std.specs.FinMap as map;
 ghost use Rattle.bep_index.specs.Index.{IsIndex, IsSequenceFull, IsIndexFull, IsPutError, after_put};
 ghost use Rattle.bep_index.specs.After.{IsAfter};
-ghost use Rattle.bep_index.specs.declared.limits.TheConstants.{MAX_RECORDS};
+ghost use Rattle.bep_index.specs.declared.limits.TheConstants.{MAX_NAMES, MAX_RECORDS};
 ghost use Rattle.bep_index.specs.Batch.{IsBatch};
 ghost use Rattle.bep_index.specs.Order.{in_order, count_up_to};
 ghost use Rattle.bep_index.specs.Change.{IsLastChange, taken_back};
@@ -104,6 +104,7 @@ impl Index {
         ensures value { result ≡ count_up_to sequence (in_order self.now.records) }
         ensures after { (limit : ℕ) → IsAfter self.now.records sequence limit (take limit (drop result (in_order self.now.records))) }
         ensures batch { (limit : ℕ) → limit ≤ MAX_RECORDS → IsBatch (take limit (drop result (in_order self.now.records))) }
+        ensures small { result ≤ MAX_NAMES }
         ensures an_index { IsIndex self.now }
     {
         self.records.place_above(sequence)

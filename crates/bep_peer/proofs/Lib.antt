@@ -5,6 +5,9 @@ mod OwnFacts
 mod Cursors
 mod FirstRequest
 mod LastSequence
+mod StepFacts
+mod SharingFacts
+mod AnnounceFacts
 mod SessionFacts
 mod WithinFacts
 mod ScanFacts

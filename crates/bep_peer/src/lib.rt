@@ -8,12 +8,15 @@
 #![tactic(auto)]
 
 mod announce;
+mod announcing;
 mod answer;
 mod begin;
 mod config;
 mod ends;
 mod error;
+mod in_session;
 mod local;
+mod over;
 mod peer;
 mod requests;
 mod scanning;

@@ -32,11 +32,14 @@ abbrev pub on_device : Option Device → List ℕ
 on_device None = []
 on_device (Some device) = codes " on " ++ decimal device
 
+-- the line of a reason that fails, and where
+abbrev pub failure_line : Reason → Folder → FileName → Option Device → List ℕ
+failure_line reason folder name device = concat (word_of reason ∷ codes " " ∷ folder ∷ codes " " ∷ printed name ∷ on_device device ∷ newline ∷ [])
+
 -- the line of a verdict
 abbrev pub verdict_line : Verdict → List ℕ
 verdict_line Settled = codes "settled" ++ newline
-verdict_line (Not reason folder name device) =
-    concat (codes "not settled: " ∷ word_of reason ∷ codes " " ∷ folder ∷ codes " " ∷ printed name ∷ on_device device ∷ newline ∷ [])
+verdict_line (Not reason folder name device) = codes "not settled: " ++ failure_line reason folder name device
 
 -- the line of a folder: how many names are known in it, how many of them no store holds, how many devices share it
 abbrev pub folder_line : Folder → ℕ → ℕ → ℕ → List ℕ

@@ -19,8 +19,8 @@ mod words;
 
 pub use error::ReportError;
 pub use input::read_document;
-pub use lines::{push_folder, push_not_settled, push_refused, push_settled};
+pub use lines::{push_failure, push_folder, push_not_settled, push_refused, push_settled};
 pub use output::write_all;
 pub use report::push_report;
-pub use text::push_printed;
+pub use text::{Piece, push_pieces, push_printed};
 pub use words::word_of;

@@ -7,7 +7,7 @@ ghost use Rattle.bep_model.specs.Verdict.{Settled, Not};
 ghost use Rattle.bep_report.specs.Lines as spec;
 ghost use Rattle.bep_report.specs.Text.{AppendsWhole, piece_text, printed};
 
-use crate::text::{Piece, push_pieces};
+use crate::text::{Piece, or_as_before, push_pieces};
 use crate::words::word_of;
 use bep_model::Reason;
 use bep_record::{DeviceId, FolderName, Name};
@@ -31,17 +31,31 @@ pub fn push_not_settled<'a>(
     ensures { AppendsWhole result text.old.items text.new.items
         (spec.verdict_line (Not reason folder.now name.now device)) }
 {
-    let (said, reason) = (Piece::Text("not settled: "), Piece::Text(word_of(reason)));
+    let len = text.len();
+    text.extend_from_slice("not settled: ".as_bytes())?;
+    let pushed = push_failure(text, reason, folder, name, device);
+    or_as_before(text, len, pushed)
+}
+
+/// Appends the line of a reason that fails, and where.
+pub fn push_failure<'a>(
+    text: &mut Vec<u8>,
+    reason: Reason,
+    folder: &'a FolderName,
+    name: &'a Name,
+    device: Option<DeviceId>,
+) -> Result<(), AllocError>
+    ensures { AppendsWhole result text.old.items text.new.items
+        (spec.failure_line reason folder.now name.now device) }
+{
+    let reason = Piece::Text(word_of(reason));
     let (folder, name) = (Piece::Text(folder.as_str()), Piece::Name(name.as_bytes()));
     let (space, end) = (Piece::Text(" "), Piece::Text("\n"));
     match device {
-        None => push_pieces(text, &[said, reason, space, folder, space, name, end]),
+        None => push_pieces(text, &[reason, space, folder, space, name, end]),
         Some(device) => {
             let (on, device) = (Piece::Text(" on "), Piece::Number(device.number()));
-            push_pieces(
-                text,
-                &[said, reason, space, folder, space, name, on, device, end],
-            )
+            push_pieces(text, &[reason, space, folder, space, name, on, device, end])
         }
     }
 }

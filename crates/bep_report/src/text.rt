@@ -9,7 +9,7 @@ use std::alloc::AllocError;
 
 /// A piece of a line.
 #[derive(Clone, Copy)]
-pub(crate) enum Piece<'a> {
+pub enum Piece<'a> {
     /// A text as it is.
     Text(&'a str),
     /// A number in decimal.
@@ -19,7 +19,7 @@ pub(crate) enum Piece<'a> {
 }
 
 /// Appends these pieces, one after the other. Where memory runs out the text is as before.
-pub(crate) fn push_pieces(text: &mut Vec<u8>, pieces: &[Piece<'_>]) -> Result<(), AllocError>
+pub fn push_pieces(text: &mut Vec<u8>, pieces: &[Piece<'_>]) -> Result<(), AllocError>
     ensures { AppendsWhole result text.old.items text.new.items (spec.pieces_text pieces.now) }
 {
     let len = text.len();

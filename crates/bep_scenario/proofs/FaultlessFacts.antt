@@ -1,5 +1,5 @@
 -- What is read has no fault.
-use Rattle.std.proofs.Common.{◌≡◌, ℕ, List, [], Option, None, subst}
+use Rattle.std.proofs.Common.{◌≡◌, ℕ, List, [], length, None, leb-true, subst}
 use Rattle.serde_json.specs.Data.{Data}
 use Rattle.bep_document.specs.declared.fault.Fault.TheVariants.{NotJson, VersionBad, Shape, Range, RecordBad}
 use Rattle.bep_document.specs.Fault.{at_name}
@@ -8,6 +8,9 @@ use Rattle.bep_document.specs.faults.Twice.{first_twice}
 use Rattle.bep_document.specs.faults.Links.{first_bad_link}
 use Rattle.bep_document.specs.read.Checks.{has_version}
 use Rattle.bep_document.specs.Reading.{Read, is_short, tree_of}
+use Rattle.bep_record.specs.declared.limits.TheConstants.{MAX_DEVICES}
+use Rattle.bep_document.specs.read.Devices.{with_devices}
+use Rattle.bep_document.proofs.Given.{devices_known, known_are_of, all_map}
 use Rattle.bep_document.proofs.Steps.{passed_and, given_and, no_fault_and}
 use Rattle.bep_document.proofs.CleanFacts.{neither_fault, each_without_fault, node_without_fault, folders_differ, devices_differ, links_differ, links_join}
 use Rattle.bep_scenario.specs.declared.parts.StepParts.{StepParts}
@@ -16,17 +19,24 @@ use Rattle.bep_scenario.specs.declared.parts.ScenarioParts.{ScenarioParts}
 use Rattle.bep_scenario.specs.Faults.{bad_step, first_fault}
 use Rattle.bep_scenario.specs.Reading.{is_scenario, read_scenario, reading_of_tree, reading_of}
 use Rattle.bep_scenario.specs.Faultless.{HasNode, IsFaultless}
+use Rattle.bep_scenario.proofs.RangeFacts.{IsInRange, scenario_in_range}
 
 good_step : (earlier : List StepParts) (part : StepParts) → bad_step earlier part ≡ None → HasNode part
 good_step earlier (Edit device folder node) none = node_without_fault node.parts (at_name RecordBad folder device node.name) none
 good_step earlier (Other step) none = tt
 
-faultless : (parts : ScenarioParts) → first_fault parts ≡ None → IsFaultless parts
+faultless : (parts : ScenarioParts) → IsInRange parts → first_fault parts ≡ None → IsFaultless parts
 unfolding first_fault
-faultless parts none =
+faultless parts range none =
+    let folders = parts.cluster.folders in
+    let devices = with_devices [] folders in
     let twice = neither_fault (first_twice parts.cluster) _ none in
     let rest = neither_fault (first_in bad_step [] parts.steps) (first_bad_link parts.cluster) twice.1 in
     record {
+      few_folders = range.few;
+      few_devices = (devices, leb-true (length devices) MAX_DEVICES range.few_devices, known_are_of devices folders (devices_known [] folders));
+      named = all_map (λ folder in_range. in_range.named) folders range.each;
+      numbered = all_map (λ folder in_range. in_range.numbered) folders range.each;
       folders = folders_differ parts.cluster twice.0;
       devices = devices_differ parts.cluster twice.0;
       links = links_differ parts.cluster twice.0;
@@ -41,7 +51,7 @@ tree_faultless tree parts e =
     let shaped = passed_and Shape is_scenario tree _ unshaped in
     let found = given_and Range (read_scenario tree) _ shaped in
     let clean = no_fault_and (first_fault found.0) found.2 in
-    subst IsFaultless clean.1 (faultless found.0 clean.0)
+    subst IsFaultless clean.1 (faultless found.0 (scenario_in_range tree found.0 found.1) clean.0)
 
 pub scenario_faultless : (bytes : List ℕ) (parts : ScenarioParts) → reading_of bytes ≡ Read parts → IsFaultless parts
 unfolding reading_of

@@ -1,1 +1,4 @@
 pub mod FaultlessFacts
+pub mod RangeFacts
+pub mod InsertFacts
+pub mod StartFacts

@@ -6,3 +6,4 @@ pub mod Faults
 pub mod Reading
 pub mod Faultless
 pub mod Configured
+pub mod Scenario

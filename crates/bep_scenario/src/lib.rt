@@ -2,8 +2,8 @@
 //!
 //! A caller reads a scenario so:
 //!
-//!     match read_scenario_parts(alloc, bytes) {
-//!         Ok(parts) => use_steps(parts.steps.as_slice()),
+//!     match read_scenario(alloc, bytes) {
+//!         Ok(scenario) => run(scenario.config, scenario.steps.as_slice()),
 //!         Err(DocError::Refused(fault)) => tell(fault.fault.number(), fault.fault.name()),
 //!         Err(DocError::Memory) => give_up(),
 //!     }
@@ -16,14 +16,16 @@ mod laws;
 mod making;
 mod parts;
 mod reading;
+mod scenario;
 mod start;
 mod step;
 #[cfg(test)]
 mod tests;
 mod words;
 
-pub use laws::scenarios_are_faultless;
+pub use laws::{faultless_scenarios_start, scenarios_are_faultless};
 pub use making::steps_of;
 pub use parts::{ScenarioParts, StepParts};
 pub use reading::read_scenario_parts;
+pub use scenario::{Scenario, read_scenario};
 pub use start::config_of;

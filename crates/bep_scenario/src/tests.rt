@@ -1,6 +1,8 @@
 //! A scenario, read by docs/DOCUMENTS.md.
-use crate::{read_scenario_parts, scenarios_are_faultless, steps_of};
+use crate::{faultless_scenarios_start, read_scenario, scenarios_are_faultless};
+use bep_config::Config;
 use bep_machine::Step;
+use bep_store::MemStore;
 use std::alloc::Global;
 
 const SCENARIO: &str = r#"{"version":1,"folders":[{"folder":"docs","devices":[
@@ -10,19 +12,49 @@ const SCENARIO: &str = r#"{"version":1,"folders":[{"folder":"docs","devices":[
 ["pull",2,"docs","hello"],["ask",2,1,"docs","hello"],["deliver",1,2],["deliver",2,1],["finish",2,"docs","hello"],
 ["finish",2,"docs","hello"]]}"#;
 
-// How many folders, links and steps the document has, and whether the first step is an edit.
-fn counted(alloc: Global, text: &str) -> Option<(usize, usize, usize, bool)> {
-    scenarios_are_faultless();
-    let parts = read_scenario_parts(alloc, text.as_bytes()).ok()?;
-    let folders = parts.cluster.folders.as_slice().len();
-    let links = parts.cluster.links.as_slice().len();
-    let steps = steps_of(alloc, parts.steps).ok()?;
-    let edits = matches!(steps.first(), Some(Step::Edit(..)));
-    Some((folders, links, steps.len(), edits))
+// The devices of a step between two, and the texts that it names.
+fn told(step: Option<&Step>) -> Option<(u64, u64, &str, &str)> {
+    match step? {
+        Step::Deliver(device, other) => Some((device.number(), other.number(), "", "")),
+        Step::Announce(device, other, folder) => {
+            let folder = std::str::from_utf8(folder.as_bytes()).ok()?;
+            Some((device.number(), other.number(), folder, ""))
+        }
+        Step::Ask(device, other, folder, name) => {
+            let folder = std::str::from_utf8(folder.as_bytes()).ok()?;
+            let name = std::str::from_utf8(name.as_bytes()).ok()?;
+            Some((device.number(), other.number(), folder, name))
+        }
+        _ => None,
+    }
+}
+
+// How many folders there are, the first device that shares one with its index id, and the first link.
+fn configured(config: &Config<MemStore>) -> Option<(usize, u64, u64, u64, u64)> {
+    let (key, sharing) = config.shares().next()?;
+    let link = config.links().next()?;
+    let folders = config.folders().count();
+    Some((
+        folders,
+        key.1.number(),
+        sharing.index_id.number(),
+        link.0.number(),
+        link.1.number(),
+    ))
 }
 
 #[test]
 fn a_scenario_is_read(rt: HostRuntime) {
-    let alloc = rt.alloc();
-    assert_eq!(rt; counted(alloc, SCENARIO), Some((1, 1, 15, true)));
+    scenarios_are_faultless();
+    faultless_scenarios_start();
+    let Ok(scenario) = read_scenario(rt.alloc(), SCENARIO.as_bytes()) else {
+        assert!(rt; false);
+        return;
+    };
+    let steps = scenario.steps.as_slice();
+    assert_eq!(rt; steps.len(), 15);
+    assert_eq!(rt; told(steps.get(5)), Some((2, 1, "", "")));
+    assert_eq!(rt; told(steps.get(7)), Some((1, 2, "docs", "")));
+    assert_eq!(rt; told(steps.get(10)), Some((2, 1, "docs", "hello")));
+    assert_eq!(rt; configured(&scenario.config), Some((1, 1, 11, 1, 2)));
 }

@@ -3,6 +3,7 @@ use Rattle.std.specs.Prelude.{◌≡◌, ◌⊎◌, ℕ, List, Option, Result, O
 use Rattle.std.specs.Io.KnownBytes.{Keeps}
 use Rattle.bep_answer.specs.Answer.{IsAnswered, IsCutShort}
 use Rattle.bep_answer.specs.Certified.{IsCertifiedWhole, IsUncertified}
+use Rattle.bep_answer.specs.Explained.{IsExplainedWhole, IsUnexplained}
 use Rattle.bep_answer.specs.declared.outcome.Certified.{Certified}
 use Rattle.bep_answer.specs.declared.outcome.Certified.TheVariants as certificates
 use Rattle.bep_answer.specs.declared.outcome.Outcome.{Outcome}
@@ -12,7 +13,7 @@ use Rattle.bep_report.specs.declared.error.ReportError.TheVariants.{Memory, Read
 use Rattle.clap.specs.Words.{Text}
 use Rattle.syncaudit.specs.Mode.{Asks}
 use Rattle.syncaudit.specs.declared.mode.Mode.{Mode}
-use Rattle.syncaudit.specs.declared.mode.Mode.TheVariants.{Check, Certify}
+use Rattle.syncaudit.specs.declared.mode.Mode.TheVariants.{Check, Certify, Explain}
 
 -- the status after an answer, or where there is none
 abbrev pub status_of : Result Outcome ReportError → ℕ
@@ -48,10 +49,17 @@ pub record IsCertificateTold (unread left held now : Option (List ℕ)) (status 
   pub told : status ≡ certified_status_of answer
   pub done : MatchResult answer (IsCertifiedWhole unread left held now) (IsUncertified unread left held now)
 
+-- all that fails was written, or the document refused, or it was cut short, and the status tells which
+pub record IsExplanationTold (unread left held now : Option (List ℕ)) (status : ℕ) : Type 0 where
+  pub answer : Result Outcome ReportError
+  pub told : status ≡ status_of answer
+  pub done : MatchResult answer (IsExplainedWhole unread left held now) (IsUnexplained unread left held now)
+
 -- what came of the document in each mode
 abbrev pub IsDone : Mode → Option (List ℕ) → Option (List ℕ) → Option (List ℕ) → Option (List ℕ) → ℕ → Type 0
 IsDone Check = IsTold
 IsDone Certify = IsCertificateTold
+IsDone Explain = IsExplanationTold
 
 -- the words ask for a mode, and this came of the document in it
 abbrev pub IsFollowed : List Text → Option (List ℕ) → Option (List ℕ) → Option (List ℕ) → Option (List ℕ) → ℕ → Type 0

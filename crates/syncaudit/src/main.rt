@@ -1,4 +1,4 @@
-//! `syncaudit`: says whether a Syncthing cluster is settled, and why not; and makes the certificate that this rests on.
+//! `syncaudit`: says whether a Syncthing cluster is settled, and why not, at first or in full; and makes the certificate that this rests on.
 #![tactic(auto)]
 
 mod mode;
@@ -8,7 +8,7 @@ mod status;
 mod tests;
 
 use crate::run::{run, run_without_words, words_of};
-pub use bep_answer::{Certified, Outcome, certify_text, check_text};
+pub use bep_answer::{Certified, Outcome, certify_text, check_text, explain_text};
 pub use mode::{Mode, mode_of};
 pub use status::{certified_status_of, status_of};
 use std::process::ExitCode;

@@ -14,6 +14,8 @@ pub enum Mode {
     Check,
     /// Write the cut that comes on standard input as a check document, with its certificate.
     Certify,
+    /// Tell all that keeps the check document that comes on standard input from being settled.
+    Explain,
 }
 
 const COMMANDS_HELP: &str =
@@ -33,6 +35,12 @@ const CERTIFY_HELP: &str =
      Exit status: 0 certificate written, 1 a name has no winner, 2 document refused, 3 usage or help, 4 out of memory, \
      5 read or write fault";
 
+const EXPLAIN_HELP: &str =
+    "The document FILE is a cut of the cluster with its certificate: DOCUMENTS.md describes it, and what is told.\n\n\
+     Example: syncaudit explain < examples/file-missing-in-store.json\n\n\
+     Exit status: 0 settled, 1 not settled, 2 document refused, 3 usage or help, 4 out of memory, \
+     5 read or write fault";
+
 // The command line of the program.
 fn command<'a>(alloc: Global) -> Result<Command<'a>, AllocError>
     ensures { IfOk result (λ made. app_of made ≡ program) }
@@ -45,6 +53,10 @@ fn command<'a>(alloc: Global) -> Result<Command<'a>, AllocError>
         .about("Writes the check document on standard input with the certificate of its cut")
         .override_usage("syncaudit certify < FILE")
         .after_help(CERTIFY_HELP);
+    let explain = Command::new(alloc, "explain")
+        .about("Tells all that keeps the check document on standard input from being settled")
+        .override_usage("syncaudit explain < FILE")
+        .after_help(EXPLAIN_HELP);
     Command::new(alloc, "syncaudit")
         .bin_name("syncaudit")?
         .version("0.1.0")
@@ -53,7 +65,8 @@ fn command<'a>(alloc: Global) -> Result<Command<'a>, AllocError>
         .subcommand_required(true)
         .arg_required_else_help(true)
         .subcommand(check)?
-        .subcommand(certify)
+        .subcommand(certify)?
+        .subcommand(explain)
 }
 
 /// What the words ask for, of which the first is the program's name.
@@ -68,6 +81,7 @@ pub fn mode_of<'a, S: AsStr>(alloc: Global, words: &'a [S]) -> Result<Mode, Erro
     match matches.subcommand_name() {
         Some("check") => Ok(Mode::Check),
         Some("certify") => Ok(Mode::Certify),
+        Some("explain") => Ok(Mode::Explain),
         _ => unreachable!(),
     }
 }

@@ -10,7 +10,7 @@ ghost use Rattle.syncaudit.specs.declared.mode.Mode.TheVariants.{Check};
 
 use crate::mode::{Mode, mode_of};
 use crate::status::{USAGE, certified_status_of, status_of};
-use bep_answer::{Certified, Outcome, certify_text, check_text};
+use bep_answer::{Certified, Outcome, certify_text, check_text, explain_text};
 use bep_report::ReportError;
 use clap::error::ErrorKind;
 use std::convert::AsStr;
@@ -37,6 +37,7 @@ pub fn run<P: AllocGlobal + Eprint, R: Read, W: Write, S: AsStr>(
     match mode_of(rt.alloc(), words) {
         Ok(Mode::Check) => end(rt, check_text(rt.alloc(), reader, writer)),
         Ok(Mode::Certify) => end_certified(rt, certify_text(rt.alloc(), reader, writer)),
+        Ok(Mode::Explain) => end(rt, explain_text(rt.alloc(), reader, writer)),
         Err(error) if error.kind() == ErrorKind::OutOfMemory => end(rt, Err(ReportError::Memory)),
         Err(error) => refuse(rt, error),
     }

@@ -4,10 +4,10 @@ use bep_report::ReportError;
 use clap::error::ErrorKind;
 use std::alloc::Global;
 
-// Why clap refuses these words, `None` where they ask for an audit or a certificate.
+// Why clap refuses these words, `None` where they ask for something.
 fn refusal(alloc: Global, words: &[&str]) -> Option<ErrorKind> {
     match mode_of(alloc, words) {
-        Ok(Mode::Check | Mode::Certify) => None,
+        Ok(Mode::Check | Mode::Certify | Mode::Explain) => None,
         Err(error) => Some(error.kind()),
     }
 }
@@ -17,6 +17,7 @@ fn only_the_subcommands_are_understood(rt: HostRuntime) {
     for (words, wanted) in [
         (["syncaudit", "check"].as_slice(), None),
         (["syncaudit", "certify"].as_slice(), None),
+        (["syncaudit", "explain"].as_slice(), None),
         (
             ["syncaudit"].as_slice(),
             Some(ErrorKind::DisplayHelpOnMissingArgumentOrSubcommand),

@@ -20,9 +20,12 @@ returns c =
     let check_local : (out-Command c.after_help-check.result).has_globals ≡ false = ap (λ f. f.has_globals) c.after_help-check.ensures ∙ ap (λ f. f.has_globals) c.override_usage.ensures ∙ ap (λ f. f.has_globals) c.about.ensures ∙ c.new.ensures.local in
     let certify : app_of c.after_help-certify.result ≡ new_app (codes "certify") = ap app_of_fields c.after_help-certify.ensures ∙ ap app_of_fields c.override_usage-2.ensures ∙ ap app_of_fields c.about-2.ensures ∙ c.new-2.ensures.app in
     let certify_local : (out-Command c.after_help-certify.result).has_globals ≡ false = ap (λ f. f.has_globals) c.after_help-certify.ensures ∙ ap (λ f. f.has_globals) c.override_usage-2.ensures ∙ ap (λ f. f.has_globals) c.about-2.ensures ∙ c.new-2.ensures.local in
-    let named : app_of c.in_ok-bin_name.field-0 ≡ new_app (codes "syncaudit") = ap app_of_fields c.in_ok-bin_name.ensures.0 ∙ c.new-3.ensures.app in
-    let versioned : app_of c.after_help.result ≡ with_version (new_app (codes "syncaudit")) = ap app_of_fields c.after_help.ensures ∙ ap app_of_fields c.about-3.ensures ∙ ap app_of_fields c.version.ensures ∙ ap with_version named in
+    let explain : app_of c.after_help-explain.result ≡ new_app (codes "explain") = ap app_of_fields c.after_help-explain.ensures ∙ ap app_of_fields c.override_usage-3.ensures ∙ ap app_of_fields c.about-3.ensures ∙ c.new-3.ensures.app in
+    let explain_local : (out-Command c.after_help-explain.result).has_globals ≡ false = ap (λ f. f.has_globals) c.after_help-explain.ensures ∙ ap (λ f. f.has_globals) c.override_usage-3.ensures ∙ ap (λ f. f.has_globals) c.about-3.ensures ∙ c.new-3.ensures.local in
+    let named : app_of c.in_ok-bin_name.field-0 ≡ new_app (codes "syncaudit") = ap app_of_fields c.in_ok-bin_name.ensures.0 ∙ c.new-4.ensures.app in
+    let versioned : app_of c.after_help.result ≡ with_version (new_app (codes "syncaudit")) = ap app_of_fields c.after_help.ensures ∙ ap app_of_fields c.about-4.ensures ∙ ap app_of_fields c.version.ensures ∙ ap with_version named in
     let required : app_of c.subcommand_required.result ≡ with_required (with_version (new_app (codes "syncaudit"))) = ap app_of_fields c.subcommand_required.ensures ∙ ap with_required versioned in
     let helping = ap app_of_fields c.arg_required_else_help.ensures ∙ ap with_help required in
     let checking = c.in_ok-subcommand.ensures.shape check_local ∙ ap₂ with_subcommand helping (ap (λ (a : App). a.top) check) in
-    IfOk-weaker c.subcommand-2.result _ _ (λ made h. h.shape certify_local ∙ ap₂ with_subcommand checking (ap (λ (a : App). a.top) certify)) c.subcommand-2.ensures
+    let certifying = c.in_ok-subcommand-2.ensures.shape certify_local ∙ ap₂ with_subcommand checking (ap (λ (a : App). a.top) certify) in
+    IfOk-weaker c.subcommand-3.result _ _ (λ made h. h.shape explain_local ∙ ap₂ with_subcommand certifying (ap (λ (a : App). a.top) explain)) c.subcommand-3.ensures

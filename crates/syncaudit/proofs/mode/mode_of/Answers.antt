@@ -1,5 +1,5 @@
 use Rattle.std.proofs.Common.{◌≡◌, inl, inr, Some, option_map, codes, sym, ap, subst, ◌∙◌, rules}
-use Rattle.syncaudit.proofs.ModeFacts.{no_fault, tells_mode, NamesMode, not_named}
+use Rattle.syncaudit.proofs.ModeFacts.{no_fault, name_told, tells_mode, NamesMode, not_named}
 use Rattle.syncaudit.proofs.mode.mode_of.Goals as goal
 use Rattle.syncaudit.proofs.mode.mode_of.Goals.{in_default-via-in-Some+in_default, in_default-via-in_default}
 
@@ -8,6 +8,15 @@ returns-in-Some-check-clause-faults g c = no_fault _ _ c.in_ok-command.ensures c
 
 pub returns-in-Some-certify-clause-faults : goal.returns-in-Some-certify-clause-faults
 returns-in-Some-certify-clause-faults g c = no_fault _ _ c.in_ok-command.ensures c.in_ok-matches.ensures.kinds
+
+pub returns-in-Some-explain-clause-faults : goal.returns-in-Some-explain-clause-faults
+returns-in-Some-explain-clause-faults g c = no_fault _ _ c.in_ok-command.ensures c.in_ok-matches.ensures.kinds
+
+pub returns-in-Some-explain-clause-asked : goal.returns-in-Some-explain-clause-asked
+returns-in-Some-explain-clause-asked g c =
+    let lent = sym (ap (option_map (λ s. s.now)) c.in-Some-explain.is) ∙ c.subcommand_name.ensures in
+    let named : c.in-Some-explain.field-0.now ≡ codes "explain" = search (rules, c.in-Some-explain.is-explain) in
+    name_told _ _ _ c.in_ok-command.ensures c.in_ok-matches.ensures.matches ∙ sym lent ∙ ap Some named
 
 pub unreachable-requires : goal.unreachable-requires
 unreachable-requires g c =
@@ -22,10 +31,14 @@ unreachable-requires g c =
                 let one : Some w.in_default.field-0.now ≡ Some (codes "check") = lent ∙ name in
                 let same : w.in_default.field-0.now ≡ codes "check" = cc in
                 w.in_default.not-check (search (rules, same, w.in_default.is))
-            | inr name ↦
+            | inr (inl name) ↦
                 let one : Some w.in_default.field-0.now ≡ Some (codes "certify") = lent ∙ name in
                 let same : w.in_default.field-0.now ≡ codes "certify" = cc in
                 w.in_default.not-certify (search (rules, same, w.in_default.is))
+            | inr (inr name) ↦
+                let one : Some w.in_default.field-0.now ≡ Some (codes "explain") = lent ∙ name in
+                let same : w.in_default.field-0.now ≡ codes "explain" = cc in
+                w.in_default.not-explain (search (rules, same, w.in_default.is))
           ]
       | in_default-via-in_default w ↦
           let nothing = sym (ap (option_map (λ s. s.now)) w.in_default.is) ∙ c.subcommand_name.ensures in

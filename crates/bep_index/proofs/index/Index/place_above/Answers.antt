@@ -7,6 +7,7 @@ use Rattle.bep_index.specs.Order.{in_order, count_up_to}
 use Rattle.bep_index.specs.After.{IsAfter}
 use Rattle.bep_index.proofs.AfterFacts.{IsAfter-place, IsBatch-run}
 use Rattle.bep_index.proofs.OrderFacts.{in_order-with_all}
+use Rattle.bep_index.proofs.PlaceFacts.{len-records}
 use Rattle.bep_index.proofs.index.Index.place_above.Goals as goal
 
 pub returns-clause-value : goal.returns-clause-value
@@ -32,3 +33,10 @@ pub returns-clause-batch : goal.returns-clause-batch
 returns-clause-batch c limit few =
     subst (λ (index : Listing). IsBatch (from_place c (in_order index.records) limit)) c.self.view_is
     (let after = is_after c limit in let most = after.at_most in IsBatch-run _ c.args.sequence _ after.run (omega arith))
+
+pub returns-clause-small : goal.returns-clause-small
+returns-clause-small c =
+    let within = c.place_above.ensures.within in
+    let few = c.self.invariant.0.few in
+    let many = len-records c.self.inside.records c.self.invariant.1.names in
+    omega arith

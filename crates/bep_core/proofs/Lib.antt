@@ -1,0 +1,3 @@
+mod OthersThat
+mod FoldersAt
+mod Begun

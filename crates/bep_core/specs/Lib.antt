@@ -1,0 +1,3 @@
+pub mod Begin
+pub mod Network
+pub mod Why

@@ -1,0 +1,38 @@
+-- The numbers and the names of refusals, as the product prints them.
+use Rattle.std.specs.Prelude.{ℕ, List, Option, Some, None, codes}
+use Rattle.bep_machine.specs.declared.refusal.Refusal.{Refusal}
+use Rattle.bep_machine.specs.declared.refusal.Refusal.TheVariants.{CounterFull, TooManyCounters, NameBad, SequenceFull, IndexFull, StoreFault, Unscanned, NotNeeded, BlocksMissing, CopyExists, PullsFull, KindForbids, LinkDown, LinkFull, EpochFull, NotBegun, NotShared, NothingToDo}
+use Rattle.bep_machine.specs.Answer.{number_of as number_of_refusal}
+use Rattle.bep_core.specs.declared.why.Why.{Why}
+use Rattle.bep_core.specs.declared.why.Why.TheVariants.{Refused, ConfigBad, Memory}
+
+-- want of memory has neither
+abbrev pub number_of : Why → Option ℕ
+number_of (Refused refusal) = Some (number_of_refusal refusal)
+number_of ConfigBad = Some 164
+number_of Memory = None
+
+abbrev pub name_of_refusal : Refusal → List ℕ
+name_of_refusal CounterFull = codes "CounterFull"
+name_of_refusal TooManyCounters = codes "TooManyCounters"
+name_of_refusal NameBad = codes "NameBad"
+name_of_refusal SequenceFull = codes "SequenceFull"
+name_of_refusal IndexFull = codes "IndexFull"
+name_of_refusal StoreFault = codes "StoreFault"
+name_of_refusal Unscanned = codes "Unscanned"
+name_of_refusal NotNeeded = codes "NotNeeded"
+name_of_refusal BlocksMissing = codes "BlocksMissing"
+name_of_refusal CopyExists = codes "CopyExists"
+name_of_refusal PullsFull = codes "PullsFull"
+name_of_refusal KindForbids = codes "KindForbids"
+name_of_refusal LinkDown = codes "LinkDown"
+name_of_refusal LinkFull = codes "LinkFull"
+name_of_refusal EpochFull = codes "EpochFull"
+name_of_refusal NotBegun = codes "NotBegun"
+name_of_refusal NotShared = codes "NotShared"
+name_of_refusal NothingToDo = codes "NothingToDo"
+
+abbrev pub name_of : Why → Option (List ℕ)
+name_of (Refused refusal) = Some (name_of_refusal refusal)
+name_of ConfigBad = Some (codes "ConfigBad")
+name_of Memory = None

@@ -1,0 +1,18 @@
+//! A cluster: devices with their folders, and the links between them, made of a configuration.
+//!
+//! ```rust
+//! let cluster = Cluster::new(alloc, config)?;
+//! let (peers, links) = cluster.into_parts();
+//! ```
+#![tactic(auto)]
+
+mod begin;
+mod cluster;
+mod folders;
+mod others;
+#[cfg(test)]
+mod tests;
+mod why;
+
+pub use cluster::Cluster;
+pub use why::Why;

@@ -1,0 +1,129 @@
+//! What is said of a record or of a node, as a part of a line. No contract speaks of these texts.
+use bep_blocks::blocks;
+use bep_record::{Block, BlockSize, Entry, Kind, Node, Record};
+use bep_report::{Piece, push_pieces};
+use std::alloc::{AllocError, Global};
+
+/// Says the record: its version, what it tells is there, its time, and whether it is local-only.
+pub(crate) fn push_record(
+    alloc: Global,
+    line: &mut Vec<u8>,
+    record: &Record,
+) -> Result<(), AllocError> {
+    let entry = record.entry();
+    push_version(line, entry.version.counters())?;
+    push_content(alloc, line, entry)?;
+    push_time(line, entry.modified_s, entry.modified_ns)?;
+    if entry.invalid {
+        push_pieces(line, &[Piece::Text(", local-only")])?;
+    }
+    Ok(())
+}
+
+/// Says what a store holds: kind, size and the first digits of its hash, or target, and its time.
+pub(crate) fn push_node(alloc: Global, line: &mut Vec<u8>, node: &Node) -> Result<(), AllocError> {
+    let parts = node.parts();
+    match parts.kind {
+        Kind::File => push_bytes(alloc, line, parts.bytes.as_slice())?,
+        Kind::Directory => push_pieces(line, &[Piece::Text("directory")])?,
+        Kind::Symlink => push_target(line, parts.target.as_bytes())?,
+    }
+    push_time(line, parts.modified_s, parts.modified_ns)
+}
+
+// Says the counters, as a document has them.
+fn push_version(line: &mut Vec<u8>, counters: &[(u64, u64)]) -> Result<(), AllocError> {
+    push_pieces(line, &[Piece::Text("version [")])?;
+    let mut before = Piece::Text("[");
+    for (id, value) in counters {
+        let (id, value) = (Piece::Number(*id), Piece::Number(*value));
+        push_pieces(
+            line,
+            &[before, id, Piece::Text(","), value, Piece::Text("]")],
+        )?;
+        before = Piece::Text(",[");
+    }
+    push_pieces(line, &[Piece::Text("], ")])
+}
+
+// Says what the entry tells is there.
+fn push_content(alloc: Global, line: &mut Vec<u8>, entry: &Entry) -> Result<(), AllocError> {
+    if entry.deleted {
+        return push_pieces(line, &[Piece::Text("deleted")]);
+    }
+    match entry.kind {
+        Kind::File => push_file(alloc, line, entry.size, entry.blocks.as_slice()),
+        Kind::Directory => push_pieces(line, &[Piece::Text("directory")]),
+        Kind::Symlink => push_target(line, entry.target.as_bytes()),
+    }
+}
+
+// Says a file of these bytes.
+fn push_bytes(alloc: Global, line: &mut Vec<u8>, bytes: &[u8]) -> Result<(), AllocError> {
+    match blocks(alloc, bytes, BlockSize::base()) {
+        Ok(list) => push_file(alloc, line, bytes.len() as u64, list.as_slice()),
+        Err(_) => Err(AllocError),
+    }
+}
+
+// Says a file of this size and these blocks. Where there is one, its hash is that of the file.
+fn push_file(
+    alloc: Global,
+    line: &mut Vec<u8>,
+    size: u64,
+    blocks: &[Block],
+) -> Result<(), AllocError> {
+    push_pieces(
+        line,
+        &[
+            Piece::Text("file of "),
+            Piece::Number(size),
+            Piece::Text(" bytes"),
+        ],
+    )?;
+    match blocks {
+        [] => Ok(()),
+        [only] => push_hash(alloc, line, ", sha256 ", only),
+        [first, ..] => {
+            let count = Piece::Number(blocks.len() as u64);
+            push_pieces(line, &[Piece::Text(", "), count, Piece::Text(" blocks")])?;
+            push_hash(alloc, line, ", sha256 of the first ", first)
+        }
+    }
+}
+
+// Says the first eight digits of a block's hash.
+fn push_hash(
+    alloc: Global,
+    line: &mut Vec<u8>,
+    said: &str,
+    block: &Block,
+) -> Result<(), AllocError> {
+    let digits = hex::encode(alloc, &block.hash[..4])?;
+    push_pieces(line, &[Piece::Text(said), Piece::Text(digits.as_str())])
+}
+
+fn push_target(line: &mut Vec<u8>, target: &[u8]) -> Result<(), AllocError> {
+    push_pieces(line, &[Piece::Text("symlink to "), Piece::Name(target)])
+}
+
+// Says a time, as a document has it.
+fn push_time(line: &mut Vec<u8>, seconds: i64, nanoseconds: u32) -> Result<(), AllocError> {
+    let sign = Piece::Text(if seconds < 0 { "-" } else { "" });
+    let (said, seconds) = (
+        Piece::Text(", time "),
+        Piece::Number(seconds.unsigned_abs()),
+    );
+    let (between, nanoseconds) = (Piece::Text(" s "), Piece::Number(u64::from(nanoseconds)));
+    push_pieces(
+        line,
+        &[
+            said,
+            sign,
+            seconds,
+            between,
+            nanoseconds,
+            Piece::Text(" ns"),
+        ],
+    )
+}
