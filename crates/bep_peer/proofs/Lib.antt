@@ -11,3 +11,4 @@ mod AnnounceFacts
 mod SessionFacts
 mod WithinFacts
 mod ScanFacts
+mod RestartFacts

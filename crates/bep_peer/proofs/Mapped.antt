@@ -36,6 +36,9 @@ module _ {K V W : Type 0} {R : K → K → Ordering} (total : IsTotalOrder R) (e
   pub get-changed : (m : FinMap R V) (key : K) → get (from_entries {R = R} (changed f (entries m))) key ≡ option_map f (get m key)
   get-changed m key = get-from_entries total (changed f (entries m)) key ∙ find-changed R f (entries m) key ∙ ap (option_map f) (sym (get-entries m key))
 
+  pub get-from_changed : (m : FinMap R V) (n : FinMap R W) → entries n ≡ changed f (entries m) → (key : K) → get n key ≡ option_map f (get m key)
+  get-from_changed m n is key = get-entries n key ∙ ap (find R key) is ∙ find-changed R f (entries m) key ∙ ap (option_map f) (sym (get-entries m key))
+
   -- all that stands there
   pub entries-changed : (m : FinMap R V) → entries (from_entries {R = R} (changed f (entries m))) ≡ changed f (entries m)
   entries-changed m =

@@ -8,7 +8,6 @@ use Rattle.bep_facts.specs.Maps.{found_after_insert, get-insert_here, insert-wha
 use Rattle.bep_map.specs.NameMap.{ByName}
 use Rattle.bep_model.specs.Tables.{Device, Folder, FileName}
 use Rattle.bep_machine.specs.declared.moved.Moved.{Moved}
-use Rattle.bep_machine.specs.declared.refusal.Refusal.TheVariants.{NotShared}
 use Rattle.bep_machine.specs.Answer.{Answer, Done, OutOfMemory, Row}
 use Rattle.bep_machine.specs.Peer.{Session, with_replica}
 use Rattle.bep_machine.specs.Replica.{ByDevice, Replica}
@@ -19,11 +18,10 @@ use Rattle.bep_folder.specs.Held.{Held}
 use Rattle.bep_folder.specs.Makes.{Makes, Stays, CountsFaults}
 use Rattle.bep_folder.specs.Trace.{Trace as HeldTrace}
 use Rattle.bep_peer.specs.declared.error.PeerError.{PeerError}
-use Rattle.bep_peer.specs.declared.error.PeerError.TheVariants as peer_errors
 use Rattle.bep_peer.specs.declared.trace.Trace.{Trace}
 use Rattle.bep_peer.specs.Member.{Member, AreOwn, IsMember, HasFailed, Remains, tables_of, untold}
 use Rattle.bep_peer.specs.PeerError.{Gives}
-use Rattle.bep_peer.specs.Within.{StepWithin, GainsCopyIn, OnlyFolder, TellsFault, told_of, with_folder, IsOfStep, answer_of}
+use Rattle.bep_peer.specs.Within.{StepWithin, GainsCopyIn, OnlyFolder, TellsFault, told_of, with_folder, answer_of}
 use Rattle.bep_peer.proofs.Mapped.{get-changed, insert-changed}
 
 -- ---- the tables
@@ -80,27 +78,6 @@ made_within old folder before after row (Err errors.Stale) is made = absurd made
 made_within old folder before after row (Err errors.NotShared) is made = at_folder old folder before after row _ is made
 made_within old folder before after row (Err errors.NothingToDo) is made = at_folder old folder before after row _ is made
 
--- a call that makes a row answers a step's error
-pub is_of_step : (row : Replica → Row Replica) (before after : Held) (error : FolderError) → Makes row before after (Err error) → IsOfStep error
-is_of_step row before after errors.BatchOld made = absurd made
-is_of_step row before after errors.HashBad made = absurd made
-is_of_step row before after errors.Memory made = tt
-is_of_step row before after errors.CounterFull made = tt
-is_of_step row before after errors.TooManyCounters made = tt
-is_of_step row before after errors.NameBad made = tt
-is_of_step row before after errors.SequenceFull made = tt
-is_of_step row before after errors.IndexFull made = tt
-is_of_step row before after errors.StoreFault made = tt
-is_of_step row before after errors.Unscanned made = tt
-is_of_step row before after errors.NotNeeded made = tt
-is_of_step row before after errors.BlocksMissing made = tt
-is_of_step row before after errors.CopyExists made = tt
-is_of_step row before after errors.PullsFull made = tt
-is_of_step row before after errors.KindForbids made = tt
-is_of_step row before after errors.Stale made = tt
-is_of_step row before after errors.NotShared made = tt
-is_of_step row before after errors.NothingToDo made = tt
-
 -- ---- as a call leaves it
 
 -- the device once the folder is this, and so much is told
@@ -130,11 +107,6 @@ pub only_within : (old begun : Member) (folder : Folder) (before after : Held) (
 only_within old begun folder before after trace same is told =
     let has : IsSome (get old.folders folder) = subst (λ (found : Option Held). IsSome found) (is ∙ ap (λ (m : Member). get m.folders folder) same) refl in
     inr (after, has, left_within old begun folder after trace same told)
-
--- the device doesn't have the folder
-pub not_within : (old begun : Member) (folder : Folder) (row : Replica → Row Replica) → begun ≡ untold old → get begun.folders folder ≡ None → Gives (StepWithin folder row old) begun (Err (peer_errors.Refused NotShared))
-not_within old begun folder row same none =
-    inr (inl (ap (λ (m : Member). get m.folders folder) (sym same) ∙ none, (same, refl)))
 
 -- ---- what stays
 

@@ -1,9 +1,12 @@
-//! Devices, which exchange what they know of folders over links: sessions, and the answers to requests.
+//! Devices, which act on their folders and exchange what they know of them over links: sessions, announcements, the
+//! answers to requests, and what a user or a scan does with a file.
 //!
 //! ```rust
-//! let mut session = Session::new(alloc, link.epoch())?;
-//! session.configure(cursors);
-//! let request = session.next_request(alloc, &folder, &name, &block)?;
+//! peer.edit(&folder, &name, &node)?;
+//! let found = peer.look(&folder, &name)?;
+//! peer.scan_commit(&folder, ScanResult::plain(alloc, name, found)?)?;
+//! peer.begin(&mut link)?;
+//! peer.announce(&mut link, &folder)?;
 //! ```
 #![tactic(auto)]
 
@@ -19,6 +22,7 @@ mod local;
 mod over;
 mod peer;
 mod requests;
+mod restart;
 mod scanning;
 mod session;
 #[cfg(test)]
