@@ -1,4 +1,5 @@
 pub mod Config
+pub mod Effect
 pub mod Lent
 pub mod Member
 pub mod PeerError

@@ -11,6 +11,7 @@ mod announce;
 mod answer;
 mod begin;
 mod config;
+mod effect;
 mod ends;
 mod error;
 mod peer;
