@@ -3,3 +3,7 @@ mod Mapped
 mod Cursors
 mod FirstRequest
 mod LastSequence
+mod MemberFacts
+mod ReadFacts
+mod RequestFacts
+mod ResponseFacts

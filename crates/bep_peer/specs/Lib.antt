@@ -3,5 +3,7 @@ pub mod Effect
 pub mod Lent
 pub mod Member
 pub mod PeerError
+pub mod Read
+pub mod Received
 pub mod Session
 pub mod Within

@@ -17,6 +17,8 @@ mod error;
 mod peer;
 mod requests;
 mod session;
+mod take_request;
+mod take_response;
 #[cfg(test)]
 mod tests;
 mod trace;
