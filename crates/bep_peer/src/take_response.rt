@@ -1,9 +1,9 @@
 //! Taking the answer to a request.
-ghost use Rattle.std.specs.Prelude.{◌≡◌, None, Some, IsSome, OnOk, OnErr};
+ghost use Rattle.std.specs.Prelude.{◌≡◌, Some, IsSome, OnOk, OnErr};
 ghost use Rattle.std.specs.FinMap as map;
 ghost use Rattle.bep_folder.specs.Received.{AreAsked};
 ghost use Rattle.bep_folder.specs.Views.{unchanged};
-ghost use Rattle.bep_machine.specs.Exchange.{ResponseRow, asked_for, without};
+ghost use Rattle.bep_machine.specs.Exchange.{ResponseRow};
 ghost use Rattle.bep_machine.specs.Peer.{Session as SessionOf};
 ghost use Rattle.bep_peer.specs.Effect.{Takes};
 ghost use Rattle.bep_peer.specs.Member.{Remains, nothing_told, tables_of};
