@@ -3,3 +3,4 @@ mod Mapped
 mod Cursors
 mod FirstRequest
 mod LastSequence
+mod ViewTaken

@@ -4,4 +4,5 @@ pub mod Lent
 pub mod Member
 pub mod PeerError
 pub mod Session
+pub mod Viewing
 pub mod Within

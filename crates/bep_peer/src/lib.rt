@@ -17,6 +17,7 @@ mod error;
 mod peer;
 mod requests;
 mod session;
+mod take_index;
 #[cfg(test)]
 mod tests;
 mod trace;
