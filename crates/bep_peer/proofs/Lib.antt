@@ -3,4 +3,9 @@ mod Mapped
 mod Cursors
 mod FirstRequest
 mod LastSequence
+<<<<<<< HEAD
 mod ViewTaken
+=======
+mod StepFacts
+mod SharingFacts
+>>>>>>> w-over

@@ -1,5 +1,6 @@
 pub mod Config
 pub mod Effect
+pub mod InSession
 pub mod Lent
 pub mod Member
 pub mod PeerError

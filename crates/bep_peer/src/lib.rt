@@ -14,6 +14,7 @@ mod config;
 mod effect;
 mod ends;
 mod error;
+mod in_session;
 mod peer;
 mod requests;
 mod session;
