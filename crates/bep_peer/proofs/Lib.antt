@@ -1,11 +1,10 @@
 mod BeginFacts
 mod Mapped
+mod OwnFacts
 mod Cursors
 mod FirstRequest
 mod LastSequence
-<<<<<<< HEAD
 mod ViewTaken
-=======
 mod StepFacts
 mod SharingFacts
->>>>>>> w-over
+mod SessionFacts
