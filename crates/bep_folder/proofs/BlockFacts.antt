@@ -40,7 +40,7 @@ block_of_match block (byte ∷ bytes) matching =
 
 -- ---- blocks that cut a file
 
-abbrev cut_of : Block → ℕ × ℕ
+abbrev pub cut_of : Block → ℕ × ℕ
 cut_of block = (block.offset, block.size)
 
 cut_from : (size len first count place : ℕ) (blocks : List Block) (block : Block) →

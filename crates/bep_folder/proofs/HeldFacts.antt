@@ -6,7 +6,7 @@ use Rattle.std.specs.Cmp.{nat_cmp_total}
 use Rattle.std.specs.FinMap.{nat_cmp-IsAntisymmetric, insert, empty, get, len, remove, contains_key, len-empty, get-remove, len-remove}
 use Rattle.std.proofs.lemmas.Map.Lookups.{exact_bytes}
 use Rattle.bep_index.specs.Listing.{Listing}
-use Rattle.bep_facts.specs.Maps.{nothing_in_empty, found_after_insert, len-insert_le}
+use Rattle.bep_facts.specs.Maps.{nothing_in_empty, found_after_insert, insert-what_is_there, len-insert_le}
 use Rattle.bep_record.specs.declared.limits.TheConstants.{MAX_PULLS}
 use Rattle.bep_model.specs.Tables.{Device, FileName}
 use Rattle.bep_machine.specs.Replica.{ByDevice, Pull}
@@ -23,6 +23,17 @@ IsHeld-begun device others views pulls sharing no_views no_pulls = record {
   pulled = record {
     named = λ name pull found. nothing_in_empty (slice_cmp nat_cmp) name pull (ap (λ m. get m name) (sym no_pulls) ∙ found);
     few = omega (arith, ap len no_pulls, len-empty (slice_cmp nat_cmp) Pull);
+  };
+}
+
+-- nothing is pulled any more
+pub IsHeld-unpulled : (device : Device) (others : List Device) (views : ByDevice Listing) (before pulls : ByName Pull) → pulls ≡ empty → IsHeld device others views before → IsHeld device others views pulls
+IsHeld-unpulled device others views before pulls none held = record {
+  sharing = held.sharing;
+  viewed = held.viewed;
+  pulled = record {
+    named = λ name pull found. nothing_in_empty (slice_cmp nat_cmp) name pull (ap (λ m. get m name) (sym none) ∙ found);
+    few = omega (arith, ap len none, len-empty (slice_cmp nat_cmp) Pull);
   };
 }
 
@@ -89,6 +100,13 @@ IsHeld-put (Ok _) device others views pulls after name pull ok err named room he
     (IsHeld-pulled device others views pulls name pull named
     (λ none. let few : ¬ (MAX_PULLS ≤ len pulls) = λ full. room (none, full) in omega (arith, few)) held)
 IsHeld-put (Err _) device others views pulls after name pull ok err named room held = subst (IsHeld device others views) (sym err) held
+
+-- a pull that is as it was
+pub unchanged_pulls : {A E : Type 0} (result : Result A E) (pulls : ByName Pull) (name : FileName) (pull after : Pull) → get pulls name ≡ Some pull →
+    OnErr result (after ≡ pull) → OnErr result (insert pulls name after ≡ pulls)
+unchanged_pulls (Ok _) pulls name pull after had err = tt
+unchanged_pulls (Err _) pulls name pull after had err =
+    ap (insert pulls name) err ∙ insert-what_is_there nat_list_cmp_total exact_bytes pulls name pull had
 
 -- a pull received a block
 pub IsHeld-added : {A E : Type 0} (result : Result A E) (device : Device) (others : List Device) (views : ByDevice Listing) (pulls after : ByName Pull) (name : FileName) (place : ℕ) (bytes : List ℕ) →

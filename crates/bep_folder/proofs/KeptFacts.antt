@@ -25,7 +25,7 @@ use Rattle.bep_folder.proofs.PullFacts.{received_paste, unflagged, whole_of}
 -- ---- what a record says of its blocks
 
 -- a record has the blocks of a file, or none
-body_cases : (deleted : Bool) (kind : Kind) (entry : Entry) → HasBody deleted kind entry →
+pub body_cases : (deleted : Bool) (kind : Kind) (entry : Entry) → HasBody deleted kind entry →
     ((entry.size ≡ 0) × (entry.blocks ≡ [])) ⊎ ((deleted ≡ false) × (kind ≡ File) × HasBlocks entry)
 body_cases true kind entry has = inl (has.0.size, has.0.blocks)
 body_cases false File entry has = inr (refl, refl, has.0)

@@ -1,3 +1,4 @@
+mod AskedFacts
 mod BlockFacts
 mod ChosenFacts
 mod CommitFacts
@@ -11,7 +12,6 @@ mod KnownFacts
 mod OverrideFacts
 mod PullFacts
 mod RevertFacts
-mod ReceivedFacts
 mod SettleFacts
 mod StartPullFacts
 mod StoredFacts

@@ -3,6 +3,7 @@
 
 mod add_block;
 mod adopt;
+mod asked;
 mod beside;
 mod chosen;
 mod commit;
@@ -32,6 +33,7 @@ mod traced;
 mod views;
 mod wanted;
 
+pub use asked::is_about;
 pub use error::FolderError;
 pub use pull::Pull;
 pub use replica::{Replica, are_others};

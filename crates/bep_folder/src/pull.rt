@@ -81,9 +81,10 @@ impl Pull {
 
     /// Whether there is a block at this place, from 0, and these are its bytes: as many, and with its SHA-256.
     pub(crate) fn is_block(&self, place: usize, bytes: &[u8]) -> bool
-        ensures { IsTrue result ↔ AreOfBlockAt self.now.target.blocks place bytes.now }
+        ensures same { IsTrue result ↔ AreOfBlockAt self.now.target.blocks place bytes.now }
+        ensures a_pull { IsPull self.now }
     {
-        match self.target.entry().blocks.as_slice().get(place) {
+        match self.target().entry().blocks.as_slice().get(place) {
             Some(block) => are_of(block, bytes),
             None => false,
         }

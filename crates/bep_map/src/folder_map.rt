@@ -1,8 +1,9 @@
 //! A map from folders to values, over a `BTreeMap`.
-ghost use Rattle.std.specs.Prelude.{◌≡◌, IfOk, IfErr, OnOk, OnErr, Some, None};
+ghost use Rattle.std.specs.Prelude.{◌≡◌, ℕ, List, IfOk, IfErr, OnOk, OnErr, Some, None};
 ghost use Rattle.std.specs.Option.{option_copied, option_copied_mut};
 ghost use Rattle.std.specs.Borrow.{LendsIf, sem};
 ghost use Rattle.std.specs.FinMap as map;
+ghost use Rattle.std.specs.Map.Calls.{CalledAtPair, TakesPair, RetainsPairs};
 ghost use Rattle.bep_map.specs.contracts.folder_map.FolderMap.{the_row};
 
 use bep_record::FolderName;
@@ -90,6 +91,15 @@ impl<V: Drop> FolderMap<V> {
             None => return Err(value),
         };
         Ok(mem::replace(held, value))
+    }
+
+    /// Calls `keep` on each folder in turn, in the order of their names, and keeps those for which it answers `true`, with
+    /// the value that it leaves there. So each value can be changed in place. Takes no memory of its own.
+    pub fn retain<F: FnMut(&FolderName, &mut V) -> bool>(&mut self, keep: F)
+        requires { (f : F) (folder : List ℕ) (value : V) → TakesPair F.FnMut f folder value }
+        ensures { RetainsPairs (CalledAtPair F.FnMut) keep (map.entries self.old) (map.entries self.new) }
+    {
+        self.entries.retain(keep);
     }
 }
 

@@ -1,7 +1,9 @@
 //! A map from names to values, over a `BTreeMap`.
 ghost use Rattle.std.specs.Prelude.{◌≡◌, IfOk, IfErr, OnOk, OnErr, Some, None};
-ghost use Rattle.std.specs.Option.{option_copied};
+ghost use Rattle.std.specs.Option.{option_copied, option_copied_mut};
+ghost use Rattle.std.specs.Borrow.{LendsIf, sem};
 ghost use Rattle.std.specs.FinMap as map;
+ghost use Rattle.bep_map.specs.contracts.name_map.NameMap.{the_row};
 
 use bep_record::{Duplicate, Name};
 use std::alloc::{AllocError, Global};
@@ -71,6 +73,14 @@ impl<V> NameMap<V> {
         ensures { result ≡ map.values self.now }
     {
         self.entries.values()
+    }
+
+    /// The value at the name, if it has one, to be changed in place.
+    pub fn get_mut(&mut self, name: &Name) -> Option<&mut V>
+        ensures* writes_back { sem 𝓛 (LendsIf (the_row V.row) V.row self.entry result (λ value. map.insert self.old name.now value) self.old) }
+        ensures value { option_copied_mut result ≡ map.get self.old name.now }
+    {
+        self.entries.get_mut(name)
     }
 }
 

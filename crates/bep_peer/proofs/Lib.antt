@@ -8,3 +8,7 @@ mod ViewTaken
 mod StepFacts
 mod SharingFacts
 mod SessionFacts
+mod MemberFacts
+mod ReadFacts
+mod RequestFacts
+mod ResponseFacts

@@ -4,6 +4,8 @@ pub mod InSession
 pub mod Lent
 pub mod Member
 pub mod PeerError
+pub mod Read
+pub mod Received
 pub mod Session
 pub mod Viewing
 pub mod Within

@@ -19,6 +19,8 @@ mod peer;
 mod requests;
 mod session;
 mod take_index;
+mod take_request;
+mod take_response;
 #[cfg(test)]
 mod tests;
 mod trace;
