@@ -67,7 +67,7 @@ refused_at old other (Refused refusal) joins row = inr (inr (
   ),
 ))
 refused_at old other Stale joins row = absurd row
-refused_at old other Memory joins row = inl (refl, refl)
+refused_at old other Memory joins row = inl (record { tables = refl; link = refl; silent = refl }, refl)
 
 pub refused : (old : Lent) (other : Device) (error : PeerError) → Joins (untold_over old) other →
     Gives (BeginRow other (sight_of (end_of old.member.number other) old.link.link) (tables_of old.member)) (idle (tables_of old.member)) (Err error) →

@@ -1,8 +1,13 @@
 mod BeginFacts
 mod Mapped
+mod OwnFacts
 mod Cursors
 mod FirstRequest
 mod LastSequence
+mod ViewTaken
+mod StepFacts
+mod SharingFacts
+mod SessionFacts
 mod MemberFacts
 mod ReadFacts
 mod RequestFacts

@@ -4,7 +4,7 @@ use Rattle.std.specs.FinMap.{insert, remove}
 use Rattle.bep_model.specs.Tables.{Device, Folder}
 use Rattle.bep_machine.specs.declared.message.Message.{Message}
 use Rattle.bep_machine.specs.declared.refusal.Refusal.TheVariants.{NotShared}
-use Rattle.bep_machine.specs.Answer.{Answer, Refused, OutOfMemory, Row, becomes, ◌answers◌when◌else◌}
+use Rattle.bep_machine.specs.Answer.{Answer, Refused, OutOfMemory, Row, ◌answers◌when◌else◌}
 use Rattle.bep_machine.specs.Link.{End, Sight, end_of, sight_of, after_deed}
 use Rattle.bep_machine.specs.Replica.{ByDevice}
 use Rattle.bep_machine.specs.Peer.{Session, Peer, Acted}

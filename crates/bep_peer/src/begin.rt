@@ -8,7 +8,7 @@ ghost use Rattle.bep_machine.specs.Link.{end_of, sight_of, sending, after_deed};
 ghost use Rattle.bep_machine.specs.Peer.{idle, new_session};
 ghost use Rattle.bep_peer.specs.Config.{config_of};
 ghost use Rattle.bep_peer.specs.Lent.{NamesNone, StepOver, OnlySessions, IsOpenTo, with_before};
-ghost use Rattle.bep_peer.specs.Member.{tables_of, untold};
+ghost use Rattle.bep_peer.specs.Member.{Remains, tables_of, untold};
 ghost use Rattle.bep_peer.specs.PeerError.{Gives};
 ghost use Rattle.bep_peer.specs.declared.error.PeerError.TheVariants.{Memory};
 
@@ -29,7 +29,8 @@ impl<S: Store> Peer<S> {
     /// BEP v1, 'Cluster Config'.
     pub fn begin(&mut self, link: &mut Link) -> Result<Moved, PeerError>
         ensures step { Gives (StepOver BeginRow NamesNone (record { member = self.old; link = link.old })) (record { member = self.new; link = link.new }) result }
-        ensures rest { OnlySessions self.old self.new }
+        ensures rest { Remains self.old self.new }
+        ensures only { OnlySessions self.old self.new }
         ensures err { OnErr result ((self.new ≡ untold self.old) × (link.new ≡ link.old)) }
     {
         self.tell_nothing();
@@ -71,7 +72,7 @@ impl<S: Store> Peer<S> {
         let session = Session::new(self.alloc, link.epoch())?;
         let side = side_of(self.number, other);
         give_and_send(&mut self.sessions, other, session, link, side, message)?;
-        self.trace.put = Some(told);
+        self.trace.tell(told);
         Ok(())
     }
 }

@@ -14,9 +14,11 @@ mod config;
 mod effect;
 mod ends;
 mod error;
+mod in_session;
 mod peer;
 mod requests;
 mod session;
+mod take_index;
 mod take_request;
 mod take_response;
 #[cfg(test)]

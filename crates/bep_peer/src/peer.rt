@@ -1,5 +1,5 @@
 //! A device with its folders, its sessions and the devices with which it has links.
-ghost use Rattle.std.specs.Prelude.{◌≡◌, ◌≢◌, ◌↔◌, ◌⊎◌, Some, IsSome, IfSome, IfNone};
+ghost use Rattle.std.specs.Prelude.{◌≡◌, ◌≢◌, ◌↔◌, ◌⊎◌, Some, IsSome, IfSome, IfNone, IsTrue, option_map};
 ghost use Rattle.std.specs.Option.{option_copied};
 ghost use Rattle.std.specs.FinMap as map;
 ghost use Rattle.bep_folder.specs.Held.{AreOthers};
@@ -48,22 +48,28 @@ impl<S: Store> Model for Peer<S> {
 
     ghost view = { λ p. record { number = p.number; folders = p.folders; sessions = p.sessions; linked = p.linked; trace = p.trace } };
 
-    ghost invariant = { λ p. IsMember p.number p.folders p.linked };
+    ghost invariant = { λ p. IsMember p.number p.folders p.sessions p.linked };
 }
 
 impl<S: Store> Peer<S> {
-    /// The device as it begins, without folders and sessions. `linked` are the devices with which it has links. None
-    /// exactly where these don't rise, or the device is among them, or there are more than 15. It takes no memory.
-    pub fn new(alloc: Global, number: DeviceId, linked: Vec<DeviceId>) -> Option<Self>
-        ensures some { IsSome result ↔ AreOthers number linked.items }
-        ensures begun { IfSome result (λ made. made ≡ new_member number linked.items) }
+    /// The device as it begins, with these folders and without sessions. `linked` are the devices with which it has links.
+    /// None exactly where these don't rise, or the device is among them, or there are more than 15; or where a folder isn't
+    /// the device's, or stands under another name. It takes no memory.
+    pub fn new(
+        alloc: Global,
+        number: DeviceId,
+        folders: FolderMap<Replica<S>>,
+        linked: Vec<DeviceId>,
+    ) -> Option<Self>
+        ensures some { IsSome result ↔ (AreOthers number linked.items × AreOwn number folders) }
+        ensures begun { IfSome result (λ made. made ≡ new_member number folders linked.items) }
     {
-        if !are_others(number, linked.as_slice()) {
+        if !are_others(number, linked.as_slice()) || !are_own(number, &folders) {
             return None;
         }
         Some(Peer {
             number,
-            folders: FolderMap::new(alloc),
+            folders,
             sessions: DeviceMap::new(alloc),
             linked: Items::new(linked),
             trace: Trace::nothing(),
@@ -91,6 +97,17 @@ impl<S: Store> Peer<S> {
         ensures { option_copied result ≡ map.get self.now.folders folder.now }
     {
         self.folders.get(folder)
+    }
+
+    /// The other devices that share the folder, rising, if the device shares it.
+    pub fn others(&self, folder: &FolderName) -> Option<&[DeviceId]>
+        ensures value { option_map (λ others. others.now) result ≡ option_map (λ held. held.tables.others) (map.get self.now.folders folder.now) }
+        ensures others { IfSome result (λ others. AreOthers self.now.number others.now) }
+    {
+        match self.folders.get(folder) {
+            Some(replica) => Some(replica.others()),
+            None => None,
+        }
     }
 
     /// The devices with which it has links, rising.
@@ -146,6 +163,25 @@ impl<S: Store> Peer<S> {
         }
         Some(session)
     }
+}
+
+// Whether each folder is the device's, and stands under its own name.
+fn are_own<S: Store>(number: DeviceId, folders: &FolderMap<Replica<S>>) -> bool
+    ensures { IsTrue result ↔ AreOwn number folders.now }
+{
+    for (folder, replica) in folders.iter() {
+        if !is_own(number, folder, replica) {
+            return false;
+        }
+    }
+    true
+}
+
+// Whether the folder is the device's, under this name.
+fn is_own<S: Store>(number: DeviceId, folder: &FolderName, replica: &Replica<S>) -> bool
+    ensures { IsTrue result ↔ ((replica.now.device ≡ number) × (replica.now.folder ≡ folder.now)) }
+{
+    replica.device() == number && *replica.folder() == *folder
 }
 
 // The end of the two that isn't the device's, if the device is at one.

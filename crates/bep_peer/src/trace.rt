@@ -1,5 +1,5 @@
 //! What an action of a device did besides its effect.
-ghost use Rattle.std.specs.Prelude.{◌≡◌};
+ghost use Rattle.std.specs.Prelude.{◌≡◌, Some};
 ghost use Rattle.bep_peer.specs.Member.{nothing_told};
 
 use bep_machine::Message;
@@ -25,5 +25,12 @@ impl Trace {
             copied: false,
             put: None,
         }
+    }
+
+    // A message was sent, of which these are two copies.
+    pub(crate) fn tell(&mut self, put: (Message, Message))
+        ensures { self.new ≡ record self.old { put = Some put } }
+    {
+        self.put = Some(put);
     }
 }

@@ -1,0 +1,76 @@
+-- The ends of a device's action over a link, as a step of the table: refused, want of memory, or done.
+use Rattle.std.proofs.Common.{◌≡◌, Option, None, Result, Ok, Err, refl, sym, ap, subst, ◌∙◌, inl, inr}
+use Rattle.bep_model.specs.Tables.{Device, Folder}
+use Rattle.bep_machine.specs.declared.refusal.Refusal.TheVariants.{NotShared}
+use Rattle.bep_machine.specs.Answer.{Answer, Row, Refused as Refuses}
+use Rattle.bep_machine.specs.Exchange.{SessionRow}
+use Rattle.bep_machine.specs.Link.{End, Lower, Upper, Link, Sight, end_of, sight_of, after_deed, nothing_done}
+use Rattle.bep_machine.specs.Peer.{Session, Peer, Acted, idle}
+use Rattle.bep_peer.specs.declared.error.PeerError.{PeerError}
+use Rattle.bep_peer.specs.declared.error.PeerError.TheVariants.{Refused, Stale, Memory}
+use Rattle.bep_peer.specs.InSession.{NothingDone}
+use Rattle.bep_peer.specs.Lent.{Lent, Joins, IsAtHand, StepOver, untold_over}
+use Rattle.bep_peer.specs.Member.{Member, tables_of, untold}
+use Rattle.bep_peer.specs.PeerError.{Gives}
+
+-- the device and the link, once an action began
+abbrev pub begun_with : Lent → Member → Lent
+begun_with old begun = record { member = begun; link = old.link }
+
+nothing_carried : (end : End) (link : Link) → link ≡ after_deed end nothing_done link
+nothing_carried Lower link = refl
+nothing_carried Upper link = refl
+
+module _ (row : Device → Sight → Peer → Row Acted) (shares : Device → Peer → Type 0) where
+  -- something that the step names isn't at hand
+  pub refused_as_not_shared : (old : Lent) (begun : Member) → begun ≡ untold old.member → (¬ IsAtHand shares (begun_with old begun)) →
+      StepOver row shares old (begun_with old begun) (Refuses NotShared)
+  refused_as_not_shared old begun same none =
+      subst (λ (member : Member). (¬ IsAtHand shares (begun_with old member)) → StepOver row shares old (begun_with old member) (Refuses NotShared)) (sym same)
+      (λ none. inr (inl (λ there. none (there.0, record { ends = there.1.ends; linked = there.1.linked }, there.2), (refl, refl)))) none
+
+  -- a refusal of the row, or want of memory, before anything was done
+  refused_at : (old : Lent) (other : Device) (error : PeerError) → Joins old other → shares other (tables_of old.member) →
+      Gives (row other (sight_of (end_of old.member.number other) old.link.link) (tables_of old.member)) (idle (tables_of old.member)) (Err error) →
+      Gives (StepOver row shares old) (untold_over old) (Err error)
+  refused_at old other (Refused refusal) joins shared made = inr (inr (
+    λ apart. apart (other, joins, shared),
+    (
+      other,
+      joins,
+      record {
+        acted = idle (tables_of old.member);
+        made = made;
+        tables = refl;
+        carried = ap (λ (link : Link). record old.link { link = link }) (nothing_carried (end_of old.member.number other) old.link.link);
+        told = refl;
+      },
+    ),
+  ))
+  refused_at old other Stale joins shared made = absurd made
+  refused_at old other Memory joins shared made = inl (record { tables = refl; link = refl; silent = refl }, refl)
+
+  pub refused_as : (old : Lent) (begun : Member) (other : Device) (error : PeerError) → begun ≡ untold old.member → Joins (begun_with old begun) other →
+      shares other (tables_of begun) →
+      Gives (row other (sight_of (end_of begun.number other) old.link.link) (tables_of begun)) (idle (tables_of begun)) (Err error) →
+      Gives (StepOver row shares old) (begun_with old begun) (Err error)
+  refused_as old begun other error same joins shared made =
+      subst
+      (λ (member : Member). Joins (begun_with old member) other → shares other (tables_of member) → Gives (row other (sight_of (end_of member.number other) old.link.link) (tables_of member)) (idle (tables_of member)) (Err error) → Gives (StepOver row shares old) (begun_with old member) (Err error))
+      (sym same)
+      (λ joins shared made. refused_at old other error (record { ends = joins.ends; linked = joins.linked }) shared made) joins shared made
+
+-- ---- in a session
+
+-- what a session refuses is refused whatever would be done in it
+session_refused_with : (other : Device) (sight : Sight) (old : Peer) (rest : Session → Row Acted) (new : Acted) (answer : Answer) →
+    SessionRow other sight old NothingDone new answer → SessionRow other sight old rest new answer
+session_refused_with other sight old rest new answer (inl down) = inl down
+session_refused_with other sight old rest new answer (inr (up, inl none)) = inr (up, inl none)
+session_refused_with other sight old rest new answer (inr (up, inr (begun, there))) = absurd there.2
+
+pub session_refused : (other : Device) (sight : Sight) (old : Peer) (rest : Session → Row Acted) (error : PeerError) →
+    Gives (SessionRow other sight old NothingDone) (idle old) (Err error) → Gives (SessionRow other sight old rest) (idle old) (Err error)
+session_refused other sight old rest (Refused refusal) row = session_refused_with other sight old rest _ _ row
+session_refused other sight old rest Stale row = absurd row
+session_refused other sight old rest Memory row = session_refused_with other sight old rest _ _ row
