@@ -15,6 +15,7 @@ mod effect;
 mod ends;
 mod error;
 mod in_session;
+mod over;
 mod peer;
 mod requests;
 mod session;
