@@ -12,3 +12,8 @@ mod SessionFacts
 mod WithinFacts
 mod ScanFacts
 mod RestartFacts
+mod ViewTaken
+mod MemberFacts
+mod ReadFacts
+mod RequestFacts
+mod ResponseFacts

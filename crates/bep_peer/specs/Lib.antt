@@ -1,7 +1,11 @@
 pub mod Config
+pub mod Effect
 pub mod InSession
 pub mod Lent
 pub mod Member
 pub mod PeerError
+pub mod Read
+pub mod Received
 pub mod Session
+pub mod Viewing
 pub mod Within

@@ -15,6 +15,7 @@ mod announcing;
 mod answer;
 mod begin;
 mod config;
+mod effect;
 mod ends;
 mod error;
 mod in_session;
@@ -25,6 +26,9 @@ mod requests;
 mod restart;
 mod scanning;
 mod session;
+mod take_index;
+mod take_request;
+mod take_response;
 #[cfg(test)]
 mod tests;
 mod trace;

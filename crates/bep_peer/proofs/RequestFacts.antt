@@ -1,0 +1,58 @@
+-- Taking a request is the step of the table on the device.
+use Rattle.std.proofs.Common.{◌≡◌, Bool, true, false, ℕ, Option, Some, Result, Ok, Err, IfOk, inl, inr, refl, sym, ap, ◌∙◌}
+use Rattle.std.specs.FinMap.{get}
+use Rattle.bep_map.specs.NameMap.{ByName}
+use Rattle.bep_record.specs.declared.node.NodeParts.{NodeParts}
+use Rattle.bep_model.specs.Tables.{Device, Folder, FileName}
+use Rattle.bep_machine.specs.declared.message.Message.TheVariants as messages
+use Rattle.bep_machine.specs.declared.message.Request.{Request}
+use Rattle.bep_machine.specs.declared.message.Response.{Response}
+use Rattle.bep_machine.specs.declared.refusal.Refusal.TheVariants.{LinkFull}
+use Rattle.bep_machine.specs.Exchange.{Answers, IsNamed, MessageRow}
+use Rattle.bep_machine.specs.Peer.{Session, Peer, Acted}
+use Rattle.bep_machine.specs.Replica.{node_at}
+use Rattle.bep_folder.specs.declared.error.FolderError.{FolderError}
+use Rattle.bep_folder.specs.Held.{Held}
+use Rattle.bep_peer.specs.declared.effect.Effect.TheVariants.{Answered, Lost}
+use Rattle.bep_peer.specs.declared.error.PeerError.TheVariants.{Refused}
+use Rattle.bep_peer.specs.Effect.{Takes, deed_of}
+use Rattle.bep_peer.specs.Member.{Member, tables_of}
+use Rattle.bep_peer.specs.Read.{IsNodeAt}
+use Rattle.bep_peer.proofs.MemberFacts.{has_tables}
+
+pub request_lost : (other : Device) (failed : Option ℕ) (full : Bool) (session : Session) (request : Request) (member : Member) → ¬ IsNamed session request.folder →
+    Takes (MessageRow other failed full session (messages.Request request) (tables_of member)) member member (Ok Lost)
+request_lost other failed full session request member unnamed = inr (unnamed, (refl, refl))
+
+pub request_waits : (other : Device) (failed : Option ℕ) (full : Bool) (session : Session) (request : Request) (member : Member) (held : Held) →
+    full ≡ true → IsNamed session request.folder → get member.folders request.folder ≡ Some held →
+    Takes (MessageRow other failed full session (messages.Request request) (tables_of member)) member member (Err (Refused LinkFull))
+request_waits other failed full session request member held is_full named has =
+    inl (named, (held.tables, has_tables member.folders request.folder held has, inl (is_full, (refl, refl))))
+
+-- the node of the folder that the session names
+pub node_of : (folders : ByName Held) (folder : Folder) (name : FileName) (held : Held) (result : Result (Option NodeParts) FolderError) →
+    get folders folder ≡ Some held → IfOk result (IsNodeAt folders folder name) → IfOk result (λ found. found ≡ node_at held.tables name)
+node_of folders folder name held (Ok found) has at =
+    let same : Some at.0 ≡ Some held = sym at.1 ∙ has in
+    let one : at.0 ≡ held = cc in
+    at.2 ∙ ap (λ (h : Held). node_at h.tables name) one
+node_of folders folder name held (Err e) has at = tt
+
+pub request_answered : (other : Device) (failed : Option ℕ) (full : Bool) (session : Session) (request : Request) (old new : Member) (held : Held) (response : Response) →
+    full ≡ false → IsNamed session request.folder → get old.folders request.folder ≡ Some held → tables_of new ≡ tables_of old → Answers request failed (node_at held.tables request.name) response →
+    Takes (MessageRow other failed full session (messages.Request request) (tables_of old)) old new (Ok (Answered response))
+request_answered other failed full session request old new held response not_full named has same answers = inl (
+  named,
+  (
+    held.tables,
+    has_tables old.folders request.folder held has,
+    inr (
+      λ is_full. absurd (cc),
+      (response, answers, (ap acted same, refl)),
+    ),
+  ),
+)
+  where
+    acted : Peer → Acted
+    acted peer = record { peer = peer; deed = deed_of (Answered response) }

@@ -1,0 +1,37 @@
+-- What an Index or an IndexUpdate makes of a device's view of another one (BEP v1, 'Index' and 'Index Update').
+use Rattle.std.specs.Prelude.{◌≡◌, ◌⊎◌, ◌<◌, Some, Contains, Result, Ok, Err}
+use Rattle.std.specs.FinMap.{get, insert, len}
+use Rattle.bep_map.specs.NameMap.{ByName}
+use Rattle.bep_index.specs.declared.limits.TheConstants.{MAX_NAMES}
+use Rattle.bep_index.specs.Listing.{Listing}
+use Rattle.bep_model.specs.Tables.{Device, Folder}
+use Rattle.bep_machine.specs.declared.refusal.Refusal.TheVariants.{IndexFull}
+use Rattle.bep_machine.specs.Replica.{view_of}
+use Rattle.bep_folder.specs.Held.{Held}
+use Rattle.bep_folder.specs.Views.{unchanged, with_viewed}
+use Rattle.bep_peer.specs.declared.effect.Effect.{Effect}
+use Rattle.bep_peer.specs.declared.effect.Effect.TheVariants.{Taken, Lost}
+use Rattle.bep_peer.specs.declared.error.PeerError.{PeerError}
+use Rattle.bep_peer.specs.declared.error.PeerError.TheVariants.{Refused, Memory}
+
+-- the device has the folder, and the other one shares it
+abbrev pub IsSharedBy : ByName Held → Folder → Device → Type 0
+IsSharedBy folders folder other = (held : Held) × (get folders folder ≡ Some held) × Contains held.tables.others other
+
+-- the view would have too many names
+abbrev pub HasTooMany : Listing → Type 0
+HasTooMany view = MAX_NAMES < len view.records
+
+-- the folder is as before
+abbrev pub IsAsBefore : Folder → Held → ByName Held → ByName Held → Type 0
+IsAsBefore folder held old new = new ≡ insert old folder (unchanged held)
+
+-- The link is lost where the view of the other device is so; else the view becomes what this makes of it, unless it would
+-- have too many names. Memory may be wanting.
+abbrev pub TakesInView : Folder → Device → Held → (Listing → Type 0) → (Listing → Listing) → ByName Held → ByName Held → Result Effect PeerError → Type 0
+TakesInView folder other held losing changed old new result =
+    let view = view_of held.tables other in
+    ((result ≡ Ok Taken) × (¬ losing view) × (¬ HasTooMany (changed view)) × (new ≡ insert old folder (with_viewed held other (changed view)))) ⊎
+    ((result ≡ Ok Lost) × losing view × IsAsBefore folder held old new) ⊎
+    ((result ≡ Err (Refused IndexFull)) × (¬ losing view) × HasTooMany (changed view) × IsAsBefore folder held old new) ⊎
+    ((result ≡ Err Memory) × IsAsBefore folder held old new)
