@@ -10,6 +10,7 @@
 mod announce;
 mod announcing;
 mod answer;
+mod asking;
 mod begin;
 mod config;
 mod ends;
