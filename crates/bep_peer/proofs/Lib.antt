@@ -7,4 +7,5 @@ mod LastSequence
 mod StepFacts
 mod SharingFacts
 mod AnnounceFacts
+mod AskFacts
 mod SessionFacts
