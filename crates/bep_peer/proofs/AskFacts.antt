@@ -1,5 +1,5 @@
 -- The next block of a pull, and the sessions once it was asked for.
-use Rattle.std.proofs.Common.{◌≡◌, ℕ, suc, zero, ◌+◌, ◌<◌, ◌≤◌, Bool, true, false, List, [], ◌∷◌, length, drop, get_or, slice_get, Option, Some, None, unwrap_or, Contains, refl, sym, ap, subst, ◌∙◌, ⊎_elim, arith}
+use Rattle.std.proofs.Common.{◌≡◌, ℕ, suc, zero, ◌+◌, ◌<◌, ◌≤◌, Bool, true, false, List, [], ◌∷◌, length, drop, get_or, Option, Some, None, unwrap_or, Contains, refl, sym, ap, subst, ◌∙◌, inl, inr, ⊎_elim, arith}
 use Rattle.std.proofs.lemmas.Bool.{cond-true, cond-false}
 use Rattle.std.specs.Ordering.{nat_cmp}
 use Rattle.std.specs.Cmp.{nat_cmp_total}
@@ -8,21 +8,25 @@ use Rattle.std.specs.FinMap.{nat_cmp-IsAntisymmetric, get, insert, get-empty}
 use Rattle.bep_facts.specs.Maps.{found_after_insert}
 use Rattle.bep_map.specs.NameMap.{ByName}
 use Rattle.bep_record.specs.declared.block.Block.{Block}
-use Rattle.bep_record.specs.declared.entry.Entry.{Entry}
 use Rattle.bep_index.specs.Listing.{Listing}
 use Rattle.bep_index.specs.View.{cleared}
 use Rattle.bep_model.specs.Tables.{Device, Folder, FileName}
-use Rattle.bep_machine.specs.declared.limits.TheConstants.{MAX_OUTSTANDING, MAX_REQUEST_ID}
+use Rattle.bep_machine.specs.declared.message.Message.TheVariants as messages
 use Rattle.bep_machine.specs.declared.message.Request.{Request}
-use Rattle.bep_machine.specs.Exchange.{CanAsk, IsNamed, is_asked, next_block}
-use Rattle.bep_machine.specs.Peer.{Session}
-use Rattle.bep_machine.specs.Replica.{ByDevice, HasContentOf, Pull, Replica, own_at, pull_at, viewed_at}
+use Rattle.bep_machine.specs.declared.moved.Moved.TheVariants.{Changed}
+use Rattle.bep_machine.specs.declared.refusal.Refusal.TheVariants.{LinkFull, NothingToDo}
+use Rattle.bep_machine.specs.Answer.{Answer, Done, Refused as Refuses}
+use Rattle.bep_machine.specs.Exchange.{AskRow, AskingRow, CanAsk, IsNamed, ReplicaRow, is_asked, next_block, request_for}
+use Rattle.bep_machine.specs.Link.{Sight, sending}
+use Rattle.bep_machine.specs.Peer.{Session, Peer, Acted, idle, with_session}
+use Rattle.bep_machine.specs.Replica.{ByDevice, Replica, viewed_at}
 use Rattle.bep_machine.specs.Sound.{AreReceived}
 use Rattle.bep_folder.specs.Held.{Held}
 use Rattle.bep_folder.specs.Pull.{IsReceivedAt}
-use Rattle.bep_peer.specs.InSession.{IsOffered}
+use Rattle.bep_peer.specs.InSession.{IsNextAsked, IsOver}
 use Rattle.bep_peer.specs.Member.{NameShared}
 use Rattle.bep_peer.specs.Session.{with_request}
+use Rattle.bep_peer.proofs.StepFacts.{in_session}
 
 -- ---- what is viewed
 
@@ -79,44 +83,6 @@ module _ (session : Session) (folder : Folder) (name : FileName) (default : Bloc
         (sym same)
         (λ within on. next_after blocks received place are within on ∙ left) within on
 
--- ---- the block that can be asked for
-
-module _ (other : Device) (folder : Folder) (name : FileName) (session : Session) (replica : Replica) (pull : Pull) (pulled : pull_at replica name ≡ Some pull) where
-  same_pull : (one : Pull) → pull_at replica name ≡ Some one → one ≡ pull
-  same_pull one is = let e = sym is ∙ pulled in cc
-
-  pub can_be_asked : (block : Block) → (¬ HasContentOf (own_at replica name) pull.target) → (length session.outstanding < MAX_OUTSTANDING) × (session.next ≤ MAX_REQUEST_ID) → IsOffered other name replica pull.target →
-      next_block session folder name pull.target.blocks pull.received ≡ Some block → CanAsk other folder name session replica block
-  can_be_asked block different room offered next = record {
-    pull = pull;
-    pulled = pulled;
-    different = different;
-    next = next;
-    few = room.0;
-    numbered = room.1;
-    viewed = offered.viewed;
-    seen = offered.seen;
-    valid = offered.valid;
-    same = offered.same;
-  }
-
-  -- what is needed is needed of this pull
-  module _ (block : Block) (can : CanAsk other folder name session replica block) where
-    same : can.pull ≡ pull
-    same = same_pull can.pull can.pulled
-
-    pub is_different : ¬ HasContentOf (own_at replica name) pull.target
-    is_different = subst (λ (pull : Pull). ¬ HasContentOf (own_at replica name) pull.target) same can.different
-
-    pub is_offered : IsOffered other name replica pull.target
-    is_offered = subst (λ (pull : Pull). IsOffered other name replica pull.target) same (record { viewed = can.viewed; seen = can.seen; valid = can.valid; same = can.same })
-
-    pub is_next : next_block session folder name pull.target.blocks pull.received ≡ Some block
-    is_next = subst (λ (pull : Pull). next_block session folder name pull.target.blocks pull.received ≡ Some block) same can.next
-
-pub not_pulled : (other : Device) (folder : Folder) (name : FileName) (session : Session) (replica : Replica) → pull_at replica name ≡ None → (block : Block) → ¬ CanAsk other folder name session replica block
-not_pulled other folder name session replica none block can = let e = sym can.pulled ∙ none in absurd (cc)
-
 -- ---- the folders that a session names
 
 request_shared : (folders : ByName Held) (sessions : ByDevice Session) (to : Device) (session : Session) (request : Request) → NameShared folders sessions → get sessions to ≡ Some session → NameShared folders (insert sessions to (with_request session request))
@@ -131,3 +97,32 @@ request_shared folders sessions to session request shared has other found one is
 -- a request names no folder more
 pub still_shared : (folders : ByName Held) (sessions new : ByDevice Session) (to : Device) (session : Session) (request : Request) → NameShared folders sessions → get sessions to ≡ Some session → new ≡ insert sessions to (with_request session request) → NameShared folders new
 still_shared folders sessions new to session request shared has is = subst (NameShared folders) (sym is) (request_shared folders sessions to session request shared has)
+
+-- ---- in the session
+
+module _ (other : Device) (folder : Folder) (name : FileName) (sight : Sight) (peer : Peer) (session : Session) (replica : Replica) (over : IsOver other sight peer session) (has : get peer.replicas folder ≡ Some replica) where
+  -- what is done in this session, with this replica
+  asking : (new : Acted) (answer : Answer) → AskingRow other folder name sight.full session peer replica new answer → AskRow other folder name sight peer new answer
+  asking new answer made = in_session other sight peer (λ s. ReplicaRow folder peer (AskingRow other folder name sight.full s peer)) session new answer over (replica, has, made)
+
+  pub nothing_to_ask : ((block : Block) → ¬ CanAsk other folder name session replica block) → AskRow other folder name sight peer (idle peer) (Refuses NothingToDo)
+  nothing_to_ask none = asking _ _ (inl (λ there. none there.0 there.1, (refl, refl)))
+
+  module _ (block : Block) (can : CanAsk other folder name session replica block) where
+    pub no_room : sight.full ≡ true → AskRow other folder name sight peer (idle peer) (Refuses LinkFull)
+    no_room filled = asking _ _ (inr (λ none. none (block, can), inl (filled, (refl, refl))))
+
+    pub next_is : (request : Request) → sight.full ≡ false → request ≡ request_for session folder name block → IsNextAsked other folder name sight peer request
+    next_is request room is = record {
+      session = session;
+      over = over;
+      next = record { few = can.few; left = can.numbered; number = ap (λ (r : Request). r.id) is };
+      room = room;
+      made = asking _ _ (inr (
+        λ none. none (block, can),
+        inr (
+          (λ filled. absurd (cc)),
+          (block, can, (ap (λ (r : Request). record { peer = with_session peer other (with_request session r); deed = sending (messages.Request r) }) is, refl)),
+        ),
+      ));
+    }
