@@ -61,10 +61,10 @@ module _ (session : Session) (folder : Folder) (name : FileName) (default : Bloc
   next_after (first ∷ blocks) (None ∷ received) zero are within left = sym (cond-true _ _ _ (left (λ there. let e = there.1 in absurd (cc))))
   next_after (first ∷ blocks) (None ∷ received) (suc place) are within left =
       ap (λ n. next_block session folder name (drop n (first ∷ blocks)) (drop n (None ∷ received))) (sym (one_more place))
-          ∙ next_after blocks received place are (omega arith) left
+      ∙ next_after blocks received place are (omega arith) left
   next_after (first ∷ blocks) (Some had ∷ received) (suc place) are within left =
       ap (λ n. next_block session folder name (drop n (first ∷ blocks)) (drop n (Some had ∷ received))) (sym (one_more place))
-          ∙ next_after blocks received place are.1 (omega arith) left
+      ∙ next_after blocks received place are.1 (omega arith) left
 
   module _ (items blocks : List Block) (received : List (Option (List ℕ))) (place : ℕ) (same : items ≡ blocks) (are : AreReceived blocks received) (within : place < length items) (left : next_block session folder name (drop place blocks) (drop place received) ≡ next_block session folder name blocks received) where
     -- the walk finds the block
