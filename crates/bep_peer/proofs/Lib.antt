@@ -8,6 +8,7 @@ mod LastSequence
 mod StepFacts
 mod SharingFacts
 mod AnnounceFacts
+mod AskFacts
 mod SessionFacts
 mod WithinFacts
 mod ScanFacts

@@ -1,6 +1,8 @@
 -- What a device does in a session over a link: what it needs first, and what is next (this project's profile).
-use Rattle.std.specs.Prelude.{◌≡◌, ℕ, ⊤, true, false}
+use Rattle.std.specs.Prelude.{◌≡◌, ℕ, ⊤, true, false, Some}
 use Rattle.std.specs.FinMap.{insert}
+use Rattle.bep_record.specs.declared.entry.Entry.{Entry}
+use Rattle.bep_record.specs.Content.{content_of}
 use Rattle.bep_index.specs.declared.send.Plan.TheVariants.{Above}
 use Rattle.bep_model.specs.Tables.{Device, Folder, FileName}
 use Rattle.bep_machine.specs.declared.message.Message.{Message}
@@ -10,6 +12,7 @@ use Rattle.bep_machine.specs.declared.moved.Moved.TheVariants.{Changed}
 use Rattle.bep_machine.specs.Answer.{Row, Done, Refused as Refuses}
 use Rattle.bep_machine.specs.Link.{Sight, sending}
 use Rattle.bep_machine.specs.Peer.{Session, Peer, Acted, idle, with_session}
+use Rattle.bep_machine.specs.Replica.{Replica, viewed_at}
 use Rattle.bep_machine.specs.Exchange.{IsInSession, IsNamed, AnnounceRow, AskRow}
 use Rattle.bep_peer.specs.declared.error.PeerError.{PeerError}
 use Rattle.bep_peer.specs.declared.error.PeerError.TheVariants.{Refused, Stale, Memory}
@@ -53,3 +56,10 @@ pub record IsNextAsked (other : Device) (folder : Folder) (name : FileName) (sig
   pub next : IsNext session request
   pub room : sight.full ≡ false
   pub made : AskRow other folder name sight peer (record { peer = with_session peer other (with_request session request); deed = sending (messages.Request request) }) (Done Changed)
+
+-- the device knows the other one to have this content under the name, not marked invalid
+pub record IsOffered (other : Device) (name : FileName) (replica : Replica) (target : Entry) : Type 0 where
+  pub viewed : Entry
+  pub seen : viewed_at replica other name ≡ Some viewed
+  pub valid : viewed.invalid ≡ false
+  pub same : content_of viewed ≡ content_of target

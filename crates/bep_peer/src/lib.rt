@@ -13,6 +13,7 @@
 mod announce;
 mod announcing;
 mod answer;
+mod asking;
 mod begin;
 mod config;
 mod effect;
