@@ -5,6 +5,7 @@ mod Cursors
 mod FirstRequest
 mod LastSequence
 mod ViewTaken
+mod DeliverFacts
 mod StepFacts
 mod SharingFacts
 mod SessionFacts

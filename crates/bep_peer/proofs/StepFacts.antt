@@ -17,7 +17,7 @@ use Rattle.bep_peer.specs.PeerError.{Gives}
 abbrev pub begun_with : Lent → Member → Lent
 begun_with old begun = record { member = begun; link = old.link }
 
-nothing_carried : (end : End) (link : Link) → link ≡ after_deed end nothing_done link
+pub nothing_carried : (end : End) (link : Link) → link ≡ after_deed end nothing_done link
 nothing_carried Lower link = refl
 nothing_carried Upper link = refl
 

@@ -42,8 +42,15 @@ impl<S: Store> Peer<S> {
         let side = side_of(self.number, other);
         let effect = self.take_first(other, link, side)?;
         let (moved, put) = carry_out(self.alloc, link, side, effect)?;
-        self.trace.put = put;
+        self.tell_sent(put);
         Ok(moved)
+    }
+
+    // Tells what was sent.
+    fn tell_sent(&mut self, put: Option<(Message, Message)>)
+        ensures { self.new ≡ record self.old { trace = record self.old.trace { put = put } } }
+    {
+        self.trace.put = put;
     }
 
     // Takes the first message on its way to this end.
@@ -88,8 +95,8 @@ impl<S: Store> Peer<S> {
     }
 }
 
-// Does to the link what the message asks, and answers what was sent, twice. It fails only for want of memory, and then the
-// link is as before.
+// Does to the link what the message asks, and answers what was sent, twice. It fails only for want of memory, where an
+// answer is sent, and then the link is as before.
 fn carry_out(
     alloc: Global,
     link: &mut Link,
@@ -99,7 +106,7 @@ fn carry_out(
     requires up { link.old.link.up ≡ true }
     requires room { IsSome (deed_of effect).sends → (sight_of (end_at side) link.old.link).full ≡ false }
     ensures ok { IfOk result (λ done. (done.0 ≡ moved_of effect) × (done.1 ≡ twice (deed_of effect).sends) × (link.new ≡ record link.old { link = after_deed (end_at side) (deed_of effect) link.old.link })) }
-    ensures only { IfErr result (λ e. e ≡ Memory) }
+    ensures only { IfErr result (λ e. (e ≡ Memory) × IsSome (deed_of effect).sends) }
     ensures err { OnErr result (link.new ≡ link.old) }
 {
     match effect {
