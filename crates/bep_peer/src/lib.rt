@@ -15,6 +15,7 @@ mod deliver;
 mod effect;
 mod ends;
 mod error;
+mod good_config;
 mod in_session;
 mod over;
 mod peer;
