@@ -27,6 +27,7 @@ impl<S: Store> Peer<S> {
         ensures silent { self.new.trace.put ≡ None }
         ensures err { OnErr result (tables_of self.new ≡ tables_of self.old) }
     {
+        // NOT WRITTEN YET: a stub that always wants memory meets its contract and does nothing. Don't merge it.
         Err(PeerError::Memory)
     }
 }
