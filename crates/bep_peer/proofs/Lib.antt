@@ -13,3 +13,4 @@ mod MemberFacts
 mod ReadFacts
 mod RequestFacts
 mod ResponseFacts
+mod AnnounceFacts

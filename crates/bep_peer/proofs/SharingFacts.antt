@@ -1,5 +1,5 @@
 -- With which device a folder is shared, and that a link has one other end.
-use Rattle.std.proofs.Common.{◌≡◌, ◌⊎◌, Option, Some, None, IsTrue, option_map, refl, sym, ap, subst, ◌∙◌, inl, inr}
+use Rattle.std.proofs.Common.{◌≡◌, ◌⊎◌, Option, Some, None, IsTrue, option_map, sym, ap, subst, ◌∙◌, inl, inr}
 use Rattle.std.specs.Cmp.Lexicographic.{nat_list_cmp_total}
 use Rattle.std.specs.FinMap.{get}
 use Rattle.std.proofs.lemmas.Map.Lookups.{exact_bytes}

@@ -1,15 +1,20 @@
 -- The ends of a device's action over a link, as a step of the table: refused, want of memory, or done.
-use Rattle.std.proofs.Common.{◌≡◌, Option, None, Result, Ok, Err, refl, sym, ap, subst, ◌∙◌, inl, inr}
-use Rattle.bep_model.specs.Tables.{Device, Folder}
+use Rattle.std.proofs.Common.{◌≡◌, Some, Err, refl, sym, ap, subst, ◌∙◌, inl, inr}
+use Rattle.std.specs.FinMap.{insert}
+use Rattle.bep_model.specs.Tables.{Device}
+use Rattle.bep_machine.specs.declared.message.Message.{Message}
+use Rattle.bep_machine.specs.declared.moved.Moved.{Moved}
+use Rattle.bep_machine.specs.declared.moved.Moved.TheVariants.{Changed}
 use Rattle.bep_machine.specs.declared.refusal.Refusal.TheVariants.{NotShared}
-use Rattle.bep_machine.specs.Answer.{Answer, Row, Refused as Refuses}
+use Rattle.bep_machine.specs.Answer.{Answer, Row, Done, Refused as Refuses}
 use Rattle.bep_machine.specs.Exchange.{SessionRow}
-use Rattle.bep_machine.specs.Link.{End, Lower, Upper, Link, Sight, end_of, sight_of, after_deed, nothing_done}
-use Rattle.bep_machine.specs.Peer.{Session, Peer, Acted, idle}
+use Rattle.bep_machine.specs.Link.{End, Lower, Upper, Link, Sight, end_of, sight_of, after_deed, nothing_done, sending}
+use Rattle.bep_machine.specs.Peer.{Session, Peer, Acted, idle, with_session}
+use Rattle.bep_links.specs.Link.{LinkBetween}
 use Rattle.bep_peer.specs.declared.error.PeerError.{PeerError}
 use Rattle.bep_peer.specs.declared.error.PeerError.TheVariants.{Refused, Stale, Memory}
-use Rattle.bep_peer.specs.InSession.{NothingDone}
-use Rattle.bep_peer.specs.Lent.{Lent, Joins, IsAtHand, StepOver, untold_over}
+use Rattle.bep_peer.specs.InSession.{IsOver, MayRefuse, NothingDone}
+use Rattle.bep_peer.specs.Lent.{Lent, Joins, IsAtHand, StepOver, twice, untold_over}
 use Rattle.bep_peer.specs.Member.{Member, tables_of, untold}
 use Rattle.bep_peer.specs.PeerError.{Gives}
 
@@ -31,7 +36,7 @@ module _ (row : Device → Sight → Peer → Row Acted) (shares : Device → Pe
 
   -- a refusal of the row, or want of memory, before anything was done
   refused_at : (old : Lent) (other : Device) (error : PeerError) → Joins old other → shares other (tables_of old.member) →
-      Gives (row other (sight_of (end_of old.member.number other) old.link.link) (tables_of old.member)) (idle (tables_of old.member)) (Err error) →
+      MayRefuse (row other (sight_of (end_of old.member.number other) old.link.link) (tables_of old.member)) (tables_of old.member) error →
       Gives (StepOver row shares old) (untold_over old) (Err error)
   refused_at old other (Refused refusal) joins shared made = inr (inr (
     λ apart. apart (other, joins, shared),
@@ -52,13 +57,43 @@ module _ (row : Device → Sight → Peer → Row Acted) (shares : Device → Pe
 
   pub refused_as : (old : Lent) (begun : Member) (other : Device) (error : PeerError) → begun ≡ untold old.member → Joins (begun_with old begun) other →
       shares other (tables_of begun) →
-      Gives (row other (sight_of (end_of begun.number other) old.link.link) (tables_of begun)) (idle (tables_of begun)) (Err error) →
+      MayRefuse (row other (sight_of (end_of begun.number other) old.link.link) (tables_of begun)) (tables_of begun) error →
       Gives (StepOver row shares old) (begun_with old begun) (Err error)
   refused_as old begun other error same joins shared made =
       subst
-      (λ (member : Member). Joins (begun_with old member) other → shares other (tables_of member) → Gives (row other (sight_of (end_of member.number other) old.link.link) (tables_of member)) (idle (tables_of member)) (Err error) → Gives (StepOver row shares old) (begun_with old member) (Err error))
+      (λ (member : Member). Joins (begun_with old member) other → shares other (tables_of member) → MayRefuse (row other (sight_of (end_of member.number other) old.link.link) (tables_of member)) (tables_of member) error → Gives (StepOver row shares old) (begun_with old member) (Err error))
       (sym same)
       (λ joins shared made. refused_at old other error (record { ends = joins.ends; linked = joins.linked }) shared made) joins shared made
+
+  -- the row was made
+  pub done_as : (old : Lent) (begun : Member) (other : Device) (new : Lent) (acted : Acted) (moved : Moved) → begun ≡ untold old.member → Joins (begun_with old begun) other →
+      shares other (tables_of begun) → row other (sight_of (end_of begun.number other) old.link.link) (tables_of begun) acted (Done moved) →
+      tables_of new.member ≡ acted.peer → new.link ≡ record old.link { link = after_deed (end_of begun.number other) acted.deed old.link.link } →
+      new.member.trace.put ≡ twice acted.deed.sends → StepOver row shares old new (Done moved)
+  done_as old begun other new acted moved same joins shared made tables carried told =
+      subst
+      (λ (member : Member). Joins (begun_with old member) other → shares other (tables_of member) → row other (sight_of (end_of member.number other) old.link.link) (tables_of member) acted (Done moved) →
+      new.link ≡ record old.link { link = after_deed (end_of member.number other) acted.deed old.link.link } → StepOver row shares old new (Done moved))
+      (sym same)
+      (λ joins shared made carried.
+      let lent : Joins old other = record { ends = joins.ends; linked = joins.linked } in
+      inr (inr (
+        λ apart. apart (other, lent, shared),
+        (other, lent, record { acted = acted; made = made; tables = tables; carried = carried; told = told }),
+      )))
+      joins shared made carried
+
+  -- the other device was sent a message, and its session became this one
+  pub sent_as : (old : Lent) (begun sent new : Member) (link : LinkBetween) (other : Device) (session : Session) (message : Message) → begun ≡ untold old.member → Joins (begun_with old begun) other →
+      shares other (tables_of begun) →
+      row other (sight_of (end_of begun.number other) old.link.link) (tables_of begun) (record { peer = with_session (tables_of begun) other session; deed = sending message }) (Done Changed) →
+      sent ≡ record begun { trace = record begun.trace { put = Some (message, message) } } →
+      link ≡ record old.link { link = after_deed (end_of begun.number other) (sending message) old.link.link } →
+      new ≡ record sent { sessions = insert sent.sessions other session } → StepOver row shares old (record { member = new; link = link }) (Done Changed)
+  sent_as old begun sent new link other session message same joins shared made sent_is carried new_is =
+      let is = new_is ∙ ap (λ (member : Member). record member { sessions = insert member.sessions other session }) sent_is in
+      done_as old begun other (record { member = new; link = link }) (record { peer = with_session (tables_of begun) other session; deed = sending message }) Changed same joins shared made
+      (ap tables_of is) carried (ap (λ (member : Member). member.trace.put) is)
 
 -- ---- in a session
 
@@ -74,3 +109,13 @@ pub session_refused : (other : Device) (sight : Sight) (old : Peer) (rest : Sess
 session_refused other sight old rest (Refused refusal) row = session_refused_with other sight old rest _ _ row
 session_refused other sight old rest Stale row = absurd row
 session_refused other sight old rest Memory row = session_refused_with other sight old rest _ _ row
+
+-- what is done in a session
+pub in_session : (other : Device) (sight : Sight) (old : Peer) (rest : Session → Row Acted) (session : Session) (new : Acted) (answer : Answer) → IsOver other sight old session → rest session new answer → SessionRow other sight old rest new answer
+in_session other sight old rest session new answer over made =
+    inr ((λ down. let up = over.up in absurd (cc)), inr ((λ none. none (session, over.current)), (session, over.current, made)))
+
+pub refused_in_session : (other : Device) (sight : Sight) (old : Peer) (rest : Session → Row Acted) (session : Session) (error : PeerError) → IsOver other sight old session → MayRefuse (rest session) old error → MayRefuse (SessionRow other sight old rest) old error
+refused_in_session other sight old rest session (Refused refusal) over made = in_session other sight old rest session _ _ over made
+refused_in_session other sight old rest session Stale over made = made
+refused_in_session other sight old rest session Memory over made = tt

@@ -1,5 +1,5 @@
 -- What a device does in a session over a link: what it needs first, and what is next (this project's profile).
-use Rattle.std.specs.Prelude.{◌≡◌, ◌+◌, ◌++◌, ◌∷◌, ℕ, [], ⊤, true, false}
+use Rattle.std.specs.Prelude.{◌≡◌, ℕ, ⊤, true, false}
 use Rattle.std.specs.FinMap.{insert}
 use Rattle.bep_index.specs.declared.send.Plan.TheVariants.{Above}
 use Rattle.bep_model.specs.Tables.{Device, Folder, FileName}

@@ -8,6 +8,7 @@
 #![tactic(auto)]
 
 mod announce;
+mod announcing;
 mod answer;
 mod begin;
 mod config;
