@@ -1,5 +1,5 @@
 -- What stays of a device when one of its folders, or one of its sessions, changes.
-use Rattle.std.proofs.Common.{◌≡◌, ◌⊎◌, ◌<◌, Bool, true, false, cond, Option, Some, None, IsSome, Contains, List, option_map, inl, inr, refl, sym, ap, subst, ◌∙◌, arith}
+use Rattle.std.proofs.Common.{◌≡◌, ◌⊎◌, ◌<◌, Bool, true, false, cond, Some, IsSome, Contains, List, option_map, inl, inr, refl, sym, ap, subst, ◌∙◌, arith}
 use Rattle.std.specs.FinMap.{nat_cmp-IsAntisymmetric, get, insert, get-insert}
 use Rattle.std.specs.Ordering.{nat_cmp, eq_by_cmp}
 use Rattle.std.specs.Cmp.{nat_cmp_total}
@@ -8,9 +8,8 @@ use Rattle.std.proofs.lemmas.Map.Lookups.{exact_bytes}
 use Rattle.bep_facts.specs.Maps.{found_after_insert, insert-what_is_there, same_key}
 use Rattle.bep_map.specs.NameMap.{ByName}
 use Rattle.bep_model.specs.Tables.{Device, Folder}
-use Rattle.bep_machine.specs.Exchange.{IsNamed}
 use Rattle.bep_machine.specs.Peer.{Session}
-use Rattle.bep_machine.specs.Replica.{ByDevice, Replica}
+use Rattle.bep_machine.specs.Replica.{ByDevice}
 use Rattle.bep_folder.specs.Held.{Held}
 use Rattle.bep_folder.specs.Makes.{Stays}
 use Rattle.bep_peer.specs.declared.trace.Trace.{Trace}

@@ -1,5 +1,5 @@
 -- Reading a folder's store leaves the device as it was, and tells whether it failed.
-use Rattle.std.proofs.Common.{◌≡◌, ◌⊎◌, ◌<◌, ℕ, Option, Some, None, IsSome, Result, Ok, Err, IfOk, IfErr, List, inl, inr, refl, sym, ap, subst, ◌∙◌, arith}
+use Rattle.std.proofs.Common.{◌≡◌, ◌⊎◌, ◌<◌, ℕ, Option, IsSome, Result, Ok, Err, IfOk, IfErr, List, inl, inr, refl, sym, ap, subst, ◌∙◌, arith}
 use Rattle.std.specs.FinMap.{get}
 use Rattle.std.specs.Cmp.Lexicographic.{nat_list_cmp_total}
 use Rattle.std.proofs.lemmas.Map.Lookups.{exact_bytes}
@@ -13,7 +13,7 @@ use Rattle.bep_folder.specs.declared.error.FolderError.{FolderError}
 use Rattle.bep_folder.specs.declared.error.FolderError.TheVariants.{StoreFault, Memory}
 use Rattle.bep_folder.specs.Held.{Held}
 use Rattle.bep_folder.specs.Makes.{CountsFaults}
-use Rattle.bep_peer.specs.Member.{Member, IsMember, Remains, HasFailed, tables_in}
+use Rattle.bep_peer.specs.Member.{Member, IsMember, Remains, tables_in}
 use Rattle.bep_peer.specs.Read.{ReadsFrom, IsNodeAt, failed_by}
 use Rattle.bep_peer.proofs.MemberFacts.{tables-same, own_kept, named_kept, rose_here}
 

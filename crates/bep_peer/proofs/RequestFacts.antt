@@ -1,5 +1,5 @@
 -- Taking a request is the step of the table on the device.
-use Rattle.std.proofs.Common.{◌≡◌, Bool, true, false, ℕ, Option, Some, None, Result, Ok, Err, IfOk, inl, inr, refl, sym, ap, ◌∙◌}
+use Rattle.std.proofs.Common.{◌≡◌, Bool, true, false, ℕ, Option, Some, Result, Ok, Err, IfOk, inl, inr, refl, sym, ap, ◌∙◌}
 use Rattle.std.specs.FinMap.{get}
 use Rattle.bep_map.specs.NameMap.{ByName}
 use Rattle.bep_record.specs.declared.node.NodeParts.{NodeParts}
@@ -9,7 +9,6 @@ use Rattle.bep_machine.specs.declared.message.Request.{Request}
 use Rattle.bep_machine.specs.declared.message.Response.{Response}
 use Rattle.bep_machine.specs.declared.refusal.Refusal.TheVariants.{LinkFull}
 use Rattle.bep_machine.specs.Exchange.{Answers, IsNamed, MessageRow}
-use Rattle.bep_machine.specs.Link.{taking}
 use Rattle.bep_machine.specs.Peer.{Session, Peer, Acted}
 use Rattle.bep_machine.specs.Replica.{node_at}
 use Rattle.bep_folder.specs.declared.error.FolderError.{FolderError}

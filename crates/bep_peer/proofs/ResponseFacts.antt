@@ -11,7 +11,7 @@ use Rattle.bep_machine.specs.declared.message.Response.{Response}
 use Rattle.bep_machine.specs.declared.moved.Moved.TheVariants.{Changed}
 use Rattle.bep_machine.specs.Answer.{Done}
 use Rattle.bep_machine.specs.Exchange.{HasBytes, AnsweredRow, AskedRow, ResponseRow, asked_for, taken_by, with_block, with_received}
-use Rattle.bep_machine.specs.Peer.{Session, Peer, with_session}
+use Rattle.bep_machine.specs.Peer.{Session, Peer}
 use Rattle.bep_machine.specs.Replica.{ByDevice, Pull, Replica, pull_at}
 use Rattle.bep_folder.specs.Held.{Held}
 use Rattle.bep_folder.specs.Makes.{Stays}
@@ -20,7 +20,7 @@ use Rattle.bep_peer.specs.declared.effect.Effect.TheVariants.{Taken}
 use Rattle.bep_peer.specs.Effect.{Takes}
 use Rattle.bep_peer.specs.Member.{Member, IsMember, AreOwn, NameShared, Remains, HasFailed, tables_in, tables_of, nothing_told}
 use Rattle.bep_peer.specs.Received.{Brings, answered_by, changed_at, received_by}
-use Rattle.bep_peer.proofs.MemberFacts.{get-tables, tables-given, tables-same, own_kept, named_kept, named_later, rose_here, nothing_rose}
+use Rattle.bep_peer.proofs.MemberFacts.{get-tables, tables-given, tables-same, own_kept, named_kept, named_later, rose_here}
 
 -- ---- folders
 

@@ -1,12 +1,10 @@
 //! Taking a request for a block.
-ghost use Rattle.std.specs.Prelude.{◌≡◌, ◌⊎◌, ◌↔◌, Option, Some, None, Contains, IsSome, IsTrue, IfOk, IfErr};
-ghost use Rattle.std.specs.Option.{option_copied};
+ghost use Rattle.std.specs.Prelude.{◌≡◌, ◌↔◌, Option, Some, None, Contains, IsSome, IsTrue, IfOk, IfErr};
 ghost use Rattle.std.specs.FinMap as map;
 ghost use Rattle.bep_record.specs.declared.node.NodeParts.{NodeParts};
 ghost use Rattle.bep_folder.specs.Held.{Held};
 ghost use Rattle.bep_machine.specs.Exchange.{Answers, IsNamed, MessageRow};
 ghost use Rattle.bep_machine.specs.Peer.{Session as SessionOf};
-ghost use Rattle.bep_machine.specs.Replica.{node_at};
 ghost use Rattle.bep_machine.specs.declared.message.Message.TheVariants as messages;
 ghost use Rattle.bep_peer.specs.Effect.{Takes};
 ghost use Rattle.bep_peer.specs.Member.{Remains, nothing_told, tables_of};

@@ -24,7 +24,7 @@ invariant_of-self-in-Err g c =
 pub returns-in-Ok-clause-step : goal.returns-in-Ok-clause-step
 returns-in-Ok-clause-step g c =
     rw (← c.self.view_is)
-    (λ session has.
+    (λ full session has.
     let there : Some c.in-Some.session.now ≡ Some session = c.in-Some.ensures ∙ has in
     let same : c.in-Some.session.now ≡ session = cc in
     let old = member_of c.self.inside.number c.self.inside.folders c.self.inside.sessions c.self.inside.linked c.self.inside.trace in
@@ -40,7 +40,7 @@ returns-in-Ok-clause-rest g c =
     (brought_remains _ _ c.in-Some-asked.request.now c.args.response.now c.in-Ok.ensures.ok refl refl told)
 
 pub returns-in-Err-clause-step : goal.returns-in-Err-clause-step
-returns-in-Err-clause-step g c = λ session has.
+returns-in-Err-clause-step g c = λ full session has.
     rw (← c.self.view_is)
     (unchanged_peer c.self.inside.sessions c.in-Some-asked.request.now.folder c.self.inside.folders c.bring.new.folders c.in-Err.ensures.err)
 
