@@ -1,5 +1,6 @@
 mod BeginFacts
 mod Mapped
+mod OthersKept
 mod OwnFacts
 mod Cursors
 mod FirstRequest
@@ -14,3 +15,5 @@ mod ReadFacts
 mod RequestFacts
 mod ResponseFacts
 mod AnnounceFacts
+mod WithinFacts
+mod ScanFacts

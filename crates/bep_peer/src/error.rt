@@ -1,9 +1,11 @@
 //! Why an action is refused.
-ghost use Rattle.std.specs.Prelude.{◌≡◌};
+ghost use Rattle.std.specs.Prelude.{◌≡◌, IfErr};
 ghost use Rattle.bep_machine.specs.Answer.{number_of as number_of_refusal};
 ghost use Rattle.bep_peer.specs.PeerError.{number_of};
+ghost use Rattle.bep_peer.specs.Within.{IsOfStep, answer_of, error_of};
 ghost use Rattle.bep_peer.specs.declared.error.PeerError.TheVariants.{Memory};
 
+use bep_folder::FolderError;
 use bep_machine::Refusal;
 use std::alloc::{AllocError, AllocFailed};
 use thiserror::Error;
@@ -73,5 +75,41 @@ fn number_of(refusal: Refusal) -> u32
         Refusal::NotBegun => 161,
         Refusal::NotShared => 162,
         Refusal::NothingToDo => 163,
+    }
+}
+
+/// What a folder's call answers, as this crate's. The caller sees to it that the call is a step or a commit.
+pub(crate) fn answered<T: Drop>(answer: Result<T, FolderError>) -> Result<T, PeerError>
+    requires { IfErr answer IsOfStep }
+    ensures { result ≡ answer_of answer }
+{
+    match answer {
+        Ok(done) => Ok(done),
+        Err(error) => Err(error_of(error)),
+    }
+}
+
+fn error_of(error: FolderError) -> PeerError
+    requires { IsOfStep error }
+    ensures { result ≡ error_of error }
+{
+    match error {
+        FolderError::Memory => PeerError::Memory,
+        FolderError::Stale => PeerError::Stale,
+        FolderError::CounterFull => PeerError::Refused(Refusal::CounterFull),
+        FolderError::TooManyCounters => PeerError::Refused(Refusal::TooManyCounters),
+        FolderError::NameBad => PeerError::Refused(Refusal::NameBad),
+        FolderError::SequenceFull => PeerError::Refused(Refusal::SequenceFull),
+        FolderError::IndexFull => PeerError::Refused(Refusal::IndexFull),
+        FolderError::StoreFault => PeerError::Refused(Refusal::StoreFault),
+        FolderError::Unscanned => PeerError::Refused(Refusal::Unscanned),
+        FolderError::NotNeeded => PeerError::Refused(Refusal::NotNeeded),
+        FolderError::BlocksMissing => PeerError::Refused(Refusal::BlocksMissing),
+        FolderError::CopyExists => PeerError::Refused(Refusal::CopyExists),
+        FolderError::PullsFull => PeerError::Refused(Refusal::PullsFull),
+        FolderError::KindForbids => PeerError::Refused(Refusal::KindForbids),
+        FolderError::NotShared => PeerError::Refused(Refusal::NotShared),
+        FolderError::NothingToDo => PeerError::Refused(Refusal::NothingToDo),
+        FolderError::BatchOld | FolderError::HashBad => unreachable!(),
     }
 }

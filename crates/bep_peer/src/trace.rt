@@ -1,6 +1,7 @@
 //! What an action of a device did besides its effect.
 ghost use Rattle.std.specs.Prelude.{◌≡◌, Some};
 ghost use Rattle.bep_peer.specs.Member.{nothing_told};
+ghost use Rattle.bep_peer.specs.Within.{told_of};
 
 use bep_machine::Message;
 
@@ -25,6 +26,16 @@ impl Trace {
             copied: false,
             put: None,
         }
+    }
+
+    // A folder told so much of its store.
+    pub(crate) fn tell_of(&mut self, told: (Option<u32>, bool))
+        ensures { self.new ≡ told_of (record { failed = told.0; copied = told.1 }) }
+    {
+        let (failed, copied) = told;
+        self.failed = failed;
+        self.copied = copied;
+        self.put = None;
     }
 
     // A message was sent, of which these are two copies.
