@@ -12,6 +12,7 @@ mod SharingFacts
 mod SessionFacts
 mod MemberFacts
 mod ReadFacts
+mod RenewFacts
 mod RequestFacts
 mod ResponseFacts
 mod AnnounceFacts

@@ -6,6 +6,7 @@ pub mod Member
 pub mod PeerError
 pub mod Read
 pub mod Received
+pub mod Renewed
 pub mod Session
 pub mod Viewing
 pub mod Within

@@ -21,6 +21,7 @@ mod in_session;
 mod over;
 mod local;
 mod peer;
+mod renewing;
 mod requests;
 mod scanning;
 mod session;

@@ -1,5 +1,5 @@
 //! Taking what the other device says of the folders that both share.
-ghost use Rattle.std.specs.Prelude.{◌≡◌, ◌↔◌, Bool, Some, None, IsTrue, IfOk, OnOk, IfErr, OnErr};
+ghost use Rattle.std.specs.Prelude.{◌≡◌, Bool, true, Some, None, IsSome, OnErr};
 ghost use Rattle.std.specs.FinMap as map;
 ghost use Rattle.bep_machine.specs.Exchange.{MessageRow};
 ghost use Rattle.bep_machine.specs.Peer.{Session as SessionOf};
@@ -8,8 +8,12 @@ ghost use Rattle.bep_peer.specs.Effect.{Takes};
 ghost use Rattle.bep_peer.specs.Member.{Remains, nothing_told, tables_of};
 
 use crate::effect::Effect;
-use crate::{Peer, PeerError};
+use crate::good_config::cursors_for;
+use crate::renewing::renew_all;
+use crate::{Peer, PeerError, Session};
+use bep_index::Plan;
 use bep_machine::Announced;
+use bep_map::{DeviceMap, FolderMap};
 use bep_record::DeviceId;
 use bep_store::Store;
 
@@ -27,7 +31,23 @@ impl<S: Store> Peer<S> {
         ensures silent { self.new.trace.put ≡ None }
         ensures err { OnErr result (tables_of self.new ≡ tables_of self.old) }
     {
-        // NOT WRITTEN YET: a stub that always wants memory meets its contract and does nothing. Don't merge it.
-        Err(PeerError::Memory)
+        if !self.can_take(other, named) {
+            return Ok(Effect::Lost);
+        }
+        let cursors = cursors_for(self.alloc, &self.folders, named)?;
+        renew_all(&mut self.folders, self.alloc, other, named)?;
+        configure(&mut self.sessions, other, cursors);
+        Ok(Effect::Taken)
+    }
+}
+
+// The other device's session knows what is sent next of each folder. It takes no memory.
+fn configure(sessions: &mut DeviceMap<Session>, other: DeviceId, cursors: FolderMap<Plan>)
+    requires { IsSome (map.get sessions.old other) }
+    ensures { (session : SessionOf) → map.get sessions.old other ≡ Some session → sessions.new ≡ map.insert sessions.old other (record session { configured = true; cursors = cursors }) }
+{
+    match sessions.get_mut(other) {
+        Some(session) => session.configure(cursors),
+        None => unreachable!(),
     }
 }
