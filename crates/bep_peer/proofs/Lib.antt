@@ -1,4 +1,5 @@
 mod BeginFacts
+mod ConfigFacts
 mod Mapped
 mod OthersKept
 mod OwnFacts
