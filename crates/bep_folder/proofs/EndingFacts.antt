@@ -1,7 +1,6 @@
 -- What is known of a pull at its end.
-use Rattle.std.proofs.Common.{◌≡◌, ℕ, Bool, true, false, List, [], ◌∷◌, Option, Some, None, Contains, refl, sym, subst, arith}
+use Rattle.std.proofs.Common.{◌≡◌, ℕ, Bool, true, false, List, [], ◌∷◌, Option, Some, None, Contains, refl, arith}
 use Rattle.bep_record.specs.declared.block.Block.{Block}
-use Rattle.bep_record.specs.declared.entry.Entry.{Entry}
 use Rattle.bep_record.specs.declared.kind.Kind.{Kind}
 use Rattle.bep_record.specs.declared.kind.Kind.TheVariants.{File, Directory, Symlink}
 use Rattle.bep_record.specs.declared.node.NodeParts.{NodeParts}

@@ -2,6 +2,7 @@ mod AskedFacts
 mod BlockFacts
 mod ChosenFacts
 mod CommitFacts
+mod ContentsFacts
 mod CopyFacts
 mod DeviceMapFacts
 mod EndingFacts

@@ -1,6 +1,5 @@
 -- The last part of the end of a pull makes its row.
-use Rattle.std.proofs.Common.{◌≡◌, ◌⊎◌, ◌↔◌, ℕ, ◌+◌, ◌<◌, ◌≤◌, Bool, true, false, Option, Some, None, Result, Ok, Err, inl, inr, refl, sym, ap, subst, ◌∙◌, arith}
-use Rattle.std.specs.Prelude.{⊤}
+use Rattle.std.proofs.Common.{◌≡◌, ◌⊎◌, ◌↔◌, ℕ, ◌+◌, ◌<◌, ◌≤◌, Bool, true, false, Option, Some, None, Ok, Err, inl, inr, refl, sym, ap, subst, ◌∙◌, arith}
 use Rattle.std.proofs.Math.Nat.{min-eq_left}
 use Rattle.std.specs.FinMap.{remove}
 use Rattle.bep_map.specs.NameMap.{ByName}
@@ -14,13 +13,13 @@ use Rattle.bep_index.specs.Index.{after_put, IsSequenceFull, IsIndexFull, IsPutE
 use Rattle.bep_model.specs.Tables.{FileName}
 use Rattle.bep_machine.specs.declared.moved.Moved.TheVariants.{Changed}
 use Rattle.bep_machine.specs.declared.refusal.Refusal.TheVariants as refusals
-use Rattle.bep_machine.specs.Answer.{Answer, Done, Refused, OutOfMemory, Row}
+use Rattle.bep_machine.specs.Answer.{Answer, Done, Refused, OutOfMemory}
 use Rattle.bep_machine.specs.Replica.{Pull, Replica, HasContentOf, own_at, node_at, pull_at, version_of, with_node, with_record, without_pull}
-use Rattle.bep_machine.specs.Pull.{RoomRow, SettlingRow, IsAdopted, EndsWith, CallsStore}
+use Rattle.bep_machine.specs.Pull.{IsAdopted, EndsWith, CallsStore}
 use Rattle.bep_folder.specs.declared.error.FolderError.{FolderError}
 use Rattle.bep_folder.specs.declared.error.FolderError.TheVariants as errors
-use Rattle.bep_folder.specs.Ending.{PulledRow, RoomyRow, WritingRow, EndsIn, CallsIn, Stores, WritesTarget, WritesAll, HasRoom, LacksRoom, IsReady, PutsAndWrites, stored, with_copy}
-use Rattle.bep_folder.specs.Trace.{TracedStore, next_call, failed_now}
+use Rattle.bep_folder.specs.Ending.{PulledRow, RoomyRow, WritingRow, EndsIn, CallsIn, WritesAll, HasRoom, LacksRoom, IsReady, PutsAndWrites, stored}
+use Rattle.bep_folder.specs.Trace.{TracedStore, next_call}
 use Rattle.bep_folder.specs.FolderError.{of_index}
 use Rattle.bep_folder.specs.Held.{Held}
 use Rattle.bep_folder.specs.Makes.{Makes}

@@ -1,4 +1,5 @@
 pub mod Commit
+pub mod Contents
 pub mod Ending
 pub mod Finish
 pub mod FolderError

@@ -28,6 +28,7 @@ impl<S: Store> Replica<S> {
         ensures stays { Stays self.old self.new }
         ensures counted { CountsFaults self.old self.new result }
         ensures uncopied { self.new.trace.copied ≡ false }
+        ensures called { self.new.made ≡ 1 }
     {
         self.store.begin();
         let node = self.store.read(self.alloc, scan.name())?;

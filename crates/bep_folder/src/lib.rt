@@ -1,4 +1,15 @@
 //! One folder at one device: the device's own index, its views of the others' indexes, its pulls and its store.
+//!
+//! ```rust
+//! docs.edit(&name, &node)?; // a user's change
+//! let node = docs.look(&name)?;
+//! docs.commit(ScanResult::plain(alloc, name, node)?)?; // Changed: the index has a record of it
+//!
+//! docs.amend_view(device, batch)?; // what another device sent of its index
+//! docs.start_pull(&other)?;
+//! docs.add_block(&other, 0, bytes)?;
+//! docs.finish(&other)?; // Changed: record and file are as that device has them
+//! ```
 #![tactic(auto)]
 
 mod add_block;
@@ -8,6 +19,7 @@ mod beside;
 mod chosen;
 mod commit;
 mod conflict;
+mod contents;
 mod deletion;
 mod edit;
 mod ending;

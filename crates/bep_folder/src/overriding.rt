@@ -33,6 +33,7 @@ impl<S: Store> Replica<S> {
         ensures stays { Stays self.old self.new }
         ensures counted { CountsFaults self.old self.new result }
         ensures uncopied { self.new.trace.copied ≡ false }
+        ensures uncalled { self.new.made ≡ 0 }
     {
         let made = self.overriding_record(name);
         self.store.begin();

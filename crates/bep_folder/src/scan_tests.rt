@@ -1,10 +1,10 @@
 //! A name that a user changes, and what a scan, an override and a revert record of it: worked out by hand, by BEP v1,
 //! 'Vector', and by this project's profile.
-use crate::tests::{batch, directory, folder};
+use crate::tests::{batch, directory, directory_under, folder, folder_over};
 use crate::*;
 use bep_machine::Moved;
 use bep_record::{DeviceId, FolderKind, Items, Kind, Name, Node, NodeParts, Target};
-use bep_store::MemStore;
+use bep_store::{FaultStore, MemStore, Store};
 use std::alloc::Global;
 
 // The own record's sequence, its time, its counters of devices 1 and 2, and whether it is deleted or marked local-only.
@@ -18,7 +18,7 @@ fn begun(alloc: Global, kind: FolderKind) -> Option<Replica<MemStore>> {
 }
 
 // Gives `a` a file of one byte, as a user does.
-fn edited(alloc: Global, replica: &mut Replica<MemStore>) -> Option<Moved> {
+fn edited<S: Store>(alloc: Global, replica: &mut Replica<S>) -> Option<Moved> {
     let name = Name::read(alloc, b"a").ok()?;
     let bytes = Vec::from_slice(alloc, b"7").ok()?;
     let made = Node::read(NodeParts {
@@ -36,10 +36,15 @@ fn removed(alloc: Global, replica: &mut Replica<MemStore>) -> Option<Moved> {
     replica.remove(&name).ok()
 }
 
-fn scanned(alloc: Global, replica: &mut Replica<MemStore>) -> Option<Moved> {
+// What stands at `a` now.
+fn looked(alloc: Global, replica: &mut Replica<MemStore>) -> Option<ScanResult> {
     let name = Name::read(alloc, b"a").ok()?;
     let node = replica.look(&name).ok()?;
-    let scan = ScanResult::plain(alloc, name, node).ok()?;
+    ScanResult::plain(alloc, name, node).ok()
+}
+
+fn scanned(alloc: Global, replica: &mut Replica<MemStore>) -> Option<Moved> {
+    let scan = looked(alloc, replica)?;
     replica.commit(scan).ok()
 }
 
@@ -79,6 +84,62 @@ fn scans_record_what_changed(rt: HostRuntime) {
         (Moved::Changed, (3, 999, [1, 2], true, false)),
     ];
     assert_eq!(rt; scans(rt.alloc()), Some(wanted));
+}
+
+// The answers to a look that an edit came after, and to two scans, and what they leave.
+fn refused(
+    alloc: Global,
+    replica: &mut Replica<MemStore>,
+) -> Option<([Result<Moved, FolderError>; 3], Own)> {
+    let before = looked(alloc, replica)?;
+    edited(alloc, replica)?;
+    let after = [looked(alloc, replica)?, looked(alloc, replica)?];
+    let stale = replica.commit(before);
+    let [first, second] = after;
+    let full = [replica.commit(first), replica.commit(second)];
+    Some(([stale, full[0], full[1]], own(alloc, replica)?))
+}
+
+fn refusals(alloc: Global) -> Option<([Result<Moved, FolderError>; 3], Own)> {
+    let mut replica = folder(alloc, FolderKind::SendReceive)?;
+    let full = directory_under(alloc, b'a', 1, &[(2, 9_223_372_036_854_775_807)])?;
+    replica.index.put(full).ok()?;
+    refused(alloc, &mut replica)
+}
+
+// What was found before an edit isn't recorded, nor is a change beyond the greatest counter.
+#[test]
+fn refused_scans_record_nothing(rt: HostRuntime) {
+    let full = Err(FolderError::CounterFull);
+    let wanted = (
+        [Err(FolderError::Stale), full, full],
+        (1, 1000, [0, 9_223_372_036_854_775_807], false, false),
+    );
+    assert_eq!(rt; refusals(rt.alloc()), Some(wanted));
+}
+
+fn count_nodes<S: Store>(replica: &mut Replica<S>) -> Result<usize, FolderError> {
+    Ok(replica.contents()?.len())
+}
+
+// A store with one file that is read out twice; this call of it fails, of which the edit is the first.
+fn contents(alloc: Global, call: u64) -> Option<[Result<usize, FolderError>; 2]> {
+    let store = FaultStore::new(MemStore::new(alloc), call);
+    let mut replica = folder_over(alloc, FolderKind::SendReceive, store)?;
+    edited(alloc, &mut replica)?;
+    Some([count_nodes(&mut replica), count_nodes(&mut replica)])
+}
+
+#[test]
+fn contents_are_all_or_a_fault(rt: HostRuntime) {
+    let fault = Err(FolderError::StoreFault);
+    for (call, counts) in [
+        (2, [fault, Ok(1)]),
+        (3, [fault, Ok(1)]),
+        (4, [Ok(1), fault]),
+    ] {
+        assert_eq!(rt; contents(rt.alloc(), call), Some(counts));
+    }
 }
 
 // What an override puts over device 1's record of `a`, which is later than the own one.

@@ -28,8 +28,18 @@ pub(crate) fn folder_over<S: Store>(
 
 // Device 1's record of the directory of this one letter, under this sequence.
 pub(crate) fn directory(alloc: Global, letter: u8, sequence: u64) -> Option<Record> {
+    directory_under(alloc, letter, sequence, &[(1, 1)])
+}
+
+// The same under this version.
+pub(crate) fn directory_under(
+    alloc: Global,
+    letter: u8,
+    sequence: u64,
+    version: &[(u64, u64)],
+) -> Option<Record> {
     let modified_by = DeviceId::read(1)?;
-    let version = Vector::read(&[(1, 1)])?;
+    let version = Vector::read(version)?;
     let name = Name::read(alloc, &[letter]).ok()?;
     let made = Record::read(Entry {
         name,
