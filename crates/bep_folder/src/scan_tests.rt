@@ -93,11 +93,11 @@ fn refused(
 ) -> Option<([Result<Moved, FolderError>; 3], Own)> {
     let before = looked(alloc, replica)?;
     edited(alloc, replica)?;
-    let after = [looked(alloc, replica)?, looked(alloc, replica)?];
     let stale = replica.commit(before);
-    let [first, second] = after;
-    let full = [replica.commit(first), replica.commit(second)];
-    Some(([stale, full[0], full[1]], own(alloc, replica)?))
+    let found = looked(alloc, replica)?;
+    let full = replica.commit(found);
+    let again = looked(alloc, replica)?;
+    Some(([stale, full, replica.commit(again)], own(alloc, replica)?))
 }
 
 fn refusals(alloc: Global) -> Option<([Result<Moved, FolderError>; 3], Own)> {
