@@ -1,3 +1,4 @@
 mod OthersThat
 mod FoldersAt
 mod Begun
+mod Lift

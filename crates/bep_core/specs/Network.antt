@@ -1,6 +1,6 @@
 -- A cluster as it is kept: its devices and its links, and what the tables of a cluster say of them (BEP v1, 'Cluster
 -- Config').
-use Rattle.std.specs.Prelude.{◌≤◌, ◌==◌, ◌&&◌, false, List, [], ◌∷◌, map, length, Option, Some, None, refl}
+use Rattle.std.specs.Prelude.{◌≤◌, ◌==◌, ◌&&◌, Bool, false, List, [], ◌∷◌, map, length, Option, Some, None, refl}
 use Rattle.std.specs.List.{find, flat_map}
 use Rattle.std.specs.List.Sorted.{IsStrictlyIncreasing, IsStrictlySortedBy}
 use Rattle.std.specs.Coded.{Coded, code_by, coded×, coded_list}
@@ -54,9 +54,13 @@ sharing_of members folder = flat_map (λ member. kind_of member.number (get memb
 abbrev pub member_at : List Member → Device → Option Member
 member_at members device = find (λ member. member.number == device) members
 
--- the link between the two, the smaller first, if it is there
+-- the link joins the two, the smaller first
+abbrev pub is_between : Device → Device → LinkBetween → Bool
+is_between lower upper between = (between.ends.0 == lower) && (between.ends.1 == upper)
+
+-- the link between the two, if it is there
 abbrev pub between_at : List LinkBetween → Device → Device → Option LinkBetween
-between_at links lower upper = find (λ between. (between.ends.0 == lower) && (between.ends.1 == upper)) links
+between_at links lower upper = find (is_between lower upper) links
 
 -- the device's tables; one that isn't there has nothing
 abbrev pub peer_of : Option Member → Peer

@@ -10,6 +10,7 @@ mod begin;
 mod cluster;
 mod folders;
 mod others;
+mod steps;
 #[cfg(test)]
 mod tests;
 mod why;
