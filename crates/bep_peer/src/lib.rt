@@ -14,15 +14,21 @@ mod announce;
 mod announcing;
 mod answer;
 mod begin;
+#[cfg(test)]
+mod begin_tests;
 mod config;
 mod ends;
 mod error;
 mod in_session;
 mod local;
+#[cfg(test)]
+mod local_tests;
 mod over;
 mod peer;
 mod requests;
 mod restart;
+#[cfg(test)]
+mod restart_tests;
 mod scanning;
 mod session;
 #[cfg(test)]
