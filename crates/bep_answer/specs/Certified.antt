@@ -9,10 +9,10 @@ use Rattle.bep_model.specs.Settled.{IsListOfWinners}
 use Rattle.bep_model.specs.Tables.{Folder, FileName}
 use Rattle.bep_model.specs.Verdict.{Not}
 use Rattle.bep_model.specs.WithoutWinner.{IsFirstWithoutWinner}
-use Rattle.bep_cut.specs.declared.cut.CutParts.{CutParts}
-use Rattle.bep_cut.specs.Cut.{tables_of}
-use Rattle.bep_cut.specs.document.Trees.{check_text}
-use Rattle.bep_cut.specs.document.Written.{cut_of_document}
+use Rattle.bep_tables.specs.declared.cut.CutParts.{CutParts}
+use Rattle.bep_tables.specs.Cut.{tables_of}
+use Rattle.bep_tables.specs.document.Trees.{check_text}
+use Rattle.bep_tables.specs.document.Written.{cut_of_document}
 use Rattle.bep_report.specs.declared.error.ReportError.{ReportError}
 use Rattle.bep_report.specs.declared.error.ReportError.TheVariants.{Memory}
 use Rattle.bep_report.specs.declared.error.ReportError.TheVariants as faults

@@ -5,9 +5,9 @@ use Rattle.bep_document.specs.Reading.{Reading, Read, Refused}
 use Rattle.bep_model.specs.declared.row.Row.{Row}
 use Rattle.bep_model.specs.Settled.{IsSettled}
 use Rattle.bep_model.specs.Verdict.{IsVerdict}
-use Rattle.bep_cut.specs.declared.cut.CutParts.{CutParts}
-use Rattle.bep_cut.specs.Cut.{tables_of}
-use Rattle.bep_cut.specs.document.Written.{check_of}
+use Rattle.bep_tables.specs.declared.cut.CutParts.{CutParts}
+use Rattle.bep_tables.specs.Cut.{tables_of}
+use Rattle.bep_tables.specs.document.Written.{check_of}
 use Rattle.bep_explain.specs.Found.{AreFailures, verdict_of}
 use Rattle.bep_explain.specs.Told.{Told, failures_of, explanation_text}
 use Rattle.bep_report.specs.declared.error.ReportError.{ReportError}

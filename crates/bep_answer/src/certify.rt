@@ -2,7 +2,7 @@
 ghost use Rattle.std.specs.Prelude.{◌≡◌, None, IfOk, IfErr};
 ghost use Rattle.bep_model.specs.declared.reason.Reason.TheVariants.{NotWinner};
 ghost use Rattle.bep_model.specs.Verdict.{Not};
-ghost use Rattle.bep_cut.specs.document.Written.{cut_of_document};
+ghost use Rattle.bep_tables.specs.document.Written.{cut_of_document};
 ghost use Rattle.bep_report.specs.Lines.{verdict_line};
 ghost use Rattle.bep_answer.specs.Answer.{fault_text};
 ghost use Rattle.bep_answer.specs.Certified.{IsCertificate, IsCertified, IsCertifiedWhole, IsUncertified, document_text};
@@ -10,10 +10,10 @@ ghost use Rattle.bep_answer.specs.Certified.{IsCertificate, IsCertified, IsCerti
 use crate::check::push_fault;
 use crate::outcome::Certified;
 use bep_audit::{Certificate, CertifyError, certify};
-use bep_cut::{Cut, DocError, check_document, read_cut};
 use bep_model::Reason;
 use bep_record::{FolderName, Name};
 use bep_report::{ReportError, push_not_settled, read_document, write_all};
+use bep_tables::{Cut, DocError, check_document, read_cut};
 use std::alloc::{AllocError, Global};
 use std::io::{Read, Write};
 

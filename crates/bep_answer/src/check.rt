@@ -1,7 +1,7 @@
 //! A check document's audit, from the bytes that come in to the bytes that go out.
 ghost use Rattle.std.specs.Prelude.{◌≡◌, IfOk, IfErr};
 ghost use Rattle.bep_document.specs.Reading.{Read};
-ghost use Rattle.bep_cut.specs.document.Written.{check_of};
+ghost use Rattle.bep_tables.specs.document.Written.{check_of};
 ghost use Rattle.bep_report.specs.Report.{report_text};
 ghost use Rattle.bep_report.specs.Text.{AppendsWhole};
 ghost use Rattle.bep_answer.specs.Answer.{IsAnswer, IsReport, IsAnswered, IsCutShort, SaysSettled, fault_text};
@@ -11,9 +11,9 @@ ghost use Rattle.bep_answer.specs.declared.outcome.Outcome.TheVariants as outcom
 
 use crate::outcome::Outcome;
 use bep_audit::{Certificate, Verdict, check};
-use bep_cut::{Cut, DocError, DocFault, read_check};
 use bep_machine::{settled_stays_put, settled_stays_settled};
 use bep_report::{ReportError, push_refused, push_report, read_document, write_all};
+use bep_tables::{Cut, DocError, DocFault, read_check};
 use std::alloc::{AllocError, Global};
 use std::io::{Read, Write};
 

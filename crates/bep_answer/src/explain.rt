@@ -1,6 +1,6 @@
 //! All reasons why a document's cut isn't settled, from the bytes that come in to the bytes that go out.
 ghost use Rattle.std.specs.Prelude.{◌≡◌, IfOk, IfErr, map};
-ghost use Rattle.bep_cut.specs.document.Written.{check_of};
+ghost use Rattle.bep_tables.specs.document.Written.{check_of};
 ghost use Rattle.bep_explain.specs.Found.{verdict_of};
 ghost use Rattle.bep_explain.specs.Told.{failures_of, told_of};
 ghost use Rattle.bep_answer.specs.Answer.{outcome_of};
@@ -9,9 +9,9 @@ ghost use Rattle.bep_answer.specs.Explained.{IsExplanation, IsExplained, IsExpla
 use crate::check::refusal;
 use crate::outcome::Outcome;
 use bep_audit::Certificate;
-use bep_cut::{Cut, DocError, read_check};
 use bep_explain::{Explained, explain, explanation};
 use bep_report::{ReportError, read_document, write_all};
+use bep_tables::{Cut, DocError, read_check};
 use std::alloc::{AllocError, Global};
 use std::io::{Read, Write};
 

@@ -4,13 +4,13 @@ use Rattle.std.specs.Prelude.{Result, Ok, Err, IsErrAnd, IfErr}
 use Rattle.std.proofs.lemmas.List.{append-nil, take_more}
 use Rattle.std.proofs.lemmas.Grind.{flat_map-append}
 use Rattle.bep_facts.specs.Places.{split_at}
-use Rattle.bep_cut.specs.declared.cut.CutParts.{CutParts}
-use Rattle.bep_cut.specs.declared.share.SharedFolder.{SharedFolder}
+use Rattle.bep_tables.specs.declared.cut.CutParts.{CutParts}
+use Rattle.bep_tables.specs.declared.share.SharedFolder.{SharedFolder}
 use Rattle.bep_model.specs.declared.row.Row.{Row}
 use Rattle.bep_model.specs.Tables.{Tables, Folder, FileName}
 use Rattle.bep_audit.specs.declared.error.CertifyError.{CertifyError}
 use Rattle.bep_audit.specs.declared.error.CertifyError.TheVariants.{NoWinner, Memory}
-use Rattle.bep_cut.specs.Names.{names_of, all_names}
+use Rattle.bep_tables.specs.Names.{names_of, all_names}
 use Rattle.bep_audit.specs.Certifier.{TellsOf, AreWon, Adds, FailsIn, IsUnwon, IsWon}
 
 abbrev Key : Type 0

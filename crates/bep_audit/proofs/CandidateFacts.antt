@@ -12,8 +12,8 @@ use Rattle.std.proofs.lemmas.List.Elements.{Contains-append_right, Contains-appe
 use Rattle.bep_facts.specs.Members.{Contains-cons_cases, Contains-first, Contains-more, Contains-one, not_in_none}
 use Rattle.bep_record.specs.declared.entry.Entry.{Entry}
 use Rattle.bep_choice.specs.Choice.{Candidate, candidates_of}
-use Rattle.bep_cut.specs.Cut.{devices_of}
-use Rattle.bep_cut.specs.declared.share.Share.{Share}
+use Rattle.bep_tables.specs.Cut.{devices_of}
+use Rattle.bep_tables.specs.declared.share.Share.{Share}
 use Rattle.bep_model.specs.Tables.{FileName}
 use Rattle.bep_model.specs.Winner.{beside}
 use Rattle.bep_audit.specs.Candidates.{owned_in, chooser_of}

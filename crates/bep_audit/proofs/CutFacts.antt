@@ -8,16 +8,16 @@ use Rattle.bep_record.specs.declared.entry.Entry.{Entry}
 use Rattle.bep_model.specs.declared.flight.Flight.{Flight}
 use Rattle.bep_model.specs.Tables.{Device, Folder, FileName, Shares}
 use Rattle.bep_model.specs.Foreign.{IsFlying, IsForeign, HasTrace, IsKnown}
-use Rattle.bep_cut.specs.declared.share.Share.{Share}
-use Rattle.bep_cut.specs.declared.link.LinkState.{LinkState}
-use Rattle.bep_cut.specs.declared.cut.CutParts.{CutParts}
-use Rattle.bep_cut.specs.Cut.{IsCut, ArePulls, devices_of, shares_of, tables_of}
-use Rattle.bep_cut.specs.Laws.{FolderIsFound, ShareHasFolder, SharingIsSaid, OwnIsSaid, NodeIsSaid, ViewedIsSaid, TargetIsSaid, FlyingIsSaid, ReceiverShares, Carries, HasRecord}
+use Rattle.bep_tables.specs.declared.share.Share.{Share}
+use Rattle.bep_tables.specs.declared.link.LinkState.{LinkState}
+use Rattle.bep_tables.specs.declared.cut.CutParts.{CutParts}
+use Rattle.bep_tables.specs.Cut.{IsCut, ArePulls, devices_of, shares_of, tables_of}
+use Rattle.bep_tables.specs.Laws.{FolderIsFound, ShareHasFolder, SharingIsSaid, OwnIsSaid, NodeIsSaid, ViewedIsSaid, TargetIsSaid, FlyingIsSaid, ReceiverShares, Carries, HasRecord}
 use Rattle.bep_audit.specs.Known.{HasName, Brings, IsBroughtBy, IsOver, IsOnItsWay, IsKnownFrom}
 use Rattle.bep_audit.proofs.MapFacts.{there_is}
 use Rattle.bep_audit.proofs.WinnerSaid.{are_shares}
 
--- the law of bep_cut
+-- the law of bep_tables
 pub record CutSays : Type 0 where
   pub found : FolderIsFound
   pub has_folder : ShareHasFolder

@@ -12,10 +12,10 @@ use Rattle.bep_model.specs.declared.reason.Reason.TheVariants.{CertificateOrder,
 use Rattle.bep_model.specs.Tables.{Tables, Device, Folder, FileName, Shares}
 use Rattle.bep_model.specs.Reasons.{device_rank, AsksAt, AsksName, AsksDevice, AsksShare}
 use Rattle.bep_model.specs.Verdict.{number_of}
-use Rattle.bep_cut.specs.declared.share.Share.{Share}
-use Rattle.bep_cut.specs.declared.link.LinkState.{LinkState}
-use Rattle.bep_cut.specs.declared.cut.CutParts.{CutParts}
-use Rattle.bep_cut.specs.Cut.{IsCut, shares_of, tables_of}
+use Rattle.bep_tables.specs.declared.share.Share.{Share}
+use Rattle.bep_tables.specs.declared.link.LinkState.{LinkState}
+use Rattle.bep_tables.specs.declared.cut.CutParts.{CutParts}
+use Rattle.bep_tables.specs.Cut.{IsCut, shares_of, tables_of}
 use Rattle.bep_audit.specs.Share.{AsksHere, ShareIsAsked}
 use Rattle.bep_audit.specs.Held.{AsksOf, AsksAmong}
 use Rattle.bep_audit.specs.Search.{FindsFirst, FindsFailing}
@@ -23,9 +23,9 @@ use Rattle.bep_audit.specs.Shown.{part_of}
 use Rattle.bep_audit.proofs.AskedAtRow.{IsOfDevices}
 use Rattle.bep_audit.proofs.CutFacts.{CutSays, share_of_device, device_of_share}
 use Rattle.bep_audit.proofs.ForeignFacts.{views_asked, flights_asked, pulls_asked}
-use Rattle.bep_cut.specs.declared.table.entry.Source.TheVariants.{View, Flight, Pull}
-use Rattle.bep_cut.specs.Listed.{Listed}
-use Rattle.bep_cut.specs.Said.{EntriesAreHeld}
+use Rattle.bep_tables.specs.declared.table.entry.Source.TheVariants.{View, Flight, Pull}
+use Rattle.bep_tables.specs.Listed.{Listed}
+use Rattle.bep_tables.specs.Said.{EntriesAreHeld}
 use Rattle.bep_model.specs.Settled.{key_of}
 use Rattle.bep_audit.specs.Group.{IsGroupOf, AsksGroup, AsksAmongGroup}
 use Rattle.bep_audit.proofs.GroupFacts.{elsewhere_asked}

@@ -13,11 +13,11 @@ use Rattle.bep_model.specs.Tables.{Device, Folder, FileName}
 use Rattle.bep_model.specs.Foreign.{IsKnown}
 use Rattle.bep_model.specs.Settled.{HasRow}
 use Rattle.bep_model.specs.Reasons.{Place, place_cmp, Asks, AsksAt}
-use Rattle.bep_cut.specs.declared.share.Share.{Share}
-use Rattle.bep_cut.specs.declared.share.SharedFolder.{SharedFolder}
-use Rattle.bep_cut.specs.declared.link.LinkState.{LinkState}
-use Rattle.bep_cut.specs.declared.cut.CutParts.{CutParts}
-use Rattle.bep_cut.specs.Cut.{IsCut, tables_of}
+use Rattle.bep_tables.specs.declared.share.Share.{Share}
+use Rattle.bep_tables.specs.declared.share.SharedFolder.{SharedFolder}
+use Rattle.bep_tables.specs.declared.link.LinkState.{LinkState}
+use Rattle.bep_tables.specs.declared.cut.CutParts.{CutParts}
+use Rattle.bep_tables.specs.Cut.{IsCut, tables_of}
 use Rattle.bep_audit.specs.Known.{IsKnownFrom}
 use Rattle.bep_audit.specs.Missing.{FindsMissing}
 use Rattle.bep_audit.specs.Search.{FindsFirst, FindsFailing}

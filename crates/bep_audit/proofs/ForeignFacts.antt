@@ -5,9 +5,9 @@ use Rattle.bep_record.specs.declared.entry.Entry.{Entry}
 use Rattle.bep_model.specs.declared.reason.Reason.TheVariants.{ViewAhead, FlightAhead, PullAhead}
 use Rattle.bep_model.specs.declared.row.Row.{Row}
 use Rattle.bep_model.specs.Reasons.{AsksShare}
-use Rattle.bep_cut.specs.declared.share.Share.{Share}
-use Rattle.bep_cut.specs.declared.cut.CutParts.{CutParts}
-use Rattle.bep_cut.specs.Cut.{IsCut, shares_of, tables_of}
+use Rattle.bep_tables.specs.declared.share.Share.{Share}
+use Rattle.bep_tables.specs.declared.cut.CutParts.{CutParts}
+use Rattle.bep_tables.specs.Cut.{IsCut, shares_of, tables_of}
 use Rattle.bep_audit.specs.Foreign.{Passes, PassesIfThere, ViewsPass, LinkPasses, LinksPass}
 use Rattle.bep_audit.proofs.CutFacts.{CutSays}
 

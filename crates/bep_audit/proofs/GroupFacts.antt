@@ -9,14 +9,14 @@ use Rattle.bep_model.specs.declared.row.Row.{Row}
 use Rattle.bep_model.specs.Tables.{Device, Folder, FileName, Shares}
 use Rattle.bep_model.specs.Foreign.{HasTrace, IsForeign, IsKnown}
 use Rattle.bep_model.specs.Settled.{key_of}
-use Rattle.bep_cut.specs.declared.cut.CutParts.{CutParts}
-use Rattle.bep_cut.specs.declared.share.Share.{Share}
-use Rattle.bep_cut.specs.declared.table.entry.TableEntry.{TableEntry}
-use Rattle.bep_cut.specs.declared.table.entry.Source.{Source}
-use Rattle.bep_cut.specs.declared.table.entry.Source.TheVariants.{Own, View, Flight, Pull}
-use Rattle.bep_cut.specs.Cut.{IsCut, shares_of, tables_of}
-use Rattle.bep_cut.specs.Listed.{Holding, Record, Node, Listed, listed}
-use Rattle.bep_cut.specs.Said.{Holds, EntriesAreHeld, HoldersShare}
+use Rattle.bep_tables.specs.declared.cut.CutParts.{CutParts}
+use Rattle.bep_tables.specs.declared.share.Share.{Share}
+use Rattle.bep_tables.specs.declared.table.entry.TableEntry.{TableEntry}
+use Rattle.bep_tables.specs.declared.table.entry.Source.{Source}
+use Rattle.bep_tables.specs.declared.table.entry.Source.TheVariants.{Own, View, Flight, Pull}
+use Rattle.bep_tables.specs.Cut.{IsCut, shares_of, tables_of}
+use Rattle.bep_tables.specs.Listed.{Holding, Record, Node, Listed, listed}
+use Rattle.bep_tables.specs.Said.{Holds, EntriesAreHeld, HoldersShare}
 use Rattle.bep_audit.specs.Foreign.{Passes}
 use Rattle.bep_audit.specs.Group.{IsGroupOf, counts, IsCountedIn, GroupPasses}
 use Rattle.bep_audit.proofs.ListFacts.{SomeSuch, EachSuch}

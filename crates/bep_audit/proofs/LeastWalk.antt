@@ -17,11 +17,11 @@ use Rattle.bep_model.specs.Settled.{key_of, key_cmp, Rise, IsSettled}
 use Rattle.bep_model.specs.Reasons.{Place, place_cmp, device_rank, Asks, AsksAt, first_disordered}
 use Rattle.bep_model.specs.Verdict.{number_of, IsFirstFault}
 use Rattle.bep_model.specs.Laws.{RowsRiseInOrder, SettledIsFaultless}
-use Rattle.bep_cut.specs.declared.cut.CutParts.{CutParts}
-use Rattle.bep_cut.specs.declared.table.entry.TableEntry.{TableEntry}
-use Rattle.bep_cut.specs.Cut.{IsCut, tables_of}
-use Rattle.bep_cut.specs.Listed.{Listed, key_at, listed, AreInOrder, IsGrouped, cut_listed}
-use Rattle.bep_cut.specs.Said.{EntriesAreHeld, HoldersShare}
+use Rattle.bep_tables.specs.declared.cut.CutParts.{CutParts}
+use Rattle.bep_tables.specs.declared.table.entry.TableEntry.{TableEntry}
+use Rattle.bep_tables.specs.Cut.{IsCut, tables_of}
+use Rattle.bep_tables.specs.Listed.{Listed, key_at, listed, AreInOrder, IsGrouped, cut_listed}
+use Rattle.bep_tables.specs.Said.{EntriesAreHeld, HoldersShare}
 use Rattle.bep_audit.specs.FailureOrder.{failure_total}
 use Rattle.bep_audit.specs.Grouped.{same_group_same}
 use Rattle.bep_audit.specs.Group.{IsGroupOf}

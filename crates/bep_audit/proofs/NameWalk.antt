@@ -14,8 +14,8 @@ use Rattle.bep_facts.specs.Rising.{below_later}
 use Rattle.bep_model.specs.declared.row.Row.{Row}
 use Rattle.bep_model.specs.Tables.{Folder, FileName}
 use Rattle.bep_model.specs.Settled.{key_of, key_cmp, Rise}
-use Rattle.bep_cut.specs.declared.table.entry.TableEntry.{TableEntry}
-use Rattle.bep_cut.specs.Listed.{key_at, listed, AreInOrder}
+use Rattle.bep_tables.specs.declared.table.entry.TableEntry.{TableEntry}
+use Rattle.bep_tables.specs.Listed.{key_at, listed, AreInOrder}
 use Rattle.bep_audit.specs.Walk.{next_key, count_at, rows_about}
 use Rattle.bep_audit.proofs.RowsFacts.{rows_sorted, rise_from_sorted}
 

@@ -10,11 +10,11 @@ use Rattle.std.specs.List.{AllByRecursion}
 use Rattle.std.specs.List.Sorted.{IsStrictlySortedBy}
 use Rattle.std.proofs.lemmas.Cmp.{tied_itself}
 use Rattle.bep_facts.specs.Members.{Contains-image, Contains-from_image, Contains-flat_map, Contains-from_flat_map}
-use Rattle.bep_cut.specs.Cut.{IsCut, tables_of}
-use Rattle.bep_cut.specs.Laws.{ShareHasFolder, SharingIsSaid, NamesAreKnown}
-use Rattle.bep_cut.specs.Names.{known_names, names_of, all_names}
-use Rattle.bep_cut.specs.declared.cut.CutParts.{CutParts}
-use Rattle.bep_cut.specs.declared.share.SharedFolder.{SharedFolder}
+use Rattle.bep_tables.specs.Cut.{IsCut, tables_of}
+use Rattle.bep_tables.specs.Laws.{ShareHasFolder, SharingIsSaid, NamesAreKnown}
+use Rattle.bep_tables.specs.Names.{known_names, names_of, all_names}
+use Rattle.bep_tables.specs.declared.cut.CutParts.{CutParts}
+use Rattle.bep_tables.specs.declared.share.SharedFolder.{SharedFolder}
 use Rattle.bep_model.specs.Foreign.{IsKnown}
 use Rattle.bep_model.specs.Settled.{key_cmp}
 use Rattle.bep_model.specs.Tables.{Folder, FileName}

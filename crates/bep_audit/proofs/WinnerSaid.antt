@@ -8,12 +8,12 @@ use Rattle.bep_facts.specs.Members.{Contains-first, Contains-from_image, Contain
 use Rattle.bep_choice.specs.Choice.{Candidate}
 use Rattle.bep_record.specs.declared.folder_kind.FolderKind.{FolderKind}
 use Rattle.bep_index.specs.Index.{IsIndex}
-use Rattle.bep_cut.specs.Cut.{AreShares, IsCut, HasDevice, index_of, devices_of, shares_of, tables_of}
-use Rattle.bep_cut.specs.Laws.{FolderIsFound, ShareHasFolder, OwnIsSaid}
-use Rattle.bep_cut.specs.declared.cut.CutParts.{CutParts}
+use Rattle.bep_tables.specs.Cut.{AreShares, IsCut, HasDevice, index_of, devices_of, shares_of, tables_of}
+use Rattle.bep_tables.specs.Laws.{FolderIsFound, ShareHasFolder, OwnIsSaid}
+use Rattle.bep_tables.specs.declared.cut.CutParts.{CutParts}
 use Rattle.bep_record.specs.declared.limits.TheConstants.{MAX_DEVICES}
-use Rattle.bep_cut.specs.declared.share.Share.{Share}
-use Rattle.bep_cut.specs.declared.share.SharedFolder.{SharedFolder}
+use Rattle.bep_tables.specs.declared.share.Share.{Share}
+use Rattle.bep_tables.specs.declared.share.SharedFolder.{SharedFolder}
 use Rattle.bep_model.specs.Tables.{Tables, Device, Folder, FileName}
 use Rattle.bep_model.specs.Winner.{beside, owned, own_candidates, smallest, IsWinner}
 use Rattle.bep_audit.specs.Candidates.{owned_in, chooser_of}

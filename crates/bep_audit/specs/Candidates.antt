@@ -3,7 +3,7 @@ use Rattle.std.specs.Prelude.{ℕ, List, map}
 use Rattle.std.specs.List.{flat_map}
 use Rattle.std.specs.FinMap.{get}
 use Rattle.bep_choice.specs.Choice.{Candidate}
-use Rattle.bep_cut.specs.declared.share.Share.{Share}
+use Rattle.bep_tables.specs.declared.share.Share.{Share}
 use Rattle.bep_model.specs.Tables.{FileName}
 use Rattle.bep_model.specs.Winner.{beside, smallest}
 

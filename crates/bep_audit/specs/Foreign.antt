@@ -9,9 +9,9 @@ use Rattle.bep_model.specs.declared.reason.Reason.TheVariants.{ViewAhead, Flight
 use Rattle.bep_model.specs.declared.row.Row.{Row}
 use Rattle.bep_model.specs.Foreign.{IsHarmless}
 use Rattle.bep_model.specs.Tables.{Device}
-use Rattle.bep_cut.specs.declared.share.Share.{Share}
-use Rattle.bep_cut.specs.declared.share.PeerView.{PeerView}
-use Rattle.bep_cut.specs.declared.link.LinkState.{LinkState}
+use Rattle.bep_tables.specs.declared.share.Share.{Share}
+use Rattle.bep_tables.specs.declared.share.PeerView.{PeerView}
+use Rattle.bep_tables.specs.declared.link.LinkState.{LinkState}
 
 -- a record passes: it is invalid, or harmless to the row's content beside this own record
 abbrev pub Passes : Row → Option Entry → Entry → Type 0

@@ -6,11 +6,11 @@ use Rattle.bep_model.specs.declared.row.Row.{Row}
 use Rattle.bep_model.specs.declared.reason.Reason.{Reason}
 use Rattle.bep_model.specs.declared.reason.Reason.TheVariants.{ViewAhead, FlightAhead, PullAhead}
 use Rattle.bep_model.specs.Tables.{Device, Folder, FileName}
-use Rattle.bep_cut.specs.declared.share.Share.{Share}
-use Rattle.bep_cut.specs.declared.cut.CutParts.{CutParts}
-use Rattle.bep_cut.specs.declared.table.entry.Source.{Source}
-use Rattle.bep_cut.specs.declared.table.entry.Source.TheVariants.{Own, View, Flight, Pull}
-use Rattle.bep_cut.specs.Listed.{Holding, Record, Node, Listed, key_at, cut_listed}
+use Rattle.bep_tables.specs.declared.share.Share.{Share}
+use Rattle.bep_tables.specs.declared.cut.CutParts.{CutParts}
+use Rattle.bep_tables.specs.declared.table.entry.Source.{Source}
+use Rattle.bep_tables.specs.declared.table.entry.Source.TheVariants.{Own, View, Flight, Pull}
+use Rattle.bep_tables.specs.Listed.{Holding, Record, Node, Listed, key_at, cut_listed}
 use Rattle.bep_audit.specs.Foreign.{Passes}
 use Rattle.bep_audit.specs.Share.{AsksHere}
 

@@ -5,7 +5,7 @@ use Rattle.std.specs.List.{filter}
 use Rattle.std.proofs.lemmas.Cmp.{tied_itself}
 use Rattle.bep_facts.specs.Members.{Contains-first, Contains-more, Contains-cons_cases, not_in_none}
 use Rattle.bep_facts.specs.Orders.{texts_total}
-use Rattle.bep_cut.specs.Listed.{Listed, key_at, is_of, group_of}
+use Rattle.bep_tables.specs.Listed.{Listed, key_at, is_of, group_of}
 
 -- members of a list that pass a test
 in_filter : (test : Listed → Bool) (all : List Listed) (one : Listed) → Contains all one → test one ≡ true → Contains (filter test all) one

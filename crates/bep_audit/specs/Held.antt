@@ -4,8 +4,8 @@ use Rattle.std.specs.FinMap.{get}
 use Rattle.bep_model.specs.declared.row.Row.{Row}
 use Rattle.bep_model.specs.declared.reason.Reason.{Reason}
 use Rattle.bep_model.specs.Tables.{Device}
-use Rattle.bep_cut.specs.declared.share.Share.{Share}
-use Rattle.bep_cut.specs.declared.link.LinkState.{LinkState}
+use Rattle.bep_tables.specs.declared.share.Share.{Share}
+use Rattle.bep_tables.specs.declared.link.LinkState.{LinkState}
 use Rattle.bep_audit.specs.Share.{AsksHere}
 use Rattle.bep_audit.specs.Foreign.{AsksForeign}
 

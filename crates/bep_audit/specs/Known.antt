@@ -5,9 +5,9 @@ use Rattle.bep_record.specs.declared.entry.Entry.{Entry}
 use Rattle.bep_map.specs.NameMap.{ByName}
 use Rattle.bep_model.specs.declared.flight.Flight.{Flight}
 use Rattle.bep_model.specs.Tables.{Folder, FileName}
-use Rattle.bep_cut.specs.declared.share.Share.{Share}
-use Rattle.bep_cut.specs.declared.share.PeerView.{PeerView}
-use Rattle.bep_cut.specs.declared.link.LinkState.{LinkState}
+use Rattle.bep_tables.specs.declared.share.Share.{Share}
+use Rattle.bep_tables.specs.declared.share.PeerView.{PeerView}
+use Rattle.bep_tables.specs.declared.link.LinkState.{LinkState}
 
 -- the map has a record of the name, one that isn't invalid
 abbrev pub HasValid : ByName Entry → FileName → Type 0

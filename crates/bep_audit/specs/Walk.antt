@@ -9,8 +9,8 @@ use Rattle.bep_model.specs.Tables.{Tables, Folder, FileName}
 use Rattle.bep_model.specs.Settled.{key_of, key_cmp}
 use Rattle.bep_model.specs.Reasons.{Place, place_cmp, Asks}
 use Rattle.bep_model.specs.Verdict.{number_of}
-use Rattle.bep_cut.specs.declared.table.entry.TableEntry.{TableEntry}
-use Rattle.bep_cut.specs.Listed.{key_at, listed}
+use Rattle.bep_tables.specs.declared.table.entry.TableEntry.{TableEntry}
+use Rattle.bep_tables.specs.Listed.{key_at, listed}
 use Rattle.bep_audit.specs.declared.failure.Failure as lends
 use Rattle.bep_audit.specs.Search.{FindsFirst}
 use Rattle.bep_audit.specs.Shown.{place_shown}

@@ -3,13 +3,13 @@ ghost use Rattle.std.specs.Prelude.{◌≡◌, ◌≤◌, ◌↔◌, [], length,
 ghost use Rattle.std.specs.List.Sorted.{IsStrictlyIncreasing};
 ghost use Rattle.std.specs.Option.{option_copied};
 ghost use Rattle.bep_choice.specs.Choice.{Candidate, candidate_of, candidates_of, IsChoice};
-ghost use Rattle.bep_cut.specs.Cut.{devices_of};
+ghost use Rattle.bep_tables.specs.Cut.{devices_of};
 ghost use Rattle.bep_record.specs.declared.limits.TheConstants.{MAX_DEVICES};
 ghost use Rattle.bep_audit.specs.Candidates.{owned_in, chooser_of};
 
 use bep_choice::choose;
-use bep_cut::Share;
 use bep_record::{DeviceId, MAX_DEVICES, Name, Record};
+use bep_tables::Share;
 use std::array;
 
 // The device and the record that win the name among these shares.

@@ -1,14 +1,14 @@
 //! The certificate of a cut.
 ghost use Rattle.std.specs.Prelude.{◌≡◌, IfOk, IfErr, OnOk};
-ghost use Rattle.bep_cut.specs.Cut.{tables_of};
-ghost use Rattle.bep_cut.specs.Names.{names_of};
+ghost use Rattle.bep_tables.specs.Cut.{tables_of};
+ghost use Rattle.bep_tables.specs.Names.{names_of};
 ghost use Rattle.bep_model.specs.Settled.{IsListOfWinners};
 ghost use Rattle.bep_audit.specs.Certifier.{TellsOf, TellsOfFirst, IsSettledIfAny, IsNeverSettled, Adds, FailsIn, IsWon, IsUnwon};
 
 use crate::{Certificate, CertifyError, winner_of};
-use bep_cut::{Cut, SharedFolder, cut_says, names_are_known};
 use bep_model::{Row, certificate_is_unique, winners_or_first_without};
 use bep_record::{FolderName, Name};
+use bep_tables::{Cut, SharedFolder, cut_says, names_are_known};
 use std::alloc::Global;
 
 /// The certificate of the cut: the winner of each known name, names rising. Where a known name has no winner there is

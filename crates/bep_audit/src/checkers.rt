@@ -4,7 +4,7 @@ ghost use Rattle.bep_model.specs.Calm.{IsCalm, contents_of};
 ghost use Rattle.bep_model.specs.Settled.{IsSettled};
 ghost use Rattle.bep_model.specs.Verdict.{IsVerdict};
 ghost use Rattle.bep_machine.specs.Laws.{StaysPut, StaysSettled};
-ghost use Rattle.bep_cut.specs.Cut.{tables_of};
+ghost use Rattle.bep_tables.specs.Cut.{tables_of};
 ghost use Rattle.bep_audit.specs.declared.verdict.Verdict.TheVariants.{Settled};
 ghost use Rattle.bep_audit.specs.Shown.{verdict_shown};
 
@@ -12,11 +12,11 @@ use crate::failing::first_failing;
 use crate::spot::Spot;
 use crate::walk::least_failure;
 use crate::{Certificate, Verdict, first_disordered};
-use bep_cut::{Cut, Table};
 use bep_machine::{settled_stays_put, settled_stays_settled};
 use bep_model::{
     Reason, reasons_are_numbered, rows_rise_in_order, settled_is_calm, settled_is_faultless,
 };
+use bep_tables::{Cut, Table};
 use std::alloc::{AllocError, Global};
 
 /// All reasons, in the order in which they are told.

@@ -7,7 +7,7 @@ ghost use Rattle.bep_model.specs.Tables.{Tables};
 ghost use Rattle.bep_model.specs.Settled.{Rise};
 ghost use Rattle.bep_model.specs.Reasons.{AsksShare};
 ghost use Rattle.bep_model.specs.Verdict.{number_of};
-ghost use Rattle.bep_cut.specs.Cut.{tables_of, shares_of, devices_of};
+ghost use Rattle.bep_tables.specs.Cut.{tables_of, shares_of, devices_of};
 ghost use Rattle.bep_audit.specs.Held.{AsksOf, AsksAmong};
 ghost use Rattle.bep_audit.specs.Search.{FindsFirst, FindsFailing};
 ghost use Rattle.bep_audit.specs.Shown.{place_shown, name_of};
@@ -17,9 +17,9 @@ use crate::known::is_known;
 use crate::missing::first_missing;
 use crate::spot::Spot;
 use crate::{first_disordered, is_winner, meets_share, share_is_asked};
-use bep_cut::{Cut, LinkState, Share, cut_says};
 use bep_model::{Reason, Row};
 use bep_record::DeviceId;
+use bep_tables::{Cut, LinkState, Share, cut_says};
 
 /// The first place at which the reason fails, by folder, name and device; `None` where it fails nowhere.
 pub fn first_failing<'a>(cut: &'a Cut, rows: &'a [Row], reason: Reason) -> Option<Spot<'a>>

@@ -5,9 +5,9 @@ ghost use Rattle.std.specs.Option.{option_copied};
 ghost use Rattle.bep_audit.specs.Foreign.{AsksForeign, Passes, PassesIfThere, ViewsPass, LinksPass, LinkPasses, EndPasses, FlightsPass, FlightPasses, RecordsPass, PassesIfNamed};
 
 use crate::is_harmless;
-use bep_cut::{Flight, LinkState, PeerView, Share};
 use bep_model::{Reason, Row};
 use bep_record::{DeviceId, Record};
+use bep_tables::{Flight, LinkState, PeerView, Share};
 
 /// Whether the device meets what the reason asks of it beside the row, by its foreign records alone.
 ///

@@ -1,14 +1,14 @@
 //! What the entries of one name say: whether it is known, and what each reason asks of its devices.
 ghost use Rattle.std.specs.Prelude.{◌≡◌, ◌↔◌, IsTrue, map, true};
 ghost use Rattle.std.specs.Option.{option_copied};
-ghost use Rattle.bep_cut.specs.Listed.{listed};
+ghost use Rattle.bep_tables.specs.Listed.{listed};
 ghost use Rattle.bep_audit.specs.Group.{counts, IsCountedIn, PassesFrom, GroupPasses, AsksElsewhere, AsksGroup};
 
 use crate::foreign::passes;
 use crate::meets_share;
-use bep_cut::{Held, Share, Source, TableEntry};
 use bep_model::{Reason, Row};
 use bep_record::{DeviceId, Record};
+use bep_tables::{Held, Share, Source, TableEntry};
 
 /// Whether one of the entries makes its name known: any but an invalid record that isn't a device's own.
 pub(crate) fn has_known(group: &[TableEntry<'_>]) -> bool

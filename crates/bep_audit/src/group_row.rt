@@ -6,8 +6,8 @@ ghost use Rattle.bep_model.specs.declared.row.Row.{Row};
 ghost use Rattle.bep_model.specs.declared.reason.Reason.TheVariants.{NotWinner};
 ghost use Rattle.bep_model.specs.Settled.{key_of};
 ghost use Rattle.bep_model.specs.Verdict.{number_of};
-ghost use Rattle.bep_cut.specs.Cut.{tables_of, devices_of};
-ghost use Rattle.bep_cut.specs.Listed.{listed};
+ghost use Rattle.bep_tables.specs.Cut.{tables_of, devices_of};
+ghost use Rattle.bep_tables.specs.Listed.{listed};
 ghost use Rattle.bep_audit.specs.Group.{IsGroupOf, AsksAmongGroup};
 ghost use Rattle.bep_audit.specs.Search.{FindsFirst, FindsFailing};
 ghost use Rattle.bep_audit.specs.Shown.{place_shown};
@@ -19,9 +19,9 @@ use crate::failure::Failure;
 use crate::group::{has_known, meets_group};
 use crate::spot::Spot;
 use crate::{is_winner, share_is_asked};
-use bep_cut::{Cut, Share, TableEntry, cut_says, entries_are_held};
 use bep_model::{Reason, Row, reasons_are_numbered};
 use bep_record::{DeviceId, FolderName, Name};
+use bep_tables::{Cut, Share, TableEntry, cut_says, entries_are_held};
 
 /// The least failure at the name, whose entries these are and whose rows these, one or none.
 pub(crate) fn failure_at<'a>(

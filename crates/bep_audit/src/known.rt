@@ -1,12 +1,12 @@
 //! Whether a name is known: whether a device that shares its folder has it, or it is on its way to one.
 ghost use Rattle.std.specs.Prelude.{◌↔◌, IsTrue};
 ghost use Rattle.bep_model.specs.Foreign.{IsKnown};
-ghost use Rattle.bep_cut.specs.Cut.{tables_of};
+ghost use Rattle.bep_tables.specs.Cut.{tables_of};
 ghost use Rattle.bep_audit.specs.Known.{HasValid, IsViewedIn, HasForeign, HasName, IsHeldIn, IsValidOf, HasValidOf, Brings, IsBroughtBy, IsOver, IsOnItsWay};
 
-use bep_cut::{Cut, Flight, LinkState, PeerView, Share, cut_says};
 use bep_map::NameMap;
 use bep_record::{FolderName, Name, Record};
+use bep_tables::{Cut, Flight, LinkState, PeerView, Share, cut_says};
 
 /// Whether the name is known in the folder. Takes no memory.
 pub fn is_known(cut: &Cut, folder: &FolderName, name: &Name) -> bool

@@ -3,7 +3,7 @@ ghost use Rattle.std.specs.Prelude.{option_map};
 ghost use Rattle.std.specs.Option.{option_copied};
 ghost use Rattle.bep_model.specs.declared.reason.Reason.TheVariants.{NameMissing};
 ghost use Rattle.bep_model.specs.Settled.{Rise};
-ghost use Rattle.bep_cut.specs.Cut.{tables_of};
+ghost use Rattle.bep_tables.specs.Cut.{tables_of};
 ghost use Rattle.bep_audit.specs.Known.{IsKnownFrom};
 ghost use Rattle.bep_audit.specs.Missing.{FindsMissing};
 ghost use Rattle.bep_audit.specs.Search.{FindsFailing};
@@ -13,9 +13,9 @@ use crate::least::lesser;
 use crate::missing_held::least_of_devices;
 use crate::missing_on_its_way::least_on_its_way;
 use crate::spot::Spot;
-use bep_cut::{Cut, LinkState, SharedFolder, cut_says};
 use bep_model::Row;
 use bep_record::Name;
+use bep_tables::{Cut, LinkState, SharedFolder, cut_says};
 
 /// The first place of a known name that has no row.
 pub fn first_missing<'a>(cut: &'a Cut, rows: &[Row]) -> Option<Spot<'a>>

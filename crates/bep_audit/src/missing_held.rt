@@ -8,10 +8,10 @@ ghost use Rattle.bep_audit.specs.Missing.{FindsMissing};
 
 use crate::find_row;
 use crate::least::{has_row_if_valid, lesser};
-use bep_cut::{PeerView, Share};
 use bep_map::NameMap;
 use bep_model::Row;
 use bep_record::{FolderName, Name, Record};
+use bep_tables::{PeerView, Share};
 
 /// The least name without a row, of those that one of the devices has.
 pub(crate) fn least_of_devices<'a>(

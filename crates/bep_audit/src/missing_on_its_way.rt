@@ -5,9 +5,9 @@ ghost use Rattle.bep_audit.specs.Known.{IsValidOf, HasValidOf, Brings, IsBrought
 ghost use Rattle.bep_audit.specs.Missing.{FindsMissing};
 
 use crate::least::{has_row_if_valid, lesser};
-use bep_cut::{Flight, LinkState};
 use bep_model::Row;
 use bep_record::{FolderName, Name, Record};
+use bep_tables::{Flight, LinkState};
 
 /// The least name of the folder without a row, of those on their way over one of the links.
 pub(crate) fn least_on_its_way<'a>(

@@ -1,7 +1,7 @@
 //! A folder `docs` with a directory `a`, whose second version is device 2's; the wanted answers were worked out by hand.
 use crate::*;
-use bep_cut::{DocError, read_check};
 use bep_model::Reason;
+use bep_tables::{DocError, read_check};
 use std::alloc::Global;
 use std::test::Fail;
 

@@ -1,16 +1,16 @@
 //! The walk over a cut's names beside a certificate's rows, with the least failure so far.
 ghost use Rattle.std.specs.Prelude.{◌≡◌, ◌≤◌, ⊤, length, option_map, take};
 ghost use Rattle.bep_model.specs.Settled.{Rise};
-ghost use Rattle.bep_cut.specs.Cut.{tables_of};
-ghost use Rattle.bep_cut.specs.Listed.{IsGrouped, cut_listed};
+ghost use Rattle.bep_tables.specs.Cut.{tables_of};
+ghost use Rattle.bep_tables.specs.Listed.{IsGrouped, cut_listed};
 ghost use Rattle.bep_audit.specs.Walk.{FindsLeast, failure_shown, key_shown, next_key, count_at, rows_about};
 
 use crate::compare_row;
 use crate::failure::{Failure, replaces};
 use crate::group_row::failure_at;
-use bep_cut::{Cut, TableEntry, entries_are_held};
 use bep_model::{Row, rows_rise_in_order};
 use bep_record::{FolderName, Name};
+use bep_tables::{Cut, TableEntry, entries_are_held};
 
 /// The least reason that fails, at its first place, for rows that rise; `None` where nothing fails.
 ///

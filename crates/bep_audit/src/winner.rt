@@ -1,13 +1,13 @@
 //! The winner of a name in a cut, and whether a row holds it.
 ghost use Rattle.std.specs.Prelude.{◌≡◌, ◌↔◌, IsTrue, IfSome, IfNone};
 ghost use Rattle.bep_choice.specs.Choice.{Candidate, candidate_of};
-ghost use Rattle.bep_cut.specs.Cut.{tables_of};
+ghost use Rattle.bep_tables.specs.Cut.{tables_of};
 ghost use Rattle.bep_model.specs.Winner.{IsWinner};
 
 use crate::candidates::winner_among;
-use bep_cut::{Cut, cut_says};
 use bep_model::{Row, winner_is_unique};
 use bep_record::{DeviceId, FolderName, Name, Record};
+use bep_tables::{Cut, cut_says};
 
 /// The device and the record that win the name in the folder; `None` exactly where the name has no winner. The record
 /// has this name. Takes no memory.

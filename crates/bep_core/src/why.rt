@@ -1,9 +1,9 @@
 //! Why a step or a configuration is refused, as the product prints it.
 ghost use Rattle.std.specs.Prelude.{◌≡◌, option_map};
-ghost use Rattle.bep_machine.specs.Answer.{number_of as number_of_refusal};
 ghost use Rattle.bep_core.specs.Why.{number_of, name_of, name_of_refusal};
 
 use bep_machine::Refusal;
+use bep_peer::PeerError;
 use thiserror::Error;
 
 /// Why a cluster, or a step of it, was refused.
@@ -26,7 +26,7 @@ impl Why {
         ensures { result ≡ number_of self }
     {
         match self {
-            Why::Refused(refusal) => Some(number_of(refusal)),
+            Why::Refused(refusal) => PeerError::Refused(refusal).number(),
             Why::ConfigBad => Some(164),
             Why::Memory => None,
         }
@@ -41,31 +41,6 @@ impl Why {
             Why::ConfigBad => Some("ConfigBad"),
             Why::Memory => None,
         }
-    }
-}
-
-fn number_of(refusal: Refusal) -> u32
-    ensures { result ≡ number_of_refusal refusal }
-{
-    match refusal {
-        Refusal::CounterFull => 101,
-        Refusal::TooManyCounters => 102,
-        Refusal::NameBad => 103,
-        Refusal::SequenceFull => 121,
-        Refusal::IndexFull => 122,
-        Refusal::StoreFault => 131,
-        Refusal::Unscanned => 141,
-        Refusal::NotNeeded => 142,
-        Refusal::BlocksMissing => 143,
-        Refusal::CopyExists => 145,
-        Refusal::PullsFull => 146,
-        Refusal::KindForbids => 147,
-        Refusal::LinkDown => 151,
-        Refusal::LinkFull => 152,
-        Refusal::EpochFull => 153,
-        Refusal::NotBegun => 161,
-        Refusal::NotShared => 162,
-        Refusal::NothingToDo => 163,
     }
 }
 

@@ -10,13 +10,13 @@ use Rattle.bep_model.specs.Foreign.{HasTrace, IsForeign, IsKnown}
 use Rattle.bep_model.specs.Winner.{IsWinner}
 use Rattle.bep_model.specs.Settled.{key_of}
 use Rattle.bep_model.specs.Reasons.{AsksAt, AsksShare}
-use Rattle.bep_cut.specs.declared.cut.CutParts.{CutParts}
-use Rattle.bep_cut.specs.declared.table.entry.Source.TheVariants.{Own, View, Flight, Pull}
-use Rattle.bep_cut.specs.declared.table.entry.TableEntry.{TableEntry}
-use Rattle.bep_cut.specs.Cut.{IsCut, shares_of, tables_of}
-use Rattle.bep_cut.specs.Laws.{SharingIsSaid}
-use Rattle.bep_cut.specs.Listed.{Holding, Record, Node, Listed, key_at, listed, cut_listed, IsGrouped}
-use Rattle.bep_cut.specs.Said.{Holds, EntriesAreHeld}
+use Rattle.bep_tables.specs.declared.cut.CutParts.{CutParts}
+use Rattle.bep_tables.specs.declared.table.entry.Source.TheVariants.{Own, View, Flight, Pull}
+use Rattle.bep_tables.specs.declared.table.entry.TableEntry.{TableEntry}
+use Rattle.bep_tables.specs.Cut.{IsCut, shares_of, tables_of}
+use Rattle.bep_tables.specs.Laws.{SharingIsSaid}
+use Rattle.bep_tables.specs.Listed.{Holding, Record, Node, Listed, key_at, listed, cut_listed, IsGrouped}
+use Rattle.bep_tables.specs.Said.{Holds, EntriesAreHeld}
 use Rattle.bep_audit.specs.declared.checkers.TheConstants.{REASONS}
 use Rattle.bep_audit.specs.Grouped.{same_group_same}
 use Rattle.bep_audit.specs.Walk.{Failure}

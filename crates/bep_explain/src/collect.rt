@@ -1,15 +1,15 @@
 //! What the rows of a certificate add to the failures.
 ghost use Rattle.std.specs.Prelude.{◌≡◌, ◌++◌, ◌∷◌, [], Some, None, Contains, OnOk, map, if◌then◌else◌};
 ghost use Rattle.bep_model.specs.Settled.{key_of};
-ghost use Rattle.bep_cut.specs.Cut.{tables_of, shares_of};
+ghost use Rattle.bep_tables.specs.Cut.{tables_of, shares_of};
 ghost use Rattle.bep_audit.specs.Walk.{failure_shown};
 ghost use Rattle.bep_explain.specs.Adding.{AddsFailing, Each};
 ghost use Rattle.bep_explain.specs.Says.{failure_at, SaysOrder, SaysShare, SaysRow, SaysAtRow};
 
 use bep_audit::{Failure, REASONS, Spot, first_disordered, is_known, is_winner, meets_asked};
-use bep_cut::{Cut, Share};
 use bep_model::{Reason, Row, reasons_are_numbered};
 use bep_record::DeviceId;
+use bep_tables::{Cut, Share};
 use std::alloc::AllocError;
 
 /// Adds the failure, unless what it tells of holds.

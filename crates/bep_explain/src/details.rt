@@ -6,10 +6,10 @@ use crate::missing::row_of;
 use crate::said::{push_node, push_record};
 use crate::sources::{Asked, add_flights, add_pull, add_views};
 use bep_audit::{Failure, winner_of};
-use bep_cut::{Cut, Share};
 use bep_model::{Reason, Row};
 use bep_record::{DeviceId, FolderName, Name, Node, Record};
 use bep_report::{Piece, push_pieces};
+use bep_tables::{Cut, Share};
 use std::alloc::{AllocError, Global};
 
 /// The lines of a failure, whose rows rise or not: the winner, and the row where it isn't that; on a device its record,

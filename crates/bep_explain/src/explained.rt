@@ -2,7 +2,7 @@
 ghost use Rattle.std.specs.Prelude.{◌≡◌, ◌↔◌, [], map, IfOk};
 ghost use Rattle.bep_model.specs.Settled.{IsSettled};
 ghost use Rattle.bep_model.specs.Verdict.{IsVerdict};
-ghost use Rattle.bep_cut.specs.Cut.{tables_of};
+ghost use Rattle.bep_tables.specs.Cut.{tables_of};
 ghost use Rattle.bep_audit.specs.Walk.{failure_shown};
 ghost use Rattle.bep_explain.specs.Found.{AreFailures, verdict_of};
 ghost use Rattle.bep_explain.specs.Told.{failures_of, told_of};
@@ -11,8 +11,8 @@ use crate::collect::copy_of;
 use crate::details::details_of;
 use crate::failures;
 use bep_audit::{Certificate, Failure, first_disordered};
-use bep_cut::Cut;
 use bep_model::Row;
+use bep_tables::Cut;
 use std::alloc::{AllocError, Global};
 
 /// A reason that fails at a place, and what is said of it.

@@ -2,7 +2,7 @@
 ghost use Rattle.std.specs.Prelude.{◌≡◌, ◌↔◌, [], map, IfOk, OnOk};
 ghost use Rattle.bep_model.specs.Settled.{IsSettled};
 ghost use Rattle.bep_model.specs.Verdict.{IsVerdict};
-ghost use Rattle.bep_cut.specs.Cut.{tables_of};
+ghost use Rattle.bep_tables.specs.Cut.{tables_of};
 ghost use Rattle.bep_audit.specs.FailureOrder.{lent_cmp};
 ghost use Rattle.bep_audit.specs.Walk.{failure_shown};
 ghost use Rattle.bep_explain.specs.Adding.{AddsFailing};
@@ -12,8 +12,8 @@ ghost use Rattle.bep_explain.specs.Found.{AreFailures, IsMet, verdict_of};
 use crate::collect::{add_out_of_order, add_rows, copy_of};
 use crate::missing::add_missing;
 use bep_audit::{Certificate, Failure};
-use bep_cut::{Cut, Table, cut_says, entries_are_held};
 use bep_model::{Row, reasons_are_numbered, settled_is_faultless};
+use bep_tables::{Cut, Table, cut_says, entries_are_held};
 use std::alloc::{AllocError, Global};
 
 /// All reasons that fail, each at every place at which it fails, or want of memory: by reason, then folder, name and

@@ -2,17 +2,17 @@
 ghost use Rattle.std.specs.Prelude.{◌≡◌, ◌↔◌, IsTrue, IsSome, None, OnOk, map};
 ghost use Rattle.bep_model.specs.Settled.{Rise, HasRow};
 ghost use Rattle.bep_model.specs.declared.reason.Reason.TheVariants.{NameMissing};
-ghost use Rattle.bep_cut.specs.Cut.{tables_of};
-ghost use Rattle.bep_cut.specs.Listed.{key_at, listed};
+ghost use Rattle.bep_tables.specs.Cut.{tables_of};
+ghost use Rattle.bep_tables.specs.Listed.{key_at, listed};
 ghost use Rattle.bep_audit.specs.Walk.{failure_shown};
 ghost use Rattle.bep_explain.specs.Adding.{AddsFailing, Each};
 ghost use Rattle.bep_explain.specs.Says.{failure_at, NameHasRow, SaysEntry};
 
 use crate::collect::add_unless;
 use bep_audit::{Failure, Spot, compare_row, find_row, first_disordered, is_known};
-use bep_cut::{Cut, TableEntry};
 use bep_model::{Reason, Row, reasons_are_numbered};
 use bep_record::{FolderName, Name};
+use bep_tables::{Cut, TableEntry};
 use std::alloc::AllocError;
 
 /// Adds the names of these entries that are known and have no row.

@@ -1,10 +1,10 @@
 //! The records of others that a device knows of, as lines. No contract speaks of these texts.
 use crate::details::add_record;
 use bep_audit::is_harmless;
-use bep_cut::{LinkState, Share};
 use bep_model::{Flight, Row};
 use bep_record::{DeviceId, FolderName, Name, Record};
 use bep_report::Piece;
+use bep_tables::{LinkState, Share};
 use std::alloc::{AllocError, Global};
 
 /// Which records are asked for: those of this name that aren't harmless beside the own record and the row, or, where

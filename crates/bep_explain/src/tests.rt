@@ -1,8 +1,8 @@
 //! A folder `docs` whose one device holds a directory that it has no record of; what fails was worked out by hand.
 use crate::*;
 use bep_audit::Certificate;
-use bep_cut::{DocError, read_check};
 use bep_model::Reason;
+use bep_tables::{DocError, read_check};
 use std::alloc::Global;
 use std::test::Fail;
 

@@ -1,9 +1,8 @@
-//! What requests are about, and where one stands among others.
+//! Where a request stands among others, and whether bytes are the same.
 ghost use Rattle.std.specs.Prelude.{◌≡◌, ◌<◌, ◌+◌, ◌++◌, length, take, drop, slice_get, Some, None, IfSome, IfNone};
-ghost use Rattle.bep_machine.specs.Exchange.{asked_for, without, same_bytes, is_about};
+ghost use Rattle.bep_machine.specs.Exchange.{asked_for, without, same_bytes};
 
 use bep_machine::Request;
-use bep_record::Block;
 
 /// The place of the first request of this number.
 pub(crate) fn place_of(requests: &[Request], id: u32) -> Option<usize>
@@ -23,13 +22,4 @@ pub(crate) fn same_bytes(one: &[u8], other: &[u8]) -> bool
     ensures { result ≡ same_bytes one.now other.now }
 {
     one.cmp(other).is_eq()
-}
-
-/// Whether the request is about this block of its file.
-pub(crate) fn is_about(request: &Request, block: &Block) -> bool
-    ensures { result ≡ is_about request.now block.now }
-{
-    request.offset == block.offset
-        && request.size == block.size
-        && same_bytes(&request.hash, &block.hash)
 }

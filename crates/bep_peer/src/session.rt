@@ -7,7 +7,8 @@ ghost use Rattle.bep_machine.specs.Peer.{new_session};
 ghost use Rattle.bep_machine.specs.Exchange.{asked_for, without, is_asked, is_about, same_bytes, request_for};
 ghost use Rattle.bep_peer.specs.Session.{IsSession, IsNext, with_request};
 
-use crate::requests::{is_about, place_of, same_bytes};
+use crate::requests::{place_of, same_bytes};
+use bep_folder::is_about;
 use bep_index::Plan;
 use bep_machine::{MAX_OUTSTANDING, MAX_REQUEST_ID, Request};
 use bep_map::FolderMap;

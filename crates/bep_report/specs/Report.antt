@@ -4,10 +4,10 @@ use Rattle.std.specs.List.{list_any}
 use Rattle.std.specs.FinMap.{contains_key, keys, len}
 use Rattle.bep_model.specs.Tables.{FileName}
 use Rattle.bep_model.specs.Verdict.{Verdict}
-use Rattle.bep_cut.specs.declared.cut.CutParts.{CutParts}
-use Rattle.bep_cut.specs.declared.share.Share.{Share}
-use Rattle.bep_cut.specs.declared.share.SharedFolder.{SharedFolder}
-use Rattle.bep_cut.specs.Names.{known_names}
+use Rattle.bep_tables.specs.declared.cut.CutParts.{CutParts}
+use Rattle.bep_tables.specs.declared.share.Share.{Share}
+use Rattle.bep_tables.specs.declared.share.SharedFolder.{SharedFolder}
+use Rattle.bep_tables.specs.Names.{known_names}
 use Rattle.bep_report.specs.Lines.{verdict_line, folder_line}
 
 -- some device's store holds the name

@@ -9,9 +9,9 @@ ghost use Rattle.bep_report.specs.Text.{AppendsWhole};
 use crate::lines::{push_folder, push_not_settled, push_settled};
 use crate::text::or_as_before;
 use bep_audit::Verdict;
-use bep_cut::{Cut, Share, SharedFolder};
 use bep_map::NameMap;
 use bep_record::Name;
+use bep_tables::{Cut, Share, SharedFolder};
 use std::alloc::{AllocError, Global};
 
 /// Appends the report on the cut: the line of the verdict, then a line for each folder, names rising. Fails for memory

@@ -1,5 +1,5 @@
 use Rattle.std.proofs.Common.{sym, ap, ◌∙◌}
-use Rattle.bep_cut.specs.document.Written.{check_of}
+use Rattle.bep_tables.specs.document.Written.{check_of}
 use Rattle.bep_answer.proofs.SettledSaid.{settled_reading}
 use Rattle.bep_answer.proofs.check.check_text.Goals as goal
 

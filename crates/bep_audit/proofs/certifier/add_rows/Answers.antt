@@ -1,8 +1,8 @@
 use Rattle.std.proofs.Common.{List, map, sym, subst}
-use Rattle.bep_cut.specs.Cut.{tables_of}
+use Rattle.bep_tables.specs.Cut.{tables_of}
 use Rattle.bep_model.specs.Tables.{FileName}
 use Rattle.bep_model.specs.declared.row.Row.{Row}
-use Rattle.bep_cut.specs.Names.{names_of}
+use Rattle.bep_tables.specs.Names.{names_of}
 use Rattle.bep_audit.specs.Certifier.{TellsOf, FailsIn}
 use Rattle.bep_audit.proofs.AddedFacts.{IsAddedSoFar, added_one_more, fails_at_name, if_err}
 use Rattle.bep_audit.proofs.certifier.add_rows.Goals as goal

@@ -1,5 +1,5 @@
 use Rattle.std.proofs.Common.{map}
-use Rattle.bep_cut.specs.Cut.{tables_of}
+use Rattle.bep_tables.specs.Cut.{tables_of}
 use Rattle.bep_audit.proofs.AddedFacts.{IsAddedSoFar}
 use Rattle.bep_audit.proofs.certifier.add_rows.Given as goal
 

@@ -1,9 +1,9 @@
 use Rattle.std.proofs.Common.{[], sym, subst, ◌∙◌}
 use Rattle.std.proofs.lemmas.List.{take_all}
 use Rattle.std.proofs.lemmas.Result.{IfErr-weaker}
-use Rattle.bep_cut.specs.Cut.{tables_of}
+use Rattle.bep_tables.specs.Cut.{tables_of}
 use Rattle.bep_model.specs.Settled.{IsListOfWinners}
-use Rattle.bep_cut.specs.Names.{all_names}
+use Rattle.bep_tables.specs.Names.{all_names}
 use Rattle.bep_audit.specs.Certifier.{TellsOf, TellsOfFirst, FailsIn, Adds}
 use Rattle.bep_audit.proofs.NamesFacts.{all_names_rise, known_from_stands, stands_from_known}
 use Rattle.bep_audit.proofs.AddedFacts.{adds_next_folder, fails_at_folder, if_err}

@@ -1,6 +1,6 @@
 use Rattle.std.proofs.Common.{[], take}
-use Rattle.bep_cut.specs.Cut.{tables_of}
-use Rattle.bep_cut.specs.Names.{all_names}
+use Rattle.bep_tables.specs.Cut.{tables_of}
+use Rattle.bep_tables.specs.Names.{all_names}
 use Rattle.bep_audit.specs.Certifier.{Adds}
 use Rattle.bep_audit.proofs.certifier.certify.Given as goal
 

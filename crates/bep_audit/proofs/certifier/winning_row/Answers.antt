@@ -1,5 +1,5 @@
 use Rattle.std.proofs.Common.{sym, subst}
-use Rattle.bep_cut.specs.Cut.{tables_of}
+use Rattle.bep_tables.specs.Cut.{tables_of}
 use Rattle.bep_audit.specs.Certifier.{IsWon, IsUnwon}
 use Rattle.bep_audit.proofs.certifier.winning_row.Goals as goal
 

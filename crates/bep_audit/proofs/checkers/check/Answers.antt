@@ -3,7 +3,7 @@ use Rattle.std.specs.Prelude.{⊤}
 use Rattle.bep_model.specs.declared.row.Row.{Row}
 use Rattle.bep_model.specs.declared.reason.Reason.TheVariants.{CertificateOrder}
 use Rattle.bep_model.specs.Reasons.{first_disordered}
-use Rattle.bep_cut.specs.Cut.{tables_of}
+use Rattle.bep_tables.specs.Cut.{tables_of}
 use Rattle.bep_audit.specs.Search.{FindsFailing}
 use Rattle.bep_audit.specs.Shown.{verdict_shown, place_shown}
 use Rattle.bep_audit.specs.Walk.{FindsLeast, failure_shown}

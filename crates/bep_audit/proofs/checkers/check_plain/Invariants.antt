@@ -1,4 +1,4 @@
-use Rattle.bep_cut.specs.Cut.{tables_of}
+use Rattle.bep_tables.specs.Cut.{tables_of}
 use Rattle.bep_audit.proofs.ReasonWalk.{HoldBefore}
 use Rattle.bep_audit.proofs.checkers.check_plain.Given as goal
 

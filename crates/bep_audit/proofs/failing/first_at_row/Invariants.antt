@@ -1,5 +1,5 @@
 use Rattle.bep_model.specs.Reasons.{place_cmp}
-use Rattle.bep_cut.specs.Cut.{tables_of}
+use Rattle.bep_tables.specs.Cut.{tables_of}
 use Rattle.bep_audit.proofs.RowWalk.{AsksRow}
 use Rattle.bep_audit.proofs.WalkFacts.{IsLeftFrom}
 use Rattle.bep_audit.proofs.failing.first_at_row.Given as goal

@@ -1,5 +1,5 @@
 use Rattle.std.proofs.Common.{◌↔◌, List, IsTrue, subst}
-use Rattle.bep_cut.specs.declared.link.LinkState.{LinkState}
+use Rattle.bep_tables.specs.declared.link.LinkState.{LinkState}
 use Rattle.bep_audit.specs.Held.{AsksOf}
 use Rattle.bep_audit.proofs.CutFacts.{CutSays}
 use Rattle.bep_audit.proofs.FailingDevice.{share_asked}

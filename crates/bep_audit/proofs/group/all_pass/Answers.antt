@@ -1,8 +1,8 @@
 use Rattle.std.proofs.Common.{rules, tests}
 use Rattle.std.proofs.lemmas.Iterator.{YieldsList-from_slice, cases_from_all}
 use Rattle.std.specs.Option.{option_copied}
-use Rattle.bep_cut.specs.declared.table.entry.TableEntry.{TableEntry}
-use Rattle.bep_cut.specs.Listed.{listed}
+use Rattle.bep_tables.specs.declared.table.entry.TableEntry.{TableEntry}
+use Rattle.bep_tables.specs.Listed.{listed}
 use Rattle.bep_audit.specs.Group.{PassesFrom}
 use Rattle.bep_audit.proofs.ListFacts.{each_exactly}
 use Rattle.bep_audit.proofs.GroupFacts.{each_listed}

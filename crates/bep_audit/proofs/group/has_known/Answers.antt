@@ -1,7 +1,7 @@
 use Rattle.std.proofs.Common.{◌≡◌, true, rules, tests}
 use Rattle.std.proofs.lemmas.Iterator.{YieldsList-from_slice, cases_from_any}
-use Rattle.bep_cut.specs.declared.table.entry.TableEntry.{TableEntry}
-use Rattle.bep_cut.specs.Listed.{Listed, listed}
+use Rattle.bep_tables.specs.declared.table.entry.TableEntry.{TableEntry}
+use Rattle.bep_tables.specs.Listed.{Listed, listed}
 use Rattle.bep_audit.specs.Group.{counts}
 use Rattle.bep_audit.proofs.ListFacts.{some_exactly}
 use Rattle.bep_audit.proofs.GroupFacts.{some_listed}

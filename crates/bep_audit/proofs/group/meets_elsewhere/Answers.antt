@@ -1,6 +1,6 @@
 use Rattle.std.proofs.Common.{◌↔◌, IsTrue, map, sym, subst}
 use Rattle.std.specs.Option.{option_copied}
-use Rattle.bep_cut.specs.Listed.{listed}
+use Rattle.bep_tables.specs.Listed.{listed}
 use Rattle.bep_audit.specs.Group.{AsksElsewhere}
 use Rattle.bep_audit.proofs.group.meets_elsewhere.Goals as goal
 

@@ -1,6 +1,6 @@
 use Rattle.std.proofs.Common.{Some, None, [], ◌∷◌, map, subst, sym}
-use Rattle.bep_cut.specs.Cut.{tables_of}
-use Rattle.bep_cut.specs.Listed.{listed}
+use Rattle.bep_tables.specs.Cut.{tables_of}
+use Rattle.bep_tables.specs.Listed.{listed}
 use Rattle.bep_audit.specs.Search.{FindsFailing}
 use Rattle.bep_audit.proofs.CutFacts.{CutSays, devices_rise}
 use Rattle.bep_audit.proofs.FailingDevice.{finds_by_group}

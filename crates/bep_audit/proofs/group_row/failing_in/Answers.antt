@@ -2,8 +2,8 @@ use Rattle.std.proofs.Common.{◌↔◌, IsTrue, map, option_map, subst, sym, ar
 use Rattle.bep_model.specs.declared.reason.Reason.TheVariants.{NameUnknown, NotWinner}
 use Rattle.bep_model.specs.Foreign.{IsKnown}
 use Rattle.bep_model.specs.Settled.{key_of}
-use Rattle.bep_cut.specs.Cut.{tables_of}
-use Rattle.bep_cut.specs.Listed.{listed}
+use Rattle.bep_tables.specs.Cut.{tables_of}
+use Rattle.bep_tables.specs.Listed.{listed}
 use Rattle.bep_audit.specs.Shown.{place_shown}
 use Rattle.bep_audit.specs.Walk.{FindsHere}
 use Rattle.bep_audit.proofs.AskedAtRow.{of_rows_else}

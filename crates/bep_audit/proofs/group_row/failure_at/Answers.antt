@@ -1,6 +1,6 @@
 use Rattle.std.proofs.Common.{◌≡◌, [], ◌∷◌, map, option_map, sym, subst}
-use Rattle.bep_cut.specs.Cut.{tables_of}
-use Rattle.bep_cut.specs.Listed.{listed}
+use Rattle.bep_tables.specs.Cut.{tables_of}
+use Rattle.bep_tables.specs.Listed.{listed}
 use Rattle.bep_audit.specs.Group.{IsGroupOf}
 use Rattle.bep_audit.specs.Walk.{FindsLeast, failure_shown}
 use Rattle.bep_audit.proofs.GroupRow.{none_is, one_is, one_member}

@@ -1,4 +1,4 @@
-use Rattle.bep_cut.specs.Cut.{tables_of}
+use Rattle.bep_tables.specs.Cut.{tables_of}
 use Rattle.bep_audit.specs.Shown.{place_shown}
 use Rattle.bep_audit.proofs.GroupRow.{here_starts, here_goes_on, here_fails, here_ends}
 use Rattle.bep_audit.proofs.group_row.failure_at_row.Goals as goal

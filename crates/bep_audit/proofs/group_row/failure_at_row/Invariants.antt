@@ -1,4 +1,4 @@
-use Rattle.bep_cut.specs.Cut.{tables_of}
+use Rattle.bep_tables.specs.Cut.{tables_of}
 use Rattle.bep_audit.proofs.GroupRow.{HoldHere}
 use Rattle.bep_audit.proofs.group_row.failure_at_row.Given as goal
 

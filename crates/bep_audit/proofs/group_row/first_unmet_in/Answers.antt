@@ -1,6 +1,6 @@
 use Rattle.std.proofs.Common.{map, ◌∙◌, sym, true≢false}
 use Rattle.std.specs.Ordering.{nat_cmp}
-use Rattle.bep_cut.specs.Listed.{listed}
+use Rattle.bep_tables.specs.Listed.{listed}
 use Rattle.bep_audit.specs.Group.{AsksGroup}
 use Rattle.bep_audit.proofs.UnmetFacts.{MeetsAs, devices_in_order, meets, fails_first}
 use Rattle.bep_audit.proofs.WalkFacts.{walk_starts, walk_goes_on, walk_stops, walk_ends}

@@ -1,6 +1,6 @@
 use Rattle.std.proofs.Common.{map}
 use Rattle.std.specs.Ordering.{nat_cmp}
-use Rattle.bep_cut.specs.Listed.{listed}
+use Rattle.bep_tables.specs.Listed.{listed}
 use Rattle.bep_audit.specs.Group.{AsksGroup}
 use Rattle.bep_audit.proofs.UnmetFacts.{MeetsAs}
 use Rattle.bep_audit.proofs.WalkFacts.{IsLeftFrom}

@@ -1,7 +1,7 @@
 use Rattle.std.proofs.Common.{List, ◌∙◌, sym, subst, inl, inr, ⊎_elim, true≢false}
-use Rattle.bep_cut.specs.Cut.{shares_of}
-use Rattle.bep_cut.specs.declared.link.LinkState.{LinkState}
-use Rattle.bep_cut.specs.declared.share.Share.{Share}
+use Rattle.bep_tables.specs.Cut.{shares_of}
+use Rattle.bep_tables.specs.declared.link.LinkState.{LinkState}
+use Rattle.bep_tables.specs.declared.share.Share.{Share}
 use Rattle.bep_audit.specs.Known.{IsHeldIn, IsOnItsWay}
 use Rattle.bep_audit.proofs.CutFacts.{CutSays, known_exactly}
 use Rattle.bep_audit.proofs.known.is_known.Goals as goal

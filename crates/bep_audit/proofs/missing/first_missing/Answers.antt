@@ -1,8 +1,8 @@
 use Rattle.std.proofs.Common.{List, Contains, Some, None, subst, sym}
-use Rattle.bep_cut.specs.declared.share.SharedFolder.{SharedFolder}
+use Rattle.bep_tables.specs.declared.share.SharedFolder.{SharedFolder}
 use Rattle.bep_model.specs.declared.reason.Reason.TheVariants.{NameMissing}
 use Rattle.bep_model.specs.Reasons.{place_cmp}
-use Rattle.bep_cut.specs.Cut.{tables_of}
+use Rattle.bep_tables.specs.Cut.{tables_of}
 use Rattle.bep_audit.specs.Search.{FindsFailing}
 use Rattle.bep_audit.proofs.CutFacts.{CutSays}
 use Rattle.bep_audit.proofs.FolderWalk.{AsksFolder, folders_in_order, folder_has_rows, folder_lacks_row, found_in_folders}

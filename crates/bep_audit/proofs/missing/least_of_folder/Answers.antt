@@ -1,6 +1,6 @@
 use Rattle.std.proofs.Common.{List, subst}
 use Rattle.std.specs.Option.{option_copied}
-use Rattle.bep_cut.specs.declared.share.Share.{Share}
+use Rattle.bep_tables.specs.declared.share.Share.{Share}
 use Rattle.bep_audit.specs.Known.{IsHeldIn, IsOnItsWay}
 use Rattle.bep_audit.specs.Missing.{FindsMissing}
 use Rattle.bep_audit.proofs.MissingFacts.{least_of_two}

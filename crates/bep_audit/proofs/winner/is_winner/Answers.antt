@@ -1,6 +1,6 @@
 use Rattle.bep_audit.proofs.WinnerFacts.{row_exactly, row_unwon}
 use Rattle.bep_choice.specs.Choice.{candidate_of}
-use Rattle.bep_cut.specs.Cut.{tables_of}
+use Rattle.bep_tables.specs.Cut.{tables_of}
 use Rattle.bep_audit.proofs.winner.is_winner.Goals as goal
 
 pub returns-in-None : goal.returns-in-None

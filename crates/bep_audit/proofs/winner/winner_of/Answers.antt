@@ -1,9 +1,9 @@
 use Rattle.std.proofs.Common.{◌≤◌, ℕ, List, IfNone, IfSome, length, sym, subst}
 use Rattle.std.proofs.lemmas.Option.{IfSome_then}
 use Rattle.bep_choice.specs.Choice.{Candidate, candidate_of, IsChoice}
-use Rattle.bep_cut.specs.Cut.{AreShares}
+use Rattle.bep_tables.specs.Cut.{AreShares}
 use Rattle.bep_record.specs.declared.limits.TheConstants.{MAX_DEVICES}
-use Rattle.bep_cut.specs.declared.share.Share.{Share}
+use Rattle.bep_tables.specs.declared.share.Share.{Share}
 use Rattle.bep_audit.proofs.WinnerSaid.{are_shares, few_shares, winner_said, winner_is_named}
 use Rattle.bep_audit.proofs.winner.winner_of.Goals as goal
 

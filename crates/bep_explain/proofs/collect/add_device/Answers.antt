@@ -2,7 +2,7 @@ use Rattle.std.proofs.Common.{Some, map, get_or}
 use Rattle.bep_model.specs.declared.reason.Reason.TheVariants.{CertificateOrder}
 use Rattle.bep_model.specs.Settled.{key_of}
 use Rattle.bep_model.specs.Reasons.{AsksShare}
-use Rattle.bep_cut.specs.Cut.{tables_of}
+use Rattle.bep_tables.specs.Cut.{tables_of}
 use Rattle.bep_audit.specs.declared.checkers.TheConstants.{REASONS}
 use Rattle.bep_audit.specs.Walk.{failure_shown}
 use Rattle.bep_explain.specs.Says.{failure_at, SaysReason}

@@ -4,7 +4,7 @@ use Rattle.bep_model.specs.declared.reason.Reason.TheVariants.{NameUnknown, NotW
 use Rattle.bep_model.specs.Foreign.{IsKnown}
 use Rattle.bep_model.specs.Winner.{IsWinner}
 use Rattle.bep_model.specs.Settled.{key_of}
-use Rattle.bep_cut.specs.Cut.{tables_of, shares_of}
+use Rattle.bep_tables.specs.Cut.{tables_of, shares_of}
 use Rattle.bep_audit.specs.Walk.{Failure, failure_shown}
 use Rattle.bep_explain.specs.Adding.{Each}
 use Rattle.bep_explain.specs.Says.{failure_at, SaysKnown, SaysWinner, SaysShare, SaysRow}

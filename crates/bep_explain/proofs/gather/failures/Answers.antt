@@ -1,6 +1,6 @@
 use Rattle.std.proofs.Common.{List, [], map, subst, ap, ◌∙◌}
 use Rattle.bep_model.specs.declared.row.Row.{Row}
-use Rattle.bep_cut.specs.Cut.{tables_of}
+use Rattle.bep_tables.specs.Cut.{tables_of}
 use Rattle.bep_audit.specs.FailureOrder.{lent_cmp}
 use Rattle.bep_audit.specs.Walk.{failure_shown}
 use Rattle.bep_explain.specs.Adding.{AddsFailing}

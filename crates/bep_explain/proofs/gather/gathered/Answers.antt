@@ -1,6 +1,6 @@
 use Rattle.std.proofs.Common.{List, map, subst, sym, ap}
-use Rattle.bep_cut.specs.Cut.{tables_of}
-use Rattle.bep_cut.specs.Listed.{cut_listed, IsGrouped}
+use Rattle.bep_tables.specs.Cut.{tables_of}
+use Rattle.bep_tables.specs.Listed.{cut_listed, IsGrouped}
 use Rattle.bep_audit.specs.Walk.{Failure, failure_shown}
 use Rattle.bep_explain.specs.Adding.{AddsFailing, Each}
 use Rattle.bep_explain.specs.Found.{IsMet}

@@ -1,7 +1,7 @@
 use Rattle.std.proofs.Common.{None, map}
 use Rattle.bep_model.specs.declared.reason.Reason.TheVariants.{NameMissing}
-use Rattle.bep_cut.specs.Cut.{tables_of}
-use Rattle.bep_cut.specs.Listed.{key_at, listed}
+use Rattle.bep_tables.specs.Cut.{tables_of}
+use Rattle.bep_tables.specs.Listed.{key_at, listed}
 use Rattle.bep_audit.specs.Walk.{failure_shown}
 use Rattle.bep_explain.specs.Says.{failure_at, NameHasRow, SaysEntry}
 use Rattle.bep_explain.proofs.AddFacts.{each_starts, each_goes_on, each_ends}

@@ -1,7 +1,0 @@
-use Rattle.std.proofs.Common.{◌≡◌, fold, take}
-use Rattle.bep_cut.specs.Names.{with_valid}
-use Rattle.bep_cut.proofs.names.add_flight.Given as goal
-
--- the names are those of the records so far
-abbrev pub invariant-loop-entry : goal.invariant-loop-entry
-invariant-loop-entry l = l.names ≡ fold with_valid l.initial.names (take l.entry-index l.entry-items)

@@ -1,8 +1,0 @@
-use Rattle.std.proofs.Common.{◌≡◌, fold}
-use Rattle.std.specs.FinMap.{values}
-use Rattle.bep_cut.specs.Names.{with_valid}
-use Rattle.bep_cut.proofs.names.add_view.Given as goal
-
--- the names so far with those that are left are all of them
-abbrev pub invariant-loop-entry : goal.invariant-loop-entry
-invariant-loop-entry l = fold with_valid l.names l.entry-iterator ≡ fold with_valid l.initial.names (values l.view.records)

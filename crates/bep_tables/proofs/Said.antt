@@ -1,0 +1,239 @@
+-- The entries of a cut are what its tables say.
+use Rattle.std.proofs.Common.{◌≡◌, ◌↔◌, ◌++◌, List, map, flat_map, Option, Some, None, Contains, option_and_then, refl, sym, ap, subst, ◌∙◌, inl, inr, ⊎_elim}
+use Rattle.std.specs.Ordering.{nat_cmp}
+use Rattle.std.specs.Cmp.{Equal-is}
+use Rattle.std.specs.FinMap.{get, entries, nat_cmp-IsAntisymmetric}
+use Rattle.std.proofs.lemmas.List.Elements.{Contains-append_left, Contains-append_right, Contains-append_cases}
+use Rattle.std.specs.Cmp.Lexicographic.{nat_list_cmp_total}
+use Rattle.std.proofs.lemmas.Map.Lookups.{exact_bytes}
+use Rattle.bep_facts.specs.Entries.{entry_stands}
+use Rattle.bep_facts.specs.Members.{Contains-from_image, Contains-image, Contains-flat_map, Contains-from_flat_map}
+use Rattle.bep_record.specs.declared.entry.Entry.{Entry}
+use Rattle.bep_record.specs.declared.node.NodeParts.{NodeParts}
+use Rattle.bep_map.specs.NameMap.{ByName}
+use Rattle.bep_model.specs.declared.flight.Flight.{Flight}
+use Rattle.bep_model.specs.Tables.{Device, Folder, FileName, Shares}
+use Rattle.bep_model.specs.Foreign.{IsViewed, IsFlying}
+use Rattle.bep_tables.specs.declared.share.Share.{Share}
+use Rattle.bep_tables.specs.declared.share.PeerView.{PeerView}
+use Rattle.bep_tables.specs.declared.share.SharedFolder.{SharedFolder}
+use Rattle.bep_tables.specs.declared.link.LinkState.{LinkState}
+use Rattle.bep_tables.specs.declared.cut.CutParts.{CutParts}
+use Rattle.bep_tables.specs.declared.table.entry.Source.{Source}
+use Rattle.bep_tables.specs.declared.table.entry.Source.TheVariants as from
+use Rattle.bep_tables.specs.Cut.{IsCut, is_device, shares_of, share_of, view_of, tables_of}
+use Rattle.bep_tables.specs.Laws.{Carries, HasRecord}
+use Rattle.bep_tables.specs.Listed.{Holding, Record, Node, Listed, recorded, stored, flying, records_listed, nodes_listed, views_listed, share_listed, folder_listed, flight_listed, link_listed, cut_listed}
+use Rattle.bep_tables.specs.Said.{Holds, EntriesAreHeld, HoldersShare}
+use Rattle.bep_tables.proofs.Found.{find_gives}
+use Rattle.bep_tables.proofs.Tables.{folder_is_found, share_has_folder, sharing_is_said, own_is_said, node_is_said, viewed_is_said, target_is_said, flying_is_said, receiver_shares}
+
+module _ (cut : CutParts) (is_cut : IsCut cut) where
+  abbrev SharesOf : Folder → List Share
+  SharesOf folder = shares_of folder cut.folders
+
+  abbrev IsHeld : Listed → Type 0
+  IsHeld one = Holds (tables_of cut) one.device one.folder one.name one.holding
+
+  -- held by a device that shares the folder
+  abbrev IsHeldThere : Listed → Type 0
+  IsHeldThere one = IsHeld one × Shares (tables_of cut) one.device one.folder
+
+  -- what is listed of a share
+  abbrev Own : Folder → Share → List Listed
+  Own folder share = records_listed folder share.device from.Own share.own
+
+  abbrev Nodes : Folder → Share → List Listed
+  Nodes folder share = nodes_listed folder share.device share.store
+
+  abbrev Views : Folder → Share → List Listed
+  Views folder share = views_listed folder share.device share.views
+
+  abbrev Pulls : Folder → Share → List Listed
+  Pulls folder share = records_listed folder share.device from.Pull share.pulls
+
+  -- ---- what is listed of a share is held
+  shares_it : (folder : Folder) (share : Share) → Contains (SharesOf folder) share → Shares (tables_of cut) share.device folder
+  shares_it folder share h = (share.kind, (sharing_is_said cut folder share.device share.kind).1 (share, h, refl, refl))
+
+  held_own : (folder : Folder) (share : Share) (one : Listed) → Contains (SharesOf folder) share → Contains (records_listed folder share.device from.Own share.own) one → IsHeldThere one
+  held_own folder share one h there =
+      let found = Contains-from_image (recorded folder share.device from.Own) (entries share.own) one there in
+      subst IsHeldThere found.2 (own_is_said cut folder found.0.0 share is_cut h ∙ (entry_stands nat_list_cmp_total exact_bytes share.own found.0.0 found.0.1).1 found.1, shares_it folder share h)
+
+  held_node : (folder : Folder) (share : Share) (one : Listed) → Contains (SharesOf folder) share → Contains (nodes_listed folder share.device share.store) one → IsHeldThere one
+  held_node folder share one h there =
+      let found = Contains-from_image (stored folder share.device) (entries share.store) one there in
+      subst IsHeldThere found.2 (node_is_said cut folder found.0.0 share is_cut h ∙ (entry_stands nat_list_cmp_total exact_bytes share.store found.0.0 found.0.1).1 found.1, shares_it folder share h)
+
+  held_pull : (folder : Folder) (share : Share) (one : Listed) → Contains (SharesOf folder) share → Contains (records_listed folder share.device from.Pull share.pulls) one → IsHeldThere one
+  held_pull folder share one h there =
+      let found = Contains-from_image (recorded folder share.device from.Pull) (entries share.pulls) one there in
+      subst IsHeldThere found.2 (target_is_said cut folder found.0.0 share is_cut h ∙ (entry_stands nat_list_cmp_total exact_bytes share.pulls found.0.0 found.0.1).1 found.1, shares_it folder share h)
+
+  held_view : (folder : Folder) (share : Share) (one : Listed) → Contains (SharesOf folder) share → Contains (views_listed folder share.device share.views) one → IsHeldThere one
+  held_view folder share one h there =
+      let view = Contains-from_flat_map (λ (view : PeerView). records_listed folder share.device from.View view.records) share.views one there in
+      let found = Contains-from_image (recorded folder share.device from.View) (entries view.0.records) one view.2 in
+      let has = (entry_stands nat_list_cmp_total exact_bytes view.0.records found.0.0 found.0.1).1 found.1 in
+      subst IsHeldThere found.2 ((viewed_is_said cut folder found.0.0 found.0.1 share is_cut h).1 (view.0, view.1, has), shares_it folder share h)
+
+  held_share : (folder : Folder) (share : Share) (one : Listed) → Contains (SharesOf folder) share → Contains (share_listed folder share) one → IsHeldThere one
+  unfolding share_listed
+  held_share folder share one h there =
+      ⊎_elim
+      (λ others.
+      ⊎_elim
+      (λ here. ⊎_elim (held_own folder share one h) (held_node folder share one h) (Contains-append_cases (Own folder share) (Nodes folder share) one here))
+      (held_view folder share one h)
+      (Contains-append_cases (Own folder share ++ Nodes folder share) (Views folder share) one others))
+      (held_pull folder share one h)
+      (Contains-append_cases (Own folder share ++ Nodes folder share ++ Views folder share) (Pulls folder share) one there)
+
+  held_folder : (shared : SharedFolder) (one : Listed) → Contains cut.folders shared → Contains (folder_listed shared) one → IsHeldThere one
+  held_folder shared one h there =
+      let share = Contains-from_flat_map (share_listed shared.folder) shared.shares one there in
+      held_share shared.folder share.0 one (subst (λ shares. Contains shares share.0) (sym (folder_is_found cut shared is_cut h)) share.1) share.2
+
+  -- ---- what is listed of a link is held
+  held_flight : (link : LinkState) (device : Device) (flight : Flight) (one : Listed) → Contains cut.links link → Carries link device flight → Contains (flight_listed device flight) one → IsHeldThere one
+  held_flight link device flight one h carries there =
+      let found = Contains-from_image (flying flight.folder device) flight.records one there in
+      subst IsHeldThere found.2 (
+        (flying_is_said cut device flight.folder found.0.name found.0 is_cut).1 (link, flight, h, carries, (refl, found.1, refl)),
+        receiver_shares cut link device flight is_cut h carries,
+      )
+
+  held_link : (link : LinkState) (one : Listed) → Contains cut.links link → Contains (link_listed link) one → IsHeldThere one
+  unfolding link_listed
+  held_link link one h there =
+      ⊎_elim
+      (λ to_a. let flight = Contains-from_flat_map (flight_listed link.a) link.to_a one to_a in held_flight link link.a flight.0 one h (inl (refl, flight.1)) flight.2)
+      (λ to_b. let flight = Contains-from_flat_map (flight_listed link.b) link.to_b one to_b in held_flight link link.b flight.0 one h (inr (refl, flight.1)) flight.2)
+      (Contains-append_cases (flat_map (flight_listed link.a) link.to_a) (flat_map (flight_listed link.b) link.to_b) one there)
+
+  held_there : (one : Listed) → Contains (cut_listed cut) one → IsHeldThere one
+  unfolding cut_listed
+  held_there one h =
+      ⊎_elim
+      (λ of_folders. let shared = Contains-from_flat_map folder_listed cut.folders one of_folders in held_folder shared.0 one shared.1 shared.2)
+      (λ of_links. let link = Contains-from_flat_map link_listed cut.links one of_links in held_link link.0 one link.1 link.2)
+      (Contains-append_cases (flat_map folder_listed cut.folders) (flat_map link_listed cut.links) one h)
+
+  -- ---- what is held is listed
+  listed_in_share : (folder : Folder) (share : Share) (one : Listed) → Contains (SharesOf folder) share → Contains (share_listed folder share) one → Contains (cut_listed cut) one
+  unfolding cut_listed
+  listed_in_share folder share one h there =
+      let shared = share_has_folder cut folder share h in
+      let same : SharesOf folder ≡ shared.0.shares = ap (λ f. shares_of f cut.folders) (sym shared.2) ∙ folder_is_found cut shared.0 is_cut shared.1 in
+      Contains-append_left (flat_map folder_listed cut.folders) (flat_map link_listed cut.links) one
+      (Contains-flat_map folder_listed cut.folders shared.0 one shared.1
+      (Contains-flat_map (share_listed shared.0.folder) shared.0.shares share one (subst (λ shares. Contains shares share) same h)
+      (subst (λ f. Contains (share_listed f share) one) (sym shared.2) there)))
+
+  listed_own : (folder : Folder) (name : FileName) (share : Share) (entry : Entry) → Contains (SharesOf folder) share → get share.own name ≡ Some entry → Contains (share_listed folder share) (recorded folder share.device from.Own (name, entry))
+  unfolding share_listed
+  listed_own folder name share entry h has =
+      let one = recorded folder share.device from.Own (name, entry) in
+      Contains-append_left (Own folder share ++ Nodes folder share ++ Views folder share) (Pulls folder share) one
+      (Contains-append_left (Own folder share ++ Nodes folder share) (Views folder share) one
+      (Contains-append_left (Own folder share) (Nodes folder share) one
+      (Contains-image (recorded folder share.device from.Own) (entries share.own) (name, entry) ((entry_stands nat_list_cmp_total exact_bytes share.own name entry).0 has))))
+
+  listed_node : (folder : Folder) (name : FileName) (share : Share) (node : NodeParts) → Contains (SharesOf folder) share → get share.store name ≡ Some node → Contains (share_listed folder share) (stored folder share.device (name, node))
+  unfolding share_listed
+  listed_node folder name share node h has =
+      let one = stored folder share.device (name, node) in
+      Contains-append_left (Own folder share ++ Nodes folder share ++ Views folder share) (Pulls folder share) one
+      (Contains-append_left (Own folder share ++ Nodes folder share) (Views folder share) one
+      (Contains-append_right (Own folder share) (Nodes folder share) one
+      (Contains-image (stored folder share.device) (entries share.store) (name, node) ((entry_stands nat_list_cmp_total exact_bytes share.store name node).0 has))))
+
+  listed_view : (folder : Folder) (name : FileName) (share : Share) (view : PeerView) (entry : Entry) → Contains (SharesOf folder) share → Contains share.views view → get view.records name ≡ Some entry → Contains (share_listed folder share) (recorded folder share.device from.View (name, entry))
+  unfolding share_listed
+  listed_view folder name share view entry h there has =
+      let one = recorded folder share.device from.View (name, entry) in
+      Contains-append_left (Own folder share ++ Nodes folder share ++ Views folder share) (Pulls folder share) one
+      (Contains-append_right (Own folder share ++ Nodes folder share) (Views folder share) one
+      (Contains-flat_map (λ (other : PeerView). records_listed folder share.device from.View other.records) share.views view one there
+      (Contains-image (recorded folder share.device from.View) (entries view.records) (name, entry) ((entry_stands nat_list_cmp_total exact_bytes view.records name entry).0 has))))
+
+  listed_pull : (folder : Folder) (name : FileName) (share : Share) (entry : Entry) → Contains (SharesOf folder) share → get share.pulls name ≡ Some entry → Contains (share_listed folder share) (recorded folder share.device from.Pull (name, entry))
+  unfolding share_listed
+  listed_pull folder name share entry h has =
+      Contains-append_right (Own folder share ++ Nodes folder share ++ Views folder share) (Pulls folder share) (recorded folder share.device from.Pull (name, entry))
+      (Contains-image (recorded folder share.device from.Pull) (entries share.pulls) (name, entry) ((entry_stands nat_list_cmp_total exact_bytes share.pulls name entry).0 has))
+
+  -- what is looked up of a device is of its share
+  found_in_share : {A : Type 0} (look : Share → Option A) (device : Device) (folder : Folder) (value : A) → option_and_then look (share_of device (SharesOf folder)) ≡ Some value → (share : Share) × Contains (SharesOf folder) share × (share.device ≡ device)
+  found_in_share {A} look device folder value e = cases (share_of device (SharesOf folder)) refl e where
+    cases : (found : Option Share) → share_of device (SharesOf folder) ≡ found → option_and_then look found ≡ Some value → (share : Share) × Contains (SharesOf folder) share × (share.device ≡ device)
+    cases None e none = absurd (cc)
+    cases (Some share) e some =
+        let gives = find_gives (is_device device) (SharesOf folder) share e in
+        (share, gives.0, nat_cmp-IsAntisymmetric share.device device ((Equal-is _).0 gives.1))
+
+  of_own : (device : Device) (folder : Folder) (name : FileName) (entry : Entry) → (tables_of cut).own device folder name ≡ Some entry → Contains (cut_listed cut) (recorded folder device from.Own (name, entry))
+  unfolding tables_of
+  of_own device folder name entry has =
+      let found = found_in_share (λ share. get share.own name) device folder entry has in
+      let here = subst (λ d. (tables_of cut).own d folder name ≡ Some entry) (sym found.2) has in
+      subst (λ d. Contains (cut_listed cut) (recorded folder d from.Own (name, entry))) found.2
+      (listed_in_share folder found.0 _ found.1 (listed_own folder name found.0 entry found.1 (sym (own_is_said cut folder name found.0 is_cut found.1) ∙ here)))
+
+  of_node : (device : Device) (folder : Folder) (name : FileName) (node : NodeParts) → (tables_of cut).node device folder name ≡ Some node → Contains (cut_listed cut) (stored folder device (name, node))
+  unfolding tables_of
+  of_node device folder name node has =
+      let found = found_in_share (λ share. get share.store name) device folder node has in
+      let here = subst (λ d. (tables_of cut).node d folder name ≡ Some node) (sym found.2) has in
+      subst (λ d. Contains (cut_listed cut) (stored folder d (name, node))) found.2
+      (listed_in_share folder found.0 _ found.1 (listed_node folder name found.0 node found.1 (sym (node_is_said cut folder name found.0 is_cut found.1) ∙ here)))
+
+  of_view : (device : Device) (folder : Folder) (name : FileName) (entry : Entry) → IsViewed (tables_of cut) device folder name entry → Contains (cut_listed cut) (recorded folder device from.View (name, entry))
+  unfolding tables_of
+  of_view device folder name entry viewed =
+      let found = found_in_share (λ share. option_and_then (λ (view : PeerView). get view.records name) (view_of viewed.0 share.views)) device folder entry viewed.1 in
+      let here = subst (λ d. IsViewed (tables_of cut) d folder name entry) (sym found.2) viewed in
+      let view = (viewed_is_said cut folder name entry found.0 is_cut found.1).0 here in
+      subst (λ d. Contains (cut_listed cut) (recorded folder d from.View (name, entry))) found.2
+      (listed_in_share folder found.0 _ found.1 (listed_view folder name found.0 view.0 entry found.1 view.1 view.2))
+
+  of_pull : (device : Device) (folder : Folder) (name : FileName) (entry : Entry) → (tables_of cut).target device folder name ≡ Some entry → Contains (cut_listed cut) (recorded folder device from.Pull (name, entry))
+  unfolding tables_of
+  of_pull device folder name entry has =
+      let found = found_in_share (λ share. get share.pulls name) device folder entry has in
+      let here = subst (λ d. (tables_of cut).target d folder name ≡ Some entry) (sym found.2) has in
+      subst (λ d. Contains (cut_listed cut) (recorded folder d from.Pull (name, entry))) found.2
+      (listed_in_share folder found.0 _ found.1 (listed_pull folder name found.0 entry found.1 (sym (target_is_said cut folder name found.0 is_cut found.1) ∙ here)))
+
+  listed_in_link : (link : LinkState) (device : Device) (flight : Flight) (entry : Entry) → Carries link device flight → Contains flight.records entry → Contains (link_listed link) (flying flight.folder device entry)
+  unfolding link_listed
+  listed_in_link link device flight entry (inl to_a) has =
+      subst (λ d. Contains (flat_map (flight_listed link.a) link.to_a ++ flat_map (flight_listed link.b) link.to_b) (flying flight.folder d entry)) to_a.0
+      (Contains-append_left (flat_map (flight_listed link.a) link.to_a) (flat_map (flight_listed link.b) link.to_b) (flying flight.folder link.a entry) (Contains-flat_map (flight_listed link.a) link.to_a flight (flying flight.folder link.a entry) to_a.1 (Contains-image (flying flight.folder link.a) flight.records entry has)))
+  listed_in_link link device flight entry (inr to_b) has =
+      subst (λ d. Contains (flat_map (flight_listed link.a) link.to_a ++ flat_map (flight_listed link.b) link.to_b) (flying flight.folder d entry)) to_b.0
+      (Contains-append_right (flat_map (flight_listed link.a) link.to_a) (flat_map (flight_listed link.b) link.to_b) (flying flight.folder link.b entry) (Contains-flat_map (flight_listed link.b) link.to_b flight (flying flight.folder link.b entry) to_b.1 (Contains-image (flying flight.folder link.b) flight.records entry has)))
+
+  of_flight : (device : Device) (folder : Folder) (name : FileName) (entry : Entry) → IsFlying (tables_of cut) device folder name entry → Contains (cut_listed cut) (recorded folder device from.Flight (name, entry))
+  unfolding cut_listed
+  of_flight device folder name entry is_flying =
+      let over = (flying_is_said cut device folder name entry is_cut).0 is_flying in
+      let there : Contains (cut_listed cut) (flying over.1.folder device entry) =
+      Contains-append_right (flat_map folder_listed cut.folders) (flat_map link_listed cut.links) (flying over.1.folder device entry)
+      (Contains-flat_map link_listed cut.links over.0 (flying over.1.folder device entry) over.2 (listed_in_link over.0 device over.1 entry over.3 over.4.1)) in
+      subst (λ one. Contains (cut_listed cut) one)
+      (λ i. record { folder = over.4.0 i; name = over.4.2 i; device = device; holding = Record from.Flight entry }) there
+
+  of_holding : (device : Device) (folder : Folder) (name : FileName) (holding : Holding) → Holds (tables_of cut) device folder name holding → Contains (cut_listed cut) (record { folder = folder; name = name; device = device; holding = holding })
+  of_holding device folder name (Record from.Own entry) has = of_own device folder name entry has
+  of_holding device folder name (Record from.View entry) has = of_view device folder name entry has
+  of_holding device folder name (Record from.Flight entry) has = of_flight device folder name entry has
+  of_holding device folder name (Record from.Pull entry) has = of_pull device folder name entry has
+  of_holding device folder name (Node node) has = of_node device folder name node has
+
+pub entries_are_held : EntriesAreHeld
+entries_are_held cut one is_cut = (λ h. (held_there cut is_cut one h).0, λ has. of_holding cut is_cut one.device one.folder one.name one.holding has)
+
+pub holders_share : HoldersShare
+holders_share cut one is_cut h = (held_there cut is_cut one h).1

@@ -1,0 +1,18 @@
+//! What the cut of a document says, as a law.
+ghost use Rattle.bep_tables.specs.document.AsWritten.{SharingIsAsWritten, OwnIsAsWritten, NodeIsAsWritten, ViewedIsAsWritten, TargetIsAsWritten, FlyingIsAsWritten, UnlinkedIsQuiet};
+
+use bep_index::records_make_an_index;
+
+/// The cut that a document without faults writes down says what the document lists: who shares what, each device's own
+/// records and nodes, what it knows of others and pulls, and what is on its way over each link; nothing else is on its way.
+pub fn cut_is_as_written()
+    ensures sharing { SharingIsAsWritten }
+    ensures own { OwnIsAsWritten }
+    ensures node { NodeIsAsWritten }
+    ensures viewed { ViewedIsAsWritten }
+    ensures target { TargetIsAsWritten }
+    ensures flying { FlyingIsAsWritten }
+    ensures unlinked { UnlinkedIsQuiet }
+{
+    records_make_an_index();
+}

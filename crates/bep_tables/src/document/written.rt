@@ -1,0 +1,152 @@
+//! Folders and links, made of what a document says of them.
+ghost use Rattle.std.specs.Prelude.{◌≡◌, IfOk, [], map};
+ghost use Rattle.std.specs.List.{AllByRecursion, filter};
+ghost use Rattle.bep_record.specs.Entry.{IsWellFormed};
+ghost use Rattle.bep_document.specs.Faultless.{IsFaultlessIndex, IsFaultlessShare, IsFaultlessFolder};
+ghost use Rattle.bep_tables.specs.document.Sorting.{in_order};
+ghost use Rattle.bep_tables.specs.document.Written.{AreWellFormed, IsWellFormedLink, has_point, view_written, share_written, folder_written, flight_written, link_written};
+
+use crate::document::records::{nodes_by_name, records_as_listed, records_by_name};
+use crate::document::sorting::{Ordered, place};
+use crate::{Flight, LinkState, PeerView, Share, SharedFolder};
+use bep_document::{FlightParts, FolderParts, LinkParts, ShareParts, ViewParts};
+use bep_record::Items;
+use std::alloc::{AllocError, Global};
+
+/// What stands in order in a cut, made of what a document says of it.
+pub(crate) trait FromParts: Ordered + Drop {
+    /// What the document says of it.
+    type Parts: Drop;
+
+    /// Which parts it can be made of.
+    ghost is_sound: { Self.Parts → Type 0 };
+
+    /// What is made of the parts.
+    ghost made_of: { Self.Parts → Self };
+
+    /// What is made of the parts, or want of memory.
+    fn from_parts(alloc: Global, parts: Self::Parts) -> Result<Self, AllocError>
+        requires { is_sound parts }
+        ensures { IfOk result (λ made. made ≡ made_of parts) };
+}
+
+// What is made of each of these parts, in order.
+pub(crate) fn all_in_order<T: FromParts>(
+    alloc: Global,
+    parts: Items<T::Parts>,
+) -> Result<Items<T>, AllocError>
+    requires { AllByRecursion T.is_sound parts }
+    ensures { IfOk result (λ made. made ≡ in_order T.order [] (map T.made_of parts)) }
+{
+    let mut made = Vec::new(alloc);
+    for part in parts.into_vec() {
+        let one = T::from_parts(alloc, part)?;
+        place(&mut made, one)?;
+    }
+    Ok(Items::new(made))
+}
+
+impl FromParts for SharedFolder {
+    type Parts = FolderParts;
+
+    ghost is_sound = { IsFaultlessFolder };
+
+    ghost made_of = { folder_written };
+
+    fn from_parts(alloc: Global, folder: FolderParts) -> Result<Self, AllocError> {
+        Ok(SharedFolder {
+            folder: folder.folder,
+            shares: all_in_order(alloc, folder.devices)?,
+        })
+    }
+}
+
+impl FromParts for Share {
+    type Parts = ShareParts;
+
+    ghost is_sound = { IsFaultlessShare };
+
+    ghost made_of = { share_written };
+
+    fn from_parts(alloc: Global, share: ShareParts) -> Result<Self, AllocError> {
+        Ok(Share {
+            device: share.device,
+            kind: share.kind,
+            index_id: share.index_id,
+            max_sequence: share.max,
+            own: records_by_name(alloc, share.own)?,
+            store: nodes_by_name(alloc, share.store)?,
+            views: all_in_order(alloc, known_views(share.views))?,
+            pulls: records_by_name(alloc, share.pulls)?,
+        })
+    }
+}
+
+// The views of which something is known.
+fn known_views(views: Items<ViewParts>) -> Items<ViewParts>
+    ensures { result ≡ filter has_point views }
+{
+    let mut views = views.into_vec();
+    views.retain(|view| view.index_id != 0 || view.max != 0);
+    Items::new(views)
+}
+
+impl FromParts for PeerView {
+    type Parts = ViewParts;
+
+    ghost is_sound = { λ view. IsFaultlessIndex view.max view.records };
+
+    ghost made_of = { view_written };
+
+    fn from_parts(alloc: Global, view: ViewParts) -> Result<Self, AllocError> {
+        Ok(PeerView {
+            of: view.of,
+            index_id: view.index_id,
+            max_sequence: view.max,
+            records: records_by_name(alloc, view.records)?,
+        })
+    }
+}
+
+impl FromParts for LinkState {
+    type Parts = LinkParts;
+
+    ghost is_sound = { IsWellFormedLink };
+
+    ghost made_of = { link_written };
+
+    fn from_parts(alloc: Global, link: LinkParts) -> Result<Self, AllocError> {
+        Ok(LinkState {
+            a: link.a,
+            b: link.b,
+            up: link.up,
+            epoch: link.epoch,
+            to_a: flights_from(alloc, link.to_a)?,
+            to_b: flights_from(alloc, link.to_b)?,
+        })
+    }
+}
+
+// The messages, as they stand in the document.
+fn flights_from(alloc: Global, parts: Items<FlightParts>) -> Result<Items<Flight>, AllocError>
+    requires { AreWellFormed parts }
+    ensures { IfOk result (λ made. made ≡ map flight_written parts) }
+{
+    let mut flights = Vec::with_capacity(alloc, parts.as_slice().len())?;
+    for part in parts.into_vec() {
+        let flight = flight_from(alloc, part)?;
+        flights.push(flight)?;
+    }
+    Ok(Items::new(flights))
+}
+
+fn flight_from(alloc: Global, parts: FlightParts) -> Result<Flight, AllocError>
+    requires { AllByRecursion IsWellFormed parts.records }
+    ensures { IfOk result (λ made. made ≡ flight_written parts) }
+{
+    Ok(Flight {
+        folder: parts.folder,
+        full: parts.full,
+        records: records_as_listed(alloc, parts.records)?,
+    })
+}
