@@ -10,8 +10,6 @@ mod begin;
 mod cluster;
 mod folders;
 mod others;
-#[cfg(test)]
-mod tests;
 mod why;
 
 pub use cluster::Cluster;

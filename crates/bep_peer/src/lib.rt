@@ -30,8 +30,6 @@ mod session;
 mod take_index;
 mod take_request;
 mod take_response;
-#[cfg(test)]
-mod tests;
 mod trace;
 
 pub use announce::{index_message, is_all_sent, next_batch, sent_with};

@@ -1,3 +1,4 @@
+pub mod Certificate
 pub mod Input
 pub mod Lines
 pub mod Output

@@ -7,20 +7,26 @@
 //!     write_all(writer, text.as_slice())?;
 #![tactic(auto)]
 
+mod certificate;
 mod error;
 mod input;
 mod lines;
 mod output;
-mod report;
+mod reporting;
 #[cfg(test)]
 mod tests;
 mod text;
 mod words;
+mod written;
 
+pub use certificate::push_certificate;
 pub use error::ReportError;
 pub use input::read_document;
-pub use lines::{push_failure, push_folder, push_not_settled, push_refused, push_settled};
+pub use lines::{
+    push_failure, push_folder, push_not_settled, push_refused, push_settled, push_step,
+};
 pub use output::write_all;
-pub use report::push_report;
+pub use reporting::push_report;
 pub use text::{Piece, push_pieces, push_printed};
 pub use words::word_of;
+pub use written::{certificate_text, report};

@@ -4,6 +4,7 @@ ghost use Rattle.std.specs.Prelude.{◌≡◌, option_map};
 ghost use Rattle.std.specs.Fmt.{decimal};
 ghost use Rattle.std.specs.Option.{option_copied};
 ghost use Rattle.bep_model.specs.Verdict.{Settled, Not};
+ghost use Rattle.bep_report.specs.Certificate.{step_line};
 ghost use Rattle.bep_report.specs.Lines as spec;
 ghost use Rattle.bep_report.specs.Text.{AppendsWhole, piece_text, printed};
 
@@ -142,4 +143,20 @@ pub fn push_refused<'a>(
     } else {
         push_pieces(text, &[said, fault, space, word, end])
     }
+}
+
+/// Appends the line of a scenario's step that is refused: which one, counted from 1, and why.
+pub fn push_step(text: &mut Vec<u8>, place: u64, number: u32, word: &str) -> Result<(), AllocError>
+    ensures { AppendsWhole result text.old.items text.new.items (step_line place number word.now) }
+{
+    let pieces = [
+        Piece::Text("step "),
+        Piece::Number(place),
+        Piece::Text(": "),
+        Piece::Number(u64::from(number)),
+        Piece::Text(" "),
+        Piece::Text(word),
+        Piece::Text("\n"),
+    ];
+    push_pieces(text, &pieces)
 }

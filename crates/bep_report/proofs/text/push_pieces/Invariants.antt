@@ -1,4 +1,4 @@
-use Rattle.std.proofs.Common.{◌≡◌, ◌++◌, take, drop, length}
+use Rattle.std.proofs.Common.{◌≡◌, ◌++◌, take, drop}
 use Rattle.bep_report.specs.Text.{pieces_text}
 use Rattle.bep_report.proofs.text.push_pieces.Given as goal
 

@@ -1,7 +1,7 @@
 use Rattle.std.proofs.Common.{◌≡◌, ◌+◌, ◌≤◌, map, length}
 use Rattle.std.specs.FinMap.{keys}
 use Rattle.bep_report.specs.Report.{count_deleted}
-use Rattle.bep_report.proofs.report.count_deleted.Given as goal
+use Rattle.bep_report.proofs.reporting.count_deleted.Given as goal
 
 -- the count so far with those of the names that are left is the count of all, and no more than there are names
 abbrev pub invariant-loop-name : goal.invariant-loop-name

@@ -1,6 +1,6 @@
 use Rattle.std.proofs.Common.{◌≡◌, ◌++◌, take, drop}
 use Rattle.bep_report.specs.Report.{folders_text}
-use Rattle.bep_report.proofs.report.push_folders.Given as goal
+use Rattle.bep_report.proofs.reporting.push_folders.Given as goal
 
 -- the text so far with the lines of the folders that are left is the whole; the old text stands at its front
 abbrev pub invariant-loop-held : goal.invariant-loop-held

@@ -1,6 +1,6 @@
 //! Clusters, by hand after their configurations.
-use crate::Cluster;
 use bep_config::Config;
+use bep_core::Cluster;
 use bep_peer::Peer;
 use bep_record::{DeviceId, FolderKind, FolderName};
 use bep_store::MemStore;

@@ -1,7 +1,7 @@
 use Rattle.std.proofs.Common.{ap, arith, length, map, ◌∙◌}
 use Rattle.std.specs.FinMap.{len-entries}
 use Rattle.bep_report.specs.Report.{count_deleted}
-use Rattle.bep_report.proofs.report.count_deleted.Goals as goal
+use Rattle.bep_report.proofs.reporting.count_deleted.Goals as goal
 
 pub loop-name-init : goal.loop-name-init
 loop-name-init c =
