@@ -1,6 +1,4 @@
 //! Tests of devices and clusters, by their public calls.
-//!
-//! They stand apart from `bep_peer` and `bep_core`, so that these are proved once, and not again with their tests.
 #![tactic(auto)]
 
 #[cfg(test)]
@@ -8,14 +6,8 @@ mod begin;
 #[cfg(test)]
 mod cluster;
 #[cfg(test)]
-mod dice;
-#[cfg(test)]
 mod local;
 #[cfg(test)]
 mod restart;
 #[cfg(test)]
-mod script;
-#[cfg(test)]
 mod session;
-#[cfg(test)]
-mod stories;
