@@ -12,8 +12,6 @@ mod input;
 mod lines;
 mod output;
 mod report;
-#[cfg(test)]
-mod tests;
 mod text;
 mod words;
 

@@ -1,5 +1,8 @@
 //! Records and nodes by this project's profile of BEP v1, 'FileInfo'; the hash of `hello` is that of `sha256sum`.
-use crate::*;
+use bep_record::{
+    BASE_BLOCK_SIZE, Block, Content, DeviceId, Duplicate, Entry, FolderName, HASH_OF_NOTHING,
+    Items, Kind, Name, Node, NodeParts, Record, RecordError, Target, Vector, conflict_name,
+};
 use std::alloc::{AllocError, Global};
 use std::cmp::Ordering;
 

@@ -1,5 +1,5 @@
 //! Links, by hand after what they are to do: each expected number is that of the message that was sent.
-use crate::*;
+use bep_links::{Code, Link, LinkError, Message, Response, Side};
 use bep_record::{DeviceId, Items, MAX_MESSAGES};
 use std::alloc::Global;
 use std::test::Fail;

@@ -1,5 +1,5 @@
 //! What a configuration refuses, call after call.
-use crate::{Config, ConfigError};
+use bep_config::{Config, ConfigError};
 use bep_record::{DeviceId, FolderKind, FolderName};
 
 #[derive(Clone, Copy)]
@@ -52,6 +52,13 @@ fn bad_calls_are_refused(rt: HostRuntime) {
     ] {
         assert_eq!(rt; number(&mut config, &docs, call), Some(wanted));
     }
+    // Sixteen devices in all.
+    for device in 3..17 {
+        let made = number(&mut config, &docs, Call::Device(device, 1));
+        assert_eq!(rt; made, Some(0));
+    }
+    let seventeenth = number(&mut config, &docs, Call::Device(17, 1));
+    assert_eq!(rt; seventeenth, Some(164));
     let counts = (config.shares().count(), config.links().count());
-    assert_eq!(rt; counts, (2, 1));
+    assert_eq!(rt; counts, (16, 1));
 }

@@ -1,5 +1,5 @@
 //! A folder `docs` with a directory `a`, whose second version is device 2's; the wanted answers were worked out by hand.
-use crate::*;
+use bep_audit::{Certificate, CertifyError, Verdict, certify, check, check_plain};
 use bep_model::Reason;
 use bep_tables::{DocError, read_check};
 use std::alloc::Global;

@@ -1,8 +1,8 @@
-// Documents whose folders, devices, views and links are out of order; what they say was read off by hand, by
-// docs/DOCUMENTS.md.
-use crate::*;
+//! Documents whose folders, devices, views and links are out of order; what they say was read off by hand, by
+//! docs/DOCUMENTS.md.
 use bep_map::NameMap;
 use bep_record::FolderKind;
+use bep_tables::{Cut, DocError, Flight, Held, Row, Share, Source, Table, read_check};
 use std::alloc::{AllocError, Global};
 use std::test::Fail;
 

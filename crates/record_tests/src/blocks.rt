@@ -1,5 +1,7 @@
 //! Block lists of small files, with hashes from outside.
-use super::*;
+use bep_blocks::{
+    BlocksError, blocks, blocks_of_hashes, hashes_tell_blocks, matches, plain_blocks_match,
+};
 use bep_record::{Block, BlockSize};
 use std::alloc::Global;
 

@@ -1,6 +1,6 @@
 //! Records in all places, views, pulls and links, by docs/DOCUMENTS.md.
-use crate::tests::{BLOCKLESS, DEVICE, DOCUMENT, FOLDER, RECORD, is_told, tells, text_of};
-use crate::*;
+use super::{BLOCKLESS, DEVICE, DOCUMENT, FOLDER, RECORD, is_told, tells, text_of};
+use bep_document::{CheckParts, DocError, read_parts, readings_are_faultless, records_are_told};
 use std::alloc::{AllocError, Global};
 
 // The folder of devices 1 and 2 ends, and one of devices 1 and 3 follows.

@@ -1,7 +1,7 @@
 //! Stores as maps that may fail. What each call leaves is written out by hand, by the rules of a store.
-use crate::*;
 use bep_map::NameMap;
 use bep_record::{Items, Kind, Name, Node, NodeParts, Target};
+use bep_store::{FaultStore, MemStore, Store, StoreError, StoreFault};
 use std::alloc::Global;
 
 // The name's one letter, the file's one byte, its seconds and its nanoseconds.

@@ -1,7 +1,7 @@
 //! The wanted lines are those of the profile's worked examples, or were written by hand after its rules.
-use crate::*;
 use bep_model::Reason;
 use bep_record::{DeviceId, FolderName, Name};
+use bep_report::{push_folder, push_not_settled, push_printed, push_refused, push_settled};
 use std::test::Fail;
 
 #[test]

@@ -1,6 +1,6 @@
 use Rattle.std.proofs.Common.{◌≡◌, ◌<◌, ◌+◌, ℕ, [], ◌∷◌, slice_index, sym, subst, ⊎_elim, arith}
 use Rattle.std.proofs.lemmas.Bool.{cases_eq}
-use Rattle.bep_choice.proofs.tests.choice_among.Goals as goal
+use Rattle.record_tests.proofs.choice.choice_among.Goals as goal
 
 three_rise : (a b d : ℕ) → a < b → b < d → (k : ℕ) → k + 1 < 3 → slice_index (a ∷ b ∷ d ∷ []) k < slice_index (a ∷ b ∷ d ∷ []) (k + 1)
 three_rise a b d first second k below =

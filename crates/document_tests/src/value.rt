@@ -1,5 +1,5 @@
-// Cuts as trees by themselves; which fault a tree has was read off by hand, by docs/DOCUMENTS.md.
-use crate::*;
+//! Cuts as trees by themselves; which fault a tree has was read off by hand, by docs/DOCUMENTS.md.
+use bep_tables::{Cut, DocError, check_value, read_check};
 use serde_json::Value;
 use std::alloc::Global;
 use std::test::Fail;

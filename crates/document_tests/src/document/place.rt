@@ -1,5 +1,5 @@
 //! Faults that have a place, by docs/DOCUMENTS.md.
-use crate::tests::{BLOCKLESS, DEVICE, DOCUMENT, END, FOLDER, RECORD, tells};
+use super::{BLOCKLESS, DEVICE, DOCUMENT, END, FOLDER, RECORD, tells};
 
 // A store of the directory `a` and a second one, without the second's name.
 const STORE: &str = r#","store":[{"name":"a","type":1,"modified_s":0},{"type":1,"modified_s":0"#;

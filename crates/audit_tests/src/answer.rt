@@ -1,8 +1,8 @@
 //! Documents of a folder `docs` that three devices share, of which one holds a directory; the lines were written by hand.
-use crate::*;
+use crate::streams::{Narrow, Pieces};
+use bep_answer::{Outcome, check_text, explain_text};
 use bep_report::ReportError;
 use std::alloc::Global;
-use std::io::{Error, ErrorKind, Read, Result as IoResult, Write};
 
 const NO_FILES: &str = r#"{"version":1,"cut":{"folders":[{"folder":"docs","devices":[
     {"device":1,"kind":"send-only","index_id":1,"max":0},
@@ -13,47 +13,6 @@ const DIRECTORY_WITHOUT_ROW: &str = r#"{"version":1,"cut":{"folders":[{"folder":
     {"device":1,"kind":"send-only","index_id":1,"max":0,"store":[{"name":"a","type":1,"modified_s":1}]},
     {"device":2,"kind":"receive-only","index_id":2,"max":0}]}]},"certificate":[]}"#;
 
-// A reader that gives one piece, and then the rest or an error.
-#[derive(Drop)]
-struct Pieces<'a> {
-    first: &'a [u8],
-    rest: &'a [u8],
-    fails: bool,
-}
-
-impl Read for Pieces<'_> {
-    fn read(&mut self, buf: &mut [u8]) -> IoResult<usize> {
-        if !self.first.is_empty() {
-            let count = self.first.read(buf)?;
-            return Ok(count);
-        }
-        if self.fails {
-            return Err(Error::from(ErrorKind::Interrupted));
-        }
-        self.rest.read(buf)
-    }
-}
-
-// A writer that takes so many bytes and no more.
-#[derive(Drop)]
-struct Narrow {
-    taken: Vec<u8>,
-    room: usize,
-}
-
-impl Write for Narrow {
-    fn write(&mut self, buf: &[u8]) -> IoResult<usize> {
-        let count = self.room.min(buf.len());
-        self.taken.extend_from_slice(&buf[..count])?;
-        self.room -= count;
-        Ok(count)
-    }
-
-    fn flush(&mut self) -> IoResult<()> {
-        Ok(())
-    }
-}
-
 // The answer to a document, and what a writer of this room then has.
 fn answer(
     alloc: Global,
@@ -61,11 +20,15 @@ fn answer(
     fails: bool,
     room: usize,
 ) -> (Result<Outcome, ReportError>, Vec<u8>) {
-    let (first, rest) = document.as_bytes().split_at(document.len() / 2);
-    let mut reader = Pieces { first, rest, fails };
+    let mut reader = Pieces {
+        rest: document.as_bytes(),
+        piece: 100,
+        reads: if fails { 1 } else { 9 },
+    };
     let mut writer = Narrow {
         taken: Vec::new(alloc),
         room,
+        fails: false,
     };
     let answer = check_text(alloc, &mut reader, &mut writer);
     (answer, writer.taken)
@@ -112,6 +75,7 @@ fn all_that_fails_is_written(rt: HostRuntime) {
     let mut writer = Narrow {
         taken: Vec::new(rt.alloc()),
         room: 99,
+        fails: false,
     };
     let answer = explain_text(rt.alloc(), &mut reader, &mut writer);
     assert_eq!(rt; answer, Ok(Outcome::NotSettled));

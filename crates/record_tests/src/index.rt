@@ -1,5 +1,5 @@
 //! Indexes, batches and views by BEP v1, 'Index' and 'Index Update'.
-use crate::*;
+use bep_index::{Batch, Index, IndexError, IndexId, Plan, View, plan};
 use bep_record::{DeviceId, Entry, Items, Kind, Name, Record, Target, Vector};
 use std::alloc::Global;
 

@@ -1,6 +1,6 @@
 //! A folder `docs` whose one device holds a directory that it has no record of; what fails was worked out by hand.
-use crate::*;
 use bep_audit::Certificate;
+use bep_explain::{explain, explanation, failures};
 use bep_model::Reason;
 use bep_tables::{DocError, read_check};
 use std::alloc::Global;

@@ -1,7 +1,8 @@
 //! A scenario, read by docs/DOCUMENTS.md.
-use crate::{faultless_scenarios_start, read_scenario, scenarios_are_faultless};
 use bep_config::Config;
+use bep_document::DocError;
 use bep_machine::Step;
+use bep_scenario::{faultless_scenarios_start, read_scenario, scenarios_are_faultless};
 use bep_store::MemStore;
 use std::alloc::Global;
 
@@ -57,4 +58,33 @@ fn a_scenario_is_read(rt: HostRuntime) {
     assert_eq!(rt; told(steps.get(7)), Some((1, 2, "docs", "")));
     assert_eq!(rt; told(steps.get(10)), Some((2, 1, "docs", "hello")));
     assert_eq!(rt; configured(&scenario.config), Some((1, 1, 11, 1, 2)));
+}
+
+// The number of the fault for which a scenario is refused, 0 where it is read.
+fn fault_of(alloc: Global, text: &str) -> Option<u32> {
+    match read_scenario(alloc, text.as_bytes()) {
+        Ok(_) => Some(0),
+        Err(DocError::Refused(fault)) => Some(fault.fault.number()),
+        Err(DocError::Memory) => None,
+    }
+}
+
+#[test]
+fn steps_are_refused(rt: HostRuntime) {
+    for (text, number) in [
+        (
+            r#"{"version":1,"folders":[],"links":[],"steps":[["connect",1,2]]}"#,
+            0,
+        ),
+        (
+            r#"{"version":1,"folders":[],"links":[],"steps":[["connect",1,2,3]]}"#,
+            183,
+        ),
+        (
+            r#"{"version":1,"folders":[],"links":[],"steps":[["connect",1,0]]}"#,
+            184,
+        ),
+    ] {
+        assert_eq!(rt; fault_of(rt.alloc(), text), Some(number), "{text}");
+    }
 }

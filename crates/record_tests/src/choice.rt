@@ -1,8 +1,8 @@
-// Choices and needs in this project's profile; the wanted answers were worked out by hand.
-use crate::*;
+//! Choices and needs in this project's profile; the wanted answers were worked out by hand.
+use bep_choice::{choose, needed};
 use bep_record::{
-    BASE_BLOCK_SIZE, Block, DeviceId, Entry, HASH_OF_NOTHING, Items, Kind, Name, Record, Target,
-    Vector,
+    BASE_BLOCK_SIZE, Block, DeviceId, Entry, FolderKind, HASH_OF_NOTHING, Items, Kind, Name,
+    Record, Target, Vector,
 };
 use std::alloc::Global;
 

@@ -1,23 +1,25 @@
 //! Documents and their answers by docs/DOCUMENTS.md.
-use crate::*;
+mod cut;
+mod place;
+
+use bep_document::{DocError, DocFault, Fault, read_parts};
 use std::alloc::{AllocError, Global};
 
-pub(crate) const DOCUMENT: &str = r#"{"version":1,"cut":{"folders":["#;
+const DOCUMENT: &str = r#"{"version":1,"cut":{"folders":["#;
 
-pub(crate) const FOLDER: &str = r#"{"folder":"docs","devices":["#;
+const FOLDER: &str = r#"{"folder":"docs","devices":["#;
 
-pub(crate) const DEVICE: &str = r#"{"device":1,"kind":"send-receive","index_id":11,"max":9"#;
+const DEVICE: &str = r#"{"device":1,"kind":"send-receive","index_id":11,"max":9"#;
 
-pub(crate) const END: &str = r#"}]}]},"certificate":[]}"#;
+const END: &str = r#"}]}]},"certificate":[]}"#;
 
 // A directory's record, without its name and sequence.
-pub(crate) const RECORD: &str = r#"{"type":1,"modified_s":0,"modified_by":1,"version":[[1,1]]"#;
+const RECORD: &str = r#"{"type":1,"modified_s":0,"modified_by":1,"version":[[1,1]]"#;
 
 // A file of five bytes, without its blocks.
-pub(crate) const BLOCKLESS: &str =
-    r#"{"type":0,"size":5,"modified_s":0,"modified_by":1,"version":[[1,1]]"#;
+const BLOCKLESS: &str = r#"{"type":0,"size":5,"modified_s":0,"modified_by":1,"version":[[1,1]]"#;
 
-pub(crate) fn text_of(alloc: Global, pieces: &[&str]) -> Result<String, AllocError> {
+fn text_of(alloc: Global, pieces: &[&str]) -> Result<String, AllocError> {
     let mut text = String::new(alloc);
     for piece in pieces {
         text.push_str(piece)?;
@@ -49,7 +51,7 @@ fn fault_tells(alloc: Global, fault: &DocFault, told: &str) -> Result<bool, Allo
 }
 
 // Whether this is told of a document of these bytes: `read`, or what the program prints of its fault.
-pub(crate) fn is_told(alloc: Global, bytes: &[u8], told: &str) -> bool {
+fn is_told(alloc: Global, bytes: &[u8], told: &str) -> bool {
     match read_parts(alloc, bytes) {
         Ok(_) => told == "read",
         Err(DocError::Refused(fault)) => fault_tells(alloc, &fault, told) == Ok(true),
@@ -58,7 +60,7 @@ pub(crate) fn is_told(alloc: Global, bytes: &[u8], told: &str) -> bool {
 }
 
 // Whether this is told of a document of these pieces.
-pub(crate) fn tells(alloc: Global, pieces: &[&str], told: &str) -> bool {
+fn tells(alloc: Global, pieces: &[&str], told: &str) -> bool {
     match text_of(alloc, pieces) {
         Ok(text) => is_told(alloc, text.as_bytes(), told),
         Err(_) => false,
