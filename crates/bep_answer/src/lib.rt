@@ -13,8 +13,6 @@ mod certify;
 mod check;
 mod explain;
 mod outcome;
-#[cfg(test)]
-mod tests;
 
 pub use certify::certify_text;
 pub use check::check_text;

@@ -28,8 +28,6 @@ mod missing_on_its_way;
 mod rows;
 mod share;
 mod spot;
-#[cfg(test)]
-mod tests;
 mod verdict;
 mod walk;
 mod winner;

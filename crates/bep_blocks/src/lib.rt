@@ -11,8 +11,6 @@ mod hashes;
 mod laws;
 mod matching;
 mod plain;
-#[cfg(test)]
-mod tests;
 
 pub use error::BlocksError;
 pub use hashes::blocks_of_hashes;

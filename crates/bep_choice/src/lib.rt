@@ -14,8 +14,6 @@
 mod choice;
 pub mod laws;
 mod need;
-#[cfg(test)]
-mod tests;
 
 pub use bep_record::FolderKind;
 pub use choice::choose;

@@ -14,8 +14,6 @@ mod config;
 mod error;
 mod growth;
 mod sharing;
-#[cfg(test)]
-mod tests;
 
 pub use config::{Config, ConfigParts};
 pub use error::ConfigError;

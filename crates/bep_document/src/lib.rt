@@ -10,19 +10,13 @@
 //!     }
 #![tactic(auto)]
 
-#[cfg(test)]
-mod cut_tests;
 mod error;
 mod fault;
 mod faults;
 mod laws;
 mod parts;
-#[cfg(test)]
-mod place_tests;
 mod read;
 mod reading;
-#[cfg(test)]
-mod tests;
 
 pub use error::DocError;
 pub use fault::{DocFault, Fault};

@@ -15,8 +15,6 @@ mod gather;
 mod missing;
 mod said;
 mod sources;
-#[cfg(test)]
-mod tests;
 mod text;
 
 pub use explained::{Explained, explain};

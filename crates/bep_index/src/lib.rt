@@ -23,8 +23,6 @@ mod number;
 mod receiver;
 mod records;
 mod send;
-#[cfg(test)]
-mod tests;
 mod view;
 
 pub use batch::Batch;

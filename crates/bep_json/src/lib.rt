@@ -15,8 +15,6 @@ mod nodes;
 mod numbers;
 mod readable;
 mod records;
-#[cfg(test)]
-mod tests;
 mod texts;
 mod tree;
 mod writing;

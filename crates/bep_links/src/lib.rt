@@ -11,8 +11,6 @@ mod error;
 mod link;
 mod queue;
 mod side;
-#[cfg(test)]
-mod tests;
 
 pub use bep_machine::{Announced, Code, Message, Request, Response};
 pub use error::LinkError;

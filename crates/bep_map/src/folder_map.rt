@@ -102,25 +102,3 @@ impl<V: Drop> FolderMap<V> {
         self.entries.retain(keep);
     }
 }
-
-#[cfg(test)]
-mod tests {
-    use super::*;
-    use std::test::Fail;
-
-    #[test]
-    fn folders_have_values(rt: HostRuntime) -> Result<(), Fail> {
-        let alloc = rt.alloc();
-        let docs = FolderName::read(alloc, b"docs")?;
-        let pictures = FolderName::read(alloc, b"pictures")?;
-        let mut places = FolderMap::new(alloc);
-        assert!(rt; places.insert(docs.copy(alloc)?, 1)?.is_none());
-        assert_eq!(rt; places.replace(&docs, 2), Ok(1));
-        assert_eq!(rt; places.replace(&pictures, 3), Err(3));
-        assert_eq!(rt;
-            (places.get(&docs).copied(), places.get(&pictures).copied()),
-            (Some(2), None)
-        );
-        Ok(())
-    }
-}

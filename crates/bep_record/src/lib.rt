@@ -28,8 +28,6 @@ mod name;
 mod node;
 mod record;
 mod target;
-#[cfg(test)]
-mod tests;
 mod text;
 mod vector;
 

@@ -13,8 +13,6 @@ mod input;
 mod lines;
 mod output;
 mod reporting;
-#[cfg(test)]
-mod tests;
 mod text;
 mod words;
 mod written;

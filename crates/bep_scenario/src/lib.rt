@@ -19,8 +19,6 @@ mod reading;
 mod scenario;
 mod start;
 mod step;
-#[cfg(test)]
-mod tests;
 mod words;
 
 pub use laws::{faultless_scenarios_start, scenarios_are_faultless};

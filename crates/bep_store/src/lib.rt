@@ -11,8 +11,6 @@ mod error;
 mod fault_store;
 mod mem_store;
 mod store;
-#[cfg(test)]
-mod tests;
 
 pub use error::{StoreError, StoreFault};
 pub use fault_store::FaultStore;

@@ -16,10 +16,6 @@ mod link;
 mod names;
 mod share;
 mod table;
-#[cfg(test)]
-mod tests;
-#[cfg(test)]
-mod value_tests;
 
 pub use bep_document::{DocError, DocFault, Fault, MAX_BYTES};
 pub use bep_model::{Flight, Row};

@@ -4,8 +4,6 @@
 mod mode;
 mod run;
 mod status;
-#[cfg(test)]
-mod tests;
 
 use crate::run::{run, run_without_words, words_of};
 pub use bep_answer::{Certified, Outcome, certify_text, check_text, explain_text};
