@@ -1,0 +1,2 @@
+mod RecordsFacts
+mod FlightFacts
