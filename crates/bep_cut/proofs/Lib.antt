@@ -1,2 +1,4 @@
 mod RecordsFacts
 mod FlightFacts
+mod FolderFacts
+mod LinkFacts

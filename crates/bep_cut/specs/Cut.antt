@@ -1,6 +1,6 @@
 -- The cut of a cluster: what its devices have of their folders, and what is on its way between them; sessions, received
 -- blocks and all messages but those with records are forgotten (this project's profile).
-use Rattle.std.specs.Prelude.{◌==◌, List, [], ◌∷◌, fold, map, Option, Some, None}
+use Rattle.std.specs.Prelude.{◌==◌, List, [], ◌∷◌, fold, map, Option, Some, None, IfSome}
 use Rattle.std.specs.List.{find, flat_map}
 use Rattle.std.specs.FinMap.{empty, get, keys}
 use Rattle.bep_map.specs.NameMap.{ByName}
@@ -14,7 +14,7 @@ use Rattle.bep_tables.specs.declared.share.SharedFolder.{SharedFolder}
 use Rattle.bep_tables.specs.declared.link.LinkState.{LinkState}
 use Rattle.bep_tables.specs.declared.cut.CutParts.{CutParts}
 use Rattle.bep_tables.specs.Names.{Names, with_names}
-use Rattle.bep_cut.specs.Share.{share_cut}
+use Rattle.bep_cut.specs.Share.{IsSoundAt, share_cut}
 use Rattle.bep_cut.specs.LinkState.{both_have, link_cut}
 
 -- a device, by its number, and its tables
@@ -67,3 +67,9 @@ parts_at all links = record { folders = map (folder_cut all) (folders_of all); l
 -- the cut of these devices and links
 unfoldable pub cut_at : List Member → List LinkBetween → CutParts
 cut_at members links = parts_at (map seen members) links
+
+-- ---- what holds of every device
+
+-- what the device has of the folder, if it shares it, is sound
+abbrev pub IsSoundIn : Folder → Seen → Type 0
+IsSoundIn folder one = IfSome (get one.1.replicas folder) (IsSoundAt one.0)

@@ -4,6 +4,7 @@ use Rattle.std.specs.Prelude.{◌&&◌, Bool, true, false, List, [], is_some}
 use Rattle.std.specs.List.{flat_map}
 use Rattle.std.specs.FinMap.{get}
 use Rattle.bep_map.specs.NameMap.{ByName}
+use Rattle.bep_index.specs.Batch.{IsBatch}
 use Rattle.bep_model.specs.declared.flight.Flight.{Flight}
 use Rattle.bep_model.specs.Tables.{Folder}
 use Rattle.bep_machine.specs.declared.message.Message.{Message}
@@ -32,3 +33,7 @@ link_cut both between = record {
   to_a = flat_map (carried both) between.link.to_lower;
   to_b = flat_map (carried both) between.link.to_upper;
 }
+
+-- its records are a batch
+abbrev pub HasBatch : Flight → Type 0
+HasBatch flight = IsBatch flight.records

@@ -1,11 +1,11 @@
 //! What is on its way over a link.
-ghost use Rattle.std.specs.Prelude.{◌≡◌, ◌++◌, IfOk, OnOk};
+ghost use Rattle.std.specs.Prelude.{◌≡◌, ◌++◌, true, IfOk, OnOk};
 ghost use Rattle.std.specs.List.{flat_map, AllByRecursion};
 ghost use Rattle.bep_links.specs.Link.{IsLink};
 ghost use Rattle.bep_links.specs.Side.{end_at};
 ghost use Rattle.bep_machine.specs.Link.{queue_to};
-ghost use Rattle.bep_index.specs.Batch.{IsBatch};
-ghost use Rattle.bep_cut.specs.LinkState.{both_have, carried, link_cut};
+ghost use Rattle.bep_machine.specs.Said.{flight_when};
+ghost use Rattle.bep_cut.specs.LinkState.{HasBatch, both_have, carried, link_cut};
 
 use bep_index::Batch;
 use bep_links::{Link, Message, Side};
@@ -22,6 +22,8 @@ pub(crate) fn link_cut<V>(
     link: &Link,
 ) -> Result<LinkState, AllocError>
     ensures state { IfOk result (λ made. made ≡ link_cut (both_have lower.now upper.now) link.now) }
+    ensures batches_to_a { IfOk result (λ made. AllByRecursion HasBatch made.to_a) }
+    ensures batches_to_b { IfOk result (λ made. AllByRecursion HasBatch made.to_b) }
     ensures a_link { IsLink link.now }
 {
     let (a, b) = link.ends();
@@ -48,7 +50,8 @@ fn add_waiting<V>(
     link: &Link,
     side: Side,
 ) -> Result<(), AllocError>
-    ensures { OnOk result (flights.new.items ≡ flights.old.items ++ flat_map (carried (both_have lower.now upper.now)) (queue_to (end_at side) link.now.link)) }
+    ensures flights { OnOk result (flights.new.items ≡ flights.old.items ++ flat_map (carried (both_have lower.now upper.now)) (queue_to (end_at side) link.now.link)) }
+    ensures batches { OnOk result (AllByRecursion HasBatch flights.old.items → AllByRecursion HasBatch flights.new.items) }
 {
     link.is_up();
     for place in 0..MAX_MESSAGES {
@@ -68,17 +71,18 @@ fn add_message<V>(
     upper: &FolderMap<V>,
     message: &Message,
 ) -> Result<(), AllocError>
-    ensures { OnOk result (flights.new.items ≡ flights.old.items ++ carried (both_have lower.now upper.now) message.now) }
+    ensures flights { OnOk result (flights.new.items ≡ flights.old.items ++ carried (both_have lower.now upper.now) message.now) }
+    ensures batches { OnOk result (AllByRecursion HasBatch flights.old.items → AllByRecursion HasBatch flights.new.items) }
 {
     match message {
         Message::Index(folder, batch) => {
             if both_have(lower, upper, folder) {
-                flights.push(flight(alloc, folder, true, batch)?)?;
+                add_flight(flights, alloc, folder, true, batch)?;
             }
         }
         Message::IndexUpdate(folder, batch) => {
             if both_have(lower, upper, folder) {
-                flights.push(flight(alloc, folder, false, batch)?)?;
+                add_flight(flights, alloc, folder, false, batch)?;
             }
         }
         Message::ClusterConfig(_) | Message::Request(_) | Message::Response(_) => {}
@@ -93,19 +97,24 @@ fn both_have<V>(lower: &FolderMap<V>, upper: &FolderMap<V>, folder: &FolderName)
     lower.get(folder).is_some() && upper.get(folder).is_some()
 }
 
-fn flight(
+// Adds the records of the folder.
+fn add_flight(
+    flights: &mut Vec<Flight>,
     alloc: Global,
     folder: &FolderName,
     full: bool,
     batch: &Batch,
-) -> Result<Flight, AllocError>
-    ensures value { IfOk result (λ made. made ≡ record { folder = folder.now; full = full; records = batch.now }) }
-    ensures a_batch { IsBatch batch.now }
+) -> Result<(), AllocError>
+    ensures flights { OnOk result (flights.new.items ≡ flights.old.items ++ flight_when true folder.now full batch.now) }
+    ensures batches { OnOk result (AllByRecursion HasBatch flights.old.items → AllByRecursion HasBatch flights.new.items) }
 {
     batch.as_slice();
-    Ok(Flight {
-        folder: folder.copy(alloc)?,
+    let folder = folder.copy(alloc)?;
+    let records = Items::new(batch.copy(alloc)?.into_vec());
+    flights.push(Flight {
+        folder,
         full,
-        records: Items::new(batch.copy(alloc)?.into_vec()),
-    })
+        records,
+    })?;
+    Ok(())
 }

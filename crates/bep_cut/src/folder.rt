@@ -1,8 +1,8 @@
 //! What the devices have of a folder.
 ghost use Rattle.std.specs.Prelude.{◌≡◌, ◌++◌, IfOk, OnOk, IfSome, IsSome, map};
-ghost use Rattle.std.specs.List.{flat_map};
+ghost use Rattle.std.specs.List.{flat_map, AllByRecursion};
 ghost use Rattle.std.specs.FinMap as finite;
-ghost use Rattle.bep_cut.specs.Cut.{seen, share_at};
+ghost use Rattle.bep_cut.specs.Cut.{IsSoundIn, seen, share_at};
 ghost use Rattle.bep_cut.specs.Parts.{Counts, CountsAll, faults_of};
 
 use crate::CutError;
@@ -15,6 +15,7 @@ use bep_tables::Share;
 use std::alloc::{AllocError, Global};
 
 // Adds what the device has of the folder, if it shares it.
+#[tactic(auto, using(crate::proofs::FolderFacts::no_share, crate::proofs::FolderFacts::none_sound))]
 pub(crate) fn add_share<S: Store>(
     shares: &mut Vec<Share>,
     alloc: Global,
@@ -22,6 +23,7 @@ pub(crate) fn add_share<S: Store>(
     folder: &FolderName,
 ) -> Result<(), CutError>
     ensures share { OnOk result (shares.new.items ≡ shares.old.items ++ share_at folder.now (seen peer.old)) }
+    ensures sound { OnOk result (IsSoundIn folder.now (seen peer.old)) }
     ensures seen { seen peer.new ≡ seen peer.old }
     ensures counts { Counts (faults_of peer.old) (faults_of peer.new) result }
 {
@@ -44,7 +46,9 @@ fn read_store<S: Store>(peer: &mut Peer<S>, folder: &FolderName) -> Result<NameM
     match peer.contents(folder) {
         Ok(nodes) => Ok(nodes),
         Err(PeerError::Memory) => Err(CutError::Memory),
-        Err(_) => Err(CutError::StoreFault),
+        Err(PeerError::Refused(_)) => Err(CutError::StoreFault),
+        // Nothing was scanned, so nothing can be stale.
+        Err(PeerError::Stale) => Err(CutError::StoreFault),
     }
 }
 
@@ -57,7 +61,8 @@ fn add_read<S: Store>(
     store: NameMap<Node>,
 ) -> Result<(), AllocError>
     requires { IfSome (finite.get peer.now.folders folder.now) (λ held. store ≡ held.tables.store) }
-    ensures { OnOk result (shares.new.items ≡ shares.old.items ++ share_at folder.now (seen peer.now)) }
+    ensures share { OnOk result (shares.new.items ≡ shares.old.items ++ share_at folder.now (seen peer.now)) }
+    ensures sound { OnOk result (IsSoundIn folder.now (seen peer.now)) }
 {
     tables_are_found();
     peer.folders();
@@ -77,6 +82,7 @@ pub(crate) fn shares_at<S: Store>(
     folder: &FolderName,
 ) -> Result<Vec<Share>, CutError>
     ensures shares { IfOk result (λ made. made.items ≡ flat_map (share_at folder.now) (map seen peers.old)) }
+    ensures sound { OnOk result (AllByRecursion (IsSoundIn folder.now) (map seen peers.old)) }
     ensures seen { map seen peers.new ≡ map seen peers.old }
     ensures counts { CountsAll (map faults_of peers.old) (map faults_of peers.new) result }
 {

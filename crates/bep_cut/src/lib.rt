@@ -5,6 +5,7 @@
 mod error;
 mod flights;
 mod folder;
+mod links;
 mod names;
 mod records;
 mod share;
