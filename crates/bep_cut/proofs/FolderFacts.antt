@@ -1,15 +1,16 @@
 -- What a device has of a folder, and what reading its store does to it.
-use Rattle.std.proofs.Common.{◌≡◌, ◌≢◌, ◌<◌, ◌∙◌, ℕ, Bool, true, false, cond, List, [], ◌∷◌, map, set, length, get_or, arith, Option, Some, None, IsSome, IfSome, Err, option_map, refl, sym, ap, subst}
+use Rattle.std.proofs.Common.{◌≡◌, ◌≢◌, ◌<◌, ◌∙◌, ℕ, Bool, true, false, cond, List, [], ◌∷◌, map, set, length, get_or, arith, ◌+◌, ◌++◌, drop, flat_map, Option, Some, None, IsSome, IfSome, Err, option_map, refl, sym, ap, subst}
 use Rattle.std.proofs.Math.Path.{fun_ext}
 use Rattle.std.specs.Ordering.{nat_cmp, eq_by_cmp}
 use Rattle.std.specs.Cmp.Lexicographic.{slice_cmp, nat_list_cmp_total}
 use Rattle.std.specs.FinMap.{get, insert, get-insert}
-use Rattle.std.specs.List.{slice_get}
+use Rattle.std.specs.List.{AllByRecursion, slice_get}
 use Rattle.std.proofs.Math.Seq.{map-set_same}
-use Rattle.std.proofs.lemmas.List.{get_or-set_same, length-set}
+use Rattle.std.proofs.lemmas.List.{append_assoc, get_or-map, get_or-set_same, length-map, length-set}
 use Rattle.std.proofs.lemmas.Map.Lookups.{exact_bytes}
 use Rattle.std.proofs.lemmas.Option.{slice_get-get_or, slice_get-map}
 use Rattle.bep_facts.specs.Maps.{get-insert_here, same_key}
+use Rattle.bep_facts.specs.Places.{rest_at}
 use Rattle.bep_map.specs.NameMap.{ByName}
 use Rattle.bep_record.specs.declared.node.NodeParts.{NodeParts}
 use Rattle.bep_model.specs.Tables.{Device, Folder}
@@ -18,14 +19,17 @@ use Rattle.bep_machine.specs.declared.refusal.Refusal.TheVariants.{CounterFull, 
 use Rattle.bep_machine.specs.Replica.{Replica}
 use Rattle.bep_machine.specs.Peer.{Peer}
 use Rattle.bep_folder.specs.Held.{Held}
-use Rattle.bep_peer.specs.declared.error.PeerError.TheVariants.{Refused}
+use Rattle.bep_peer.specs.declared.error.PeerError.{PeerError}
+use Rattle.bep_peer.specs.declared.error.PeerError.TheVariants.{Refused, Stale, Memory}
 use Rattle.bep_peer.specs.Contents.{IsReadIn, ReadsOutIn}
 use Rattle.bep_peer.specs.Laws.{TablesAreFound}
 use Rattle.bep_peer.specs.Member.{Member, tables_of}
 use Rattle.bep_peer.specs.Within.{with_folder}
 use Rattle.bep_cut.specs.Share.{IsSoundAt, share_cut}
-use Rattle.bep_cut.specs.Cut.{IsSoundIn, seen, share_at, shared_by}
-use Rattle.bep_cut.specs.Parts.{HasRisen, HaveRisen, faults_of}
+use Rattle.bep_cut.specs.Cut.{IsSoundIn, Seen, seen, share_at, shared_by}
+use Rattle.bep_cut.specs.declared.error.CutError.{CutError}
+use Rattle.bep_cut.specs.declared.error.CutError.TheVariants as cuts
+use Rattle.bep_cut.specs.Parts.{Counts, CountsAll, HasRisen, HaveRisen, error_of, faults_of}
 
 -- ---- what the device has of the folder
 
@@ -108,6 +112,16 @@ fault_of old new folder EpochFull has reads = absurd reads
 fault_of old new folder NotBegun has reads = absurd reads
 fault_of old new folder NothingToDo has reads = absurd reads
 
+pub counted : (old new : Member) (folder : Folder) (error : PeerError) (said : CutError) → IsSome (get old.folders folder) → ReadsOutIn folder old new (Err error) → said ≡ error_of error →
+    Counts {A = ByName NodeParts} (faults_of old) (faults_of new) (Err said)
+counted old new folder error said has reads is =
+    subst (λ (e : CutError). Counts {A = ByName NodeParts} (faults_of old) (faults_of new) (Err e)) (sym is) (cases error reads)
+  where
+    cases : (error : PeerError) → ReadsOutIn folder old new (Err error) → Counts {A = ByName NodeParts} (faults_of old) (faults_of new) (Err (error_of error))
+    cases Memory reads = same_faults old new folder reads.0 reads.1
+    cases (Refused refusal) reads = fault_of old new folder refusal has reads
+    cases Stale reads = absurd reads
+
 -- ---- one device of several
 
 -- what is seen of them, and how often their stores failed, is as before
@@ -130,3 +144,25 @@ module _ (first all : List Member) (place : ℕ) (one other : Member) (below : p
         ∙ ap (option_map faults_of) (slice_get-get_or (set all place other) place other (omega (arith, length-set all place other)) ∙ ap Some (get_or-set_same all place other other below));
     risen = risen;
   }
+
+  -- the same of what is counted at an error
+  pub counts_all : {A B : Type 0} (error : CutError) → map faults_of all ≡ map faults_of first → Counts {A = A} (faults_of one) (faults_of other) (Err error) → CountsAll {A = B} (map faults_of first) (map faults_of (set all place other)) (Err error)
+  counts_all cuts.StoreFault same risen = one_risen same risen
+  counts_all cuts.Memory same kept = still_same faults_of kept same
+
+  rest : map seen all ≡ map seen first → drop place (map seen first) ≡ seen one ∷ drop (place + 1) (map seen first)
+  rest same =
+      subst (λ (l : List Seen). drop place l ≡ seen one ∷ drop (place + 1) l) same
+      (rest_at (map seen all) place (seen one) (omega (arith, length-map all seen, below)) (sym (get_or-map seen all place one (seen one) below ∙ ap seen (sym is))))
+
+  -- what was gathered so far with what is left is all of it, one device on
+  pub gathered_next : {Y : Type 0} (f : Seen → List Y) (made now whole : List Y) → map seen all ≡ map seen first → now ≡ made ++ f (seen one) → made ++ flat_map f (drop place (map seen first)) ≡ whole →
+      now ++ flat_map f (drop (place + 1) (map seen first)) ≡ whole
+  gathered_next {Y} f made now whole same pushed before =
+      ap (λ (ys : List Y). ys ++ flat_map f (drop (place + 1) (map seen first))) pushed
+      ∙ append_assoc made (f (seen one)) (flat_map f (drop (place + 1) (map seen first)))
+      ∙ ap (λ (l : List Seen). made ++ flat_map f l) (sym (rest same))
+      ∙ before
+
+  pub each_next : (P : Seen → Type 0) → map seen all ≡ map seen first → P (seen one) → AllByRecursion P (drop (place + 1) (map seen first)) → AllByRecursion P (drop place (map seen first))
+  each_next P same one later = subst (AllByRecursion P) (sym (rest same)) (one, later)

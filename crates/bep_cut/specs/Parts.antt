@@ -7,7 +7,9 @@ use Rattle.bep_record.specs.declared.limits.TheConstants.{MAX_DEVICES, MAX_FOLDE
 use Rattle.bep_model.specs.Tables.{Device, Folder}
 use Rattle.bep_folder.specs.Held.{Held}
 use Rattle.bep_links.specs.Link.{LinkBetween}
-use Rattle.bep_peer.specs.Member.{Member, HasFailed}
+use Rattle.bep_peer.specs.declared.error.PeerError.{PeerError}
+use Rattle.bep_peer.specs.declared.error.PeerError.TheVariants as errors
+use Rattle.bep_peer.specs.Member.{Member}
 use Rattle.bep_tables.specs.Cut.{ends_cmp}
 use Rattle.bep_cut.specs.declared.error.CutError.{CutError}
 use Rattle.bep_cut.specs.declared.error.CutError.TheVariants.{StoreFault, Memory}
@@ -54,6 +56,12 @@ pub record AreParts (members : List Member) (links : List LinkBetween) : Type 0 
   pub some : ShareSome members
 
 -- ---- reading the stores
+
+-- why no cut is taken where the store of a folder that a device has isn't read
+abbrev pub error_of : PeerError → CutError
+error_of errors.Memory = Memory
+error_of (errors.Refused refusal) = StoreFault
+error_of errors.Stale = StoreFault
 
 -- how often the store of each folder failed
 abbrev pub faults_of : Member → Folder → Option ℕ

@@ -3,7 +3,7 @@ ghost use Rattle.std.specs.Prelude.{◌≡◌, ◌++◌, IfOk, OnOk, IfSome, IsS
 ghost use Rattle.std.specs.List.{flat_map, AllByRecursion};
 ghost use Rattle.std.specs.FinMap as finite;
 ghost use Rattle.bep_cut.specs.Cut.{IsSoundIn, seen, share_at};
-ghost use Rattle.bep_cut.specs.Parts.{Counts, CountsAll, faults_of};
+ghost use Rattle.bep_cut.specs.Parts.{Counts, CountsAll, error_of, faults_of};
 
 use crate::CutError;
 use crate::share::share_cut;
@@ -45,10 +45,17 @@ fn read_store<S: Store>(peer: &mut Peer<S>, folder: &FolderName) -> Result<NameM
 {
     match peer.contents(folder) {
         Ok(nodes) => Ok(nodes),
-        Err(PeerError::Memory) => Err(CutError::Memory),
-        Err(PeerError::Refused(_)) => Err(CutError::StoreFault),
-        // Nothing was scanned, so nothing can be stale.
-        Err(PeerError::Stale) => Err(CutError::StoreFault),
+        Err(error) => Err(error_of(error)),
+    }
+}
+
+// Why no cut is taken where the store of a folder that the device has isn't read.
+fn error_of(error: PeerError) -> CutError
+    ensures { result ≡ error_of error }
+{
+    match error {
+        PeerError::Memory => CutError::Memory,
+        PeerError::Refused(_) | PeerError::Stale => CutError::StoreFault,
     }
 }
 
