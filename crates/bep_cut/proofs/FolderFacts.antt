@@ -1,9 +1,9 @@
 -- What a device has of a folder, and what reading its store does to it.
-use Rattle.std.proofs.Common.{◌≡◌, ◌≢◌, ◌<◌, ◌∙◌, ℕ, Bool, true, false, cond, List, [], ◌∷◌, map, set, length, get_or, arith, ◌+◌, ◌++◌, drop, flat_map, Option, Some, None, IsSome, IfSome, Err, option_map, refl, sym, ap, subst}
+use Rattle.std.proofs.Common.{◌≡◌, ◌<◌, ◌∙◌, ℕ, Bool, true, false, cond, List, [], ◌∷◌, map, set, length, get_or, arith, ◌+◌, ◌++◌, drop, flat_map, Option, Some, None, IsSome, IfSome, Result, Err, option_map, refl, sym, ap, subst}
 use Rattle.std.proofs.Math.Path.{fun_ext}
 use Rattle.std.specs.Ordering.{nat_cmp, eq_by_cmp}
 use Rattle.std.specs.Cmp.Lexicographic.{slice_cmp, nat_list_cmp_total}
-use Rattle.std.specs.FinMap.{get, insert, get-insert}
+use Rattle.std.specs.FinMap.{get, get-insert}
 use Rattle.std.specs.List.{AllByRecursion, slice_get}
 use Rattle.std.proofs.Math.Seq.{map-set_same}
 use Rattle.std.proofs.lemmas.List.{append_assoc, get_or-map, get_or-set_same, length-map, length-set}
@@ -17,14 +17,12 @@ use Rattle.bep_model.specs.Tables.{Device, Folder}
 use Rattle.bep_machine.specs.declared.refusal.Refusal.{Refusal}
 use Rattle.bep_machine.specs.declared.refusal.Refusal.TheVariants.{CounterFull, TooManyCounters, NameBad, SequenceFull, IndexFull, StoreFault, Unscanned, NotNeeded, BlocksMissing, CopyExists, PullsFull, KindForbids, LinkDown, LinkFull, EpochFull, NotBegun, NotShared, NothingToDo}
 use Rattle.bep_machine.specs.Replica.{Replica}
-use Rattle.bep_machine.specs.Peer.{Peer}
 use Rattle.bep_folder.specs.Held.{Held}
 use Rattle.bep_peer.specs.declared.error.PeerError.{PeerError}
 use Rattle.bep_peer.specs.declared.error.PeerError.TheVariants.{Refused, Stale, Memory}
 use Rattle.bep_peer.specs.Contents.{IsReadIn, ReadsOutIn}
 use Rattle.bep_peer.specs.Laws.{TablesAreFound}
 use Rattle.bep_peer.specs.Member.{Member, tables_of}
-use Rattle.bep_peer.specs.Within.{with_folder}
 use Rattle.bep_cut.specs.Share.{IsSoundAt, share_cut}
 use Rattle.bep_cut.specs.Cut.{IsSoundIn, Seen, seen, share_at, shared_by}
 use Rattle.bep_cut.specs.declared.error.CutError.{CutError}
@@ -146,9 +144,14 @@ module _ (first all : List Member) (place : ℕ) (one other : Member) (below : p
   }
 
   -- the same of what is counted at an error
-  pub counts_all : {A B : Type 0} (error : CutError) → map faults_of all ≡ map faults_of first → Counts {A = A} (faults_of one) (faults_of other) (Err error) → CountsAll {A = B} (map faults_of first) (map faults_of (set all place other)) (Err error)
-  counts_all cuts.StoreFault same risen = one_risen same risen
-  counts_all cuts.Memory same kept = still_same faults_of kept same
+  pub counts_all : {B : Type 0} (result : Result B CutError) (error : CutError) → result ≡ Err error → map faults_of all ≡ map faults_of first → Counts {A = Unit {0}} (faults_of one) (faults_of other) (Err error) →
+      CountsAll (map faults_of first) (map faults_of (set all place other)) result
+  counts_all {B} result error answers same counts =
+      subst (λ (r : Result B CutError). CountsAll (map faults_of first) (map faults_of (set all place other)) r) (sym answers) (cases error counts)
+    where
+      cases : (error : CutError) → Counts {A = Unit {0}} (faults_of one) (faults_of other) (Err error) → CountsAll {A = B} (map faults_of first) (map faults_of (set all place other)) (Err error)
+      cases cuts.StoreFault risen = one_risen same risen
+      cases cuts.Memory kept = still_same faults_of kept same
 
   rest : map seen all ≡ map seen first → drop place (map seen first) ≡ seen one ∷ drop (place + 1) (map seen first)
   rest same =

@@ -7,14 +7,12 @@ use Rattle.std.specs.Cmp.Lexicographic.{slice_cmp}
 use Rattle.std.specs.FinMap.{empty, get, get-empty}
 use Rattle.bep_map.specs.NameMap.{ByName}
 use Rattle.bep_model.specs.Tables.{Device, Folder}
-use Rattle.bep_machine.specs.Replica.{Replica}
 use Rattle.bep_folder.specs.Held.{Held}
 use Rattle.bep_links.specs.Link.{LinkBetween}
 use Rattle.bep_peer.specs.Laws.{TablesAreFound}
-use Rattle.bep_peer.specs.Member.{Member, tables_of}
-use Rattle.bep_tables.specs.declared.link.LinkState.{LinkState}
+use Rattle.bep_peer.specs.Member.{Member}
 use Rattle.bep_cut.specs.LinkState.{both_have, link_cut}
-use Rattle.bep_cut.specs.Cut.{Seen, seen, replicas_of, replicas_at, link_at}
+use Rattle.bep_cut.specs.Cut.{Seen, seen, replicas_of, replicas_at}
 
 -- a device is found among the seen ones as among the members
 seen_at : (members : List Member) (device : Device) → find (λ (one : Seen). one.0 == device) (map seen members) ≡ option_map seen (find (λ (member : Member). member.number == device) members)

@@ -1,6 +1,6 @@
 -- What a cut has of a folder at a device: its records, what its store holds, what it knows of the others' indexes and what
 -- it pulls; blocks that were received are forgotten (this project's profile).
-use Rattle.std.specs.Prelude.{◌≡◌, ◌==◌, ◌&&◌, false, Bool, List, [], ◌∷◌, map, Option, Some, None, IfSome, if◌then◌else◌}
+use Rattle.std.specs.Prelude.{◌==◌, ◌&&◌, Bool, List, [], ◌∷◌, map, Option, Some, None, IfSome, if◌then◌else◌}
 use Rattle.std.specs.List.{flat_map, AllByRecursion}
 use Rattle.std.specs.FinMap.{get, entries, from_entries}
 use Rattle.bep_map.specs.NameMap.{ByName}

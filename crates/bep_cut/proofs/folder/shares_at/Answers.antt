@@ -1,4 +1,4 @@
-use Rattle.std.proofs.Common.{◌≡◌, ◌<◌, length, get_or, ap, arith}
+use Rattle.std.proofs.Common.{◌∙◌, Err, ◌≡◌, ◌<◌, length, get_or, ap, arith}
 use Rattle.std.proofs.lemmas.Result.{err_from_is_err_and}
 use Rattle.bep_cut.specs.Cut.{IsSoundIn, seen, share_at}
 use Rattle.bep_cut.specs.Parts.{faults_of}
@@ -14,8 +14,8 @@ pub returns-in_err-add_share-clause-counts : goal.returns-in_err-add_share-claus
 returns-in_err-add_share-clause-counts g c =
     let below : c.loop-peer.peer-index < length c.loop-peer.peers = let t = c.loop-peer-test.true in let l = c.loop-peer.auto.peers in omega arith in
     let error = err_from_is_err_and c.from_residual.result c.from_residual.ensures.1 in
-    rw (error.1, error.2)
-    (counts_all c.args.peers.now c.loop-peer.peers c.loop-peer.peer-index (get_or c.loop-peer.peers c.loop-peer.peer-index c.peer-item.result) c.add_share.new.peer below (ap (get_or c.loop-peer.peers c.loop-peer.peer-index) c.peer-item.is) c.in_err-add_share.field-0.0 c.loop-peer.invariant.counts c.in_err-add_share.ensures.counts)
+    counts_all c.args.peers.now c.loop-peer.peers c.loop-peer.peer-index (get_or c.loop-peer.peers c.loop-peer.peer-index c.peer-item.result) c.add_share.new.peer below (ap (get_or c.loop-peer.peers c.loop-peer.peer-index) c.peer-item.is)
+    c.from_residual.result c.in_err-add_share.field-0.0 (error.1 ∙ ap Err error.2) c.loop-peer.invariant.counts c.in_err-add_share.ensures.counts
 
 pub loop-peer-preserved : goal.loop-peer-preserved
 loop-peer-preserved g c =

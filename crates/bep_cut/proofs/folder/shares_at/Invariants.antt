@@ -1,4 +1,4 @@
-use Rattle.std.proofs.Common.{◌≡◌, ◌++◌, [], drop, map, flat_map}
+use Rattle.std.proofs.Common.{◌≡◌, ◌++◌, drop, map, flat_map}
 use Rattle.std.specs.List.{AllByRecursion}
 use Rattle.bep_cut.specs.Cut.{IsSoundIn, seen, share_at}
 use Rattle.bep_cut.specs.Parts.{faults_of}

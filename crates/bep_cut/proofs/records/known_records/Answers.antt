@@ -1,5 +1,5 @@
 use Rattle.bep_cut.proofs.RecordsFacts.{all_values}
-use Rattle.std.proofs.Common.{rules, ◌≡◌, ◌∙◌}
+use Rattle.std.proofs.Common.{rules}
 use Rattle.bep_cut.proofs.records.known_records.Goals as goal
 
 pub returns : goal.returns
