@@ -12,6 +12,7 @@ mod AskFacts
 mod SessionFacts
 mod WithinFacts
 mod ScanFacts
+mod ContentsFacts
 mod RestartFacts
 mod ViewTaken
 mod MemberFacts

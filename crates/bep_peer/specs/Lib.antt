@@ -1,6 +1,8 @@
 pub mod Config
+pub mod Contents
 pub mod Effect
 pub mod InSession
+pub mod Laws
 pub mod Lent
 pub mod Member
 pub mod PeerError

@@ -1,0 +1,4 @@
+mod RecordsFacts
+mod FlightFacts
+mod FolderFacts
+mod LinkFacts

@@ -1,0 +1,7 @@
+use Rattle.std.proofs.Common.{◌≡◌, ◌++◌, drop, map}
+use Rattle.bep_cut.specs.Cut.{seen, link_at}
+use Rattle.bep_cut.proofs.links.links_cut.Given as goal
+
+-- the links so far with those that are left are all of them
+abbrev pub invariant-loop-link : goal.invariant-loop-link
+invariant-loop-link g l = l.made.items ++ map (link_at (map seen l.peers)) (drop l.link-index l.links) ≡ map (link_at (map seen l.peers)) l.links

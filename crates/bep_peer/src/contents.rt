@@ -1,0 +1,32 @@
+//! What the stores of a device hold, read out.
+ghost use Rattle.std.specs.Prelude.{◌≡◌, false};
+ghost use Rattle.bep_peer.specs.Contents.{ReadsOutIn};
+ghost use Rattle.bep_peer.specs.Member.{Remains, tables_of};
+ghost use Rattle.bep_peer.specs.Within.{TellsFault};
+
+use crate::error::answered;
+use crate::{Peer, PeerError};
+use bep_machine::Refusal;
+use bep_map::NameMap;
+use bep_record::{FolderName, Node};
+use bep_store::Store;
+
+impl<S: Store> Peer<S> {
+    /// What the folder's store holds, copies of its own. Refuses `NotShared` where the device doesn't share the folder, and
+    /// `StoreFault` where its store fails to list its names or to read one; else only for want of memory. It is no step.
+    pub fn contents(&mut self, folder: &FolderName) -> Result<NameMap<Node>, PeerError>
+        ensures read { ReadsOutIn folder.now self.old self.new result }
+        ensures same { tables_of self.new ≡ tables_of self.old }
+        ensures rest { Remains self.old self.new }
+        ensures fault { TellsFault self.new result }
+        ensures uncopied { self.new.trace.copied ≡ false }
+    {
+        self.tell_nothing();
+        let Some(replica) = self.folders.get_mut(folder) else {
+            return Err(PeerError::Refused(Refusal::NotShared));
+        };
+        let answer = replica.contents();
+        self.trace.tell_of(replica.trace());
+        answered(answer)
+    }
+}
