@@ -1,4 +1,5 @@
 mod BeginFacts
+mod ConfigFacts
 mod Mapped
 mod OthersKept
 mod OwnFacts
@@ -14,6 +15,8 @@ mod WithinFacts
 mod ScanFacts
 mod RestartFacts
 mod ViewTaken
+mod DeliverFacts
+mod RenewFacts
 mod MemberFacts
 mod ReadFacts
 mod RequestFacts

@@ -1,4 +1,5 @@
 pub mod Config
+pub mod Delivered
 pub mod Effect
 pub mod InSession
 pub mod Lent
@@ -6,6 +7,7 @@ pub mod Member
 pub mod PeerError
 pub mod Read
 pub mod Received
+pub mod Renewed
 pub mod Session
 pub mod Viewing
 pub mod Within
