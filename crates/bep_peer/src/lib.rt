@@ -1,11 +1,12 @@
-//! Devices, which act on their folders and exchange what they know of them over links: sessions, announcements, the
-//! answers to requests, and what a user or a scan does with a file.
+//! Devices, which act on their folders and exchange what they know of them over links: sessions, announcements, what is
+//! done with each message, and what a user or a scan does with a file.
 //!
 //! ```rust
 //! peer.edit(&folder, &name, &node)?;
 //! let found = peer.look(&folder, &name)?;
 //! peer.scan_commit(&folder, ScanResult::plain(alloc, name, found)?)?;
 //! peer.begin(&mut link)?;
+//! peer.deliver(&mut link)?;
 //! peer.announce(&mut link, &folder)?;
 //! ```
 #![tactic(auto)]
