@@ -1,5 +1,5 @@
--- Taking a ClusterConfig is the step of the table on the device.
-use Rattle.std.proofs.Common.{◌≡◌, ◌⊎◌, ℕ, T, Bool, true, false, cond, List, [], ◌∷◌, Option, Some, None, IsSome, IsTrue, Contains, option_map, inl, inr, refl, sym, ap, subst, ◌∙◌}
+-- What a session names once its ClusterConfig was taken is shared by both devices.
+use Rattle.std.proofs.Common.{◌≡◌, ◌⊎◌, T, Bool, true, false, cond, List, [], ◌∷◌, Option, Some, None, IsSome, IsTrue, Contains, option_map, inl, inr, refl, sym, ap, subst, ◌∙◌}
 use Rattle.std.proofs.Math.Facts.{eqb_yes}
 use Rattle.std.specs.FinMap.{nat_cmp-IsAntisymmetric, empty, get, insert, get-empty, get-insert}
 use Rattle.std.specs.Ordering.{nat_cmp, eq_by_cmp}
@@ -13,12 +13,8 @@ use Rattle.bep_map.specs.NameMap.{ByName}
 use Rattle.bep_index.specs.declared.send.Plan.{Plan}
 use Rattle.bep_model.specs.Tables.{Device, Folder}
 use Rattle.bep_machine.specs.declared.message.Announced.{Announced}
-use Rattle.bep_machine.specs.declared.message.Message.TheVariants as messages
-use Rattle.bep_machine.specs.declared.moved.Moved.TheVariants.{Changed}
-use Rattle.bep_machine.specs.Answer.{Done}
-use Rattle.bep_machine.specs.Exchange.{IsGoodConfig, IsNamed, MessageRow, NamesShared, all_renewed, configured_by, cursors_for, taken_by, with_cursor}
-use Rattle.bep_machine.specs.Link.{taking}
-use Rattle.bep_machine.specs.Peer.{Session, Peer, is_shared_with}
+use Rattle.bep_machine.specs.Exchange.{IsNamed, NamesShared, cursor_after, cursors_for, with_cursor}
+use Rattle.bep_machine.specs.Peer.{Session, is_shared_with}
 use Rattle.bep_machine.specs.Replica.{ByDevice, Replica}
 use Rattle.bep_folder.specs.Held.{Held}
 use Rattle.bep_peer.specs.Member.{Member, IsMember, tables_in, tables_of}
@@ -52,11 +48,14 @@ abbrev HaveShared : ByName Held → Device → ByName Plan → Type 0
 HaveShared folders other cursors = (folder : Folder) → IsSome (get cursors folder) → IsSharedBy folders folder other
 
 cursor_added : (folders : ByName Held) (other : Device) (one : Announced) (found : Option Replica) (cursors : ByName Plan) → IsSharedBy folders one.folder other → HaveShared folders other cursors → HaveShared folders other (with_cursor one found cursors)
-cursor_added folders other one None cursors shared all = all
+cursor_added folders other one None cursors shared all folder some = all folder some
 cursor_added folders other one (Some replica) cursors shared all folder some =
-    cases (eq_by_cmp (slice_cmp nat_cmp) folder one.folder) refl (subst (λ (found : Option Plan). IsSome found) (get-insert nat_list_cmp_total cursors one.folder _ folder) some)
+    cases (eq_by_cmp (slice_cmp nat_cmp) folder one.folder) refl (subst (λ (found : Option Plan). IsSome found) (get-insert nat_list_cmp_total cursors one.folder plan folder) some)
   where
-    cases : {plan : Plan} (b : Bool) → eq_by_cmp (slice_cmp nat_cmp) folder one.folder ≡ b → IsSome (cond b (Some plan) (get cursors folder)) → IsSharedBy folders folder other
+    plan : Plan
+    plan = cursor_after replica.index one.known_id one.known_sequence
+
+    cases : (b : Bool) → eq_by_cmp (slice_cmp nat_cmp) folder one.folder ≡ b → IsSome (cond b (Some plan) (get cursors folder)) → IsSharedBy folders folder other
     cases true tied is = subst (λ (name : Folder). IsSharedBy folders name other) (sym (same_key exact_bytes folder one.folder tied)) shared
     cases false apart is = all folder is
 
@@ -66,7 +65,7 @@ cursors_shared folders other replicas (one ∷ more) cursors named all =
     cursors_shared folders other replicas more (with_cursor one (get replicas one.folder) cursors) named.1 (cursor_added folders other one (get replicas one.folder) cursors named.0 all)
 
 none_shared : (folders : ByName Held) (other : Device) → HaveShared folders other empty
-none_shared folders other folder some = absurd (let none = get-empty {X = Plan} (slice_cmp nat_cmp) folder in let is = subst (λ (found : Option Plan). IsSome found) none some in cc)
+none_shared folders other folder some = absurd (let never = subst (λ (found : Option Plan). IsSome found) (get-empty (slice_cmp nat_cmp) folder) some in cc)
 
 -- what holds of every member
 pub member_configured : (number : Device) (old new : ByName Held) (sessions : ByDevice Session) (linked : List Device) (other : Device) (session : Session) (named : List Announced) (cursors : ByName Plan) →
@@ -90,15 +89,7 @@ member_configured number old new sessions linked other session named cursors fra
             (subst (λ (all : ByName Plan). IsSome (get all folder)) (ap (λ (s : Session). s.cursors) here.1 ∙ is) named_too)))
         cases (inr there) = shared_framed old new framed folder device (member.named device found folder there.1 named_too)
 
--- ---- the step
-
-pub config_taken : (other : Device) (failed : Option ℕ) (full : Bool) (session : Session) (named : List Announced) (old new : Member) → IsGoodConfig other session (tables_of old) named →
-    tables_in new.folders ≡ all_renewed other named (tables_in old.folders) →
-    new.sessions ≡ insert old.sessions other (record session { configured = true; cursors = cursors_for named (tables_in old.folders) empty }) →
-    MessageRow other failed full session (messages.ClusterConfig named) (tables_of old) (record { peer = tables_of new; deed = taking }) (Done Changed)
-config_taken other failed full session named old new good folders sessions = inl (good, (ap taken_by same, refl))
-  where
-    same : tables_of new ≡ configured_by other session named (tables_of old)
-    same =
-        ap (λ (replicas : ByName Replica). let made : Peer = record { replicas = replicas; sessions = new.sessions } in made) folders
-        ∙ ap (λ (others : ByDevice Session). let made : Peer = record { replicas = all_renewed other named (tables_in old.folders); sessions = others } in made) sessions
+-- the session that is there
+pub session_of : (found : Option Session) → IsSome found → (session : Session) × (found ≡ Some session)
+session_of None none = absurd (cc)
+session_of (Some session) some = (session, refl)

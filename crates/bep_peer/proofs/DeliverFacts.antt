@@ -1,5 +1,5 @@
 -- Taking what came over a link is the step of the table on the device and the link, and tells what it did.
-use Rattle.std.proofs.Common.{◌≡◌, ℕ, List, [], ◌∷◌, Option, Some, None, IsSome, Result, Ok, Err, IfOk, slice_get, inl, inr, refl, sym, ap, subst, ◌∙◌}
+use Rattle.std.proofs.Common.{◌≡◌, ℕ, List, [], ◌∷◌, Option, Some, None, Result, Ok, Err, slice_get, inl, inr, refl, sym, ap, subst, ◌∙◌}
 use Rattle.std.specs.FinMap.{get}
 use Rattle.bep_map.specs.NameMap.{ByName}
 use Rattle.bep_folder.specs.Held.{Held}
@@ -20,7 +20,7 @@ use Rattle.bep_peer.specs.declared.error.PeerError.{PeerError}
 use Rattle.bep_peer.specs.declared.error.PeerError.TheVariants.{Refused, Stale, Memory}
 use Rattle.bep_peer.specs.declared.trace.Trace.{Trace}
 use Rattle.bep_peer.specs.Delivered.{TellsRead, failure_sent}
-use Rattle.bep_peer.specs.Effect.{SendsNone, TellsAnswer, Takes, deed_of, failure_answered, failure_of, moved_of}
+use Rattle.bep_peer.specs.Effect.{TellsAnswer, Takes, deed_of, failure_answered, failure_of, moved_of}
 use Rattle.bep_peer.specs.InSession.{IsOver, NothingDone}
 use Rattle.bep_peer.specs.Lent.{Lent, Joins, NamesNone, StepOver, twice}
 use Rattle.bep_peer.specs.Member.{Member, HasFailed, Remains, nothing_told, tables_of, untold}
@@ -120,20 +120,6 @@ sent_as_answered Lost = refl
 pub answer_told : (trace : Trace) (effect : Effect) (put : Option (Message × Message)) (moved : Moved) → TellsAnswer trace (Ok effect) → put ≡ twice (deed_of effect).sends →
     TellsRead (record trace { put = put }) (Ok moved)
 answer_told trace effect put moved told is = ap (λ (t : Trace). t.failed) told ∙ sym (ap failure_sent is ∙ sent_as_answered effect)
-
--- what sends nothing tells nothing
-pub quietly : (trace : Trace) (result : Result Effect PeerError) → trace ≡ nothing_told → IfOk result SendsNone → TellsAnswer trace result
-quietly trace (Ok Taken) told none = told
-quietly trace (Ok (Answered response)) told none = absurd (cc)
-quietly trace (Ok Lost) told none = told
-quietly trace (Err error) told none = told
-
--- and so needs nothing
-pub none_answered : {P : Type 0} (result : Result Effect PeerError) → IfOk result SendsNone → IfOk result (λ (effect : Effect). IsSome (deed_of effect).sends → P)
-none_answered (Ok Taken) none some = absurd (cc)
-none_answered (Ok (Answered response)) none some = absurd (cc)
-none_answered (Ok Lost) none some = absurd (cc)
-none_answered (Err error) none = tt
 
 -- ---- what stays
 

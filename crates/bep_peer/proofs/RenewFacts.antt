@@ -1,5 +1,5 @@
 -- What renewing the views of another device makes of the tables, and what it leaves as it was.
-use Rattle.std.proofs.Common.{◌≡◌, ◌<◌, ℕ, T, Bool, true, false, cond, List, [], ◌∷◌, Option, Some, None, IsSome, Contains, option_map, refl, sym, ap, subst, ◌∙◌, arith}
+use Rattle.std.proofs.Common.{◌≡◌, ◌<◌, ℕ, T, Bool, true, false, cond, List, [], ◌∷◌, Option, Some, None, IsSome, Result, Ok, Err, OnOk, OnErr, Contains, option_map, refl, sym, ap, subst, ◌∙◌, arith}
 use Rattle.std.proofs.Math.Facts.{eqb_yes, yes_eqb}
 use Rattle.std.specs.Prelude.{unwrap_or, ◌==◌}
 use Rattle.std.specs.FinMap.{nat_cmp-IsAntisymmetric, get, insert, remove, get-insert}
@@ -13,16 +13,16 @@ use Rattle.bep_index.specs.Listing.{Listing}
 use Rattle.bep_index.specs.View.{cleared}
 use Rattle.bep_model.specs.Tables.{Device, Folder}
 use Rattle.bep_machine.specs.declared.message.Announced.{Announced}
-use Rattle.bep_machine.specs.Exchange.{known_under, renewed}
+use Rattle.bep_machine.specs.Exchange.{all_renewed, known_under, renewed}
 use Rattle.bep_machine.specs.Peer.{Session}
 use Rattle.bep_machine.specs.Replica.{ByDevice, Replica, with_view}
 use Rattle.bep_folder.specs.Held.{Held}
-use Rattle.bep_folder.specs.Views.{exchanged, with_exchanged}
+use Rattle.bep_folder.specs.Views.{exchanged, unchanged, with_exchanged}
 use Rattle.bep_peer.specs.declared.trace.Trace.{Trace}
 use Rattle.bep_peer.specs.Member.{Member, IsMember, Remains, tables_in, nothing_told}
 use Rattle.bep_peer.specs.Renewed.{AreFramed, AreSharedBy, IsUnder, frame_of}
 use Rattle.bep_peer.specs.Viewing.{IsSharedBy}
-use Rattle.bep_peer.proofs.MemberFacts.{has_tables, tables-given}
+use Rattle.bep_peer.proofs.MemberFacts.{has_tables, tables-given, tables-same}
 
 -- the parts of a folder that no change of a view touches
 abbrev Frame : Type 0
@@ -30,7 +30,7 @@ Frame = Device × (Folder × (List Device × ℕ))
 
 -- ---- frames
 
-pub framed_insert : (folders : ByName Held) (folder : Folder) (was now : Held) → get folders folder ≡ Some was → frame_of now ≡ frame_of was → AreFramed folders (insert folders folder now)
+framed_insert : (folders : ByName Held) (folder : Folder) (was now : Held) → get folders folder ≡ Some was → frame_of now ≡ frame_of was → AreFramed folders (insert folders folder now)
 framed_insert folders folder was now has same other =
     ap (option_map frame_of) (get-insert nat_list_cmp_total folders folder now other) ∙ cases (eq_by_cmp (slice_cmp nat_cmp) other folder) refl
   where
@@ -108,7 +108,7 @@ apart_under id (Some view) apart = cases (view.id == id) refl
     cases false no = refl
 
 -- a view under the announced id stays
-pub renewed_under : (tables : ByName Replica) (one : Announced) (other : Device) (replica : Replica) → get tables one.folder ≡ Some replica → IsUnder one.index_id (get replica.views other) → renewed other one (get tables one.folder) tables ≡ tables
+renewed_under : (tables : ByName Replica) (one : Announced) (other : Device) (replica : Replica) → get tables one.folder ≡ Some replica → IsUnder one.index_id (get replica.views other) → renewed other one (get tables one.folder) tables ≡ tables
 renewed_under tables one other replica has under =
     ap (λ (found : Option Replica). renewed other one found tables) has
     ∙ ap (insert tables one.folder) (same (get replica.views other) refl under)
@@ -121,7 +121,7 @@ renewed_under tables one other replica has under =
         ∙ ap (λ (views : ByDevice Listing). let made : Replica = record replica { views = views } in made) (insert-what_is_there nat_cmp_total nat_cmp-IsAntisymmetric replica.views other view at)
 
 -- and one under another id becomes empty
-pub renewed_given : (old new : ByName Held) (one : Announced) (other : Device) (held : Held) → get old one.folder ≡ Some held → ¬ IsUnder one.index_id (get held.tables.views other) →
+renewed_given : (old new : ByName Held) (one : Announced) (other : Device) (held : Held) → get old one.folder ≡ Some held → ¬ IsUnder one.index_id (get held.tables.views other) →
     new ≡ insert old one.folder (with_exchanged held other (Some (cleared one.index_id))) → tables_in new ≡ renewed other one (get (tables_in old) one.folder) (tables_in old)
 renewed_given old new one other held has apart is =
     ap tables_in is
@@ -136,13 +136,27 @@ views_back views other empty (Some before) at =
     insert-twice nat_cmp_total nat_cmp-IsAntisymmetric views other empty before
     ∙ insert-what_is_there nat_cmp_total nat_cmp-IsAntisymmetric views other before at
 
+-- the folder's tables are those which it was given
+same_given : (old new : ByName Held) (folder : Folder) (given later : Held) → tables_in new ≡ tables_in (insert old folder given) → get new folder ≡ Some later → later.tables ≡ given.tables
+same_given old new folder given later same at =
+    let is : Some later.tables ≡ Some given.tables =
+        sym (has_tables new folder later at)
+        ∙ ap (λ (tables : ByName Replica). get tables folder) same
+        ∙ has_tables (insert old folder given) folder given (get-insert_here nat_list_cmp_total exact_bytes old folder given) in cc
+
+pub viewed_still : (old new : ByName Held) (folder : Folder) (other : Device) (held later : Held) (empty : Listing) → tables_in new ≡ tables_in (insert old folder (with_exchanged held other (Some empty))) → get new folder ≡ Some later →
+    IsSome (get later.tables.views other)
+viewed_still old new folder other held later empty same at =
+    subst (λ (found : Option Listing). IsSome found)
+    (sym (ap (λ (r : Replica). get r.views other) (same_given old new folder (with_exchanged held other (Some empty)) later same at) ∙ get-insert_here nat_cmp_total nat_cmp-IsAntisymmetric held.tables.views other empty)) refl
+
 pub tables_back : (old new back : ByName Held) (folder : Folder) (other : Device) (held later : Held) (empty : Listing) → get old folder ≡ Some held →
     tables_in new ≡ tables_in (insert old folder (with_exchanged held other (Some empty))) → get new folder ≡ Some later →
     back ≡ insert new folder (with_exchanged later other (get held.tables.views other)) → tables_in back ≡ tables_in old
 tables_back old new back folder other held later empty has same at is =
     ap tables_in is
     ∙ tables-given new folder (with_exchanged later other (get held.tables.views other))
-    ∙ ap (insert (tables_in new) folder) (ap (λ (r : Replica). let made : Replica = record r { views = exchanged r.views other (get held.tables.views other) } in made) one ∙ given)
+    ∙ ap (insert (tables_in new) folder) (ap (λ (r : Replica). let made : Replica = record r { views = exchanged r.views other (get held.tables.views other) } in made) (same_given old new folder first later same at) ∙ given)
     ∙ ap (λ (tables : ByName Replica). insert tables folder held.tables) (same ∙ tables-given old folder first)
     ∙ insert-twice nat_list_cmp_total exact_bytes (tables_in old) folder first.tables held.tables
     ∙ insert-what_is_there nat_list_cmp_total exact_bytes (tables_in old) folder held.tables (has_tables old folder held has)
@@ -150,14 +164,49 @@ tables_back old new back folder other held later empty has same at is =
     first : Held
     first = with_exchanged held other (Some empty)
 
-    found : Some later.tables ≡ Some first.tables
-    found =
-        sym (has_tables new folder later at)
-        ∙ ap (λ (tables : ByName Replica). get tables folder) same
-        ∙ has_tables (insert old folder first) folder first (get-insert_here nat_list_cmp_total exact_bytes old folder first)
-
-    one : later.tables ≡ first.tables
-    one = let is = found in cc
-
     given : record first.tables { views = exchanged first.tables.views other (get held.tables.views other) } ≡ held.tables
     given = ap (λ (views : ByDevice Listing). let made : Replica = record held.tables { views = views } in made) (views_back held.tables.views other empty (get held.tables.views other) refl)
+
+-- a folder whose view is exchanged
+pub framed_exchanged : (old new : ByName Held) (folder : Folder) (other : Device) (held : Held) (view : Option Listing) → get old folder ≡ Some held → new ≡ insert old folder (with_exchanged held other view) → AreFramed old new
+framed_exchanged old new folder other held view has is =
+    subst (λ (folders : ByName Held). AreFramed old folders) (sym is) (framed_insert old folder held (with_exchanged held other view) has refl)
+
+-- and one that stays
+pub framed_unchanged : (old new : ByName Held) (folder : Folder) (held : Held) → get old folder ≡ Some held → new ≡ insert old folder (unchanged held) → AreFramed old new
+framed_unchanged old new folder held has is = subst (λ (folders : ByName Held). AreFramed old folders) (sym is) (framed_insert old folder held (unchanged held) has refl)
+
+pub tables_unchanged : (old new : ByName Held) (folder : Folder) (held : Held) → get old folder ≡ Some held → new ≡ insert old folder (unchanged held) → tables_in new ≡ tables_in old
+tables_unchanged old new folder held has is = ap tables_in is ∙ tables-same old folder held (unchanged held) has refl
+
+-- what holds holds on an error
+pub on_err : {T E A : Type 0} (result : Result T E) → A → OnErr result A
+on_err (Ok done) holds = tt
+on_err (Err error) holds = holds
+
+-- ---- one folder after the other
+
+module _ (other : Device) (one : Announced) (more named : List Announced) (is : named ≡ one ∷ more) (old : ByName Held) where
+  pub shared_first : AreSharedBy old other named → IsSharedBy old one.folder other
+  shared_first shared = (subst (λ (all : List Announced). AreSharedBy old other all) is shared).0
+
+  pub shared_rest : AreSharedBy old other named → AreSharedBy old other more
+  shared_rest shared = (subst (λ (all : List Announced). AreSharedBy old other all) is shared).1
+
+  module _ (held : Held) (has : get old one.folder ≡ Some held) where
+    -- the first one's view is under its id already
+    pub renewed_rest : {T E : Type 0} (result : Result T E) (new : ByName Held) → IsUnder one.index_id (get held.tables.views other) → OnOk result (tables_in new ≡ all_renewed other more (tables_in old)) →
+        OnOk result (tables_in new ≡ all_renewed other named (tables_in old))
+    renewed_rest (Ok done) new under rest =
+        rest
+        ∙ ap (all_renewed other more) (sym (renewed_under (tables_in old) one other held.tables (has_tables old one.folder held has) under))
+        ∙ sym (ap (λ (all : List Announced). all_renewed other all (tables_in old)) is)
+    renewed_rest (Err error) new under rest = tt
+
+    -- the first one's view is cleared, and then the others are renewed
+    pub renewed_both : (next new : ByName Held) (empty : Listing) → (¬ IsUnder one.index_id (get held.tables.views other)) → empty ≡ cleared one.index_id →
+        next ≡ insert old one.folder (with_exchanged held other (Some empty)) → tables_in new ≡ all_renewed other more (tables_in next) → tables_in new ≡ all_renewed other named (tables_in old)
+    renewed_both next new empty apart cleared_is next_is rest =
+        rest
+        ∙ ap (all_renewed other more) (renewed_given old next one other held has apart (next_is ∙ ap (λ (view : Listing). insert old one.folder (with_exchanged held other (Some view))) cleared_is))
+        ∙ sym (ap (λ (all : List Announced). all_renewed other all (tables_in old)) is)

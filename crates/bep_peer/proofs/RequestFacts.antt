@@ -1,5 +1,5 @@
 -- Taking a request is the step of the table on the device.
-use Rattle.std.proofs.Common.{◌≡◌, Bool, true, false, ℕ, Option, Some, None, Result, Ok, Err, IfOk, inl, inr, refl, sym, ap, ◌∙◌}
+use Rattle.std.proofs.Common.{◌≡◌, Bool, true, false, ℕ, Option, Some, Result, Ok, Err, IfOk, inl, inr, refl, sym, ap, ◌∙◌}
 use Rattle.std.specs.FinMap.{get}
 use Rattle.bep_map.specs.NameMap.{ByName}
 use Rattle.bep_record.specs.declared.node.NodeParts.{NodeParts}
@@ -15,7 +15,7 @@ use Rattle.bep_folder.specs.declared.error.FolderError.{FolderError}
 use Rattle.bep_folder.specs.Held.{Held}
 use Rattle.bep_peer.specs.declared.effect.Effect.TheVariants.{Answered, Lost}
 use Rattle.bep_peer.specs.declared.error.PeerError.TheVariants.{Refused}
-use Rattle.bep_peer.specs.Effect.{Takes, deed_of, failure_of}
+use Rattle.bep_peer.specs.Effect.{Takes, deed_of}
 use Rattle.bep_peer.specs.Member.{Member, tables_of}
 use Rattle.bep_peer.specs.Read.{IsNodeAt}
 use Rattle.bep_peer.proofs.MemberFacts.{has_tables}
@@ -29,13 +29,6 @@ pub request_waits : (other : Device) (failed : Option ℕ) (full : Bool) (sessio
     Takes (MessageRow other failed full session (messages.Request request) (tables_of member)) member member (Err (Refused LinkFull))
 request_waits other failed full session request member held is_full named has =
     inl (named, (held.tables, has_tables member.folders request.folder held has, inl (is_full, (refl, refl))))
-
--- a read that didn't fail isn't answered `Generic`
-pub no_failure : (request : Request) (node : Option NodeParts) (response : Response) → Answers request None node response → None ≡ failure_of response.code
-no_failure request node response (inl fails) = absurd (let never = fails.0 in cc)
-no_failure request node response (inr (read, inl none)) = sym (ap (λ (r : Response). failure_of r.code) none.1)
-no_failure request node response (inr (read, inr (there, inl other))) = sym (ap (λ (r : Response). failure_of r.code) other.1)
-no_failure request node response (inr (read, inr (there, inr same))) = sym (ap (λ (r : Response). failure_of r.code) same.1)
 
 -- the node of the folder that the session names
 pub node_of : (folders : ByName Held) (folder : Folder) (name : FileName) (held : Held) (result : Result (Option NodeParts) FolderError) →

@@ -104,10 +104,10 @@ session_refused_with other sight old rest new answer (inr (up, inl none)) = inr 
 session_refused_with other sight old rest new answer (inr (up, inr (begun, there))) = absurd there.2
 
 pub session_refused : (other : Device) (sight : Sight) (old : Peer) (rest : Session → Row Acted) (error : PeerError) →
-    Gives (SessionRow other sight old NothingDone) (idle old) (Err error) → Gives (SessionRow other sight old rest) (idle old) (Err error)
+    Gives (SessionRow other sight old NothingDone) (idle old) (Err error) → MayRefuse (SessionRow other sight old rest) old error
 session_refused other sight old rest (Refused refusal) row = session_refused_with other sight old rest _ _ row
 session_refused other sight old rest Stale row = absurd row
-session_refused other sight old rest Memory row = session_refused_with other sight old rest _ _ row
+session_refused other sight old rest Memory row = tt
 
 -- what is done in a session
 pub in_session : (other : Device) (sight : Sight) (old : Peer) (rest : Session → Row Acted) (session : Session) (new : Acted) (answer : Answer) → IsOver other sight old session → rest session new answer → SessionRow other sight old rest new answer

@@ -1,7 +1,7 @@
 //! Whether a ClusterConfig can be taken, and what is sent then of each folder.
-ghost use Rattle.std.specs.Prelude.{◌≡◌, ◌↔◌, Some, IsTrue, IfOk, OnOk};
+ghost use Rattle.std.specs.Prelude.{◌≡◌, ◌↔◌, Some, IsSome, IsTrue, IfOk, OnOk};
 ghost use Rattle.std.specs.FinMap as map;
-ghost use Rattle.bep_machine.specs.Exchange.{IsGoodConfig, NamesShared, SharesWith, cursors_for, with_cursor};
+ghost use Rattle.bep_machine.specs.Exchange.{IsGoodConfig, NamesShared, cursors_for, with_cursor};
 ghost use Rattle.bep_machine.specs.Peer.{Session as SessionOf};
 ghost use Rattle.bep_peer.specs.Member.{tables_in, tables_of};
 
@@ -19,7 +19,8 @@ impl<S: Store> Peer<S> {
     // Whether the ClusterConfig can be taken: the first of the session, which names each folder once, and only such as both
     // devices share.
     pub(crate) fn can_take(&self, other: DeviceId, named: &[Announced]) -> bool
-        ensures { (session : SessionOf) → map.get self.now.sessions other ≡ Some session → (IsTrue result ↔ IsGoodConfig other session (tables_of self.now) named.now) }
+        ensures value { (session : SessionOf) → map.get self.now.sessions other ≡ Some session → (IsTrue result ↔ IsGoodConfig other session (tables_of self.now) named.now) }
+        ensures there { IsTrue result → IsSome (map.get self.now.sessions other) }
     {
         match self.sessions.get(other) {
             Some(session) => {

@@ -1,5 +1,5 @@
 //! Clearing what a device knows of another one's folders, where these are announced under other ids.
-ghost use Rattle.std.specs.Prelude.{◌≡◌, Some, None, IsSome, IsTrue, IfErr, OnOk, OnErr};
+ghost use Rattle.std.specs.Prelude.{◌≡◌, ◌↔◌, Some, IsSome, IsTrue, IfErr, OnOk, OnErr};
 ghost use Rattle.std.specs.FinMap as map;
 ghost use Rattle.bep_folder.specs.Held.{Held};
 ghost use Rattle.bep_folder.specs.Views.{with_exchanged};
@@ -57,8 +57,7 @@ fn is_under<S: Store>(
     one: &Announced,
 ) -> bool
     requires { IsSharedBy folders.now one.now.folder other }
-    ensures yes { (held : Held) → map.get folders.now one.now.folder ≡ Some held → IsTrue result → IsUnder one.now.index_id (map.get held.tables.views other) }
-    ensures no { (held : Held) → map.get folders.now one.now.folder ≡ Some held → IsUnder one.now.index_id (map.get held.tables.views other) → IsTrue result }
+    ensures { (held : Held) → map.get folders.now one.now.folder ≡ Some held → (IsTrue result ↔ IsUnder one.now.index_id (map.get held.tables.views other)) }
 {
     match folders.get(&one.folder) {
         Some(replica) => match replica.view(other) {
