@@ -140,9 +140,9 @@ views_back views other empty (Some before) at =
 same_given : (old new : ByName Held) (folder : Folder) (given later : Held) → tables_in new ≡ tables_in (insert old folder given) → get new folder ≡ Some later → later.tables ≡ given.tables
 same_given old new folder given later same at =
     let is : Some later.tables ≡ Some given.tables =
-        sym (has_tables new folder later at)
-        ∙ ap (λ (tables : ByName Replica). get tables folder) same
-        ∙ has_tables (insert old folder given) folder given (get-insert_here nat_list_cmp_total exact_bytes old folder given) in cc
+    sym (has_tables new folder later at)
+    ∙ ap (λ (tables : ByName Replica). get tables folder) same
+    ∙ has_tables (insert old folder given) folder given (get-insert_here nat_list_cmp_total exact_bytes old folder given) in cc
 
 pub viewed_still : (old new : ByName Held) (folder : Folder) (other : Device) (held later : Held) (empty : Listing) → tables_in new ≡ tables_in (insert old folder (with_exchanged held other (Some empty))) → get new folder ≡ Some later →
     IsSome (get later.tables.views other)

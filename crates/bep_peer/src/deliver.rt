@@ -57,12 +57,7 @@ impl<S: Store> Peer<S> {
     }
 
     // Takes the first message on its way to this end.
-    fn take_first(
-        &mut self,
-        other: DeviceId,
-        link: &Link,
-        side: Side,
-    ) -> Result<Effect, PeerError>
+    fn take_first(&mut self, other: DeviceId, link: &Link, side: Side) -> Result<Effect, PeerError>
         requires untold { self.old.trace ≡ nothing_told }
         ensures step { (session : SessionOf) → map.get self.old.sessions other ≡ Some session → Takes (WaitingRow other self.new.trace.failed (sight_of (end_at side) link.now.link).full session (sight_of (end_at side) link.now.link).waiting (tables_of self.old)) self.old self.new result }
         ensures rest { Remains self.old self.new }
@@ -78,12 +73,7 @@ impl<S: Store> Peer<S> {
     }
 
     // Takes the message, over a link on which no message more can be sent where it is full.
-    fn take(
-        &mut self,
-        other: DeviceId,
-        message: &Message,
-        full: bool,
-    ) -> Result<Effect, PeerError>
+    fn take(&mut self, other: DeviceId, message: &Message, full: bool) -> Result<Effect, PeerError>
         requires untold { self.old.trace ≡ nothing_told }
         ensures step { (session : SessionOf) → map.get self.old.sessions other ≡ Some session → Takes (MessageRow other self.new.trace.failed full session message.now (tables_of self.old)) self.old self.new result }
         ensures rest { Remains self.old self.new }

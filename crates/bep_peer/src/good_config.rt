@@ -5,8 +5,8 @@ ghost use Rattle.bep_machine.specs.Exchange.{IsGoodConfig, NamesShared, cursors_
 ghost use Rattle.bep_machine.specs.Peer.{Session as SessionOf};
 ghost use Rattle.bep_peer.specs.Member.{tables_in, tables_of};
 
-use crate::config::{cursor_for, is_shared_with, names_once};
 use crate::Peer;
+use crate::config::{cursor_for, is_shared_with, names_once};
 use bep_folder::Replica;
 use bep_index::Plan;
 use bep_machine::Announced;

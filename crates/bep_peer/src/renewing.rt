@@ -51,11 +51,7 @@ pub(crate) fn renew_all<S: Store>(
 }
 
 // Whether the view of the other device's folder stands under the announced id.
-fn is_under<S: Store>(
-    folders: &FolderMap<Replica<S>>,
-    other: DeviceId,
-    one: &Announced,
-) -> bool
+fn is_under<S: Store>(folders: &FolderMap<Replica<S>>, other: DeviceId, one: &Announced) -> bool
     requires { IsSharedBy folders.now one.now.folder other }
     ensures { (held : Held) → map.get folders.now one.now.folder ≡ Some held → (IsTrue result ↔ IsUnder one.now.index_id (map.get held.tables.views other)) }
 {

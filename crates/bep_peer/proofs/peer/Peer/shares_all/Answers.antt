@@ -9,7 +9,7 @@ returns-then-not-shares g c = (
   λ yes. absurd (cc),
   λ all. absurd (
       let rest =
-          subst (NamesShared c.args.other (tables_of c.args.self.now)) (drop_here c.args.named.now c.loop-one.one-index c.one-item.result c.loop-one-test.true c.one-item.is) (c.loop-one.invariant.1 all) in
+      subst (NamesShared c.args.other (tables_of c.args.self.now)) (drop_here c.args.named.now c.loop-one.one-index c.one-item.result c.loop-one-test.true c.one-item.is) (c.loop-one.invariant.1 all) in
       let yes = c.if-not-shares.ensures.1 rest.0 in cc
       ),
 )
