@@ -1,5 +1,5 @@
 -- What renewing the views of another device makes of the tables, and what it leaves as it was.
-use Rattle.std.proofs.Common.{◌≡◌, ◌<◌, ℕ, T, Bool, true, false, cond, List, [], ◌∷◌, Option, Some, None, IsSome, Result, Ok, Err, OnOk, OnErr, Contains, option_map, refl, sym, ap, subst, ◌∙◌, arith}
+use Rattle.std.proofs.Common.{◌≡◌, ◌<◌, ℕ, T, Bool, true, false, cond, List, [], ◌∷◌, Option, Some, None, IsSome, Result, Ok, Err, OnOk, OnErr, Contains, option_map, length, refl, sym, ap, subst, ◌∙◌, arith}
 use Rattle.std.proofs.Math.Facts.{eqb_yes, yes_eqb}
 use Rattle.std.specs.Prelude.{unwrap_or, ◌==◌}
 use Rattle.std.specs.FinMap.{nat_cmp-IsAntisymmetric, get, insert, remove, get-insert}
@@ -86,26 +86,31 @@ remains_framed old folders sessions told framed = record {
   );
 }
 
+-- ---- the folders that are named
+
+pub rest_shorter : (one : Announced) (more named : List Announced) → named ≡ one ∷ more → length more < length named
+rest_shorter one more named split = subst (λ (list : List Announced). length more < length list) (sym split) (omega arith)
+
 -- ---- views
 
 known : (id : ℕ) (view : Listing) → view.id ≡ id → known_under id view ≡ view
 known id view is = cases (view.id == id) (yes_eqb is)
   where
     cases : (b : Bool) → T b → cond b view (cleared id) ≡ view
-    cases true yes = refl
-    cases false no = absurd no
+    cases true holds = refl
+    cases false never = absurd never
 
 apart_under : (id : ℕ) (found : Option Listing) → ¬ IsUnder id found → known_under id (unwrap_or found (cleared 0)) ≡ cleared id
 apart_under id None apart = cases (0 == id) refl
   where
     cases : (b : Bool) → (0 == id) ≡ b → cond b (cleared 0) (cleared id) ≡ cleared id
     cases true tied = let yes : T (0 == id) = subst T (sym tied) tt in ap cleared (eqb_yes yes)
-    cases false no = refl
+    cases false untied = refl
 apart_under id (Some view) apart = cases (view.id == id) refl
   where
     cases : (b : Bool) → (view.id == id) ≡ b → cond b view (cleared id) ≡ cleared id
     cases true tied = let yes : T (view.id == id) = subst T (sym tied) tt in absurd (apart (eqb_yes yes))
-    cases false no = refl
+    cases false untied = refl
 
 -- a view under the announced id stays
 renewed_under : (tables : ByName Replica) (one : Announced) (other : Device) (replica : Replica) → get tables one.folder ≡ Some replica → IsUnder one.index_id (get replica.views other) → renewed other one (get tables one.folder) tables ≡ tables

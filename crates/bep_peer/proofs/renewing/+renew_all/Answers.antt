@@ -1,14 +1,16 @@
-use Rattle.std.proofs.Common.{◌≡◌, ◌∙◌, true, false, rules, Some, Option, ap}
+use Rattle.std.proofs.Common.{◌≡◌, ◌∙◌, arith, true, false, rules, Some, Option, ap}
 use Rattle.std.specs.FinMap.{insert}
 use Rattle.bep_index.specs.Listing.{Listing}
 use Rattle.bep_folder.specs.Views.{with_exchanged}
 use Rattle.bep_peer.specs.Member.{tables_in}
-use Rattle.bep_peer.proofs.RenewFacts.{are_shared_framed, framed_exchanged, framed_then, framed_unchanged, on_err, renewed_both, renewed_rest, shared_first, shared_framed, shared_rest, tables_back, tables_unchanged, viewed_still}
+use Rattle.bep_peer.proofs.RenewFacts.{are_shared_framed, framed_exchanged, framed_then, framed_unchanged, on_err, renewed_both, renewed_rest, rest_shorter, shared_first, shared_framed, shared_rest, tables_back, tables_unchanged, viewed_still}
 use Rattle.bep_peer.proofs.renewing.+renew_all.Goals as goal
 
 pub renew_all-requires : goal.renew_all-requires
-renew_all-requires g t c =
-    record { shared = shared_rest c.args.other c.in-Some.one.now c.in-Some.more.now c.args.named.now c.in-Some.ensures.cases.0 c.args.folders.now c.requires.shared }
+renew_all-requires g t c = λ κs outlives.
+    let split = c.in-Some.ensures.cases.0 in
+    let shorter = rest_shorter c.in-Some.one.now c.in-Some.more.now c.args.named.now split in
+    (omega (arith, shorter, c.decreases), (outlives, shared_rest c.args.other c.in-Some.one.now c.in-Some.more.now c.args.named.now split c.args.folders.now c.requires.shared))
 
 pub returns-then-is_under-clause-ok : goal.returns-then-is_under-clause-ok
 returns-then-is_under-clause-ok g t c =
@@ -29,16 +31,17 @@ returns-in_err-before-clause-err g t c =
     on_err _ (tables_unchanged c.args.folders.now c.exchange.new.folders c.in-Some.one.now.folder shared.0 shared.1 (c.in_err-before.ensures shared.0 shared.1).2)
 
 pub renew_all-requires-2 : goal.renew_all-requires-2
-renew_all-requires-2 g t c =
+renew_all-requires-2 g t c = λ κs outlives.
     let split = c.in-Some.ensures.cases.0 in
+    let shorter = rest_shorter c.in-Some.one.now c.in-Some.more.now c.args.named.now split in
     let shared = shared_first c.args.other c.in-Some.one.now c.in-Some.more.now c.args.named.now split c.args.folders.now c.requires.shared in
-    let framed = framed_exchanged c.args.folders.now c.exchange.new.folders c.in-Some.one.now.folder c.args.other shared.0 _ shared.1 (c.in_ok-before.ensures shared.0 shared.1).1 in
-    record { shared = are_shared_framed c.args.folders.now c.exchange.new.folders framed c.args.other c.in-Some.more.now (shared_rest c.args.other c.in-Some.one.now c.in-Some.more.now c.args.named.now split c.args.folders.now c.requires.shared) }
+    let framed = framed_exchanged c.args.folders.now c.exchange.new.folders c.in-Some.one.now.folder c.args.other shared.0 (Some c.cleared-empty.result) shared.1 (c.in_ok-before.ensures shared.0 shared.1).1 in
+    (omega (arith, shorter, c.decreases), (outlives, are_shared_framed c.args.folders.now c.exchange.new.folders framed c.args.other c.in-Some.more.now (shared_rest c.args.other c.in-Some.one.now c.in-Some.more.now c.args.named.now split c.args.folders.now c.requires.shared)))
 
 pub give_back-requires-clause-shared : goal.give_back-requires-clause-shared
 give_back-requires-clause-shared g t c =
     let shared = shared_first c.args.other c.in-Some.one.now c.in-Some.more.now c.args.named.now c.in-Some.ensures.cases.0 c.args.folders.now c.requires.shared in
-    let framed = framed_exchanged c.args.folders.now c.exchange.new.folders c.in-Some.one.now.folder c.args.other shared.0 _ shared.1 (c.in_ok-before.ensures shared.0 shared.1).1 in
+    let framed = framed_exchanged c.args.folders.now c.exchange.new.folders c.in-Some.one.now.folder c.args.other shared.0 (Some c.cleared-empty.result) shared.1 (c.in_ok-before.ensures shared.0 shared.1).1 in
     shared_framed c.args.folders.now c.renew_all-2.new.folders (framed_then c.args.folders.now c.exchange.new.folders c.renew_all-2.new.folders framed c.in-Err.ensures.framed) c.in-Some.one.now.folder c.args.other shared
 
 pub give_back-requires-clause-viewed : goal.give_back-requires-clause-viewed
@@ -58,23 +61,23 @@ returns-in-Ok-clause-ok g t c =
 pub returns-in-Ok-clause-framed : goal.returns-in-Ok-clause-framed
 returns-in-Ok-clause-framed g t c =
     let shared = shared_first c.args.other c.in-Some.one.now c.in-Some.more.now c.args.named.now c.in-Some.ensures.cases.0 c.args.folders.now c.requires.shared in
-    let framed = framed_exchanged c.args.folders.now c.exchange.new.folders c.in-Some.one.now.folder c.args.other shared.0 _ shared.1 (c.in_ok-before.ensures shared.0 shared.1).1 in
+    let framed = framed_exchanged c.args.folders.now c.exchange.new.folders c.in-Some.one.now.folder c.args.other shared.0 (Some c.cleared-empty.result) shared.1 (c.in_ok-before.ensures shared.0 shared.1).1 in
     framed_then c.args.folders.now c.exchange.new.folders c.renew_all-2.new.folders framed c.in-Ok.ensures.framed
 
 pub returns-in-Err-clause-framed : goal.returns-in-Err-clause-framed
 returns-in-Err-clause-framed g t c =
     let shared = shared_first c.args.other c.in-Some.one.now c.in-Some.more.now c.args.named.now c.in-Some.ensures.cases.0 c.args.folders.now c.requires.shared in
-    let framed = framed_exchanged c.args.folders.now c.exchange.new.folders c.in-Some.one.now.folder c.args.other shared.0 _ shared.1 (c.in_ok-before.ensures shared.0 shared.1).1 in
+    let framed = framed_exchanged c.args.folders.now c.exchange.new.folders c.in-Some.one.now.folder c.args.other shared.0 (Some c.cleared-empty.result) shared.1 (c.in_ok-before.ensures shared.0 shared.1).1 in
     let both = framed_then c.args.folders.now c.exchange.new.folders c.renew_all-2.new.folders framed c.in-Err.ensures.framed in
     let later = shared_framed c.args.folders.now c.renew_all-2.new.folders both c.in-Some.one.now.folder c.args.other shared in
     framed_then c.args.folders.now c.renew_all-2.new.folders c.give_back.new.folders both
-    (framed_exchanged c.renew_all-2.new.folders c.give_back.new.folders c.in-Some.one.now.folder c.args.other later.0 _ later.1 (c.give_back.ensures later.0 later.1))
+    (framed_exchanged c.renew_all-2.new.folders c.give_back.new.folders c.in-Some.one.now.folder c.args.other later.0 c.in_ok-before.before later.1 (c.give_back.ensures later.0 later.1))
 
 pub returns-in-Err-clause-err : goal.returns-in-Err-clause-err
 returns-in-Err-clause-err g t c =
     let shared = shared_first c.args.other c.in-Some.one.now c.in-Some.more.now c.args.named.now c.in-Some.ensures.cases.0 c.args.folders.now c.requires.shared in
     let exchanged = c.in_ok-before.ensures shared.0 shared.1 in
-    let framed = framed_exchanged c.args.folders.now c.exchange.new.folders c.in-Some.one.now.folder c.args.other shared.0 _ shared.1 exchanged.1 in
+    let framed = framed_exchanged c.args.folders.now c.exchange.new.folders c.in-Some.one.now.folder c.args.other shared.0 (Some c.cleared-empty.result) shared.1 exchanged.1 in
     let both = framed_then c.args.folders.now c.exchange.new.folders c.renew_all-2.new.folders framed c.in-Err.ensures.framed in
     let later = shared_framed c.args.folders.now c.renew_all-2.new.folders both c.in-Some.one.now.folder c.args.other shared in
     tables_back c.args.folders.now c.renew_all-2.new.folders c.give_back.new.folders c.in-Some.one.now.folder c.args.other shared.0 later.0 c.cleared-empty.result shared.1

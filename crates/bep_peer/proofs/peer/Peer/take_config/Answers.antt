@@ -1,5 +1,6 @@
 use Rattle.std.proofs.Common.{◌≡◌, true, rules, subst, sym}
 use Rattle.std.specs.FinMap.{get}
+use Rattle.bep_machine.specs.Peer.{Session}
 use Rattle.bep_machine.specs.Replica.{ByDevice}
 use Rattle.bep_peer.specs.Member.{IsMember}
 use Rattle.bep_peer.proofs.ConfigFacts.{all_shared_by, member_configured, session_of}
