@@ -1,5 +1,5 @@
 -- Taking an Index or an IndexUpdate is the step of the table on the device.
-use Rattle.std.proofs.Common.{◌≡◌, ◌⊎◌, ◌<◌, ◌≤◌, ◌+◌, ℕ, Bool, List, [], ◌∷◌, length, Some, None, IsSome, Option, Result, Ok, Err, IfOk, OnErr, Contains, inl, inr, refl, sym, ap, subst, ◌∙◌, arith}
+use Rattle.std.proofs.Common.{◌≡◌, ◌<◌, ◌≤◌, ◌+◌, ℕ, Bool, List, [], ◌∷◌, length, Some, IsSome, Option, Result, Ok, Err, IfOk, OnErr, inl, inr, refl, sym, ap, subst, ◌∙◌, arith}
 use Rattle.std.specs.Ordering.{nat_cmp}
 use Rattle.std.specs.Cmp.Lexicographic.{slice_cmp, nat_list_cmp_total}
 use Rattle.std.specs.FinMap.{empty, get, insert, len, len-empty}
@@ -22,12 +22,11 @@ use Rattle.bep_folder.specs.Held.{Held}
 use Rattle.bep_folder.specs.Makes.{Stays}
 use Rattle.bep_folder.specs.Views.{unchanged, with_viewed}
 use Rattle.bep_peer.specs.declared.effect.Effect.{Effect}
-use Rattle.bep_peer.specs.declared.effect.Effect.TheVariants.{Taken, Lost}
 use Rattle.bep_peer.specs.declared.error.PeerError.{PeerError}
 use Rattle.bep_peer.specs.declared.error.PeerError.TheVariants.{Refused, Stale, Memory}
 use Rattle.bep_peer.specs.declared.trace.Trace.{Trace}
 use Rattle.bep_peer.specs.Effect.{SendsNone, Takes}
-use Rattle.bep_peer.specs.Member.{Member, IsMember, Remains, HasFailed, tables_in, tables_of, nothing_told}
+use Rattle.bep_peer.specs.Member.{Member, IsMember, Remains, tables_in, tables_of, nothing_told}
 use Rattle.bep_peer.specs.Viewing.{IsAsBefore, TakesInView}
 use Rattle.bep_peer.proofs.MemberFacts.{has_tables, tables-given, tables-same, own_kept, named_kept, rose_here}
 

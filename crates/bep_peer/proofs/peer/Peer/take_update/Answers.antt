@@ -1,4 +1,4 @@
-use Rattle.std.proofs.Common.{◌≡◌, rules, List, subst}
+use Rattle.std.proofs.Common.{rules, List, subst}
 use Rattle.bep_record.specs.declared.entry.Entry.{Entry}
 use Rattle.bep_index.specs.View.{IsOld, amended}
 use Rattle.bep_peer.specs.Member.{Member}
