@@ -1,5 +1,5 @@
 -- What holds of a folder that begins.
-use Rattle.std.proofs.Common.{◌≡◌, ℕ, ◌≤◌, ◌+◌, ◌-◌, List, Bool, true, false, cond, Some, None, arith, ap, sym, ◌∙◌, subst, ⊎_elim, Contains, Result, Ok, Err, OnOk, OnErr}
+use Rattle.std.proofs.Common.{◌≡◌, ℕ, ◌≤◌, ◌+◌, ◌-◌, List, Bool, true, false, cond, Option, Some, None, arith, ap, sym, ◌∙◌, subst, ⊎_elim, Contains, Result, Ok, Err, OnOk, OnErr}
 use Rattle.std.specs.Ordering.{nat_cmp, eq_by_cmp}
 use Rattle.std.specs.Cmp.Lexicographic.{slice_cmp, nat_list_cmp_total}
 use Rattle.std.specs.Cmp.{nat_cmp_total}
@@ -51,6 +51,21 @@ IsHeld-viewed (Ok _) device others views after pulls other view ok err shares he
     record { sharing = held.sharing; viewed = subst (AreOfOthers others) (sym ok) (insert_kept others views other view shares held.viewed); pulled = held.pulled }
 IsHeld-viewed (Err _) device others views after pulls other view ok err shares held =
     record { sharing = held.sharing; viewed = subst (AreOfOthers others) (sym err) held.viewed; pulled = held.pulled }
+
+-- what stands once something is gone stood before
+there_before : {V : Type 0} (gone : Bool) (found : Option V) (value : V) → cond gone None found ≡ Some value → found ≡ Some value
+there_before true found value none = absurd (cc)
+there_before false found value some = some
+
+-- a device's view goes
+pub IsHeld-unviewed : (device : Device) (others : List Device) (views after : ByDevice Listing) (pulls : ByName Pull) (other : Device) → after ≡ remove views other → IsHeld device others views pulls → IsHeld device others after pulls
+IsHeld-unviewed device others views after pulls other is held = record {
+  sharing = held.sharing;
+  viewed = λ one view found.
+      held.viewed one view
+      (there_before (eq_by_cmp nat_cmp one other) (get views one) view (sym (get-remove nat_cmp_total views other one) ∙ ap (λ (m : ByDevice Listing). get m one) (sym is) ∙ found));
+  pulled = held.pulled;
+}
 
 -- a name that has a value once another one's is gone had it before
 get-remove_some : (pulls : ByName Pull) (gone name : FileName) (pull : Pull) → get (remove pulls gone) name ≡ Some pull → get pulls name ≡ Some pull

@@ -1,6 +1,6 @@
 -- What calls that take what another device sent do to its view (BEP v1, 'Index' and 'Index Update').
-use Rattle.std.specs.Prelude.{◌<◌, List, Contains, unwrap_or}
-use Rattle.std.specs.FinMap.{get, len}
+use Rattle.std.specs.Prelude.{◌<◌, List, Option, Some, None, Contains, unwrap_or}
+use Rattle.std.specs.FinMap.{get, insert, len, remove}
 use Rattle.bep_record.specs.declared.entry.Entry.{Entry}
 use Rattle.bep_index.specs.Batch.{with_all}
 use Rattle.bep_index.specs.Listing.{Listing}
@@ -30,3 +30,13 @@ with_viewed held other view = record held { tables = with_view held.tables other
 -- no call of the store was made, and all else is as before
 abbrev pub unchanged : Held → Held
 unchanged held = record held { made = 0; trace = no_trace }
+
+-- the device's view becomes this one, or goes
+abbrev pub exchanged : ByDevice Listing → Device → Option Listing → ByDevice Listing
+exchanged views other None = remove views other
+exchanged views other (Some view) = insert views other view
+
+-- so does the folder's view of another device, and no call of the store was made
+abbrev pub with_exchanged : Held → Device → Option Listing → Held
+with_exchanged held other view =
+    record held { tables = record held.tables { views = exchanged held.tables.views other view }; made = 0; trace = no_trace }

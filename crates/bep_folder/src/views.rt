@@ -1,9 +1,9 @@
 //! What the device takes of what others send of their indexes.
-ghost use Rattle.std.specs.Prelude.{◌≡◌, ◌⊎◌, ◌↔◌, IfErr, IsErrOf, OnErr, OnOk, Some};
+ghost use Rattle.std.specs.Prelude.{◌≡◌, ◌⊎◌, ◌↔◌, IfOk, IfErr, IsErrOf, OnErr, OnOk, Some, None};
 ghost use Rattle.std.specs.FinMap as map;
 ghost use Rattle.bep_index.specs.View.{IsOld, cleared, replaced, amended};
 ghost use Rattle.bep_machine.specs.Replica.{view_of};
-ghost use Rattle.bep_folder.specs.Views.{IsApart, IsTooMuch, known_view, unchanged, with_viewed};
+ghost use Rattle.bep_folder.specs.Views.{IsApart, IsTooMuch, known_view, unchanged, with_exchanged, with_viewed};
 
 use crate::error::index_error;
 use crate::{FolderError, Replica};
@@ -73,6 +73,52 @@ impl<S: Store> Replica<S> {
         view.clear(id);
         self.views.insert(device, view)?;
         Ok(())
+    }
+
+    /// What is known of the device's index becomes this, or nothing; answers what was known before. Refuses `NotShared`
+    /// exactly where the device isn't another one that shares the folder. It takes memory only where the device gets its
+    /// first view. After an error all is as before.
+    ///
+    /// This project's profile.
+    pub fn exchange_view(
+        &mut self,
+        device: DeviceId,
+        view: Option<View>,
+    ) -> Result<Option<View>, FolderError>
+        ensures before { IfOk result (λ before. before ≡ map.get self.old.tables.views device) }
+        ensures ok { OnOk result (self.new ≡ with_exchanged self.old device view) }
+        ensures not_shared { IsErrOf result FolderError.NotShared ↔ IsApart self.old device }
+        ensures only { IfErr result (λ e. (e ≡ FolderError.NotShared) ⊎ ((e ≡ FolderError.Memory) × (map.get self.old.tables.views device ≡ None))) }
+        ensures err { OnErr result (self.new ≡ unchanged self.old) }
+    {
+        self.store.begin();
+        if !self.others.as_slice().contains(&device) {
+            return Err(FolderError::NotShared);
+        }
+        match view {
+            Some(view) => put_view(&mut self.views, device, view),
+            None => Ok(self.views.remove(device)),
+        }
+    }
+}
+
+// Gives the device this view, and answers the one that it had.
+fn put_view(
+    views: &mut DeviceMap<View>,
+    device: DeviceId,
+    view: View,
+) -> Result<Option<View>, FolderError>
+    ensures before { IfOk result (λ before. before ≡ map.get views.old device) }
+    ensures ok { OnOk result (views.new ≡ map.insert views.old device view) }
+    ensures only { IfErr result (λ e. (e ≡ FolderError.Memory) × (map.get views.old device ≡ None)) }
+    ensures err { OnErr result (views.new ≡ views.old) }
+{
+    match views.replace(device, view) {
+        Ok(before) => Ok(Some(before)),
+        Err(view) => {
+            let _none = views.insert(device, view)?;
+            Ok(None)
+        }
     }
 }
 

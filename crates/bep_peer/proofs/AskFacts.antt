@@ -1,5 +1,5 @@
 -- The next block of a pull, and the sessions once it was asked for.
-use Rattle.std.proofs.Common.{◌≡◌, ℕ, suc, zero, ◌+◌, ◌<◌, ◌≤◌, Bool, true, false, List, [], ◌∷◌, length, drop, get_or, Option, Some, None, unwrap_or, Contains, refl, sym, ap, subst, ◌∙◌, inl, inr, ⊎_elim, arith}
+use Rattle.std.proofs.Common.{◌≡◌, ℕ, suc, zero, ◌+◌, ◌<◌, true, false, List, [], ◌∷◌, length, drop, get_or, Option, Some, None, unwrap_or, Contains, refl, sym, ap, subst, ◌∙◌, inl, inr, ⊎_elim, arith}
 use Rattle.std.proofs.lemmas.Bool.{cond-true, cond-false}
 use Rattle.std.specs.Ordering.{nat_cmp}
 use Rattle.std.specs.Cmp.{nat_cmp_total}
@@ -13,9 +13,8 @@ use Rattle.bep_index.specs.View.{cleared}
 use Rattle.bep_model.specs.Tables.{Device, Folder, FileName}
 use Rattle.bep_machine.specs.declared.message.Message.TheVariants as messages
 use Rattle.bep_machine.specs.declared.message.Request.{Request}
-use Rattle.bep_machine.specs.declared.moved.Moved.TheVariants.{Changed}
 use Rattle.bep_machine.specs.declared.refusal.Refusal.TheVariants.{LinkFull, NothingToDo}
-use Rattle.bep_machine.specs.Answer.{Answer, Done, Refused as Refuses}
+use Rattle.bep_machine.specs.Answer.{Answer, Refused as Refuses}
 use Rattle.bep_machine.specs.Exchange.{AskRow, AskingRow, CanAsk, IsNamed, ReplicaRow, is_asked, next_block, request_for}
 use Rattle.bep_machine.specs.Link.{Sight, sending}
 use Rattle.bep_machine.specs.Peer.{Session, Peer, Acted, idle, with_session}

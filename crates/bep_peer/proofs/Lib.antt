@@ -1,4 +1,5 @@
 mod BeginFacts
+mod ConfigFacts
 mod Mapped
 mod OthersKept
 mod OwnFacts
@@ -15,6 +16,8 @@ mod ScanFacts
 mod ContentsFacts
 mod RestartFacts
 mod ViewTaken
+mod DeliverFacts
+mod RenewFacts
 mod MemberFacts
 mod ReadFacts
 mod RequestFacts

@@ -1,5 +1,5 @@
 -- With which device a folder is shared, and that a link has one other end.
-use Rattle.std.proofs.Common.{◌≡◌, ◌⊎◌, Option, Some, None, IsTrue, option_map, sym, ap, subst, ◌∙◌, inl, inr}
+use Rattle.std.proofs.Common.{◌≡◌, ◌⊎◌, ◌+◌, ◌<◌, ℕ, List, ◌∷◌, length, drop, get_or, suc, add-one, drop-cons, Option, Some, None, IsTrue, option_map, sym, ap, subst, ◌∙◌, inl, inr}
 use Rattle.std.specs.Cmp.Lexicographic.{nat_list_cmp_total}
 use Rattle.std.specs.FinMap.{get}
 use Rattle.std.proofs.lemmas.Map.Lookups.{exact_bytes}
@@ -51,3 +51,9 @@ none_at_hand lent folder none there = none there.0 there.1
 pub not_shared_at_hand : (lent : Lent) (folder : Folder) (other : Device) → Joins lent other → (¬ SharesWith other (tables_of lent.member) folder) → ¬ IsAtHand (NamesFolder folder) lent
 not_shared_at_hand lent folder other joins none there =
     none (subst (λ (one : Device). SharesWith one (tables_of lent.member) folder) (one_other_of lent.link.ends lent.member.number there.0 other there.1.ends joins.ends) there.2)
+
+-- ---- the folders that are named
+
+-- the rest of a list begins with the item that stands here
+pub drop_here : {A : Type 0} (xs : List A) (i : ℕ) (x : A) → i < length xs → x ≡ get_or xs i x → drop i xs ≡ x ∷ drop (i + 1) xs
+drop_here xs i x here is = rw (add-one, drop-cons xs i x) (ap (λ y. y ∷ drop (suc i) xs) (sym is))

@@ -3,7 +3,6 @@ use Rattle.std.proofs.Common.{◌≡◌, Some, Err, refl, sym, ap, subst, ◌∙
 use Rattle.std.specs.FinMap.{insert}
 use Rattle.bep_model.specs.Tables.{Device}
 use Rattle.bep_machine.specs.declared.message.Message.{Message}
-use Rattle.bep_machine.specs.declared.moved.Moved.{Moved}
 use Rattle.bep_machine.specs.declared.moved.Moved.TheVariants.{Changed}
 use Rattle.bep_machine.specs.declared.refusal.Refusal.TheVariants.{NotShared}
 use Rattle.bep_machine.specs.Answer.{Answer, Row, Done, Refused as Refuses}
@@ -22,7 +21,7 @@ use Rattle.bep_peer.specs.PeerError.{Gives}
 abbrev pub begun_with : Lent → Member → Lent
 begun_with old begun = record { member = begun; link = old.link }
 
-nothing_carried : (end : End) (link : Link) → link ≡ after_deed end nothing_done link
+pub nothing_carried : (end : End) (link : Link) → link ≡ after_deed end nothing_done link
 nothing_carried Lower link = refl
 nothing_carried Upper link = refl
 
@@ -66,14 +65,14 @@ module _ (row : Device → Sight → Peer → Row Acted) (shares : Device → Pe
       (λ joins shared made. refused_at old other error (record { ends = joins.ends; linked = joins.linked }) shared made) joins shared made
 
   -- the row was made
-  pub done_as : (old : Lent) (begun : Member) (other : Device) (new : Lent) (acted : Acted) (moved : Moved) → begun ≡ untold old.member → Joins (begun_with old begun) other →
-      shares other (tables_of begun) → row other (sight_of (end_of begun.number other) old.link.link) (tables_of begun) acted (Done moved) →
+  pub made_as : (old : Lent) (begun : Member) (other : Device) (new : Lent) (acted : Acted) (answer : Answer) → begun ≡ untold old.member → Joins (begun_with old begun) other →
+      shares other (tables_of begun) → row other (sight_of (end_of begun.number other) old.link.link) (tables_of begun) acted answer →
       tables_of new.member ≡ acted.peer → new.link ≡ record old.link { link = after_deed (end_of begun.number other) acted.deed old.link.link } →
-      new.member.trace.put ≡ twice acted.deed.sends → StepOver row shares old new (Done moved)
-  done_as old begun other new acted moved same joins shared made tables carried told =
+      new.member.trace.put ≡ twice acted.deed.sends → StepOver row shares old new answer
+  made_as old begun other new acted answer same joins shared made tables carried told =
       subst
-      (λ (member : Member). Joins (begun_with old member) other → shares other (tables_of member) → row other (sight_of (end_of member.number other) old.link.link) (tables_of member) acted (Done moved) →
-      new.link ≡ record old.link { link = after_deed (end_of member.number other) acted.deed old.link.link } → StepOver row shares old new (Done moved))
+      (λ (member : Member). Joins (begun_with old member) other → shares other (tables_of member) → row other (sight_of (end_of member.number other) old.link.link) (tables_of member) acted answer →
+      new.link ≡ record old.link { link = after_deed (end_of member.number other) acted.deed old.link.link } → StepOver row shares old new answer)
       (sym same)
       (λ joins shared made carried.
       let lent : Joins old other = record { ends = joins.ends; linked = joins.linked } in
@@ -92,7 +91,7 @@ module _ (row : Device → Sight → Peer → Row Acted) (shares : Device → Pe
       new ≡ record sent { sessions = insert sent.sessions other session } → StepOver row shares old (record { member = new; link = link }) (Done Changed)
   sent_as old begun sent new link other session message same joins shared made sent_is carried new_is =
       let is = new_is ∙ ap (λ (member : Member). record member { sessions = insert member.sessions other session }) sent_is in
-      done_as old begun other (record { member = new; link = link }) (record { peer = with_session (tables_of begun) other session; deed = sending message }) Changed same joins shared made
+      made_as old begun other (record { member = new; link = link }) (record { peer = with_session (tables_of begun) other session; deed = sending message }) (Done Changed) same joins shared made
       (ap tables_of is) carried (ap (λ (member : Member). member.trace.put) is)
 
 -- ---- in a session
@@ -105,10 +104,10 @@ session_refused_with other sight old rest new answer (inr (up, inl none)) = inr 
 session_refused_with other sight old rest new answer (inr (up, inr (begun, there))) = absurd there.2
 
 pub session_refused : (other : Device) (sight : Sight) (old : Peer) (rest : Session → Row Acted) (error : PeerError) →
-    Gives (SessionRow other sight old NothingDone) (idle old) (Err error) → Gives (SessionRow other sight old rest) (idle old) (Err error)
+    Gives (SessionRow other sight old NothingDone) (idle old) (Err error) → MayRefuse (SessionRow other sight old rest) old error
 session_refused other sight old rest (Refused refusal) row = session_refused_with other sight old rest _ _ row
 session_refused other sight old rest Stale row = absurd row
-session_refused other sight old rest Memory row = session_refused_with other sight old rest _ _ row
+session_refused other sight old rest Memory row = tt
 
 -- what is done in a session
 pub in_session : (other : Device) (sight : Sight) (old : Peer) (rest : Session → Row Acted) (session : Session) (new : Acted) (answer : Answer) → IsOver other sight old session → rest session new answer → SessionRow other sight old rest new answer

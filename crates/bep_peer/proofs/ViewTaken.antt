@@ -1,5 +1,5 @@
 -- Taking an Index or an IndexUpdate is the step of the table on the device.
-use Rattle.std.proofs.Common.{◌≡◌, ◌⊎◌, ◌<◌, ◌≤◌, ◌+◌, ℕ, Bool, List, [], ◌∷◌, length, Some, None, IsSome, Option, Result, Ok, Err, OnOk, OnErr, Contains, inl, inr, refl, sym, ap, subst, ◌∙◌, arith}
+use Rattle.std.proofs.Common.{◌≡◌, ◌<◌, ◌≤◌, ◌+◌, ℕ, Bool, List, [], ◌∷◌, length, Some, IsSome, Option, Result, Ok, Err, IfOk, OnErr, inl, inr, refl, sym, ap, subst, ◌∙◌, arith}
 use Rattle.std.specs.Ordering.{nat_cmp}
 use Rattle.std.specs.Cmp.Lexicographic.{slice_cmp, nat_list_cmp_total}
 use Rattle.std.specs.FinMap.{empty, get, insert, len, len-empty}
@@ -22,12 +22,11 @@ use Rattle.bep_folder.specs.Held.{Held}
 use Rattle.bep_folder.specs.Makes.{Stays}
 use Rattle.bep_folder.specs.Views.{unchanged, with_viewed}
 use Rattle.bep_peer.specs.declared.effect.Effect.{Effect}
-use Rattle.bep_peer.specs.declared.effect.Effect.TheVariants.{Taken, Lost}
 use Rattle.bep_peer.specs.declared.error.PeerError.{PeerError}
 use Rattle.bep_peer.specs.declared.error.PeerError.TheVariants.{Refused, Stale, Memory}
 use Rattle.bep_peer.specs.declared.trace.Trace.{Trace}
-use Rattle.bep_peer.specs.Effect.{Takes}
-use Rattle.bep_peer.specs.Member.{Member, IsMember, Remains, HasFailed, tables_in, tables_of, nothing_told}
+use Rattle.bep_peer.specs.Effect.{SendsNone, Takes}
+use Rattle.bep_peer.specs.Member.{Member, IsMember, Remains, tables_in, tables_of, nothing_told}
 use Rattle.bep_peer.specs.Viewing.{IsAsBefore, TakesInView}
 use Rattle.bep_peer.proofs.MemberFacts.{has_tables, tables-given, tables-same, own_kept, named_kept, rose_here}
 
@@ -80,6 +79,14 @@ module _ (folder : Folder) (other : Device) (held : Held) (losing : Listing → 
   changes_one result (inr (inl lost)) = as_before lost.2
   changes_one result (inr (inr (inl full))) = as_before full.3
   changes_one result (inr (inr (inr wanting))) = as_before wanting.1
+
+module _ (folder : Folder) (other : Device) (held : Held) (losing : Listing → Type 0) (changed : Listing → Listing) (old new : ByName Held) where
+  -- no response is sent
+  pub sends_none : (result : Result Effect PeerError) → TakesInView folder other held losing changed old new result → IfOk result SendsNone
+  sends_none result (inl taken) = subst (λ (r : Result Effect PeerError). IfOk r SendsNone) (sym taken.0) refl
+  sends_none result (inr (inl lost)) = subst (λ (r : Result Effect PeerError). IfOk r SendsNone) (sym lost.0) refl
+  sends_none result (inr (inr (inl full))) = subst (λ (r : Result Effect PeerError). IfOk r SendsNone) (sym full.0) tt
+  sends_none result (inr (inr (inr wanting))) = subst (λ (r : Result Effect PeerError). IfOk r SendsNone) (sym wanting.0) tt
 
 pub member_kept : (number : Device) (old new : ByName Held) (sessions : ByDevice Session) (linked : List Device) → ChangesOne old new → IsMember number old sessions linked → IsMember number new sessions linked
 member_kept number old new sessions linked one member =

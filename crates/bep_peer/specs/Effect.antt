@@ -1,5 +1,7 @@
 -- What taking a message does to the link over which it came (BEP v1, 'Request', 'Response'; this project's profile).
-use Rattle.std.specs.Prelude.{◌≡◌, Some, Result, Ok, Err}
+use Rattle.std.specs.Prelude.{◌≡◌, ℕ, Option, Some, None, Result, Ok, Err}
+use Rattle.bep_machine.specs.declared.message.Code.{Code}
+use Rattle.bep_machine.specs.declared.message.Code.TheVariants.{Generic}
 use Rattle.bep_machine.specs.declared.message.Message.TheVariants as messages
 use Rattle.bep_machine.specs.declared.moved.Moved.{Moved}
 use Rattle.bep_machine.specs.declared.moved.Moved.TheVariants.{Changed, LinkLost}
@@ -10,7 +12,8 @@ use Rattle.bep_peer.specs.declared.effect.Effect.{Effect}
 use Rattle.bep_peer.specs.declared.effect.Effect.TheVariants.{Taken, Answered, Lost}
 use Rattle.bep_peer.specs.declared.error.PeerError.{PeerError}
 use Rattle.bep_peer.specs.declared.error.PeerError.TheVariants.{Refused, Stale, Memory}
-use Rattle.bep_peer.specs.Member.{Member, tables_of}
+use Rattle.bep_peer.specs.declared.trace.Trace.{Trace}
+use Rattle.bep_peer.specs.Member.{Member, nothing_told, tables_of}
 
 -- what is done to the link
 abbrev pub deed_of : Effect → Deed
@@ -31,3 +34,21 @@ Takes row old new (Ok effect) = row (record { peer = tables_of new; deed = deed_
 Takes row old new (Err (Refused refusal)) = row (idle (tables_of new)) (Refuses refusal)
 Takes row old new (Err Stale) = ⊥
 Takes row old new (Err Memory) = tables_of new ≡ tables_of old
+
+-- no response is sent
+abbrev pub SendsNone : Effect → Type 0
+SendsNone effect = (deed_of effect).sends ≡ None
+
+-- which call of a store failed, where a response has this code: the first, which is the only one
+abbrev pub failure_of : Code → Option ℕ
+failure_of Generic = Some 1
+failure_of code = None
+
+abbrev pub failure_answered : Effect → Option ℕ
+failure_answered (Answered response) = failure_of response.code
+failure_answered effect = None
+
+-- what taking a message tells: a read that failed, exactly where this is answered
+abbrev pub TellsAnswer : Trace → Result Effect PeerError → Type 0
+TellsAnswer trace (Ok effect) = trace ≡ record nothing_told { failed = failure_answered effect }
+TellsAnswer trace (Err error) = trace ≡ nothing_told

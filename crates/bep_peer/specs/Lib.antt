@@ -1,5 +1,6 @@
 pub mod Config
 pub mod Contents
+pub mod Delivered
 pub mod Effect
 pub mod InSession
 pub mod Laws
@@ -8,6 +9,7 @@ pub mod Member
 pub mod PeerError
 pub mod Read
 pub mod Received
+pub mod Renewed
 pub mod Session
 pub mod Viewing
 pub mod Within

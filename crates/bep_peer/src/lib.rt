@@ -1,11 +1,12 @@
-//! Devices, which act on their folders and exchange what they know of them over links: sessions, announcements, the
-//! answers to requests, and what a user or a scan does with a file.
+//! Devices, which act on their folders and exchange what they know of them over links: sessions, announcements, what is
+//! done with each message, and what a user or a scan does with a file.
 //!
 //! ```rust
 //! peer.edit(&folder, &name, &node)?;
 //! let found = peer.look(&folder, &name)?;
 //! peer.scan_commit(&folder, ScanResult::plain(alloc, name, found)?)?;
 //! peer.begin(&mut link)?;
+//! peer.deliver(&mut link)?;
 //! peer.announce(&mut link, &folder)?;
 //! ```
 #![tactic(auto)]
@@ -17,18 +18,22 @@ mod asking;
 mod begin;
 mod config;
 mod contents;
+mod deliver;
 mod effect;
 mod ends;
 mod error;
+mod good_config;
 mod in_session;
 mod laws;
 mod local;
 mod over;
 mod peer;
+mod renewing;
 mod requests;
 mod restart;
 mod scanning;
 mod session;
+mod take_config;
 mod take_index;
 mod take_request;
 mod take_response;

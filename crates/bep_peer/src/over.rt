@@ -30,7 +30,7 @@ impl<S: Store> Peer<S> {
     }
 
     // Whether the device shares the folder with the other one.
-    fn shares(&self, folder: &FolderName, other: DeviceId) -> bool
+    pub(crate) fn shares(&self, folder: &FolderName, other: DeviceId) -> bool
         ensures { IsTrue result ↔ SharesWith other (tables_of self.now) folder.now }
     {
         match self.folders.get(folder) {

@@ -1,5 +1,5 @@
 //! Taking what the other device sends of its index.
-ghost use Rattle.std.specs.Prelude.{◌≡◌, ◌↔◌, ◌<◌, Bool, Some, None, IsTrue, OnErr};
+ghost use Rattle.std.specs.Prelude.{◌≡◌, ◌↔◌, ◌<◌, Bool, Some, IsTrue, IfOk, OnErr};
 ghost use Rattle.std.specs.FinMap as map;
 ghost use Rattle.bep_folder.specs.Held.{Held};
 ghost use Rattle.bep_index.specs.Batch.{with_all};
@@ -8,7 +8,7 @@ ghost use Rattle.bep_index.specs.View.{IsOld, replaced, amended};
 ghost use Rattle.bep_machine.specs.Exchange.{MessageRow};
 ghost use Rattle.bep_machine.specs.Peer.{Session as SessionOf};
 ghost use Rattle.bep_machine.specs.declared.message.Message.TheVariants as messages;
-ghost use Rattle.bep_peer.specs.Effect.{Takes};
+ghost use Rattle.bep_peer.specs.Effect.{SendsNone, Takes};
 ghost use Rattle.bep_peer.specs.Member.{Remains, nothing_told, tables_of};
 ghost use Rattle.bep_peer.specs.Viewing.{IsSharedBy, TakesInView};
 
@@ -32,7 +32,8 @@ impl<S: Store> Peer<S> {
         requires untold { self.old.trace ≡ nothing_told }
         ensures step { (full : Bool) (session : SessionOf) → map.get self.old.sessions other ≡ Some session → Takes (MessageRow other self.new.trace.failed full session (messages.Index folder.now batch.now) (tables_of self.old)) self.old self.new result }
         ensures rest { Remains self.old self.new }
-        ensures silent { self.new.trace.put ≡ None }
+        ensures told { self.new.trace ≡ nothing_told }
+        ensures silent { IfOk result SendsNone }
         ensures err { OnErr result (tables_of self.new ≡ tables_of self.old) }
     {
         if !self.names(other, folder) {
@@ -56,7 +57,8 @@ impl<S: Store> Peer<S> {
         requires untold { self.old.trace ≡ nothing_told }
         ensures step { (full : Bool) (session : SessionOf) → map.get self.old.sessions other ≡ Some session → Takes (MessageRow other self.new.trace.failed full session (messages.IndexUpdate folder.now batch.now) (tables_of self.old)) self.old self.new result }
         ensures rest { Remains self.old self.new }
-        ensures silent { self.new.trace.put ≡ None }
+        ensures told { self.new.trace ≡ nothing_told }
+        ensures silent { IfOk result SendsNone }
         ensures err { OnErr result (tables_of self.new ≡ tables_of self.old) }
     {
         if !self.names(other, folder) {

@@ -1,12 +1,12 @@
 //! Taking a request for a block.
-ghost use Rattle.std.specs.Prelude.{◌≡◌, ◌↔◌, Option, Some, None, Contains, IsSome, IsTrue, IfOk, IfErr};
+ghost use Rattle.std.specs.Prelude.{◌≡◌, ◌↔◌, false, Option, Some, None, Contains, IsSome, IsTrue, IfOk, IfErr, OnErr};
 ghost use Rattle.std.specs.FinMap as map;
 ghost use Rattle.bep_record.specs.declared.node.NodeParts.{NodeParts};
 ghost use Rattle.bep_folder.specs.Held.{Held};
 ghost use Rattle.bep_machine.specs.Exchange.{Answers, IsNamed, MessageRow};
 ghost use Rattle.bep_machine.specs.Peer.{Session as SessionOf};
 ghost use Rattle.bep_machine.specs.declared.message.Message.TheVariants as messages;
-ghost use Rattle.bep_peer.specs.Effect.{Takes};
+ghost use Rattle.bep_peer.specs.Effect.{TellsAnswer, Takes, deed_of, failure_of};
 ghost use Rattle.bep_peer.specs.Member.{Remains, nothing_told, tables_of};
 ghost use Rattle.bep_peer.specs.Read.{IsNodeAt, ReadsFrom, failed_by};
 ghost use Rattle.bep_peer.specs.declared.error.PeerError.TheVariants.{Memory};
@@ -33,7 +33,8 @@ impl<S: Store> Peer<S> {
         requires untold { self.old.trace ≡ nothing_told }
         ensures step { (session : SessionOf) → map.get self.old.sessions other ≡ Some session → Takes (MessageRow other self.new.trace.failed full session (messages.Request request.now) (tables_of self.old)) self.old self.new result }
         ensures rest { Remains self.old self.new }
-        ensures silent { self.new.trace.put ≡ None }
+        ensures told { TellsAnswer self.new.trace result }
+        ensures room { IfOk result (λ effect. IsSome (deed_of effect).sends → full ≡ false) }
         ensures same { tables_of self.new ≡ tables_of self.old }
     {
         if !self.names(other, &request.folder) {
@@ -104,7 +105,9 @@ fn answer_read(
     read: Result<Option<Node>, FolderError>,
 ) -> Result<Response, PeerError>
     ensures ok { IfOk result (λ response. (node : Option NodeParts) → IfOk read (λ found. found ≡ node) → Answers request.now (failed_by read) node response) }
+    ensures code { IfOk result (λ response. failed_by read ≡ failure_of response.code) }
     ensures only { IfErr result (λ e. e ≡ Memory) }
+    ensures err { OnErr result (failed_by read ≡ None) }
 {
     match read {
         Ok(node) => Ok(answer_to(alloc, request, node.as_ref())?),

@@ -1,12 +1,12 @@
 //! Taking the answer to a request.
-ghost use Rattle.std.specs.Prelude.{◌≡◌, Bool, Some, None, IsSome, OnOk, OnErr};
+ghost use Rattle.std.specs.Prelude.{◌≡◌, Bool, Some, IsSome, IfOk, OnOk, OnErr};
 ghost use Rattle.std.specs.FinMap as map;
 ghost use Rattle.bep_folder.specs.Received.{AreAsked};
 ghost use Rattle.bep_folder.specs.Views.{unchanged};
 ghost use Rattle.bep_machine.specs.Exchange.{MessageRow};
 ghost use Rattle.bep_machine.specs.Peer.{Session as SessionOf};
 ghost use Rattle.bep_machine.specs.declared.message.Message.TheVariants as messages;
-ghost use Rattle.bep_peer.specs.Effect.{Takes};
+ghost use Rattle.bep_peer.specs.Effect.{SendsNone, Takes};
 ghost use Rattle.bep_peer.specs.Member.{Remains, nothing_told, tables_of};
 ghost use Rattle.bep_peer.specs.Received.{Brings, answered_by, changed_at, received_by};
 
@@ -30,7 +30,8 @@ impl<S: Store> Peer<S> {
         requires untold { self.old.trace ≡ nothing_told }
         ensures step { (full : Bool) (session : SessionOf) → map.get self.old.sessions other ≡ Some session → Takes (MessageRow other self.new.trace.failed full session (messages.Response response.now) (tables_of self.old)) self.old self.new result }
         ensures rest { Remains self.old self.new }
-        ensures silent { self.new.trace.put ≡ None }
+        ensures told { self.new.trace ≡ nothing_told }
+        ensures silent { IfOk result SendsNone }
         ensures err { OnErr result (tables_of self.new ≡ tables_of self.old) }
     {
         let Some(session) = self.sessions.get(other) else {

@@ -1,7 +1,5 @@
-use Rattle.std.proofs.Common.{◌<◌, ◌≤◌, length, arith, ap}
+use Rattle.std.proofs.Common.{length, arith, ap}
 use borrow.Author.Tests.{ltb-true}
-use Rattle.std.specs.FinMap.{empty, len}
-use Rattle.bep_index.specs.Batch.{with_all}
 use Rattle.bep_peer.proofs.ViewTaken.{few_of_batch}
 use Rattle.bep_peer.proofs.take_index.has_many_names.Goals as goal
 

@@ -1,9 +1,9 @@
-use Rattle.std.proofs.Common.{◌≡◌, rules, List, subst}
+use Rattle.std.proofs.Common.{rules, List, subst}
 use Rattle.bep_record.specs.declared.entry.Entry.{Entry}
 use Rattle.bep_index.specs.View.{replaced}
 use Rattle.bep_peer.specs.Member.{Member}
 use Rattle.bep_peer.specs.Viewing.{TakesInView}
-use Rattle.bep_peer.proofs.ViewTaken.{changes_one, member_kept, member_remains, same_on_error, index_taken, index_full}
+use Rattle.bep_peer.proofs.ViewTaken.{changes_one, member_kept, member_remains, same_on_error, sends_none, index_taken, index_full}
 use Rattle.bep_peer.proofs.peer.Peer.take_index.Goals as goal
 
 pub returns-then-has_many_names-clause-step : goal.returns-then-has_many_names-clause-step
@@ -45,3 +45,8 @@ returns-clause-err g c =
     let member : Member = record { number = c.self.inside.number; folders = c.self.inside.folders; sessions = c.self.inside.sessions; linked = c.self.inside.linked; trace = c.self.inside.trace } in
     rw (← c.self.view_is)
     (same_on_error c.args.other c.args.folder.now member shared.0 shared.1 (λ view. ⊥) (λ view. replaced view c.in_ok-batch.batch) c.replace_view.new.folders c.replace_view.result (c.replace_view.ensures shared.0 shared.1))
+
+pub returns-clause-silent : goal.returns-clause-silent
+returns-clause-silent g c =
+    let shared = rw (← c.self.view_is) at (c.names.ensures.shared (search rules)) in
+    sends_none c.args.folder.now c.args.other shared.0 (λ view. ⊥) (λ view. replaced view c.in_ok-batch.batch) c.self.inside.folders c.replace_view.new.folders c.replace_view.result (c.replace_view.ensures shared.0 shared.1)

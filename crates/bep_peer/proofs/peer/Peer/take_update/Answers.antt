@@ -1,9 +1,9 @@
-use Rattle.std.proofs.Common.{◌≡◌, rules, List, subst}
+use Rattle.std.proofs.Common.{rules, List, subst}
 use Rattle.bep_record.specs.declared.entry.Entry.{Entry}
 use Rattle.bep_index.specs.View.{IsOld, amended}
 use Rattle.bep_peer.specs.Member.{Member}
 use Rattle.bep_peer.specs.Viewing.{TakesInView}
-use Rattle.bep_peer.proofs.ViewTaken.{changes_one, member_kept, member_remains, same_on_error, update_taken}
+use Rattle.bep_peer.proofs.ViewTaken.{changes_one, member_kept, member_remains, same_on_error, sends_none, update_taken}
 use Rattle.bep_peer.proofs.peer.Peer.take_update.Goals as goal
 
 pub amend_view-requires : goal.amend_view-requires
@@ -40,3 +40,8 @@ returns-clause-err g c =
     let member : Member = record { number = c.self.inside.number; folders = c.self.inside.folders; sessions = c.self.inside.sessions; linked = c.self.inside.linked; trace = c.self.inside.trace } in
     rw (← c.self.view_is)
     (same_on_error c.args.other c.args.folder.now member shared.0 shared.1 (λ view. IsOld view.sequence c.in_ok-batch.batch) (λ view. amended view c.in_ok-batch.batch) c.amend_view.new.folders c.amend_view.result (c.amend_view.ensures shared.0 shared.1))
+
+pub returns-clause-silent : goal.returns-clause-silent
+returns-clause-silent g c =
+    let shared = rw (← c.self.view_is) at (c.names.ensures.shared (search rules)) in
+    sends_none c.args.folder.now c.args.other shared.0 (λ view. IsOld view.sequence c.in_ok-batch.batch) (λ view. amended view c.in_ok-batch.batch) c.self.inside.folders c.amend_view.new.folders c.amend_view.result (c.amend_view.ensures shared.0 shared.1)
