@@ -10,7 +10,7 @@ ghost use Rattle.syncaudit.specs.declared.mode.Mode.TheVariants.{Check};
 
 use crate::mode::{Mode, mode_of};
 use crate::status::{USAGE, certified_status_of, status_of};
-use bep_answer::{Certified, Outcome, certify_text, check_text, explain_text};
+use bep_answer::{Certified, Hinted, Outcome, certified, checked, explained};
 use bep_report::ReportError;
 use clap::error::ErrorKind;
 use std::convert::AsStr;
@@ -35,9 +35,11 @@ pub fn run<P: AllocGlobal + Eprint, R: Read, W: Write, S: AsStr>(
         → result ≡ 0 → SaysSettled (R.remaining reader.old) (R.remaining reader.new) }
 {
     match mode_of(rt.alloc(), words) {
-        Ok(Mode::Check) => end(rt, check_text(rt.alloc(), reader, writer)),
-        Ok(Mode::Certify) => end_certified(rt, certify_text(rt.alloc(), reader, writer)),
-        Ok(Mode::Explain) => end(rt, explain_text(rt.alloc(), reader, writer)),
+        Ok(Mode::Check) => end(rt, hinted(rt, checked(rt.alloc(), reader, writer))),
+        Ok(Mode::Certify) => end_certified(rt, hinted(rt, certified(rt.alloc(), reader, writer))),
+        Ok(Mode::Explain(form)) => {
+            end(rt, hinted(rt, explained(rt.alloc(), form, reader, writer)))
+        }
         Err(error) if error.kind() == ErrorKind::OutOfMemory => end(rt, Err(ReportError::Memory)),
         Err(error) => refuse(rt, error),
     }
@@ -65,6 +67,20 @@ fn refuse<P: Eprint, T: Display + Drop>(rt: &P, text: T) -> u8
 {
     let _ = eprint!(rt; "{text}");
     USAGE
+}
+
+// Tells where a refused document is at fault, as far as there is something to say, and lends the answer on.
+fn hinted<P: Eprint, T: Copy + Drop>(
+    rt: &P,
+    answer: Result<Hinted<T>, ReportError>,
+) -> Result<T, ReportError>
+    ensures { result ≡ spec.outcome_in answer }
+{
+    let (outcome, hint) = answer?;
+    if let Some(hint) = hint {
+        let _ = eprintln!(rt; "{hint}");
+    }
+    Ok(outcome)
 }
 
 // Tells why there is no answer, where there is none, and answers the exit status.

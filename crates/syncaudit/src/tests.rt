@@ -7,7 +7,7 @@ use std::alloc::Global;
 // Why clap refuses these words, `None` where they ask for something.
 fn refusal(alloc: Global, words: &[&str]) -> Option<ErrorKind> {
     match mode_of(alloc, words) {
-        Ok(Mode::Check | Mode::Certify | Mode::Explain) => None,
+        Ok(Mode::Check | Mode::Certify | Mode::Explain(_)) => None,
         Err(error) => Some(error.kind()),
     }
 }

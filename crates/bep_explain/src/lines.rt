@@ -1,15 +1,73 @@
-//! What is said of a record or of a node, as a part of a line. No contract speaks of these texts.
+//! The details of a failure as lines of the text. No contract speaks of what they say.
+use crate::detail::Detail;
 use bep_blocks::blocks;
-use bep_record::{Block, BlockSize, Entry, Kind, Node, Record};
+use bep_record::{Block, BlockSize, DeviceId, Entry, Kind, Node, Record};
 use bep_report::{Piece, push_pieces};
 use std::alloc::{AllocError, Global};
 
-/// Says the record: its version, what it tells is there, its time, and whether it is local-only.
-pub(crate) fn push_record(
-    alloc: Global,
+/// A line for each of these.
+pub(crate) fn lines_of(alloc: Global, details: &[Detail<'_>]) -> Result<Vec<Vec<u8>>, AllocError> {
+    let mut lines = Vec::with_capacity(alloc, details.len())?;
+    for detail in details {
+        let line = line_of(alloc, *detail)?;
+        lines.push(line)?;
+    }
+    Ok(lines)
+}
+
+fn line_of(alloc: Global, detail: Detail<'_>) -> Result<Vec<u8>, AllocError> {
+    let mut line = Vec::new(alloc);
+    push_label(&mut line, detail)?;
+    match detail {
+        Detail::Winner(None) | Detail::Own(_, None) => push_text(&mut line, "none")?,
+        Detail::Store(_, None) => push_text(&mut line, "nothing")?,
+        Detail::Store(_, Some(node)) => push_node(alloc, &mut line, node)?,
+        Detail::Winner(Some((_, record)))
+        | Detail::Row(_, record)
+        | Detail::Own(_, Some(record))
+        | Detail::View(_, _, record)
+        | Detail::Message(_, _, record)
+        | Detail::Pull(_, record) => push_record(alloc, &mut line, record)?,
+    }
+    Ok(line)
+}
+
+// Says whose the record or the node is.
+fn push_label(line: &mut Vec<u8>, detail: Detail<'_>) -> Result<(), AllocError> {
+    match detail {
+        Detail::Winner(None) => push_text(line, "winner: "),
+        Detail::Winner(Some((device, _))) => push_device(line, "winner: device ", device, ", "),
+        Detail::Row(device, _) => push_device(line, "row: device ", device, ", "),
+        Detail::Own(device, _) => push_device(line, "record of ", device, ": "),
+        Detail::Store(device, _) => push_device(line, "store of ", device, ": "),
+        Detail::View(at, of, _) => {
+            push_device(line, "view of ", of, " at ")?;
+            push_device(line, "", at, ": ")
+        }
+        Detail::Message(to, from, _) => {
+            push_device(line, "on its way from ", from, " to ")?;
+            push_device(line, "", to, ": ")
+        }
+        Detail::Pull(device, _) => push_device(line, "pull at ", device, ": "),
+    }
+}
+
+fn push_text(line: &mut Vec<u8>, said: &str) -> Result<(), AllocError> {
+    push_pieces(line, &[Piece::Text(said)])
+}
+
+fn push_device(
     line: &mut Vec<u8>,
-    record: &Record,
+    before: &str,
+    device: DeviceId,
+    after: &str,
 ) -> Result<(), AllocError> {
+    let number = Piece::Number(device.number());
+    push_pieces(line, &[Piece::Text(before), number, Piece::Text(after)])
+}
+
+// Says the record: its version, what it tells is there, its time, and whether it is local-only.
+fn push_record(alloc: Global, line: &mut Vec<u8>, record: &Record) -> Result<(), AllocError> {
     let entry = record.entry();
     push_version(line, entry.version.counters())?;
     push_content(alloc, line, entry)?;
@@ -20,8 +78,8 @@ pub(crate) fn push_record(
     Ok(())
 }
 
-/// Says what a store holds: kind, size and the first digits of its hash, or target, and its time.
-pub(crate) fn push_node(alloc: Global, line: &mut Vec<u8>, node: &Node) -> Result<(), AllocError> {
+// Says what a store holds: kind, size and the first digits of its hash, or target, and its time.
+fn push_node(alloc: Global, line: &mut Vec<u8>, node: &Node) -> Result<(), AllocError> {
     let parts = node.parts();
     match parts.kind {
         Kind::File => push_bytes(alloc, line, parts.bytes.as_slice())?,
