@@ -7,7 +7,7 @@ ghost use Rattle.bep_report.specs.Lines.{verdict_line};
 ghost use Rattle.bep_answer.specs.Answer.{fault_text};
 ghost use Rattle.bep_answer.specs.Certified.{IsCertificate, IsCertified, IsCertifiedWhole, IsUncertified, document_text};
 
-use crate::hints::{Hinted, with_cut_hint};
+use crate::hints::{Hinted, hint_for_cut};
 use crate::outcome::Certified;
 use crate::refusal::push_fault;
 use bep_audit::{Certificate, CertifyError, certify};
@@ -48,7 +48,8 @@ pub fn certified<R: Read, W: Write>(
     let bytes = read_document(alloc, reader)?;
     let (outcome, text) = answer_to(alloc, bytes.as_slice())?;
     write_all(writer, text.as_slice())?;
-    Ok(with_cut_hint(alloc, outcome, bytes.as_slice()))
+    let hint = hint_for_cut(alloc, outcome, bytes.as_slice());
+    Ok((outcome, hint))
 }
 
 // The outcome for a document's bytes, and the text on standard output.

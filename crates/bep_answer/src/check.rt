@@ -8,7 +8,7 @@ ghost use Rattle.bep_audit.specs.Shown.{verdict_shown};
 ghost use Rattle.bep_answer.specs.Answer as spec;
 ghost use Rattle.bep_answer.specs.declared.outcome.Outcome.TheVariants as outcomes;
 
-use crate::hints::{Hinted, with_hint};
+use crate::hints::{Hinted, hint_for};
 use crate::outcome::Outcome;
 use crate::refusal::refusal;
 use bep_audit::{Certificate, Verdict, check};
@@ -52,7 +52,8 @@ pub fn checked<R: Read, W: Write>(
     let bytes = read_document(alloc, reader)?;
     let (outcome, text) = answer_to(alloc, bytes.as_slice())?;
     write_all(writer, text.as_slice())?;
-    Ok(with_hint(alloc, outcome, bytes.as_slice()))
+    let hint = hint_for(alloc, outcome, bytes.as_slice());
+    Ok((outcome, hint))
 }
 
 // The outcome for a document's bytes, and the text on standard output.

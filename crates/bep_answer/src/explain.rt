@@ -7,7 +7,7 @@ ghost use Rattle.bep_answer.specs.Answer.{outcome_of};
 ghost use Rattle.bep_answer.specs.Explained.{IsExplanation, IsExplained, IsExplainedWhole, IsUnexplained};
 ghost use Rattle.bep_answer.specs.declared.outcome.Form.TheVariants.{Text};
 
-use crate::hints::{Hinted, with_hint};
+use crate::hints::{Hinted, hint_for};
 use crate::json::explain_in_json;
 use crate::outcome::{Form, Outcome};
 use crate::refusal::refusal_in;
@@ -50,7 +50,8 @@ pub fn explained<R: Read, W: Write>(
     let bytes = read_document(alloc, reader)?;
     let (outcome, text) = answer_to(alloc, form, bytes.as_slice())?;
     write_all(writer, text.as_slice())?;
-    Ok(with_hint(alloc, outcome, bytes.as_slice()))
+    let hint = hint_for(alloc, outcome, bytes.as_slice());
+    Ok((outcome, hint))
 }
 
 // The outcome for a document's bytes, and the text on standard output.

@@ -43,8 +43,8 @@ pub fn annotate<'a>(
 // These failures, each with the tree of its details.
 fn with_trees<'a>(
     alloc: Global,
-    cut: &Cut,
-    rows: &[Row],
+    cut: &'a Cut,
+    rows: &'a [Row],
     found: &[Failure<'a>],
 ) -> Result<Vec<Annotated<'a>>, AllocError>
     ensures { IfOk result (λ told. failures_in (map annotated_of told.items) ≡ map failure_shown found.now) }

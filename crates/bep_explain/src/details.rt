@@ -2,12 +2,12 @@
 ghost use Rattle.std.specs.Prelude.{IsTrue};
 ghost use Rattle.bep_model.specs.Settled.{Rise};
 
-use crate::detail::Detail;
+use crate::detail::{Detail, What, add_record, add_store};
 use crate::missing::row_of;
 use crate::sources::{Asked, add_flights, add_pull, add_views};
 use bep_audit::{Failure, winner_of};
 use bep_model::{Reason, Row};
-use bep_record::Name;
+use bep_record::{FolderName, Name};
 use bep_tables::{Cut, Share};
 use std::alloc::{AllocError, Global};
 
@@ -18,16 +18,17 @@ pub(crate) fn details_of<'a>(
     cut: &'a Cut,
     rows: &'a [Row],
     rise: bool,
-    one: &Failure<'_>,
+    one: &Failure<'a>,
 ) -> Result<Vec<Detail<'a>>, AllocError>
     requires { IsTrue rise → Rise rows.now }
 {
     let (folder, name) = (one.spot.folder, one.spot.name);
     let row = row_of(rows, rise, folder, name);
     let mut details = Vec::new(alloc);
-    details.push(Detail::Winner(winner_of(cut, folder, name)))?;
+    add_winner(&mut details, cut, folder, name)?;
     if let (Reason::NotWinner, Some(row)) = (one.reason, row) {
-        details.push(Detail::Row(row.device, &row.entry))?;
+        let entry = Some(&row.entry);
+        add_record(&mut details, What::Row, Some(row.device), None, entry)?;
     }
     for share in cut.shares(folder) {
         if one.spot.device == Some(share.device) {
@@ -39,12 +40,26 @@ pub(crate) fn details_of<'a>(
     Ok(details)
 }
 
+fn add_winner<'a>(
+    details: &mut Vec<Detail<'a>>,
+    cut: &'a Cut,
+    folder: &FolderName,
+    name: &Name,
+) -> Result<(), AllocError> {
+    match winner_of(cut, folder, name) {
+        None => add_record(details, What::Winner, None, None, None),
+        Some((device, record)) => {
+            add_record(details, What::Winner, Some(device), None, Some(record))
+        }
+    }
+}
+
 // What a device has at which a reason fails.
 fn add_share<'a>(
     details: &mut Vec<Detail<'a>>,
     cut: &'a Cut,
-    one: &Failure<'_>,
-    row: Option<&Row>,
+    one: &Failure<'a>,
+    row: Option<&'a Row>,
     share: &'a Share,
 ) -> Result<(), AllocError> {
     let own = share.own.get(one.spot.name);
@@ -54,24 +69,20 @@ fn add_share<'a>(
         own,
         row,
     };
-    details.push(Detail::Own(share.device, own))?;
+    add_record(details, What::Own, Some(share.device), None, own)?;
     match one.reason {
-        Reason::ViewAhead => add_views(details, &asked, share)?,
-        Reason::FlightAhead => add_flights(details, &asked, cut.links(), share.device)?,
-        Reason::PullAhead => add_pull(details, &asked, share)?,
-        _ => {
-            let node = share.store.get(one.spot.name);
-            details.push(Detail::Store(share.device, node))?;
-        }
+        Reason::ViewAhead => add_views(details, &asked, share),
+        Reason::FlightAhead => add_flights(details, &asked, cut.links(), share.device),
+        Reason::PullAhead => add_pull(details, &asked, share),
+        _ => add_store(details, share.device, share.store.get(one.spot.name)),
     }
-    Ok(())
 }
 
 // All that a device knows of a name.
 fn add_known<'a>(
     details: &mut Vec<Detail<'a>>,
     cut: &'a Cut,
-    one: &Failure<'_>,
+    one: &Failure<'a>,
     share: &'a Share,
 ) -> Result<(), AllocError> {
     let asked = Asked {
@@ -94,10 +105,10 @@ fn add_held<'a>(
 ) -> Result<(), AllocError> {
     let (own, node) = (share.own.get(name), share.store.get(name));
     if own.is_some() {
-        details.push(Detail::Own(share.device, own))?;
+        add_record(details, What::Own, Some(share.device), None, own)?;
     }
     if node.is_some() {
-        details.push(Detail::Store(share.device, node))?;
+        add_store(details, share.device, node)?;
     }
     Ok(())
 }

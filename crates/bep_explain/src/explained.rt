@@ -42,8 +42,8 @@ pub fn explain<'a>(
 // These failures, each with its details.
 fn with_details<'a>(
     alloc: Global,
-    cut: &Cut,
-    rows: &[Row],
+    cut: &'a Cut,
+    rows: &'a [Row],
     found: &[Failure<'a>],
 ) -> Result<Vec<Explained<'a>>, AllocError>
     ensures { IfOk result (λ told. failures_of (map told_of told.items) ≡ map failure_shown found.now) }

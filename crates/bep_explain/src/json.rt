@@ -2,9 +2,11 @@
 ghost use Rattle.std.specs.Prelude.{◌≡◌, map, IfOk};
 ghost use Rattle.serde_json.specs.View.{view};
 ghost use Rattle.bep_json.specs.Written.{list_of};
+ghost use Rattle.bep_audit.specs.Walk.{failure_shown};
 ghost use Rattle.bep_explain.specs.Annotated.{IsJsonLine, annotated_of, device_tree, explanation_tree, failure_tree, is_none};
 
 use crate::Annotated;
+use bep_audit::Failure;
 use bep_record::DeviceId;
 use bep_report::word_of;
 use serde_json::{Value, json};
@@ -13,7 +15,7 @@ use std::alloc::{AllocError, Global};
 /// All of these as one JSON document on a line: whether there is none, and each with its reason, place and details, in
 /// order. Or want of memory.
 pub fn explanation_json(alloc: Global, told: Vec<Annotated<'_>>) -> Result<Vec<u8>, AllocError>
-    ensures { IfOk result (λ text. IsJsonLine (explanation_tree (map annotated_of told.items)) text.items) }
+    ensures { IfOk result (λ text. IsJsonLine (explanation_tree (map annotated_of told.entry.items)) text.items) }
 {
     let tree = explanation_tree(alloc, told)?;
     json_line(alloc, &tree)
@@ -31,7 +33,7 @@ pub fn json_line(alloc: Global, tree: &Value) -> Result<Vec<u8>, AllocError>
 // The tree of all of these.
 #[tactic(auto, unfolding(crate::specs::Annotated::explanation_tree))]
 fn explanation_tree(alloc: Global, told: Vec<Annotated<'_>>) -> Result<Value, AllocError>
-    ensures { IfOk result (λ v. view v ≡ explanation_tree (map annotated_of told.items)) }
+    ensures { IfOk result (λ v. view v ≡ explanation_tree (map annotated_of told.entry.items)) }
 {
     let settled = is_none(told.as_slice());
     let failures = failure_trees(alloc, told)?;
@@ -49,11 +51,12 @@ fn is_none(told: &[Annotated<'_>]) -> bool
 
 // The trees of these, in order.
 fn failure_trees(alloc: Global, told: Vec<Annotated<'_>>) -> Result<Value, AllocError>
-    ensures { IfOk result (λ v. view v ≡ list_of (map failure_tree (map annotated_of told.items))) }
+    ensures { IfOk result (λ v. view v ≡ list_of (map failure_tree (map annotated_of told.entry.items))) }
 {
     let mut trees = Vec::with_capacity(alloc, told.len())?;
     for one in told {
-        let tree = failure_tree(alloc, one)?;
+        let Annotated { failure, details } = one;
+        let tree = failure_tree(alloc, &failure, details)?;
         trees.push(tree)?;
     }
     Ok(Value::Array(trees))
@@ -61,10 +64,9 @@ fn failure_trees(alloc: Global, told: Vec<Annotated<'_>>) -> Result<Value, Alloc
 
 // The tree of one of them.
 #[tactic(auto, unfolding(crate::specs::Annotated::failure_tree))]
-fn failure_tree(alloc: Global, one: Annotated<'_>) -> Result<Value, AllocError>
-    ensures { IfOk result (λ v. view v ≡ failure_tree (annotated_of one)) }
+fn failure_tree(alloc: Global, failure: &Failure<'_>, details: Value) -> Result<Value, AllocError>
+    ensures { IfOk result (λ v. view v ≡ failure_tree (record { failure = failure_shown failure.now; details = view details })) }
 {
-    let Annotated { failure, details } = one;
     let device = device_tree(failure.spot.device);
     json!(in alloc; {
         "details": details,

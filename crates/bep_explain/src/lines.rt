@@ -1,5 +1,5 @@
 //! The details of a failure as lines of the text. No contract speaks of what they say.
-use crate::detail::Detail;
+use crate::detail::{Detail, What};
 use bep_blocks::blocks;
 use bep_record::{Block, BlockSize, DeviceId, Entry, Kind, Node, Record};
 use bep_report::{Piece, push_pieces};
@@ -7,48 +7,51 @@ use std::alloc::{AllocError, Global};
 
 /// A line for each of these.
 pub(crate) fn lines_of(alloc: Global, details: &[Detail<'_>]) -> Result<Vec<Vec<u8>>, AllocError> {
-    let mut lines = Vec::with_capacity(alloc, details.len())?;
+    let mut lines = Vec::new(alloc);
     for detail in details {
-        let line = line_of(alloc, *detail)?;
-        lines.push(line)?;
+        let line = line_of(alloc, detail)?;
+        lines.reserve(1)?;
+        lines.push_reserved(line);
     }
     Ok(lines)
 }
 
-fn line_of(alloc: Global, detail: Detail<'_>) -> Result<Vec<u8>, AllocError> {
+fn line_of(alloc: Global, detail: &Detail<'_>) -> Result<Vec<u8>, AllocError> {
     let mut line = Vec::new(alloc);
     push_label(&mut line, detail)?;
-    match detail {
-        Detail::Winner(None) | Detail::Own(_, None) => push_text(&mut line, "none")?,
-        Detail::Store(_, None) => push_text(&mut line, "nothing")?,
-        Detail::Store(_, Some(node)) => push_node(alloc, &mut line, node)?,
-        Detail::Winner(Some((_, record)))
-        | Detail::Row(_, record)
-        | Detail::Own(_, Some(record))
-        | Detail::View(_, _, record)
-        | Detail::Message(_, _, record)
-        | Detail::Pull(_, record) => push_record(alloc, &mut line, record)?,
+    match (detail.record, detail.node) {
+        (Some(record), _) => push_record(alloc, &mut line, record)?,
+        (None, Some(node)) => push_node(alloc, &mut line, node)?,
+        (None, None) => push_text(&mut line, nothing_of(detail.what))?,
     }
     Ok(line)
 }
 
+fn nothing_of(what: What) -> &'static str {
+    match what {
+        What::Store => "nothing",
+        _ => "none",
+    }
+}
+
 // Says whose the record or the node is.
-fn push_label(line: &mut Vec<u8>, detail: Detail<'_>) -> Result<(), AllocError> {
-    match detail {
-        Detail::Winner(None) => push_text(line, "winner: "),
-        Detail::Winner(Some((device, _))) => push_device(line, "winner: device ", device, ", "),
-        Detail::Row(device, _) => push_device(line, "row: device ", device, ", "),
-        Detail::Own(device, _) => push_device(line, "record of ", device, ": "),
-        Detail::Store(device, _) => push_device(line, "store of ", device, ": "),
-        Detail::View(at, of, _) => {
-            push_device(line, "view of ", of, " at ")?;
-            push_device(line, "", at, ": ")
+fn push_label(line: &mut Vec<u8>, detail: &Detail<'_>) -> Result<(), AllocError> {
+    let device = detail.device;
+    match detail.what {
+        What::Winner if device.is_none() => push_text(line, "winner: "),
+        What::Winner => push_device(line, "winner: device ", device, ", "),
+        What::Row => push_device(line, "row: device ", device, ", "),
+        What::Own => push_device(line, "record of ", device, ": "),
+        What::Store => push_device(line, "store of ", device, ": "),
+        What::View => {
+            push_device(line, "view of ", detail.from, " at ")?;
+            push_device(line, "", device, ": ")
         }
-        Detail::Message(to, from, _) => {
-            push_device(line, "on its way from ", from, " to ")?;
-            push_device(line, "", to, ": ")
+        What::Message => {
+            push_device(line, "on its way from ", detail.from, " to ")?;
+            push_device(line, "", device, ": ")
         }
-        Detail::Pull(device, _) => push_device(line, "pull at ", device, ": "),
+        What::Pull => push_device(line, "pull at ", device, ": "),
     }
 }
 
@@ -56,13 +59,16 @@ fn push_text(line: &mut Vec<u8>, said: &str) -> Result<(), AllocError> {
     push_pieces(line, &[Piece::Text(said)])
 }
 
-fn push_device(
+fn push_device<'a>(
     line: &mut Vec<u8>,
-    before: &str,
-    device: DeviceId,
-    after: &str,
+    before: &'a str,
+    device: Option<DeviceId>,
+    after: &'a str,
 ) -> Result<(), AllocError> {
-    let number = Piece::Number(device.number());
+    let number = match device {
+        Some(device) => Piece::Number(device.number()),
+        None => Piece::Text("-"),
+    };
     push_pieces(line, &[Piece::Text(before), number, Piece::Text(after)])
 }
 

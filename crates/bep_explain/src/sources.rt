@@ -1,5 +1,5 @@
 //! The records of others that a device knows of. No contract speaks of which these are.
-use crate::detail::Detail;
+use crate::detail::{Detail, What, add_record};
 use bep_audit::is_harmless;
 use bep_model::{Flight, Row};
 use bep_record::{DeviceId, FolderName, Name, Record};
@@ -36,12 +36,15 @@ pub(crate) fn add_views<'a>(
     share: &'a Share,
 ) -> Result<(), AllocError> {
     for view in share.views.as_slice() {
-        match view.records.get(asked.name) {
-            Some(seen) if asked.takes(seen) => {
-                details.push(Detail::View(share.device, view.of, seen))?;
-            }
-            _ => {}
-        }
+        let (at, of) = (Some(share.device), Some(view.of));
+        add_if_asked(
+            details,
+            asked,
+            What::View,
+            at,
+            of,
+            view.records.get(asked.name),
+        )?;
     }
     Ok(())
 }
@@ -70,13 +73,8 @@ pub(crate) fn add_pull<'a>(
     asked: &Asked<'_>,
     share: &'a Share,
 ) -> Result<(), AllocError> {
-    match share.pulls.get(asked.name) {
-        Some(target) if asked.takes(target) => {
-            details.push(Detail::Pull(share.device, target))?;
-        }
-        _ => {}
-    }
-    Ok(())
+    let (at, target) = (Some(share.device), share.pulls.get(asked.name));
+    add_if_asked(details, asked, What::Pull, at, None, target)
 }
 
 // Those of these messages to a device from another.
@@ -104,9 +102,24 @@ fn add_carried<'a>(
     from: DeviceId,
 ) -> Result<(), AllocError> {
     for record in records {
-        if asked.takes(record) {
-            details.push(Detail::Message(to, from, record))?;
-        }
+        let (to, from) = (Some(to), Some(from));
+        add_if_asked(details, asked, What::Message, to, from, Some(record))?;
     }
     Ok(())
+}
+
+fn add_if_asked<'a>(
+    details: &mut Vec<Detail<'a>>,
+    asked: &Asked<'_>,
+    what: What,
+    device: Option<DeviceId>,
+    from: Option<DeviceId>,
+    foreign: Option<&'a Record>,
+) -> Result<(), AllocError> {
+    match foreign {
+        Some(foreign) if asked.takes(foreign) => {
+            add_record(details, what, device, from, Some(foreign))
+        }
+        _ => Ok(()),
+    }
 }

@@ -1,8 +1,9 @@
 //! The details of a failure as trees of JSON. No contract speaks of what they say.
-use crate::detail::Detail;
+use crate::detail::{Detail, What};
+use crate::json::device_tree;
 use bep_blocks::blocks;
 use bep_json::record_value;
-use bep_record::{Block, BlockSize, DeviceId, Kind, Node, Record};
+use bep_record::{Block, BlockSize, Kind, Node, Record};
 use serde_json::{Value, json};
 use std::alloc::{AllocError, Global};
 
@@ -10,67 +11,56 @@ use std::alloc::{AllocError, Global};
 pub(crate) fn trees_of(alloc: Global, details: &[Detail<'_>]) -> Result<Value, AllocError> {
     let mut trees = Vec::with_capacity(alloc, details.len())?;
     for detail in details {
-        let tree = tree_of(alloc, *detail)?;
+        let tree = tree_of(alloc, detail)?;
         trees.push(tree)?;
     }
     Ok(Value::Array(trees))
 }
 
-fn tree_of(alloc: Global, detail: Detail<'_>) -> Result<Value, AllocError> {
-    match detail {
-        Detail::Winner(None) => {
-            json!(in alloc; {"device": null, "record": null, "what": "winner"})
+fn tree_of(alloc: Global, detail: &Detail<'_>) -> Result<Value, AllocError> {
+    let (what, device) = (word_of(detail.what), device_tree(detail.device));
+    if detail.what == What::Store {
+        let node = node_or_null(alloc, detail.node)?;
+        return json!(in alloc; {"device": device, "node": node, "what": what});
+    }
+    let record = record_or_null(alloc, detail.record)?;
+    match detail.from {
+        None => json!(in alloc; {"device": device, "record": record, "what": what}),
+        Some(from) => {
+            json!(in alloc; {
+                "device": device,
+                "from": from.number(),
+                "record": record,
+                "what": what
+            })
         }
-        Detail::Winner(Some((device, record))) => {
-            record_tree(alloc, "winner", device, Some(record))
-        }
-        Detail::Row(device, record) => record_tree(alloc, "row", device, Some(record)),
-        Detail::Own(device, record) => record_tree(alloc, "record", device, record),
-        Detail::Store(device, node) => store_tree(alloc, device, node),
-        Detail::View(at, of, record) => source_tree(alloc, "view", at, of, record),
-        Detail::Message(to, from, record) => source_tree(alloc, "message", to, from, record),
-        Detail::Pull(device, record) => record_tree(alloc, "pull", device, Some(record)),
     }
 }
 
-// What a device has: a record, if any.
-fn record_tree(
-    alloc: Global,
-    what: &str,
-    device: DeviceId,
-    record: Option<&Record>,
-) -> Result<Value, AllocError> {
-    let record = match record {
-        Some(record) => record_value(alloc, record)?,
-        None => Value::Null,
-    };
-    json!(in alloc; {"device": device.number(), "record": record, "what": what})
+fn word_of(what: What) -> &'static str {
+    match what {
+        What::Winner => "winner",
+        What::Row => "row",
+        What::Own => "record",
+        What::Store => "store",
+        What::View => "view",
+        What::Message => "message",
+        What::Pull => "pull",
+    }
 }
 
-// What a device knows from another one.
-fn source_tree(
-    alloc: Global,
-    what: &str,
-    device: DeviceId,
-    from: DeviceId,
-    record: &Record,
-) -> Result<Value, AllocError> {
-    let record = record_value(alloc, record)?;
-    json!(in alloc; {
-        "device": device.number(),
-        "from": from.number(),
-        "record": record,
-        "what": what
-    })
+fn record_or_null(alloc: Global, record: Option<&Record>) -> Result<Value, AllocError> {
+    match record {
+        Some(record) => record_value(alloc, record),
+        None => Ok(Value::Null),
+    }
 }
 
-// What a device stores, if anything.
-fn store_tree(alloc: Global, device: DeviceId, node: Option<&Node>) -> Result<Value, AllocError> {
-    let node = match node {
-        Some(node) => node_tree(alloc, node)?,
-        None => Value::Null,
-    };
-    json!(in alloc; {"device": device.number(), "node": node, "what": "store"})
+fn node_or_null(alloc: Global, node: Option<&Node>) -> Result<Value, AllocError> {
+    match node {
+        Some(node) => node_tree(alloc, node),
+        None => Ok(Value::Null),
+    }
 }
 
 // What is there, with the hashes of its blocks in place of its bytes.

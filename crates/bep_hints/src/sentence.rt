@@ -1,6 +1,6 @@
 //! What is said of a fault.
 use crate::members::{Expected, Sort};
-use crate::walk::{Flaw, LEVELS, Step, Walk, Wrong, look};
+use crate::walk::{Flaw, LEVELS, Step, Wrong, look};
 use bep_document::{MAX_BYTES, has_version};
 use bep_record::MAX_DEVICES;
 use bep_report::{Piece, push_pieces};
@@ -67,12 +67,9 @@ fn said_of_tree(alloc: Global, tree: &Value, expected: Expected) -> Result<Vec<u
         Expected::Cut => Sort::CutDocument,
     };
     for flaw in [Flaw::Shape, Flaw::Range] {
-        let mut walk = Walk {
-            flaw,
-            way: Vec::new(alloc),
-        };
-        if let Some(wrong) = look(alloc, &mut walk, tree, sort, LEVELS)? {
-            return said_at(alloc, walk.way.as_slice(), wrong);
+        let mut way = Vec::new(alloc);
+        if let Some(wrong) = look(alloc, flaw, &mut way, tree, sort, LEVELS)? {
+            return said_at(alloc, way.as_slice(), wrong);
         }
     }
     said_of_devices(alloc, tree)
@@ -83,13 +80,15 @@ fn said_at(alloc: Global, way: &[Step<'_>], wrong: Wrong) -> Result<Vec<u8>, All
     let mut text = Vec::new(alloc);
     let mut before = "";
     for step in way {
-        match step {
-            Step::Member(name) => {
-                let name = Piece::Name(name.as_bytes());
-                push_pieces(&mut text, &[Piece::Text(before), name])?;
+        match step.name {
+            Some(name) => {
+                push_pieces(
+                    &mut text,
+                    &[Piece::Text(before), Piece::Name(name.as_bytes())],
+                )?;
             }
-            Step::Item(place) => {
-                let place = Piece::Number(*place as u64);
+            None => {
+                let place = Piece::Number(step.place as u64);
                 push_pieces(&mut text, &[Piece::Text("["), place, Piece::Text("]")])?;
             }
         }

@@ -13,13 +13,11 @@ pub(crate) enum Flaw {
     Range,
 }
 
-/// A step from a value to one of its parts.
-#[derive(Clone, Copy)]
-pub(crate) enum Step<'a> {
-    /// To the member of this name.
-    Member(&'a str),
-    /// To the item of this number, from 0.
-    Item(usize),
+/// A step from a value to one of its parts: to the member of this name, or else to the item of this number, from 0.
+#[derive(Drop)]
+pub(crate) struct Step<'a> {
+    pub(crate) name: Option<&'a str>,
+    pub(crate) place: usize,
 }
 
 /// What is wrong with a value.
@@ -37,24 +35,18 @@ pub(crate) enum Wrong {
     TwoBodies,
 }
 
-/// A walk through a document: what is looked for, and the way to where it stands, which is where the flaw is once one
-/// was found.
-#[derive(Drop)]
-pub(crate) struct Walk<'a> {
-    pub(crate) flaw: Flaw,
-    pub(crate) way: Vec<Step<'a>>,
-}
-
 /// The most levels of a document, lists counted.
 pub(crate) const LEVELS: usize = 16;
 
 type Found = Result<Option<Wrong>, AllocError>;
 
-/// What is wrong with the value or, first, with one of its parts, down to so many levels.
+/// What is wrong with the value or, first, with one of its parts, down to so many levels. Where something is, the way
+/// leads to it.
 #[cycle(walk)]
 pub(crate) fn look<'a>(
     alloc: Global,
-    walk: &mut Walk<'a>,
+    flaw: Flaw,
+    way: &mut Vec<Step<'a>>,
     value: &'a Value,
     sort: Sort,
     levels: usize,
@@ -64,19 +56,22 @@ pub(crate) fn look<'a>(
     }
     let members = members_of(alloc, sort)?;
     if members.is_empty() {
-        return Ok(wrong_leaf(alloc, walk.flaw, value, sort));
+        return Ok(wrong_leaf(alloc, flaw, value, sort));
     }
-    if let Some(wrong) = wrong_object(walk, value, sort, members.as_slice())? {
-        return Ok(Some(wrong));
+    if flaw == Flaw::Shape {
+        let wrong = wrong_object(way, value, sort, members.as_slice())?;
+        if wrong.is_some() {
+            return Ok(wrong);
+        }
     }
     for member in members.as_slice() {
         if let Some(part) = value.get(member.name) {
-            walk.way.push(Step::Member(member.name))?;
-            let found = look_in(alloc, walk, part, *member, levels - 1)?;
-            if found.is_some() {
-                return Ok(found);
+            step_to_member(way, member.name)?;
+            let wrong = look_in(alloc, flaw, way, part, member, levels - 1)?;
+            if wrong.is_some() {
+                return Ok(wrong);
             }
-            walk.way.pop();
+            way.pop();
         }
     }
     Ok(None)
@@ -86,32 +81,48 @@ pub(crate) fn look<'a>(
 #[cycle(walk)]
 fn look_in<'a>(
     alloc: Global,
-    walk: &mut Walk<'a>,
+    flaw: Flaw,
+    way: &mut Vec<Step<'a>>,
     value: &'a Value,
-    member: Member,
+    member: &Member,
     levels: usize,
 ) -> Found {
     if levels == 0 {
         return Ok(None);
     }
     let Some(most) = member.most else {
-        return look(alloc, walk, value, member.sort, levels - 1);
+        return look(alloc, flaw, way, value, member.sort, levels - 1);
     };
     let Some(items) = value.as_array() else {
         return Ok(Some(Wrong::Expected("a list")));
     };
-    if walk.flaw == Flaw::Range && items.len() > most {
+    if flaw == Flaw::Range && items.len() > most {
         return Ok(Some(Wrong::TooLong(most)));
     }
     for (place, item) in items.iter().enumerate() {
-        walk.way.push(Step::Item(place))?;
-        let found = look(alloc, walk, item, member.sort, levels - 1)?;
-        if found.is_some() {
-            return Ok(found);
+        step_to_item(way, place)?;
+        let wrong = look(alloc, flaw, way, item, member.sort, levels - 1)?;
+        if wrong.is_some() {
+            return Ok(wrong);
         }
-        walk.way.pop();
+        way.pop();
     }
     Ok(None)
+}
+
+fn step_to_member<'a>(way: &mut Vec<Step<'a>>, name: &'a str) -> Result<(), AllocError> {
+    way.reserve(1)?;
+    way.push_reserved(Step {
+        name: Some(name),
+        place: 0,
+    });
+    Ok(())
+}
+
+fn step_to_item(way: &mut Vec<Step<'_>>, place: usize) -> Result<(), AllocError> {
+    way.reserve(1)?;
+    way.push_reserved(Step { name: None, place });
+    Ok(())
 }
 
 // What is wrong with a value of one piece.
@@ -127,22 +138,19 @@ fn wrong_leaf(alloc: Global, flaw: Flaw, value: &Value, sort: Sort) -> Option<Wr
     }
 }
 
-// What is wrong with an object as a whole.
+// What is wrong with the members of an object, or where there is no object.
 fn wrong_object<'a>(
-    walk: &mut Walk<'a>,
+    way: &mut Vec<Step<'a>>,
     value: &'a Value,
     sort: Sort,
     members: &[Member],
 ) -> Found {
-    if walk.flaw == Flaw::Range {
-        return Ok(None);
-    }
     let Some(object) = value.as_object() else {
         return Ok(Some(Wrong::Expected("an object")));
     };
     for name in object.keys() {
         if !is_known(members, name.as_str()) {
-            walk.way.push(Step::Member(name.as_str()))?;
+            step_to_member(way, name.as_str())?;
             return Ok(Some(Wrong::Unknown));
         }
     }
@@ -166,9 +174,10 @@ fn wrong_node(value: &Value, sort: Sort) -> Option<Wrong> {
     if value.get("text").is_some() && value.get("hex").is_some() {
         return Some(Wrong::TwoBodies);
     }
-    let kind = value.get("type").and_then(Value::as_u64);
-    if kind == Some(4) && value.get("target").is_none() {
-        return Some(Wrong::Missing("target"));
+    match value.get("type") {
+        Some(kind) if kind.as_u64() == Some(4) && value.get("target").is_none() => {
+            Some(Wrong::Missing("target"))
+        }
+        _ => None,
     }
-    None
 }

@@ -34,10 +34,14 @@ abbrev pub form_for : Option Text → Form
 form_for None = forms.Text
 form_for (Some value) = if bytes_eq value (codes "true") then forms.Json else forms.Text
 
--- the form that the words of a subcommand ask for
+-- the form that a subcommand's matches ask for
+abbrev pub form_under : Option (List Row) → Form
+form_under None = forms.Text
+form_under (Some rows) = form_for (first_of (codes "json") rows)
+
+-- the form that the subcommand in the words asks for
 abbrev pub form_of : Option (Text × List Row) → Form
-form_of None = forms.Text
-form_of (Some met) = form_for (first_of (codes "json") met.1)
+form_of met = form_under (option_map (λ one. one.1) met)
 
 -- the words name the subcommand of this mode, and ask for its form
 abbrev pub Asks : List Text → Mode → Type 0

@@ -34,11 +34,6 @@ certified_status_of (Err Memory) = 4
 certified_status_of (Err Read) = 5
 certified_status_of (Err Write) = 5
 
--- the outcome of an answer that has a hint beside it
-abbrev pub outcome_in : {T H E : Type 0} → Result (T × H) E → Result T E
-outcome_in (Ok told) = Ok told.0
-outcome_in (Err e) = Err e
-
 -- the status where the words aren't understood, or ask for help
 abbrev pub usage : ℕ
 usage = 3

@@ -1,7 +1,7 @@
 //! What the words of the command line ask for.
-ghost use Rattle.std.specs.Prelude.{◌≡◌, IfOk, map};
-ghost use Rattle.clap.specs.Words.{FailsBy, app_of, fault_of, subcommand_rows_of};
-ghost use Rattle.syncaudit.specs.Mode.{Asks, form_of, program};
+ghost use Rattle.std.specs.Prelude.{◌≡◌, IfOk, codes, map};
+ghost use Rattle.clap.specs.Words.{FailsBy, app_of, fault_of, first_value, found_of, subcommand_rows_of};
+ghost use Rattle.syncaudit.specs.Mode.{Asks, form_for, form_of, program};
 
 use bep_answer::Form;
 use clap::{Arg, ArgAction, ArgMatches, Command, Error};
@@ -98,10 +98,17 @@ fn form_of(matches: &ArgMatches<'_>) -> Form
     ensures { result ≡ form_of (subcommand_rows_of matches.now) }
 {
     match matches.subcommand() {
-        Some((_, given)) => match given.get_str("json") {
-            Some("true") => Form::Json,
-            _ => Form::Text,
-        },
+        Some((_, given)) => form_given(given),
         None => Form::Text,
+    }
+}
+
+// The form that the flag asks for.
+fn form_given(given: &ArgMatches<'_>) -> Form
+    ensures { result ≡ form_for (first_value (found_of given.now) (codes "json")) }
+{
+    match given.get_str("json") {
+        Some("true") => Form::Json,
+        _ => Form::Text,
     }
 }

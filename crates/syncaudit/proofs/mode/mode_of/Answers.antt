@@ -16,8 +16,7 @@ returns-in-Some-explain-clause-faults g c = no_fault _ _ c.in_ok-command.ensures
 pub returns-in-Some-explain-clause-asked : goal.returns-in-Some-explain-clause-asked
 returns-in-Some-explain-clause-asked g c =
     let lent = sym (ap (option_map (λ s. s.now)) c.in-Some-explain.is) ∙ c.subcommand_name.ensures in
-    let named : c.in-Some-explain.field-0.now ≡ codes "explain" = search (rules, c.in-Some-explain.is-explain) in
-    (
+    let named : c.in-Some-explain.field-0.now ≡ codes "explain" = search (rules, c.in-Some-explain.is-explain) in (
       name_told _ _ _ c.in_ok-command.ensures c.in_ok-matches.ensures.matches ∙ sym lent ∙ ap Some named,
       c.form_of.ensures ∙ ap form_of (rows_told _ _ _ c.in_ok-command.ensures c.in_ok-matches.ensures.matches),
     )
