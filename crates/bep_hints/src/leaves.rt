@@ -48,7 +48,10 @@ pub(crate) fn is_in_range(alloc: Global, sort: Sort, value: &Value) -> bool {
 
 // Whether the value is read as a `T`, or can't be for want of memory alone.
 fn reads<T: Readable>(alloc: Global, value: &Value) -> bool {
-    !matches!(T::read(alloc, value), Err(ReadError::Range))
+    match T::read(alloc, value) {
+        Err(ReadError::Range) => false,
+        Ok(_) | Err(ReadError::Memory) => true,
+    }
 }
 
 fn fits_file(value: &Value) -> bool {

@@ -11,10 +11,11 @@ use std::alloc::{AllocError, Global};
 /// A sentence on where these bytes are at fault as a document, without a line's end: where they aren't JSON, or which
 /// member is missing, isn't known or isn't what it should be. None where there is nothing to say of that, or no memory.
 pub fn hint_at(alloc: Global, bytes: &[u8], expected: Expected) -> Option<String> {
-    match said_of(alloc, bytes, expected) {
-        Ok(said) if !said.is_empty() => String::from_utf8(said).ok(),
-        _ => None,
+    let said = said_of(alloc, bytes, expected).ok()?;
+    if said.is_empty() {
+        return None;
     }
+    String::from_utf8(said).ok()
 }
 
 // The sentence, empty where there is none.
@@ -127,11 +128,12 @@ fn push_wrong(text: &mut Vec<u8>, wrong: Wrong) -> Result<(), AllocError> {
 // That too many devices share the folders, if they do.
 fn said_of_devices(alloc: Global, tree: &Value) -> Result<Vec<u8>, AllocError> {
     let mut known = Vec::new(alloc);
-    for folder in items_of(tree.get("cut").and_then(|cut| cut.get("folders"))) {
-        for share in items_of(folder.get("devices")) {
-            let device = share.get("device").and_then(Value::as_u64);
-            if !known.contains(&device) {
-                known.push(device)?;
+    for folder in items_in(tree.get("cut"), "folders") {
+        for share in items_in(Some(folder), "devices") {
+            if let Some(device) = number_in(share, "device") {
+                if !known.as_slice().contains(&device) {
+                    known.push(device)?;
+                }
             }
         }
     }
@@ -149,11 +151,28 @@ fn said_of_devices(alloc: Global, tree: &Value) -> Result<Vec<u8>, AllocError> {
     )
 }
 
-// The items of a list, none where there is no list.
-fn items_of(value: Option<&Value>) -> &[Value] {
-    match value.and_then(Value::as_array) {
+// The items of the list at this member, none where there is no list.
+fn items_in<'a>(value: Option<&'a Value>, name: &str) -> &'a [Value] {
+    let Some(value) = value else {
+        return &[];
+    };
+    match value.get(name) {
+        Some(list) => list_items(list),
+        None => &[],
+    }
+}
+
+fn list_items(list: &Value) -> &[Value] {
+    match list.as_array() {
         Some(items) => items.as_slice(),
         None => &[],
+    }
+}
+
+fn number_in(value: &Value, name: &str) -> Option<u64> {
+    match value.get(name) {
+        Some(number) => number.as_u64(),
+        None => None,
     }
 }
 
