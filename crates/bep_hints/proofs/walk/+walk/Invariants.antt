@@ -1,4 +1,4 @@
-use Rattle.bep_hints.proofs.+walk.Given as goal
+use Rattle.bep_hints.proofs.walk.+walk.Given as goal
 
 -- each call goes down a level
 abbrev pub decreases-look : goal.decreases-look
