@@ -9,6 +9,8 @@ _syncaudit() {
     mapfile -t COMPREPLY < <(compgen -W 'check certify explain help --help --version' -- "$word")
   elif [ "$COMP_CWORD" = 2 ] && [ "$before" = help ]; then
     mapfile -t COMPREPLY < <(compgen -W 'check certify explain' -- "$word")
+  elif [ "$COMP_CWORD" = 2 ] && [ "$before" = explain ]; then
+    mapfile -t COMPREPLY < <(compgen -W '--json --help' -- "$word")
   elif [ "$COMP_CWORD" = 2 ]; then
     mapfile -t COMPREPLY < <(compgen -W '--help' -- "$word")
   fi

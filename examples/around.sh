@@ -51,7 +51,7 @@ described() {
 
 # begins_synopsis TEXT: a line of the synopsis is this text, or goes on after it.
 begins_synopsis() {
-  synopsis | grep -q -e "^$1\$" -e "^$1 "
+  synopsis | awk -v text="$1" '$0 == text || index($0, text " ") == 1 { found = 1 } END { exit !found }'
 }
 
 # The usage line of a subcommand's help.
@@ -82,6 +82,10 @@ for command in $(helped); do
   for file in completions/*; do
     expect "$file has no '$command'" has "$command" "$file"
   done
+done
+# The flag of the explanation's help stands in each of them too.
+for file in docs/syncaudit.1 completions/*; do
+  expect "$file has no 'json'" has json "$file"
 done
 for command in $(described); do
   expect "the program has no '$command', which the man page describes" is_one_of "$command" $(helped)

@@ -50,12 +50,30 @@ if [ ! -x "$program" ]; then
   exit 1
 fi
 
+# check_json NAME: compares what is written as JSON with the text, where Python is there.
+check_json() {
+  if ! command -v python3 > /dev/null 2>&1; then
+    return
+  fi
+  if python3 examples/explained.py "$program" "$1"; then
+    passed=$((passed + 1))
+  else
+    failed=$((failed + 1))
+  fi
+}
+
 # A row of the first table has a file's name, what it shows, what is written, and the status.
 while IFS='|' read -r _ name _ output status _; do
-  check_row "syncaudit check < examples/$(lines_of "$name")" "$output" '' "$status"
+  # Of a fault without a place standard error says more.
+  told=''
+  if [[ $output = *"refused: 18"[1-4]* ]]; then
+    told='where'
+  fi
+  check_row "syncaudit check < examples/$(lines_of "$name")" "$output" "$told" "$status"
+  check_json "examples/$(lines_of "$name")"
   # All that fails is told by a row of the third table; where nothing does, or the document is refused, there is one line.
   if [ "${status// /}" != 1 ]; then
-    check_row "syncaudit explain < examples/$(lines_of "$name")" "${output%%<br>*}" '' "$status"
+    check_row "syncaudit explain < examples/$(lines_of "$name")" "${output%%<br>*}" "$told" "$status"
   elif ! grep -qF "| \`syncaudit explain < examples/$(lines_of "$name")\` |" examples/README.md; then
     failed=$((failed + 1))
     echo "examples: $(lines_of "$name") isn't settled, and README.md doesn't say all that fails"
@@ -76,6 +94,13 @@ for file in examples/*.json; do
   if ! grep -q "^| \`$(basename "$file")\` |" examples/README.md; then
     failed=$((failed + 1))
     echo "examples: $(basename "$file") has no row in README.md"
+  fi
+done
+for file in examples/faulty/*.json; do
+  check_json "$file"
+  if ! grep -qF "< $file\`" examples/README.md; then
+    failed=$((failed + 1))
+    echo "examples: $file has no row in README.md"
   fi
 done
 echo "$passed passed, $failed failed"

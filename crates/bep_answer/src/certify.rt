@@ -7,8 +7,9 @@ ghost use Rattle.bep_report.specs.Lines.{verdict_line};
 ghost use Rattle.bep_answer.specs.Answer.{fault_text};
 ghost use Rattle.bep_answer.specs.Certified.{IsCertificate, IsCertified, IsCertifiedWhole, IsUncertified, document_text};
 
-use crate::check::push_fault;
+use crate::hints::{Hinted, hint_for_cut};
 use crate::outcome::Certified;
+use crate::refusal::push_fault;
 use bep_audit::{Certificate, CertifyError, certify};
 use bep_model::Reason;
 use bep_record::{FolderName, Name};
@@ -31,10 +32,24 @@ pub fn certify_text<R: Read, W: Write>(
     ensures ok { IfOk result (IsCertifiedWhole (R.remaining reader.old) (R.remaining reader.new) (W.contents writer.old) (W.contents writer.new)) }
     ensures err { IfErr result (IsUncertified (R.remaining reader.old) (R.remaining reader.new) (W.contents writer.old) (W.contents writer.new)) }
 {
+    let (outcome, _) = certified(alloc, reader, writer)?;
+    Ok(outcome)
+}
+
+/// The same, with a hint on where a refused document is at fault.
+pub fn certified<R: Read, W: Write>(
+    alloc: Global,
+    reader: &mut R,
+    writer: &mut W,
+) -> Result<Hinted<Certified>, ReportError>
+    ensures ok { IfOk result (λ told. IsCertifiedWhole (R.remaining reader.old) (R.remaining reader.new) (W.contents writer.old) (W.contents writer.new) told.0) }
+    ensures err { IfErr result (IsUncertified (R.remaining reader.old) (R.remaining reader.new) (W.contents writer.old) (W.contents writer.new)) }
+{
     let bytes = read_document(alloc, reader)?;
     let (outcome, text) = answer_to(alloc, bytes.as_slice())?;
     write_all(writer, text.as_slice())?;
-    Ok(outcome)
+    let hint = hint_for_cut(alloc, outcome, bytes.as_slice());
+    Ok((outcome, hint))
 }
 
 // The outcome for a document's bytes, and the text on standard output.

@@ -3,17 +3,18 @@ ghost use Rattle.std.specs.Prelude.{◌≡◌, IfOk, IfErr};
 ghost use Rattle.bep_document.specs.Reading.{Read};
 ghost use Rattle.bep_tables.specs.document.Written.{check_of};
 ghost use Rattle.bep_report.specs.Report.{report_text};
-ghost use Rattle.bep_report.specs.Text.{AppendsWhole};
-ghost use Rattle.bep_answer.specs.Answer.{IsAnswer, IsReport, IsAnswered, IsCutShort, SaysSettled, fault_text};
+ghost use Rattle.bep_answer.specs.Answer.{IsAnswer, IsReport, IsAnswered, IsCutShort, SaysSettled};
 ghost use Rattle.bep_audit.specs.Shown.{verdict_shown};
 ghost use Rattle.bep_answer.specs.Answer as spec;
 ghost use Rattle.bep_answer.specs.declared.outcome.Outcome.TheVariants as outcomes;
 
+use crate::hints::{Hinted, hint_for};
 use crate::outcome::Outcome;
+use crate::refusal::refusal;
 use bep_audit::{Certificate, Verdict, check};
 use bep_machine::{settled_stays_put, settled_stays_settled};
-use bep_report::{ReportError, push_refused, push_report, read_document, write_all};
-use bep_tables::{Cut, DocError, DocFault, read_check};
+use bep_report::{ReportError, push_report, read_document, write_all};
+use bep_tables::{Cut, DocError, read_check};
 use std::alloc::{AllocError, Global};
 use std::io::{Read, Write};
 
@@ -32,12 +33,27 @@ pub fn check_text<R: Read, W: Write>(
     ensures err { IfErr result (IsCutShort (R.remaining reader.old) (R.remaining reader.new) (W.contents writer.old) (W.contents writer.new)) }
     ensures settled { IfOk result (λ outcome. outcome ≡ outcomes.Settled → SaysSettled (R.remaining reader.old) (R.remaining reader.new)) }
 {
+    let (outcome, _) = checked(alloc, reader, writer)?;
+    Ok(outcome)
+}
+
+/// The same, with a hint on where a refused document is at fault.
+pub fn checked<R: Read, W: Write>(
+    alloc: Global,
+    reader: &mut R,
+    writer: &mut W,
+) -> Result<Hinted<Outcome>, ReportError>
+    ensures ok { IfOk result (λ told. IsAnswered (R.remaining reader.old) (R.remaining reader.new) (W.contents writer.old) (W.contents writer.new) told.0) }
+    ensures err { IfErr result (IsCutShort (R.remaining reader.old) (R.remaining reader.new) (W.contents writer.old) (W.contents writer.new)) }
+    ensures settled { IfOk result (λ told. told.0 ≡ outcomes.Settled → SaysSettled (R.remaining reader.old) (R.remaining reader.new)) }
+{
     settled_stays_put();
     settled_stays_settled();
     let bytes = read_document(alloc, reader)?;
     let (outcome, text) = answer_to(alloc, bytes.as_slice())?;
     write_all(writer, text.as_slice())?;
-    Ok(outcome)
+    let hint = hint_for(alloc, outcome, bytes.as_slice());
+    Ok((outcome, hint))
 }
 
 // The outcome for a document's bytes, and the text on standard output.
@@ -86,27 +102,4 @@ fn outcome_of(verdict: &Verdict<'_>) -> Outcome
         Verdict::Settled => Outcome::Settled,
         Verdict::Not(..) => Outcome::NotSettled,
     }
-}
-
-/// That the document is refused, and the fault's line.
-pub(crate) fn refusal(alloc: Global, fault: &DocFault) -> Result<(Outcome, Vec<u8>), AllocError>
-    ensures { IfOk result (λ answer. (answer.0 ≡ outcomes.Refused) × (answer.1.items ≡ fault_text fault.now)) }
-{
-    let mut text = Vec::new(alloc);
-    push_fault(&mut text, fault)?;
-    Ok((Outcome::Refused, text))
-}
-
-// Appends the line of a fault.
-pub(crate) fn push_fault(text: &mut Vec<u8>, fault: &DocFault) -> Result<(), AllocError>
-    ensures { AppendsWhole result text.old.items text.new.items (fault_text fault.now) }
-{
-    push_refused(
-        text,
-        fault.fault.number(),
-        fault.fault.name(),
-        fault.folder.as_ref(),
-        fault.device,
-        fault.name.as_ref(),
-    )
 }

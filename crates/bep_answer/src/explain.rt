@@ -5,9 +5,12 @@ ghost use Rattle.bep_explain.specs.Found.{verdict_of};
 ghost use Rattle.bep_explain.specs.Told.{failures_of, told_of};
 ghost use Rattle.bep_answer.specs.Answer.{outcome_of};
 ghost use Rattle.bep_answer.specs.Explained.{IsExplanation, IsExplained, IsExplainedWhole, IsUnexplained};
+ghost use Rattle.bep_answer.specs.declared.outcome.Form.TheVariants.{Text};
 
-use crate::check::refusal;
-use crate::outcome::Outcome;
+use crate::hints::{Hinted, hint_for};
+use crate::json::explain_in_json;
+use crate::outcome::{Form, Outcome};
+use crate::refusal::refusal_in;
 use bep_audit::Certificate;
 use bep_explain::{Explained, explain, explanation};
 use bep_report::{ReportError, read_document, write_all};
@@ -26,22 +29,38 @@ pub fn explain_text<R: Read, W: Write>(
     reader: &mut R,
     writer: &mut W,
 ) -> Result<Outcome, ReportError>
-    ensures ok { IfOk result (IsExplainedWhole (R.remaining reader.old) (R.remaining reader.new) (W.contents writer.old) (W.contents writer.new)) }
-    ensures err { IfErr result (IsUnexplained (R.remaining reader.old) (R.remaining reader.new) (W.contents writer.old) (W.contents writer.new)) }
+    ensures ok { IfOk result (IsExplainedWhole Text (R.remaining reader.old) (R.remaining reader.new) (W.contents writer.old) (W.contents writer.new)) }
+    ensures err { IfErr result (IsUnexplained Text (R.remaining reader.old) (R.remaining reader.new) (W.contents writer.old) (W.contents writer.new)) }
 {
-    let bytes = read_document(alloc, reader)?;
-    let (outcome, text) = answer_to(alloc, bytes.as_slice())?;
-    write_all(writer, text.as_slice())?;
+    let (outcome, _) = explained(alloc, Form::Text, reader, writer)?;
     Ok(outcome)
 }
 
+/// The same in one of two forms, with a hint on where a refused document is at fault. As JSON it is one document on a
+/// line: what fails, in the same order, and whether that is nothing; or the fault.
+pub fn explained<R: Read, W: Write>(
+    alloc: Global,
+    form: Form,
+    reader: &mut R,
+    writer: &mut W,
+) -> Result<Hinted<Outcome>, ReportError>
+    ensures ok { IfOk result (λ told. IsExplainedWhole form (R.remaining reader.old) (R.remaining reader.new) (W.contents writer.old) (W.contents writer.new) told.0) }
+    ensures err { IfErr result (IsUnexplained form (R.remaining reader.old) (R.remaining reader.new) (W.contents writer.old) (W.contents writer.new)) }
+{
+    let bytes = read_document(alloc, reader)?;
+    let (outcome, text) = answer_to(alloc, form, bytes.as_slice())?;
+    write_all(writer, text.as_slice())?;
+    let hint = hint_for(alloc, outcome, bytes.as_slice());
+    Ok((outcome, hint))
+}
+
 // The outcome for a document's bytes, and the text on standard output.
-fn answer_to(alloc: Global, bytes: &[u8]) -> Result<(Outcome, Vec<u8>), AllocError>
-    ensures { IfOk result (λ answer. IsExplained (check_of bytes.now) answer.0 answer.1.items) }
+fn answer_to(alloc: Global, form: Form, bytes: &[u8]) -> Result<(Outcome, Vec<u8>), AllocError>
+    ensures { IfOk result (λ answer. IsExplained form (check_of bytes.now) answer.0 answer.1.items) }
 {
     match read_check(alloc, bytes) {
-        Ok((cut, rows)) => explain_cut(alloc, &cut, &Certificate::of(rows)),
-        Err(DocError::Refused(fault)) => refusal(alloc, &fault),
+        Ok((cut, rows)) => explain_cut(alloc, form, &cut, &Certificate::of(rows)),
+        Err(DocError::Refused(fault)) => refusal_in(alloc, form, &fault),
         Err(DocError::Memory) => Err(AllocError),
     }
 }
@@ -49,10 +68,25 @@ fn answer_to(alloc: Global, bytes: &[u8]) -> Result<(Outcome, Vec<u8>), AllocErr
 // The outcome for a cut and its certificate, and the text.
 fn explain_cut(
     alloc: Global,
+    form: Form,
     cut: &Cut,
     certificate: &Certificate,
 ) -> Result<(Outcome, Vec<u8>), AllocError>
-    ensures { IfOk result (λ answer. IsExplanation cut.now certificate.now answer.0 answer.1.items) }
+    ensures { IfOk result (λ answer. IsExplanation form cut.now certificate.now answer.0 answer.1.items) }
+{
+    match form {
+        Form::Text => explain_in_lines(alloc, cut, certificate),
+        Form::Json => explain_in_json(alloc, cut, certificate),
+    }
+}
+
+// The same in lines.
+fn explain_in_lines(
+    alloc: Global,
+    cut: &Cut,
+    certificate: &Certificate,
+) -> Result<(Outcome, Vec<u8>), AllocError>
+    ensures { IfOk result (λ answer. IsExplanation Text cut.now certificate.now answer.0 answer.1.items) }
 {
     let told = explain(alloc, cut, certificate)?;
     let text = explanation(alloc, told.as_slice())?;

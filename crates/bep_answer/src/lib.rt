@@ -7,14 +7,20 @@
 //!         Outcome::NotSettled => ..,
 //!         Outcome::Refused => ..,
 //!     }
+//!
+//! `checked`, `certified` and `explained` do the same, and say where a refused document is at fault.
 #![tactic(auto)]
 
 mod certify;
 mod check;
 mod explain;
+mod hints;
+mod json;
 mod outcome;
+mod refusal;
 
-pub use certify::certify_text;
-pub use check::check_text;
-pub use explain::explain_text;
-pub use outcome::{Certified, Outcome};
+pub use certify::{certified, certify_text};
+pub use check::{check_text, checked};
+pub use explain::{explain_text, explained};
+pub use hints::Hinted;
+pub use outcome::{Certified, Form, Outcome};

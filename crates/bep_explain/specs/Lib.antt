@@ -1,4 +1,5 @@
 pub mod Adding
+pub mod Annotated
 pub mod Distinct
 pub mod Found
 pub mod Says

@@ -1,83 +1,66 @@
-//! What a person asks next of a failure, a line each. No contract speaks of these texts.
+//! What a person asks next of a failure. No contract speaks of which these are.
 ghost use Rattle.std.specs.Prelude.{IsTrue};
 ghost use Rattle.bep_model.specs.Settled.{Rise};
 
+use crate::detail::{Detail, What, add_record, add_store};
 use crate::missing::row_of;
-use crate::said::{push_node, push_record};
 use crate::sources::{Asked, add_flights, add_pull, add_views};
 use bep_audit::{Failure, winner_of};
 use bep_model::{Reason, Row};
-use bep_record::{DeviceId, FolderName, Name, Node, Record};
-use bep_report::{Piece, push_pieces};
+use bep_record::{FolderName, Name};
 use bep_tables::{Cut, Share};
 use std::alloc::{AllocError, Global};
 
-/// The lines of a failure, whose rows rise or not: the winner, and the row where it isn't that; on a device its record,
+/// The details of a failure, whose rows rise or not: the winner, and the row where it isn't that; on a device its record,
 /// and what it stores or what is ahead of that record; of a name without a row, all that knows it.
-pub(crate) fn details_of(
+pub(crate) fn details_of<'a>(
     alloc: Global,
-    cut: &Cut,
-    rows: &[Row],
+    cut: &'a Cut,
+    rows: &'a [Row],
     rise: bool,
-    one: &Failure<'_>,
-) -> Result<Vec<Vec<u8>>, AllocError>
+    one: &Failure<'a>,
+) -> Result<Vec<Detail<'a>>, AllocError>
     requires { IsTrue rise → Rise rows.now }
 {
     let (folder, name) = (one.spot.folder, one.spot.name);
     let row = row_of(rows, rise, folder, name);
-    let mut lines = Vec::new(alloc);
-    add_winner(alloc, &mut lines, cut, folder, name)?;
+    let mut details = Vec::new(alloc);
+    add_winner(&mut details, cut, folder, name)?;
     if let (Reason::NotWinner, Some(row)) = (one.reason, row) {
-        add_chosen(alloc, &mut lines, "row", row.device, &row.entry)?;
+        let entry = Some(&row.entry);
+        add_record(&mut details, What::Row, Some(row.device), None, entry)?;
     }
     for share in cut.shares(folder) {
         if one.spot.device == Some(share.device) {
-            add_share(alloc, &mut lines, cut, one, row, share)?;
+            add_share(&mut details, cut, one, row, share)?;
         } else if one.reason == Reason::NameMissing {
-            add_known(alloc, &mut lines, cut, one, share)?;
+            add_known(&mut details, cut, one, share)?;
         }
     }
-    Ok(lines)
+    Ok(details)
 }
 
-fn add_winner(
-    alloc: Global,
-    lines: &mut Vec<Vec<u8>>,
-    cut: &Cut,
+fn add_winner<'a>(
+    details: &mut Vec<Detail<'a>>,
+    cut: &'a Cut,
     folder: &FolderName,
     name: &Name,
 ) -> Result<(), AllocError> {
     match winner_of(cut, folder, name) {
-        None => add_none(alloc, lines, &[Piece::Text("winner: none")]),
-        Some((device, record)) => add_chosen(alloc, lines, "winner", device, record),
+        None => add_record(details, What::Winner, None, None, None),
+        Some((device, record)) => {
+            add_record(details, What::Winner, Some(device), None, Some(record))
+        }
     }
 }
 
-// A device and its record, as the winner or as a row has them.
-fn add_chosen(
-    alloc: Global,
-    lines: &mut Vec<Vec<u8>>,
-    said: &str,
-    device: DeviceId,
-    record: &Record,
-) -> Result<(), AllocError> {
-    let label = [
-        Piece::Text(said),
-        Piece::Text(": device "),
-        Piece::Number(device.number()),
-        Piece::Text(", "),
-    ];
-    add_record(alloc, lines, &label, record)
-}
-
 // What a device has at which a reason fails.
-fn add_share(
-    alloc: Global,
-    lines: &mut Vec<Vec<u8>>,
-    cut: &Cut,
-    one: &Failure<'_>,
-    row: Option<&Row>,
-    share: &Share,
+fn add_share<'a>(
+    details: &mut Vec<Detail<'a>>,
+    cut: &'a Cut,
+    one: &Failure<'a>,
+    row: Option<&'a Row>,
+    share: &'a Share,
 ) -> Result<(), AllocError> {
     let own = share.own.get(one.spot.name);
     let asked = Asked {
@@ -86,22 +69,21 @@ fn add_share(
         own,
         row,
     };
-    add_own(alloc, lines, share.device, own)?;
+    add_record(details, What::Own, Some(share.device), None, own)?;
     match one.reason {
-        Reason::ViewAhead => add_views(alloc, lines, &asked, share),
-        Reason::FlightAhead => add_flights(alloc, lines, &asked, cut.links(), share.device),
-        Reason::PullAhead => add_pull(alloc, lines, &asked, share),
-        _ => add_store(alloc, lines, share.device, share.store.get(one.spot.name)),
+        Reason::ViewAhead => add_views(details, &asked, share),
+        Reason::FlightAhead => add_flights(details, &asked, cut.links(), share.device),
+        Reason::PullAhead => add_pull(details, &asked, share),
+        _ => add_store(details, share.device, share.store.get(one.spot.name)),
     }
 }
 
 // All that a device knows of a name.
-fn add_known(
-    alloc: Global,
-    lines: &mut Vec<Vec<u8>>,
-    cut: &Cut,
-    one: &Failure<'_>,
-    share: &Share,
+fn add_known<'a>(
+    details: &mut Vec<Detail<'a>>,
+    cut: &'a Cut,
+    one: &Failure<'a>,
+    share: &'a Share,
 ) -> Result<(), AllocError> {
     let asked = Asked {
         folder: one.spot.folder,
@@ -109,87 +91,24 @@ fn add_known(
         own: None,
         row: None,
     };
-    add_held(alloc, lines, share, one.spot.name)?;
-    add_views(alloc, lines, &asked, share)?;
-    add_flights(alloc, lines, &asked, cut.links(), share.device)?;
-    add_pull(alloc, lines, &asked, share)
+    add_held(details, share, one.spot.name)?;
+    add_views(details, &asked, share)?;
+    add_flights(details, &asked, cut.links(), share.device)?;
+    add_pull(details, &asked, share)
 }
 
 // The device's own record and what it stores, as far as there is any.
-fn add_held(
-    alloc: Global,
-    lines: &mut Vec<Vec<u8>>,
-    share: &Share,
+fn add_held<'a>(
+    details: &mut Vec<Detail<'a>>,
+    share: &'a Share,
     name: &Name,
 ) -> Result<(), AllocError> {
     let (own, node) = (share.own.get(name), share.store.get(name));
     if own.is_some() {
-        add_own(alloc, lines, share.device, own)?;
+        add_record(details, What::Own, Some(share.device), None, own)?;
     }
     if node.is_some() {
-        add_store(alloc, lines, share.device, node)?;
+        add_store(details, share.device, node)?;
     }
-    Ok(())
-}
-
-fn add_own(
-    alloc: Global,
-    lines: &mut Vec<Vec<u8>>,
-    device: DeviceId,
-    own: Option<&Record>,
-) -> Result<(), AllocError> {
-    let (said, number) = (Piece::Text("record of "), Piece::Number(device.number()));
-    match own {
-        None => add_none(alloc, lines, &[said, number, Piece::Text(": none")]),
-        Some(own) => add_record(alloc, lines, &[said, number, Piece::Text(": ")], own),
-    }
-}
-
-fn add_store(
-    alloc: Global,
-    lines: &mut Vec<Vec<u8>>,
-    device: DeviceId,
-    node: Option<&Node>,
-) -> Result<(), AllocError> {
-    let mut line = Vec::new(alloc);
-    let number = Piece::Number(device.number());
-    push_pieces(
-        &mut line,
-        &[Piece::Text("store of "), number, Piece::Text(": ")],
-    )?;
-    match node {
-        None => push_pieces(&mut line, &[Piece::Text("nothing")])?,
-        Some(node) => push_node(alloc, &mut line, node)?,
-    }
-    add_line(lines, line)
-}
-
-// The line of these pieces.
-fn add_none(
-    alloc: Global,
-    lines: &mut Vec<Vec<u8>>,
-    pieces: &[Piece<'_>],
-) -> Result<(), AllocError> {
-    let mut line = Vec::new(alloc);
-    push_pieces(&mut line, pieces)?;
-    add_line(lines, line)
-}
-
-/// The line of a record, after these pieces.
-pub(crate) fn add_record(
-    alloc: Global,
-    lines: &mut Vec<Vec<u8>>,
-    label: &[Piece<'_>],
-    record: &Record,
-) -> Result<(), AllocError> {
-    let mut line = Vec::new(alloc);
-    push_pieces(&mut line, label)?;
-    push_record(alloc, &mut line, record)?;
-    add_line(lines, line)
-}
-
-fn add_line(lines: &mut Vec<Vec<u8>>, line: Vec<u8>) -> Result<(), AllocError> {
-    lines.reserve(1)?;
-    lines.push_reserved(line);
     Ok(())
 }

@@ -10,6 +10,7 @@ ghost use Rattle.bep_explain.specs.Told.{failures_of, told_of};
 use crate::collect::copy_of;
 use crate::details::details_of;
 use crate::failures;
+use crate::lines::lines_of;
 use bep_audit::{Certificate, Failure, first_disordered};
 use bep_model::Row;
 use bep_tables::Cut;
@@ -41,8 +42,8 @@ pub fn explain<'a>(
 // These failures, each with its details.
 fn with_details<'a>(
     alloc: Global,
-    cut: &Cut,
-    rows: &[Row],
+    cut: &'a Cut,
+    rows: &'a [Row],
     found: &[Failure<'a>],
 ) -> Result<Vec<Explained<'a>>, AllocError>
     ensures { IfOk result (λ told. failures_of (map told_of told.items) ≡ map failure_shown found.now) }
@@ -51,10 +52,11 @@ fn with_details<'a>(
     let mut told = Vec::new(alloc);
     for one in found {
         let details = details_of(alloc, cut, rows, rise, one)?;
+        let lines = lines_of(alloc, details.as_slice())?;
         told.reserve(1)?;
         told.push_reserved(Explained {
             failure: copy_of(one),
-            details,
+            details: lines,
         });
     }
     Ok(told)

@@ -6,17 +6,28 @@
 //!     let (cut, rows) = read_check(alloc, bytes)?;
 //!     let told = explain(alloc, &cut, &Certificate::of(rows))?;
 //!     let text = explanation(alloc, told.as_slice())?;
+//!
+//! or, as JSON,
+//!
+//!     let told = annotate(alloc, &cut, &Certificate::of(rows))?;
+//!     let text = explanation_json(alloc, told)?;
 #![tactic(auto)]
 
+mod annotated;
 mod collect;
+mod detail;
 mod details;
 mod explained;
 mod gather;
+mod json;
+mod lines;
 mod missing;
-mod said;
 mod sources;
 mod text;
+mod trees;
 
+pub use annotated::{Annotated, annotate};
 pub use explained::{Explained, explain};
 pub use gather::failures;
+pub use json::{device_tree, explanation_json, json_line};
 pub use text::explanation;

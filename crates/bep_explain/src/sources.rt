@@ -1,11 +1,10 @@
-//! The records of others that a device knows of, as lines. No contract speaks of these texts.
-use crate::details::add_record;
+//! The records of others that a device knows of. No contract speaks of which these are.
+use crate::detail::{Detail, What, add_record};
 use bep_audit::is_harmless;
 use bep_model::{Flight, Row};
 use bep_record::{DeviceId, FolderName, Name, Record};
-use bep_report::Piece;
 use bep_tables::{LinkState, Share};
-use std::alloc::{AllocError, Global};
+use std::alloc::AllocError;
 
 /// Which records are asked for: those of this name that aren't harmless beside the own record and the row, or, where
 /// there is no row, all of them.
@@ -31,104 +30,96 @@ impl Asked<'_> {
 }
 
 /// Those in the device's views, each with the device whose index it is of.
-pub(crate) fn add_views(
-    alloc: Global,
-    lines: &mut Vec<Vec<u8>>,
+pub(crate) fn add_views<'a>(
+    details: &mut Vec<Detail<'a>>,
     asked: &Asked<'_>,
-    share: &Share,
+    share: &'a Share,
 ) -> Result<(), AllocError> {
-    let at = Piece::Number(share.device.number());
     for view in share.views.as_slice() {
-        let label = [
-            Piece::Text("view of "),
-            Piece::Number(view.of.number()),
-            Piece::Text(" at "),
+        let (at, of) = (Some(share.device), Some(view.of));
+        add_if_asked(
+            details,
+            asked,
+            What::View,
             at,
-            Piece::Text(": "),
-        ];
-        add_if_asked(alloc, lines, asked, &label, view.records.get(asked.name))?;
+            of,
+            view.records.get(asked.name),
+        )?;
     }
     Ok(())
 }
 
 /// Those on their way to the device, each with its sender.
-pub(crate) fn add_flights(
-    alloc: Global,
-    lines: &mut Vec<Vec<u8>>,
+pub(crate) fn add_flights<'a>(
+    details: &mut Vec<Detail<'a>>,
     asked: &Asked<'_>,
-    links: &[LinkState],
+    links: &'a [LinkState],
     device: DeviceId,
 ) -> Result<(), AllocError> {
     for link in links {
         if link.a == device {
-            add_sent(alloc, lines, asked, link.to_a.as_slice(), link.b, device)?;
+            add_sent(details, asked, link.to_a.as_slice(), device, link.b)?;
         }
         if link.b == device {
-            add_sent(alloc, lines, asked, link.to_b.as_slice(), link.a, device)?;
+            add_sent(details, asked, link.to_b.as_slice(), device, link.a)?;
         }
     }
     Ok(())
 }
 
 /// What the device pulls.
-pub(crate) fn add_pull(
-    alloc: Global,
-    lines: &mut Vec<Vec<u8>>,
+pub(crate) fn add_pull<'a>(
+    details: &mut Vec<Detail<'a>>,
     asked: &Asked<'_>,
-    share: &Share,
+    share: &'a Share,
 ) -> Result<(), AllocError> {
-    let at = Piece::Number(share.device.number());
-    let label = [Piece::Text("pull at "), at, Piece::Text(": ")];
-    add_if_asked(alloc, lines, asked, &label, share.pulls.get(asked.name))
+    let (at, target) = (Some(share.device), share.pulls.get(asked.name));
+    add_if_asked(details, asked, What::Pull, at, None, target)
 }
 
-// Those of these messages from one device to another.
-fn add_sent(
-    alloc: Global,
-    lines: &mut Vec<Vec<u8>>,
+// Those of these messages to a device from another.
+fn add_sent<'a>(
+    details: &mut Vec<Detail<'a>>,
     asked: &Asked<'_>,
-    flights: &[Flight],
-    from: DeviceId,
+    flights: &'a [Flight],
     to: DeviceId,
+    from: DeviceId,
 ) -> Result<(), AllocError> {
-    let label = [
-        Piece::Text("on its way from "),
-        Piece::Number(from.number()),
-        Piece::Text(" to "),
-        Piece::Number(to.number()),
-        Piece::Text(": "),
-    ];
     for flight in flights {
         if flight.folder == *asked.folder {
-            add_carried(alloc, lines, asked, &label, flight.records.as_slice())?;
+            add_carried(details, asked, flight.records.as_slice(), to, from)?;
         }
     }
     Ok(())
 }
 
-// Those of these records.
-fn add_carried(
-    alloc: Global,
-    lines: &mut Vec<Vec<u8>>,
+// Those of these records on their way to a device from another.
+fn add_carried<'a>(
+    details: &mut Vec<Detail<'a>>,
     asked: &Asked<'_>,
-    label: &[Piece<'_>],
-    records: &[Record],
+    records: &'a [Record],
+    to: DeviceId,
+    from: DeviceId,
 ) -> Result<(), AllocError> {
     for record in records {
-        add_if_asked(alloc, lines, asked, label, Some(record))?;
+        let (to, from) = (Some(to), Some(from));
+        add_if_asked(details, asked, What::Message, to, from, Some(record))?;
     }
     Ok(())
 }
 
-fn add_if_asked(
-    alloc: Global,
-    lines: &mut Vec<Vec<u8>>,
+fn add_if_asked<'a>(
+    details: &mut Vec<Detail<'a>>,
     asked: &Asked<'_>,
-    label: &[Piece<'_>],
-    foreign: Option<&Record>,
+    what: What,
+    device: Option<DeviceId>,
+    from: Option<DeviceId>,
+    foreign: Option<&'a Record>,
 ) -> Result<(), AllocError> {
     match foreign {
-        Some(foreign) if asked.takes(foreign) => add_record(alloc, lines, label, foreign),
+        Some(foreign) if asked.takes(foreign) => {
+            add_record(details, what, device, from, Some(foreign))
+        }
         _ => Ok(()),
     }
 }

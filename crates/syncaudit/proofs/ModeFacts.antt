@@ -12,7 +12,7 @@ use Rattle.clap.specs.Walk.{Held, Names, Outcome, Step, Waiting, Walk, after_fla
 use Rattle.clap.specs.Faults.{check_fault, defaults_fault, entered_fault, level_fault, other_fault, settle_fault, turn_fault, walk_fault, word_fault}
 use Rattle.clap.specs.declared.parser.matches.ArgMatches.{ArgMatches}
 use Rattle.clap.specs.declared.parser.matches.ArgMatches.TheViews.{out-ArgMatches}
-use Rattle.syncaudit.specs.Mode.{Asks, program}
+use Rattle.syncaudit.specs.Mode.{Asks, form_of, program}
 use Rattle.syncaudit.specs.declared.mode.Mode.{Mode}
 use Rattle.syncaudit.specs.declared.mode.Mode.TheVariants.{Check, Certify, Explain}
 
@@ -200,7 +200,7 @@ asks_mode words none =
 mode_named : (words : List Text) → NamesMode (option_map (λ met. met.0) (subcommand_of program words)) → (mode : Mode) × Asks words mode
 mode_named words (inl is) = (Check, is)
 mode_named words (inr (inl is)) = (Certify, is)
-mode_named words (inr (inr is)) = (Explain, is)
+mode_named words (inr (inr is)) = (Explain (form_of (subcommand_of program words)), (is, refl))
 
 -- so they ask for a mode
 pub asked_mode : (words : List Text) → fault_of program words ≡ [] → (mode : Mode) × Asks words mode
@@ -210,11 +210,14 @@ map_twice : {X Y Z : Type 0} (f : Y → Z) (g : X → Y) (o : Option X) → opti
 map_twice f g None = refl
 map_twice f g (Some x) = refl
 
+-- the subcommand and its arguments that the matches tell are those that the words have
+pub rows_told : (app : App) (words : List Text) (m : ArgMatches) → app ≡ program → HasMatchesOf app words m → subcommand_rows_of m ≡ subcommand_of program words
+rows_told app words m is matches = (matches (ap is_simple is)).1 ∙ ap (λ a. subcommand_of a words) is
+
 -- the subcommand that the matches tell is the one that the words name
 pub name_told : (app : App) (words : List Text) (m : ArgMatches) → app ≡ program → HasMatchesOf app words m → option_map (λ met. met.0) (subcommand_of program words) ≡ subcommand_name_of m
 name_told app words m is matches =
-    let rows : subcommand_rows_of m ≡ subcommand_of program words = (matches (ap is_simple is)).1 ∙ ap (λ a. subcommand_of a words) is in
-    sym (map_twice _ _ (out-ArgMatches m).subcommand ∙ ap (option_map (λ met. met.0)) rows)
+    sym (map_twice _ _ (out-ArgMatches m).subcommand ∙ ap (option_map (λ met. met.0)) (rows_told app words m is matches))
 
 -- so it is one of the program's
 pub tells_mode : (app : App) (words : List Text) (m : ArgMatches) → app ≡ program → HasMatchesOf app words m → fault_of program words ≡ [] → NamesMode (subcommand_name_of m)

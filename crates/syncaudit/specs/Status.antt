@@ -6,6 +6,7 @@ use Rattle.bep_answer.specs.Certified.{IsCertifiedWhole, IsUncertified}
 use Rattle.bep_answer.specs.Explained.{IsExplainedWhole, IsUnexplained}
 use Rattle.bep_answer.specs.declared.outcome.Certified.{Certified}
 use Rattle.bep_answer.specs.declared.outcome.Certified.TheVariants as certificates
+use Rattle.bep_answer.specs.declared.outcome.Form.{Form}
 use Rattle.bep_answer.specs.declared.outcome.Outcome.{Outcome}
 use Rattle.bep_answer.specs.declared.outcome.Outcome.TheVariants.{Settled, NotSettled, Refused}
 use Rattle.bep_report.specs.declared.error.ReportError.{ReportError}
@@ -50,16 +51,16 @@ pub record IsCertificateTold (unread left held now : Option (List ℕ)) (status 
   pub done : MatchResult answer (IsCertifiedWhole unread left held now) (IsUncertified unread left held now)
 
 -- all that fails was written, or the document refused, or it was cut short, and the status tells which
-pub record IsExplanationTold (unread left held now : Option (List ℕ)) (status : ℕ) : Type 0 where
+pub record IsExplanationTold (form : Form) (unread left held now : Option (List ℕ)) (status : ℕ) : Type 0 where
   pub answer : Result Outcome ReportError
   pub told : status ≡ status_of answer
-  pub done : MatchResult answer (IsExplainedWhole unread left held now) (IsUnexplained unread left held now)
+  pub done : MatchResult answer (IsExplainedWhole form unread left held now) (IsUnexplained form unread left held now)
 
 -- what came of the document in each mode
 abbrev pub IsDone : Mode → Option (List ℕ) → Option (List ℕ) → Option (List ℕ) → Option (List ℕ) → ℕ → Type 0
 IsDone Check = IsTold
 IsDone Certify = IsCertificateTold
-IsDone Explain = IsExplanationTold
+IsDone (Explain form) = IsExplanationTold form
 
 -- the words ask for a mode, and this came of the document in it
 abbrev pub IsFollowed : List Text → Option (List ℕ) → Option (List ℕ) → Option (List ℕ) → Option (List ℕ) → ℕ → Type 0

@@ -1,9 +1,10 @@
 //! What the words of the command line ask for.
-ghost use Rattle.std.specs.Prelude.{◌≡◌, IfOk, map};
-ghost use Rattle.clap.specs.Words.{FailsBy, app_of, fault_of};
-ghost use Rattle.syncaudit.specs.Mode.{Asks, program};
+ghost use Rattle.std.specs.Prelude.{◌≡◌, IfOk, codes, map};
+ghost use Rattle.clap.specs.Words.{FailsBy, app_of, fault_of, first_value, found_of, subcommand_rows_of};
+ghost use Rattle.syncaudit.specs.Mode.{Asks, form_for, form_of, program};
 
-use clap::{Command, Error};
+use bep_answer::Form;
+use clap::{Arg, ArgAction, ArgMatches, Command, Error};
 use std::alloc::{AllocError, Global};
 use std::convert::AsStr;
 
@@ -14,8 +15,8 @@ pub enum Mode {
     Check,
     /// Write the cut that comes on standard input as a check document, with its certificate.
     Certify,
-    /// Tell all that keeps the check document that comes on standard input from being settled.
-    Explain,
+    /// Tell all that keeps the check document that comes on standard input from being settled, in this form.
+    Explain(Form),
 }
 
 const COMMANDS_HELP: &str =
@@ -37,7 +38,8 @@ const CERTIFY_HELP: &str =
 
 const EXPLAIN_HELP: &str =
     "The document FILE is a cut of the cluster with its certificate: DOCUMENTS.md describes it, and what is told.\n\n\
-     Example: syncaudit explain < examples/file-missing-in-store.json\n\n\
+     Example: syncaudit explain < examples/file-missing-in-store.json\n\
+     With --json it writes one JSON document on a line: explanation.schema.json describes it.\n\n\
      Exit status: 0 settled, 1 not settled, 2 document refused, 3 usage or help, 4 out of memory, \
      5 read or write fault";
 
@@ -53,10 +55,15 @@ fn command<'a>(alloc: Global) -> Result<Command<'a>, AllocError>
         .about("Writes the check document on standard input with the certificate of its cut")
         .override_usage("syncaudit certify < FILE")
         .after_help(CERTIFY_HELP);
+    let json = Arg::new(alloc, "json")
+        .long("json")
+        .action(ArgAction::SetTrue)
+        .help("Writes one JSON document");
     let explain = Command::new(alloc, "explain")
         .about("Tells all that keeps the check document on standard input from being settled")
-        .override_usage("syncaudit explain < FILE")
-        .after_help(EXPLAIN_HELP);
+        .override_usage("syncaudit explain [--json] < FILE")
+        .after_help(EXPLAIN_HELP)
+        .arg(json)?;
     Command::new(alloc, "syncaudit")
         .bin_name("syncaudit")?
         .version("0.1.0")
@@ -81,7 +88,27 @@ pub fn mode_of<'a, S: AsStr>(alloc: Global, words: &'a [S]) -> Result<Mode, Erro
     match matches.subcommand_name() {
         Some("check") => Ok(Mode::Check),
         Some("certify") => Ok(Mode::Certify),
-        Some("explain") => Ok(Mode::Explain),
+        Some("explain") => Ok(Mode::Explain(form_of(&matches))),
         _ => unreachable!(),
+    }
+}
+
+// The form that the subcommand's words ask for.
+fn form_of(matches: &ArgMatches<'_>) -> Form
+    ensures { result ≡ form_of (subcommand_rows_of matches.now) }
+{
+    match matches.subcommand() {
+        Some((_, given)) => form_given(given),
+        None => Form::Text,
+    }
+}
+
+// The form that the flag asks for.
+fn form_given(given: &ArgMatches<'_>) -> Form
+    ensures { result ≡ form_for (first_value (found_of given.now) (codes "json")) }
+{
+    match given.get_str("json") {
+        Some("true") => Form::Json,
+        _ => Form::Text,
     }
 }

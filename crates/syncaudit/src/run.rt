@@ -4,13 +4,13 @@ ghost use Rattle.clap.specs.Words.{fault_of};
 ghost use Rattle.bep_answer.specs.Answer.{SaysSettled};
 ghost use Rattle.bep_report.specs.declared.error.ReportError.TheVariants.{Memory};
 ghost use Rattle.syncaudit.specs.Mode.{Asks, program};
-ghost use Rattle.syncaudit.specs.Status.{IsEnd, IsFollowed, usage};
+ghost use Rattle.syncaudit.specs.Status.{IsCertificateTold, IsEnd, IsExplanationTold, IsFollowed, IsTold, usage};
 ghost use Rattle.syncaudit.specs.Status as spec;
 ghost use Rattle.syncaudit.specs.declared.mode.Mode.TheVariants.{Check};
 
 use crate::mode::{Mode, mode_of};
 use crate::status::{USAGE, certified_status_of, status_of};
-use bep_answer::{Certified, Outcome, certify_text, check_text, explain_text};
+use bep_answer::{Certified, Form, Outcome, certified, checked, explained};
 use bep_report::ReportError;
 use clap::error::ErrorKind;
 use std::convert::AsStr;
@@ -35,9 +35,9 @@ pub fn run<P: AllocGlobal + Eprint, R: Read, W: Write, S: AsStr>(
         → result ≡ 0 → SaysSettled (R.remaining reader.old) (R.remaining reader.new) }
 {
     match mode_of(rt.alloc(), words) {
-        Ok(Mode::Check) => end(rt, check_text(rt.alloc(), reader, writer)),
-        Ok(Mode::Certify) => end_certified(rt, certify_text(rt.alloc(), reader, writer)),
-        Ok(Mode::Explain) => end(rt, explain_text(rt.alloc(), reader, writer)),
+        Ok(Mode::Check) => check(rt, reader, writer),
+        Ok(Mode::Certify) => certify(rt, reader, writer),
+        Ok(Mode::Explain(form)) => explain(rt, form, reader, writer),
         Err(error) if error.kind() == ErrorKind::OutOfMemory => end(rt, Err(ReportError::Memory)),
         Err(error) => refuse(rt, error),
     }
@@ -65,6 +65,58 @@ fn refuse<P: Eprint, T: Display + Drop>(rt: &P, text: T) -> u8
 {
     let _ = eprint!(rt; "{text}");
     USAGE
+}
+
+// Audits a document.
+fn check<P: AllocGlobal + Eprint, R: Read, W: Write>(rt: &P, reader: &mut R, writer: &mut W) -> u8
+    ensures told { IsTold (R.remaining reader.old) (R.remaining reader.new) (W.contents writer.old) (W.contents writer.new) result }
+    ensures settled { result ≡ 0 → SaysSettled (R.remaining reader.old) (R.remaining reader.new) }
+{
+    match checked(rt.alloc(), reader, writer) {
+        Ok((outcome, hint)) => {
+            tell(rt, hint);
+            end(rt, Ok(outcome))
+        }
+        Err(error) => end(rt, Err(error)),
+    }
+}
+
+// Makes the certificate of a document's cut.
+fn certify<P: AllocGlobal + Eprint, R: Read, W: Write>(rt: &P, reader: &mut R, writer: &mut W) -> u8
+    ensures { IsCertificateTold (R.remaining reader.old) (R.remaining reader.new) (W.contents writer.old) (W.contents writer.new) result }
+{
+    match certified(rt.alloc(), reader, writer) {
+        Ok((outcome, hint)) => {
+            tell(rt, hint);
+            end_certified(rt, Ok(outcome))
+        }
+        Err(error) => end_certified(rt, Err(error)),
+    }
+}
+
+// Tells all that fails of a document's cut.
+fn explain<P: AllocGlobal + Eprint, R: Read, W: Write>(
+    rt: &P,
+    form: Form,
+    reader: &mut R,
+    writer: &mut W,
+) -> u8
+    ensures { IsExplanationTold form (R.remaining reader.old) (R.remaining reader.new) (W.contents writer.old) (W.contents writer.new) result }
+{
+    match explained(rt.alloc(), form, reader, writer) {
+        Ok((outcome, hint)) => {
+            tell(rt, hint);
+            end(rt, Ok(outcome))
+        }
+        Err(error) => end(rt, Err(error)),
+    }
+}
+
+// Tells where a refused document is at fault, as far as there is something to say.
+fn tell<P: Eprint>(rt: &P, hint: Option<String>) {
+    if let Some(hint) = hint {
+        let _ = eprintln!(rt; "{hint}");
+    }
 }
 
 // Tells why there is no answer, where there is none, and answers the exit status.

@@ -1,15 +1,79 @@
-//! What is said of a record or of a node, as a part of a line. No contract speaks of these texts.
+//! The details of a failure as lines of the text. No contract speaks of what they say.
+use crate::detail::{Detail, What};
 use bep_blocks::blocks;
-use bep_record::{Block, BlockSize, Entry, Kind, Node, Record};
+use bep_record::{Block, BlockSize, DeviceId, Entry, Kind, Node, Record};
 use bep_report::{Piece, push_pieces};
 use std::alloc::{AllocError, Global};
 
-/// Says the record: its version, what it tells is there, its time, and whether it is local-only.
-pub(crate) fn push_record(
-    alloc: Global,
+/// A line for each of these.
+pub(crate) fn lines_of(alloc: Global, details: &[Detail<'_>]) -> Result<Vec<Vec<u8>>, AllocError> {
+    let mut lines = Vec::new(alloc);
+    for detail in details {
+        let line = line_of(alloc, detail)?;
+        lines.reserve(1)?;
+        lines.push_reserved(line);
+    }
+    Ok(lines)
+}
+
+fn line_of(alloc: Global, detail: &Detail<'_>) -> Result<Vec<u8>, AllocError> {
+    let mut line = Vec::new(alloc);
+    push_label(&mut line, detail)?;
+    match (detail.record, detail.node) {
+        (Some(record), _) => push_record(alloc, &mut line, record)?,
+        (None, Some(node)) => push_node(alloc, &mut line, node)?,
+        (None, None) => push_text(&mut line, nothing_of(detail.what))?,
+    }
+    Ok(line)
+}
+
+fn nothing_of(what: What) -> &'static str {
+    match what {
+        What::Store => "nothing",
+        _ => "none",
+    }
+}
+
+// Says whose the record or the node is.
+fn push_label(line: &mut Vec<u8>, detail: &Detail<'_>) -> Result<(), AllocError> {
+    let device = detail.device;
+    match detail.what {
+        What::Winner if device.is_none() => push_text(line, "winner: "),
+        What::Winner => push_device(line, "winner: device ", device, ", "),
+        What::Row => push_device(line, "row: device ", device, ", "),
+        What::Own => push_device(line, "record of ", device, ": "),
+        What::Store => push_device(line, "store of ", device, ": "),
+        What::View => {
+            push_device(line, "view of ", detail.from, " at ")?;
+            push_device(line, "", device, ": ")
+        }
+        What::Message => {
+            push_device(line, "on its way from ", detail.from, " to ")?;
+            push_device(line, "", device, ": ")
+        }
+        What::Pull => push_device(line, "pull at ", device, ": "),
+    }
+}
+
+fn push_text(line: &mut Vec<u8>, said: &str) -> Result<(), AllocError> {
+    push_pieces(line, &[Piece::Text(said)])
+}
+
+fn push_device<'a>(
     line: &mut Vec<u8>,
-    record: &Record,
+    before: &'a str,
+    device: Option<DeviceId>,
+    after: &'a str,
 ) -> Result<(), AllocError> {
+    let number = match device {
+        Some(device) => Piece::Number(device.number()),
+        None => Piece::Text("-"),
+    };
+    push_pieces(line, &[Piece::Text(before), number, Piece::Text(after)])
+}
+
+// Says the record: its version, what it tells is there, its time, and whether it is local-only.
+fn push_record(alloc: Global, line: &mut Vec<u8>, record: &Record) -> Result<(), AllocError> {
     let entry = record.entry();
     push_version(line, entry.version.counters())?;
     push_content(alloc, line, entry)?;
@@ -20,8 +84,8 @@ pub(crate) fn push_record(
     Ok(())
 }
 
-/// Says what a store holds: kind, size and the first digits of its hash, or target, and its time.
-pub(crate) fn push_node(alloc: Global, line: &mut Vec<u8>, node: &Node) -> Result<(), AllocError> {
+// Says what a store holds: kind, size and the first digits of its hash, or target, and its time.
+fn push_node(alloc: Global, line: &mut Vec<u8>, node: &Node) -> Result<(), AllocError> {
     let parts = node.parts();
     match parts.kind {
         Kind::File => push_bytes(alloc, line, parts.bytes.as_slice())?,

@@ -1,7 +1,7 @@
 use Rattle.std.proofs.Common.{sym, ap, ◌∙◌}
 use Rattle.bep_tables.specs.document.Written.{check_of}
 use Rattle.bep_answer.proofs.SettledSaid.{settled_reading}
-use Rattle.bep_answer.proofs.check.check_text.Goals as goal
+use Rattle.bep_answer.proofs.check.checked.Goals as goal
 
 pub returns-clause-settled : goal.returns-clause-settled
 returns-clause-settled g c = λ is.

@@ -1,0 +1,49 @@
+//! What is answered to a document that is refused.
+ghost use Rattle.std.specs.Prelude.{◌≡◌, IfOk};
+ghost use Rattle.bep_report.specs.Text.{AppendsWhole};
+ghost use Rattle.bep_answer.specs.Answer.{fault_text};
+ghost use Rattle.bep_answer.specs.Explained.{IsRefusal};
+ghost use Rattle.bep_answer.specs.declared.outcome.Outcome.TheVariants as outcomes;
+
+use crate::json::refusal_json;
+use crate::outcome::{Form, Outcome};
+use bep_report::push_refused;
+use bep_tables::DocFault;
+use std::alloc::{AllocError, Global};
+
+/// That the document is refused, and the fault's line.
+pub(crate) fn refusal(alloc: Global, fault: &DocFault) -> Result<(Outcome, Vec<u8>), AllocError>
+    ensures { IfOk result (λ answer. (answer.0 ≡ outcomes.Refused) × (answer.1.items ≡ fault_text fault.now)) }
+{
+    let mut text = Vec::new(alloc);
+    push_fault(&mut text, fault)?;
+    Ok((Outcome::Refused, text))
+}
+
+/// The same in one of two forms.
+pub(crate) fn refusal_in(
+    alloc: Global,
+    form: Form,
+    fault: &DocFault,
+) -> Result<(Outcome, Vec<u8>), AllocError>
+    ensures { IfOk result (λ answer. (answer.0 ≡ outcomes.Refused) × IsRefusal form fault.now answer.1.items) }
+{
+    match form {
+        Form::Text => refusal(alloc, fault),
+        Form::Json => Ok((Outcome::Refused, refusal_json(alloc, fault)?)),
+    }
+}
+
+/// Appends the line of a fault.
+pub(crate) fn push_fault(text: &mut Vec<u8>, fault: &DocFault) -> Result<(), AllocError>
+    ensures { AppendsWhole result text.old.items text.new.items (fault_text fault.now) }
+{
+    push_refused(
+        text,
+        fault.fault.number(),
+        fault.fault.name(),
+        fault.folder.as_ref(),
+        fault.device,
+        fault.name.as_ref(),
+    )
+}

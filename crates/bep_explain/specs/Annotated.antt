@@ -1,0 +1,60 @@
+-- The explanation as JSON: all failures, each with a tree of what is said of it (this project's profile).
+use Rattle.std.specs.Prelude.{◌≡◌, ◌≤◌, ◌++◌, ℕ, Bool, true, false, List, [], ◌∷◌, Option, Some, None, map, codes}
+use Rattle.serde_json.specs.Data.{Data, null, boolean, string, object, no_members, member, depth}
+use Rattle.serde_json.specs.Read.{read, max_depth}
+use Rattle.serde_json.specs.View.{view}
+use Rattle.serde_json.specs.Written.{IsInOrder}
+use Rattle.bep_json.specs.Written.{whole, list_of}
+use Rattle.bep_model.specs.Tables.{Device}
+use Rattle.bep_audit.specs.Walk.{Failure, failure_shown}
+use Rattle.bep_report.specs.Lines.{word_of, newline}
+use Rattle.bep_explain.specs.declared.annotated.Annotated as lends
+
+-- a failure, and the tree of what is said of it
+pub record Annotated : Type 0 where
+  pub failure : Failure
+  pub details : Data
+
+-- those whose names are lent
+abbrev pub annotated_of : lends.Annotated → Annotated
+annotated_of one = record { failure = failure_shown one.failure; details = view one.details }
+
+-- the failures alone
+abbrev pub failures_in : List Annotated → List Failure
+failures_in told = map (λ one. one.failure) told
+
+-- the device of a place, null where it has none
+abbrev pub device_tree : Option Device → Data
+device_tree None = null
+device_tree (Some device) = whole device
+
+-- the tree of a failure: its reason and place, and what is said of it
+unfoldable pub failure_tree : Annotated → Data
+failure_tree one =
+    let place = one.failure.place in
+    object
+    (member (codes "details") one.details
+    (member (codes "device") (device_tree place.device)
+    (member (codes "folder") (string place.folder)
+    (member (codes "name") (string place.name)
+    (member (codes "reason") (string (word_of one.failure.reason)) no_members)))))
+
+-- whether nothing fails
+abbrev pub is_none : List Annotated → Bool
+is_none [] = true
+is_none (one ∷ more) = false
+
+-- the tree of an explanation
+unfoldable pub explanation_tree : List Annotated → Data
+explanation_tree told =
+    object
+    (member (codes "failures") (list_of (map failure_tree told))
+    (member (codes "settled") (boolean (is_none told)) no_members))
+
+-- the text is this tree as JSON, with a line's end: its items and members, each once and in order, as which it reads
+-- again unless it nests too deep
+pub record IsJsonLine (tree : Data) (text : List ℕ) : Type 0 where
+  pub json : List ℕ
+  pub in_order : IsInOrder json tree
+  pub reads_back : depth tree ≤ max_depth → read json ≡ Some tree
+  pub line : text ≡ json ++ newline

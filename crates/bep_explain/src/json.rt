@@ -1,0 +1,88 @@
+//! An explanation as JSON.
+ghost use Rattle.std.specs.Prelude.{◌≡◌, map, IfOk};
+ghost use Rattle.serde_json.specs.View.{view};
+ghost use Rattle.bep_json.specs.Written.{list_of};
+ghost use Rattle.bep_audit.specs.Walk.{failure_shown};
+ghost use Rattle.bep_explain.specs.Annotated.{IsJsonLine, annotated_of, device_tree, explanation_tree, failure_tree, is_none};
+
+use crate::Annotated;
+use bep_audit::Failure;
+use bep_record::DeviceId;
+use bep_report::word_of;
+use serde_json::{Value, json};
+use std::alloc::{AllocError, Global};
+
+/// All of these as one JSON document on a line: whether there is none, and each with its reason, place and details, in
+/// order. Or want of memory.
+pub fn explanation_json(alloc: Global, told: Vec<Annotated<'_>>) -> Result<Vec<u8>, AllocError>
+    ensures { IfOk result (λ text. IsJsonLine (explanation_tree (map annotated_of told.entry.items)) text.items) }
+{
+    let tree = explanation_tree(alloc, told)?;
+    json_line(alloc, &tree)
+}
+
+/// The tree as JSON without spaces, on a line. Or want of memory.
+pub fn json_line(alloc: Global, tree: &Value) -> Result<Vec<u8>, AllocError>
+    ensures { IfOk result (λ text. IsJsonLine (view tree.now) text.items) }
+{
+    let mut text = tree.to_string(alloc)?.into_bytes();
+    text.push(b'\n')?;
+    Ok(text)
+}
+
+// The tree of all of these.
+#[tactic(auto, unfolding(crate::specs::Annotated::explanation_tree))]
+fn explanation_tree(alloc: Global, told: Vec<Annotated<'_>>) -> Result<Value, AllocError>
+    ensures { IfOk result (λ v. view v ≡ explanation_tree (map annotated_of told.entry.items)) }
+{
+    let settled = is_none(told.as_slice());
+    let failures = failure_trees(alloc, told)?;
+    json!(in alloc; {"failures": failures, "settled": settled})
+}
+
+fn is_none(told: &[Annotated<'_>]) -> bool
+    ensures { result ≡ is_none (map annotated_of told.now) }
+{
+    match told {
+        [] => true,
+        _ => false,
+    }
+}
+
+// The trees of these, in order.
+fn failure_trees(alloc: Global, told: Vec<Annotated<'_>>) -> Result<Value, AllocError>
+    ensures { IfOk result (λ v. view v ≡ list_of (map failure_tree (map annotated_of told.entry.items))) }
+{
+    let mut trees = Vec::with_capacity(alloc, told.len())?;
+    for one in told {
+        let Annotated { failure, details } = one;
+        let tree = failure_tree(alloc, &failure, details)?;
+        trees.push(tree)?;
+    }
+    Ok(Value::Array(trees))
+}
+
+// The tree of one of them.
+#[tactic(auto, unfolding(crate::specs::Annotated::failure_tree))]
+fn failure_tree(alloc: Global, failure: &Failure<'_>, details: Value) -> Result<Value, AllocError>
+    ensures { IfOk result (λ v. view v ≡ failure_tree (record { failure = failure_shown failure.now; details = view details })) }
+{
+    let device = device_tree(failure.spot.device);
+    json!(in alloc; {
+        "details": details,
+        "device": device,
+        "folder": failure.spot.folder.as_str(),
+        "name": failure.spot.name.as_str(),
+        "reason": word_of(failure.reason)
+    })
+}
+
+/// The number of a device as JSON, null where there is none.
+pub fn device_tree(device: Option<DeviceId>) -> Value
+    ensures { view result ≡ device_tree device }
+{
+    match device {
+        None => Value::Null,
+        Some(device) => Value::from(device.number()),
+    }
+}

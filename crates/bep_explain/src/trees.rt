@@ -1,0 +1,107 @@
+//! The details of a failure as trees of JSON. No contract speaks of what they say.
+use crate::detail::{Detail, What};
+use crate::json::device_tree;
+use bep_blocks::blocks;
+use bep_json::record_value;
+use bep_record::{Block, BlockSize, Kind, Node, Record};
+use serde_json::{Value, json};
+use std::alloc::{AllocError, Global};
+
+/// A tree for each of these, as a list.
+pub(crate) fn trees_of(alloc: Global, details: &[Detail<'_>]) -> Result<Value, AllocError> {
+    let mut trees = Vec::with_capacity(alloc, details.len())?;
+    for detail in details {
+        let tree = tree_of(alloc, detail)?;
+        trees.push(tree)?;
+    }
+    Ok(Value::Array(trees))
+}
+
+fn tree_of(alloc: Global, detail: &Detail<'_>) -> Result<Value, AllocError> {
+    let (what, device) = (word_of(detail.what), device_tree(detail.device));
+    if detail.what == What::Store {
+        let node = node_or_null(alloc, detail.node)?;
+        return json!(in alloc; {"device": device, "node": node, "what": what});
+    }
+    let record = record_or_null(alloc, detail.record)?;
+    match detail.from {
+        None => json!(in alloc; {"device": device, "record": record, "what": what}),
+        Some(from) => {
+            json!(in alloc; {
+                "device": device,
+                "from": from.number(),
+                "record": record,
+                "what": what
+            })
+        }
+    }
+}
+
+fn word_of(what: What) -> &'static str {
+    match what {
+        What::Winner => "winner",
+        What::Row => "row",
+        What::Own => "record",
+        What::Store => "store",
+        What::View => "view",
+        What::Message => "message",
+        What::Pull => "pull",
+    }
+}
+
+fn record_or_null(alloc: Global, record: Option<&Record>) -> Result<Value, AllocError> {
+    match record {
+        Some(record) => record_value(alloc, record),
+        None => Ok(Value::Null),
+    }
+}
+
+fn node_or_null(alloc: Global, node: Option<&Node>) -> Result<Value, AllocError> {
+    match node {
+        Some(node) => node_tree(alloc, node),
+        None => Ok(Value::Null),
+    }
+}
+
+// What is there, with the hashes of its blocks in place of its bytes.
+fn node_tree(alloc: Global, node: &Node) -> Result<Value, AllocError> {
+    let parts = node.parts();
+    let bytes = parts.bytes.as_slice();
+    let hashes = match parts.kind {
+        Kind::File => hashes_of(alloc, bytes)?,
+        Kind::Directory | Kind::Symlink => Value::Array(Vec::new(alloc)),
+    };
+    json!(in alloc; {
+        "blocks": hashes,
+        "modified_ns": parts.modified_ns,
+        "modified_s": parts.modified_s,
+        "size": bytes.len() as u64,
+        "target": parts.target.as_str(),
+        "type": number_of(parts.kind)
+    })
+}
+
+// The number of a kind (BEP v1, 'FileInfo').
+fn number_of(kind: Kind) -> u32 {
+    match kind {
+        Kind::File => 0,
+        Kind::Directory => 1,
+        Kind::Symlink => 4,
+    }
+}
+
+fn hashes_of(alloc: Global, bytes: &[u8]) -> Result<Value, AllocError> {
+    let Ok(list) = blocks(alloc, bytes, BlockSize::base()) else {
+        return Err(AllocError);
+    };
+    let mut hashes = Vec::with_capacity(alloc, list.as_slice().len())?;
+    for block in list.as_slice() {
+        let hash = hash_of(alloc, block)?;
+        hashes.push(hash)?;
+    }
+    Ok(Value::Array(hashes))
+}
+
+fn hash_of(alloc: Global, block: &Block) -> Result<Value, AllocError> {
+    Ok(Value::String(hex::encode(alloc, &block.hash)?))
+}

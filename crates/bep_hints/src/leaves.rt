@@ -1,0 +1,103 @@
+//! Values of one piece: whether they are what they should be, and in which words that is told.
+use crate::members::Sort;
+use bep_json::{Nanoseconds, ReadError, Readable, Sequence, Whole};
+use bep_record::{DeviceId, FolderKind, FolderName, Kind, MAX_FILE_SIZE, Name, Target, Vector};
+use serde_json::Value;
+use std::alloc::Global;
+
+/// Whether the value is of the kind that the sort asks for.
+pub(crate) fn has_shape(sort: Sort, value: &Value) -> bool {
+    match sort {
+        Sort::Anything => true,
+        Sort::Flag => value.is_boolean(),
+        Sort::Version => Vector::has_shape(value),
+        Sort::FolderKind
+        | Sort::FolderName
+        | Sort::Name
+        | Sort::Target
+        | Sort::Hash
+        | Sort::Text
+        | Sort::Hex => value.is_string(),
+        _ => i64::has_shape(value),
+    }
+}
+
+/// Whether the value, which is of that kind, is within its range.
+pub(crate) fn is_in_range(alloc: Global, sort: Sort, value: &Value) -> bool {
+    match sort {
+        Sort::One => reads::<Whole<1, 1>>(alloc, value),
+        Sort::Id => reads::<DeviceId>(alloc, value),
+        Sort::AnyId => value.as_u64().is_some(),
+        Sort::Sequence => reads::<Sequence>(alloc, value),
+        Sort::Seconds => value.as_i64().is_some(),
+        Sort::Nanoseconds => reads::<Nanoseconds>(alloc, value),
+        Sort::FileSize => reads::<Whole<0, MAX_FILE_SIZE>>(alloc, value),
+        Sort::BlockSize => reads::<Whole<0, 4294967295>>(alloc, value),
+        Sort::Kind => reads::<Kind>(alloc, value),
+        Sort::FolderKind => reads::<FolderKind>(alloc, value),
+        Sort::FolderName => reads::<FolderName>(alloc, value),
+        Sort::Name => reads::<Name>(alloc, value),
+        Sort::Target => reads::<Target>(alloc, value),
+        Sort::Hash => reads::<[u8; 32]>(alloc, value),
+        Sort::Version => reads::<Vector>(alloc, value),
+        Sort::Text => fits_file(value),
+        Sort::Hex => is_hex(value),
+        _ => true,
+    }
+}
+
+// Whether the value is read as a `T`, or can't be for want of memory alone.
+fn reads<T: Readable>(alloc: Global, value: &Value) -> bool {
+    match T::read(alloc, value) {
+        Err(ReadError::Range) => false,
+        Ok(_) | Err(ReadError::Memory) => true,
+    }
+}
+
+fn fits_file(value: &Value) -> bool {
+    match value.as_str() {
+        Some(text) => text.len() as u64 <= MAX_FILE_SIZE,
+        None => false,
+    }
+}
+
+// Whether the value has two hexadecimal digits for each byte, and not too many.
+fn is_hex(value: &Value) -> bool {
+    match value.as_str() {
+        Some(digits) => {
+            let digits = digits.as_bytes();
+            digits.len() % 2 == 0
+                && (digits.len() / 2) as u64 <= MAX_FILE_SIZE
+                && digits.iter().all(|digit| digit.is_ascii_hexdigit())
+        }
+        None => false,
+    }
+}
+
+/// What the sort asks for.
+pub(crate) fn words_of(sort: Sort) -> &'static str {
+    match sort {
+        Sort::Anything => "anything",
+        Sort::One => "the number 1",
+        Sort::Flag => "true or false",
+        Sort::Id => "a whole number from 1 to 18446744073709551615",
+        Sort::AnyId => "a whole number from 0 to 18446744073709551615",
+        Sort::Sequence => "a whole number from 0 to 9223372036854775807",
+        Sort::Seconds => "a whole number from -9223372036854775808 to 9223372036854775807",
+        Sort::Nanoseconds => "a whole number from 0 to 999999999",
+        Sort::FileSize => "a whole number from 0 to 16777216",
+        Sort::BlockSize => "a whole number from 0 to 4294967295",
+        Sort::Kind => "0 (a file), 1 (a directory) or 4 (a symlink)",
+        Sort::FolderKind => "\"send-receive\", \"send-only\" or \"receive-only\"",
+        Sort::FolderName => "a text of 1 to 64 ASCII letters, digits, '-' and '_'",
+        Sort::Name =>
+            "a name: 1 to 1024 bytes without NUL, its parts divided by '/' and none of them empty, '.' or '..'",
+        Sort::Target => "a text of at most 1024 bytes without NUL",
+        Sort::Hash => "64 hexadecimal digits",
+        Sort::Version =>
+            "a list of at most 16 pairs: an id from 1, rising, and a value from 1 to 9223372036854775807",
+        Sort::Text => "a text of at most 16777216 bytes",
+        Sort::Hex => "two hexadecimal digits for each of at most 16777216 bytes",
+        _ => "an object",
+    }
+}

@@ -1,0 +1,183 @@
+//! What is said of a fault.
+use crate::members::{Expected, Sort};
+use crate::walk::{Flaw, LEVELS, Step, Wrong, look};
+use bep_document::{MAX_BYTES, has_version};
+use bep_record::MAX_DEVICES;
+use bep_report::{Piece, push_pieces};
+use serde_json::Value;
+use serde_json::error::{Category, Error};
+use std::alloc::{AllocError, Global};
+
+/// A sentence on where these bytes are at fault as a document, without a line's end: where they aren't JSON, or which
+/// member is missing, isn't known or isn't what it should be. None where there is nothing to say of that, or no memory.
+pub fn hint_at(alloc: Global, bytes: &[u8], expected: Expected) -> Option<String> {
+    let said = said_of(alloc, bytes, expected).ok()?;
+    if said.is_empty() {
+        return None;
+    }
+    String::from_utf8(said).ok()
+}
+
+// The sentence, empty where there is none.
+fn said_of(alloc: Global, bytes: &[u8], expected: Expected) -> Result<Vec<u8>, AllocError> {
+    if bytes.len() > MAX_BYTES {
+        let most = Piece::Number(MAX_BYTES as u64);
+        return said(
+            alloc,
+            &[
+                Piece::Text("the document has more than "),
+                most,
+                Piece::Text(" bytes"),
+            ],
+        );
+    }
+    match Value::from_slice(alloc, bytes) {
+        Ok(tree) => said_of_tree(alloc, &tree, expected),
+        Err(error) => said_of_text(alloc, &error),
+    }
+}
+
+// Where the bytes aren't JSON.
+fn said_of_text(alloc: Global, error: &Error) -> Result<Vec<u8>, AllocError> {
+    let what = match error.classify() {
+        Category::Memory => return Err(AllocError),
+        Category::Eof => ": the JSON ends before it is whole",
+        _ => ": this isn't JSON, or nests too deep",
+    };
+    let (line, column) = (error.line() as u64, error.column() as u64);
+    said(
+        alloc,
+        &[
+            Piece::Text("line "),
+            Piece::Number(line),
+            Piece::Text(", column "),
+            Piece::Number(column),
+            Piece::Text(what),
+        ],
+    )
+}
+
+// What is at fault in a tree.
+fn said_of_tree(alloc: Global, tree: &Value, expected: Expected) -> Result<Vec<u8>, AllocError> {
+    if !has_version(tree) {
+        let what = "the document should be an object whose member version is 1";
+        return said(alloc, &[Piece::Text(what)]);
+    }
+    let sort = match expected {
+        Expected::Check => Sort::CheckDocument,
+        Expected::Cut => Sort::CutDocument,
+    };
+    for flaw in [Flaw::Shape, Flaw::Range] {
+        let mut way = Vec::new(alloc);
+        if let Some(wrong) = look(alloc, flaw, &mut way, tree, sort, LEVELS)? {
+            return said_at(alloc, way.as_slice(), wrong);
+        }
+    }
+    said_of_devices(alloc, tree)
+}
+
+// What is wrong at the end of this way.
+fn said_at(alloc: Global, way: &[Step<'_>], wrong: Wrong) -> Result<Vec<u8>, AllocError> {
+    let mut text = Vec::new(alloc);
+    let mut before = "";
+    for step in way {
+        match step.name {
+            Some(name) => {
+                push_pieces(
+                    &mut text,
+                    &[Piece::Text(before), Piece::Name(name.as_bytes())],
+                )?;
+            }
+            None => {
+                let place = Piece::Number(step.place as u64);
+                push_pieces(&mut text, &[Piece::Text("["), place, Piece::Text("]")])?;
+            }
+        }
+        before = ".";
+    }
+    if way.is_empty() {
+        push_pieces(&mut text, &[Piece::Text("the document")])?;
+    }
+    push_wrong(&mut text, wrong)?;
+    Ok(text)
+}
+
+fn push_wrong(text: &mut Vec<u8>, wrong: Wrong) -> Result<(), AllocError> {
+    match wrong {
+        Wrong::Expected(what) => {
+            push_pieces(text, &[Piece::Text(": expected "), Piece::Text(what)])
+        }
+        Wrong::TooLong(most) => {
+            let most = Piece::Number(most as u64);
+            push_pieces(text, &[Piece::Text(": expected a list of at most "), most])
+        }
+        Wrong::Missing(name) => {
+            let (name, end) = (Piece::Text(name), Piece::Text(" is missing"));
+            push_pieces(text, &[Piece::Text(": the member "), name, end])
+        }
+        Wrong::Unknown => push_pieces(text, &[Piece::Text(": no such member is known here")]),
+        Wrong::TwoBodies => {
+            push_pieces(
+                text,
+                &[Piece::Text(": either text or hex is expected, not both")],
+            )
+        }
+    }
+}
+
+// That too many devices share the folders, if they do.
+fn said_of_devices(alloc: Global, tree: &Value) -> Result<Vec<u8>, AllocError> {
+    let mut known = Vec::new(alloc);
+    for folder in items_in(tree.get("cut"), "folders") {
+        for share in items_in(Some(folder), "devices") {
+            if let Some(device) = number_in(share, "device") {
+                if !known.as_slice().contains(&device) {
+                    known.push(device)?;
+                }
+            }
+        }
+    }
+    if known.len() <= MAX_DEVICES {
+        return Ok(Vec::new(alloc));
+    }
+    let count = Piece::Number(known.len() as u64);
+    said(
+        alloc,
+        &[
+            Piece::Text("cut.folders: "),
+            count,
+            Piece::Text(" different devices share the folders, at most 16 may"),
+        ],
+    )
+}
+
+// The items of the list at this member, none where there is no list.
+fn items_in<'a>(value: Option<&'a Value>, name: &str) -> &'a [Value] {
+    let Some(value) = value else {
+        return &[];
+    };
+    match value.get(name) {
+        Some(list) => list_items(list),
+        None => &[],
+    }
+}
+
+fn list_items(list: &Value) -> &[Value] {
+    match list.as_array() {
+        Some(items) => items.as_slice(),
+        None => &[],
+    }
+}
+
+fn number_in(value: &Value, name: &str) -> Option<u64> {
+    match value.get(name) {
+        Some(number) => number.as_u64(),
+        None => None,
+    }
+}
+
+fn said(alloc: Global, pieces: &[Piece<'_>]) -> Result<Vec<u8>, AllocError> {
+    let mut text = Vec::new(alloc);
+    push_pieces(&mut text, pieces)?;
+    Ok(text)
+}
