@@ -1,3 +1,13 @@
 mod OthersThat
 mod FoldersAt
 mod Begun
+mod SameFolders
+mod RowsKeep
+mod Sharing
+mod OneDevice
+mod Lift
+mod Changed
+mod Within
+mod Over
+mod BegunJoined
+mod Restarted
