@@ -40,24 +40,24 @@ use Rattle.bep_core.proofs.Sharing.{has_number, listed, sharing_there}
 
 kept_there : {X : Type 0} (p : X → Bool) (xs : List X) (x : X) → Contains xs x → p x ≡ true → Contains (filter p xs) x
 kept_there p [] x stands passes = absurd (not_in_none x stands)
-kept_there p (y ∷ xs) x stands passes = cases (p y) refl
+kept_there p (y ∷ xs) x stands passes = cases (λ more. kept_there p xs x more passes) (p y) refl
   where
-    cases : (b : Bool) → p y ≡ b → Contains (cond b (y ∷ filter p xs) (filter p xs)) x
-    cases true is =
-        ⊎_elim (λ same. subst (Contains (y ∷ filter p xs)) same (Contains-first y (filter p xs))) (λ more. Contains-more y (filter p xs) x (kept_there p xs x more passes))
+    cases : (Contains xs x → Contains (filter p xs) x) → (b : Bool) → p y ≡ b → Contains (cond b (y ∷ filter p xs) (filter p xs)) x
+    cases rest true is =
+        ⊎_elim (λ same. subst (Contains (y ∷ filter p xs)) same (Contains-first y (filter p xs))) (λ more. Contains-more y (filter p xs) x (rest more))
         (Contains-cons_cases y xs x stands)
-    cases false is =
-        ⊎_elim (λ same. let both : true ≡ false = sym passes ∙ ap p (sym same) ∙ is in absurd (cc)) (λ more. kept_there p xs x more passes)
+    cases rest false is =
+        ⊎_elim (λ same. let both : true ≡ false = sym passes ∙ ap p (sym same) ∙ is in absurd (cc)) rest
         (Contains-cons_cases y xs x stands)
 
 kept_was : {X : Type 0} (p : X → Bool) (xs : List X) (x : X) → Contains (filter p xs) x → Contains xs x
 kept_was p [] x stands = stands
-kept_was p (y ∷ xs) x stands = cases (p y) stands
+kept_was p (y ∷ xs) x stands = cases (kept_was p xs x) (p y) stands
   where
-    cases : (b : Bool) → Contains (cond b (y ∷ filter p xs) (filter p xs)) x → Contains (y ∷ xs) x
-    cases true kept =
-        ⊎_elim (λ same. subst (Contains (y ∷ xs)) same (Contains-first y xs)) (λ more. Contains-more y xs x (kept_was p xs x more)) (Contains-cons_cases y (filter p xs) x kept)
-    cases false kept = Contains-more y xs x (kept_was p xs x kept)
+    cases : (Contains (filter p xs) x → Contains xs x) → (b : Bool) → Contains (cond b (y ∷ filter p xs) (filter p xs)) x → Contains (y ∷ xs) x
+    cases rest true kept =
+        ⊎_elim (λ same. subst (Contains (y ∷ xs)) same (Contains-first y xs)) (λ more. Contains-more y xs x (rest more)) (Contains-cons_cases y (filter p xs) x kept)
+    cases rest false kept = Contains-more y xs x (rest kept)
 
 both_pass : (a b : Bool) → (a && b) ≡ true → (a ≡ true) × (b ≡ true)
 both_pass true true e = (refl, refl)
@@ -73,8 +73,8 @@ others_are : (test : Device → Bool) (devices : List Device) (device other : De
 others_are test devices device other = (
   λ kept.
       let passes = both_pass (not (other == device)) (test other) (kept_passes (λ one. not (one == device) && test one) devices other kept) in
-      (kept_was (λ one. not (one == device) && test one) devices other kept, (apart passes.0, passes.1)),
-  λ there. kept_there (λ one. not (one == device) && test one) devices other there.0 (passing there.1.0 there.1.1),
+      (kept_was (λ one. not (one == device) && test one) devices other kept, apart passes.0, passes.1),
+  λ there. kept_there (λ one. not (one == device) && test one) devices other there.0 (passing there.1 there.2),
 )
   where
     apart : not (other == device) ≡ true → other ≢ device
@@ -85,7 +85,7 @@ others_are test devices device other = (
       where
         decide : (b : Bool) → (other == device) ≡ b → (not b && test other) ≡ true
         decide true tied = absurd (different (same_number other device tied))
-        decide false no = e
+        decide false distinct = e
 
 -- ---- keys of two parts
 
@@ -135,30 +135,27 @@ module _ {S : Type 0} (contents : S → ByName NodeParts) (faults : S → ℕ) w
       get (begun_folders contents faults devices keys shares device) folder ≡ Some held →
       Contains (keys_of shares) (folder, device) × (held.tables.others ≡ sharing_with devices keys folder device)
   begun_of devices keys [] device folder held is = nothing_in_empty (slice_cmp nat_cmp) folder held is
-  begun_of devices keys (share ∷ shares) device folder held is = cases (share.0.1 == device) refl is
+  begun_of devices keys (share ∷ shares) device folder held is = cases (begun_of devices keys shares device folder held) (share.0.1 == device) refl is
     where
-      rest : get (begun_folders contents faults devices keys shares device) folder ≡ Some held → Contains (keys_of (share ∷ shares)) (folder, device) × (held.tables.others ≡ sharing_with devices keys folder device)
-      rest found = let later = begun_of devices keys shares device folder held found in (Contains-more share.0 (keys_of shares) (folder, device) later.0, later.1)
-
       here : share.0.1 ≡ device → folder ≡ share.0.0 → held ≡ begun_share contents faults devices keys share.0 share.1 → Contains (keys_of (share ∷ shares)) (folder, device) × (held.tables.others ≡ sharing_with devices keys folder device)
       here number name same = (
         subst (Contains (keys_of (share ∷ shares))) (λ i. (sym name i, number i)) (Contains-first share.0 (keys_of shares)),
         ap (λ (h : Held). h.tables.others) same ∙ (λ i. sharing_with devices keys (sym name i) (number i)),
       )
 
-      cases : (b : Bool) → (share.0.1 == device) ≡ b →
+      cases : (get (begun_folders contents faults devices keys shares device) folder ≡ Some held → Contains (keys_of shares) (folder, device) × (held.tables.others ≡ sharing_with devices keys folder device)) → (b : Bool) → (share.0.1 == device) ≡ b →
           get (from_entries {R = slice_cmp nat_cmp} ((if b then (share.0.0, begun_share contents faults devices keys share.0 share.1) ∷ [] else []) ++ flat_map (own_share contents faults devices keys device) shares)) folder ≡ Some held →
           Contains (keys_of (share ∷ shares)) (folder, device) × (held.tables.others ≡ sharing_with devices keys folder device)
-      cases true tied found =
-          ⊎_elim (λ same. here (same_number share.0.1 device tied) same.0 same.1) (λ more. rest more.1)
+      cases rest true tied found =
+          ⊎_elim (λ same. here (same_number share.0.1 device tied) same.0 same.1) (λ more. let later = rest more.1 in (Contains-more share.0 (keys_of shares) (folder, device) later.0, later.1))
           (found_after_insert nat_list_cmp_total exact_bytes (begun_folders contents faults devices keys shares device) share.0.0 (begun_share contents faults devices keys share.0 share.1) folder held found)
-      cases false apart found = rest found
+      cases rest false apart found = let later = rest found in (Contains-more share.0 (keys_of shares) (folder, device) later.0, later.1)
 
   -- a device has each folder of which it has a share
   begun_there : (devices : List Device) (keys : List (Folder × Device)) (shares : List ((Folder × Device) × Sharing S)) (device : Device) (folder : Folder) →
       Contains (keys_of shares) (folder, device) → (held : Held) × (get (begun_folders contents faults devices keys shares device) folder ≡ Some held)
   begun_there devices keys [] device folder stands = absurd (not_in_none _ stands)
-  begun_there devices keys (share ∷ shares) device folder stands = cases (share.0.1 == device) refl
+  begun_there devices keys (share ∷ shares) device folder stands = cases (begun_there devices keys shares device folder) (share.0.1 == device) refl
     where
       before : ByName Held
       before = begun_folders contents faults devices keys shares device
@@ -178,17 +175,17 @@ module _ {S : Type 0} (contents : S → ByName NodeParts) (faults : S → ℕ) w
           let found = over (eq_by_cmp (slice_cmp nat_cmp) folder share.0.0) earlier in
           (found.0, get-insert nat_list_cmp_total before share.0.0 made folder ∙ found.1)
 
-      cases : (b : Bool) → (share.0.1 == device) ≡ b →
+      cases : (Contains (keys_of shares) (folder, device) → (held : Held) × (get before folder ≡ Some held)) → (b : Bool) → (share.0.1 == device) ≡ b →
           (held : Held) × (get (from_entries {R = slice_cmp nat_cmp} ((if b then (share.0.0, begun_share contents faults devices keys share.0 share.1) ∷ [] else []) ++ flat_map (own_share contents faults devices keys device) shares)) folder ≡ Some held)
-      cases true tied =
+      cases rest true tied =
           ⊎_elim
           (λ same. (made, ap (get (insert before share.0.0 made)) (sym (ap (λ (key : Folder × Device). key.0) same)) ∙ get-insert_here nat_list_cmp_total exact_bytes before share.0.0 made))
-          (λ more. given (begun_there devices keys shares device folder more))
+          (λ more. given (rest more))
           split
-      cases false apart =
+      cases rest false apart =
           ⊎_elim
           (λ same. absurd (another_number share.0.1 device apart (ap (λ (key : Folder × Device). key.1) same)))
-          (λ more. begun_there devices keys shares device folder more)
+          rest
           split
 
   module _ (config : Configuration S) (rules : IsConfig config) where
@@ -210,12 +207,12 @@ module _ {S : Type 0} (contents : S → ByName NodeParts) (faults : S → ℕ) w
     ends_there : (one other : Device) → Contains config.links (one, other) → (one < other) × Contains config.devices one × Contains config.devices other
     ends_there one other stands =
         let joins : Joins config.devices (one, other) = All-contains (Joins config.devices) config.links (one, other) rules.joined stands in
-        (joins.0, (device_there one joins.1.0, device_there other joins.1.1))
+        (joins.0, device_there one joins.1, device_there other joins.2)
 
     -- a device's links are the configured ones
     links_known : (device other : Device) → Contains (linked_with config.devices config.links device) other ↔ AreLinked (config_of made) device other
     links_known device other = (
-      λ known. configured ((linked_iff config.links device other).0 ((others_are (is_linked config.links device) config.devices device other).0 known).1.1),
+      λ known. configured ((linked_iff config.links device other).0 ((others_are (is_linked config.links device) config.devices device other).0 known).2),
       λ linked. (others_are (is_linked config.links device) config.devices device other).1 (known (there linked)),
     )
       where
@@ -228,8 +225,8 @@ module _ {S : Type 0} (contents : S → ByName NodeParts) (faults : S → ℕ) w
         known : Contains config.links (device, other) ⊎ Contains config.links (other, device) → Contains config.devices other × (other ≢ device) × (is_linked config.links device other ≡ true)
         known stands =
             ⊎_elim
-            (λ one. let ends = ends_there device other one in let less = ends.0 in (ends.1.1, ((λ same. let e : device < device = subst (λ (n : ℕ). device < n) same less in absurd (omega arith)), (linked_iff config.links device other).1 stands)))
-            (λ turned. let ends = ends_there other device turned in let less = ends.0 in (ends.1.0, ((λ same. let e : device < device = subst (λ (n : ℕ). n < device) same less in absurd (omega arith)), (linked_iff config.links device other).1 stands)))
+            (λ one. let ends = ends_there device other one in let less = ends.0 in (ends.2, (λ same. let e : device < device = subst (λ (n : ℕ). device < n) same less in absurd (omega arith)), (linked_iff config.links device other).1 stands))
+            (λ turned. let ends = ends_there other device turned in let less = ends.0 in (ends.1, (λ same. let e : device < device = subst (λ (n : ℕ). n < device) same less in absurd (omega arith)), (linked_iff config.links device other).1 stands))
             stands
 
     -- the device has the folder where it has a share of it
@@ -263,13 +260,13 @@ module _ {S : Type 0} (contents : S → ByName NodeParts) (faults : S → ℕ) w
     shares_iff rising folder other = (
       λ shares.
           let there = sharing_there made other folder (rising_made rising) shares in
-          let here = has_number made.members other there.0 there.2.0 in
+          let here = has_number made.members other there.0 there.2 in
           let of = Contains-from_image (begun_member contents faults config) config.devices there.0 here.1 in
           let number : of.0 ≡ other = ap (λ (m : Member). m.number) of.2 ∙ here.0 in
           (
             subst (Contains config.devices) number of.1,
             subst (λ (n : Device). Contains keys (folder, n)) number
-            (shares_where of.0 folder there.1 (ap (λ (m : Member). get (tables_of m).replicas folder) of.2 ∙ there.2.1)).0,
+            (shares_where of.0 folder there.1 (ap (λ (m : Member). get (tables_of m).replicas folder) of.2 ∙ there.3)).0,
           ),
       λ there.
           let held = begun_there config.devices keys config.shares other folder there.1 in
@@ -290,10 +287,10 @@ module _ {S : Type 0} (contents : S → ByName NodeParts) (faults : S → ℕ) w
         sharing folder other = (
           λ among.
               let is = (others_are (is_shared keys folder) config.devices device other).0 among in
-              (is.1.0, (shares_iff rising folder other).1 (is.0, (shared_iff keys folder other).0 is.1.1)),
+              (is.1, (shares_iff rising folder other).1 (is.0, (shared_iff keys folder other).0 is.2)),
           λ shares.
               let is = (shares_iff rising folder other).0 shares.1 in
-              (others_are (is_shared keys folder) config.devices device other).1 (is.0, (shares.0, (shared_iff keys folder other).1 is.1)),
+              (others_are (is_shared keys folder) config.devices device other).1 (is.0, shares.0, (shared_iff keys folder other).1 is.1),
         )
 
     pub begun_network : IsStrictlyIncreasing config.devices → IsStrictlySortedBy by_ends config.links → IsNetwork made

@@ -9,5 +9,6 @@ mod Lift
 mod Changed
 mod Within
 mod Over
+mod AtLinks
 mod BegunJoined
 mod Restarted

@@ -92,12 +92,12 @@ module _ (network : Network) (rules : IsNetwork network) (device other : Device)
       (to_hand : There → AreLinked (config_of network) device other × shares other (tables_of was))
       (from_hand : AreLinked (config_of network) device other → shares other (tables_of was) → There) where
     at_hand : There → IsAtHand shares lent
-    at_hand there = let hand = to_hand there in (other, (joins_other hand.0, hand.1))
+    at_hand there = let hand = to_hand there in (other, joins_other hand.0, hand.1)
 
     there_at_hand : IsAtHand shares lent → There
     there_at_hand hand =
-        from_hand (linked_there hand.0 hand.1.0)
-        (subst (λ (one : Device). shares one (tables_of was)) (other_is hand.0 hand.1.0) hand.1.1)
+        from_hand (linked_there hand.0 hand.1)
+        (subst (λ (one : Device). shares one (tables_of was)) (other_is hand.0 hand.1) hand.2)
 
     -- the device makes the row at its end of the link
     acted_over : (one : Device) (answer : Answer) → Joins lent one → Acts (row one) (end_of was.number one) lent (record { member = after; link = has }) answer →
@@ -106,13 +106,14 @@ module _ (network : Network) (rules : IsNetwork network) (device other : Device)
         let link : had.link ≡ link_between (cluster_of network) device other = sym (link_found network device other ∙ ap link_of l.found) in
         let peer : tables_of was ≡ peer_of (member_at network.members device) = sym (ap peer_of r.found) in
         let same = other_is one joins in
-        (acts.acted, (
+        (
+          acts.acted,
           subst (λ (x : (Device × Device) × (Link × Peer)). row x.0.0 (sight_of (end_of x.0.1 x.0.0) x.1.0) x.1.1 acts.acted answer)
           (λ i. ((same i, r.number i), (link i, peer i))) acts.made,
           both_changed
           ∙ (λ i. with_link_between (with_peer (cluster_of network) device (acts.tables i)) device other (acts.carried i).link)
           ∙ (λ i. with_link_between (with_peer (cluster_of network) device acts.acted.peer) device other (after_deed (end_of (r.number i) (same i)) acts.acted.deed (link i))),
-        ))
+        )
 
     -- the whole cluster makes the step
     pub over : (answer : Answer) → StepOver row shares lent (record { member = after; link = has }) answer →
@@ -127,6 +128,6 @@ module _ (network : Network) (rules : IsNetwork network) (device other : Device)
           λ there. refused.0 (at_hand there),
           (all_same (ap (λ (new : Lent). tables_of new.member) refused.1.0) (ap (λ (new : Lent). new.link) refused.1.0), refused.1.1),
         )))
-        (λ made. inr (inr (λ absent. made.0 (λ hand. absent (there_at_hand hand)), acted_over made.1.0 answer made.1.1.0 made.1.1.1)))
+        (λ made. inr (inr (λ absent. made.0 (λ hand. absent (there_at_hand hand)), acted_over made.1.0 answer made.1.1 made.1.2)))
         rest)
         step

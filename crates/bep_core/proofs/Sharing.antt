@@ -47,15 +47,16 @@ listed members device member is =
 -- where the numbers rise, each device is the one that its number finds
 found_itself : (members : List Member) (member : Member) → IsStrictlySortedBy nat_cmp (numbers_of members) → Contains members member → member_at members member.number ≡ Some member
 found_itself [] member sorted stands = absurd (not_in_none member stands)
-found_itself (first ∷ members) member sorted stands = ⊎_elim here later (Contains-cons_cases first members member stands)
+found_itself (first ∷ members) member sorted stands =
+    ⊎_elim here (λ more. later more (found_itself members member (sorted_tail nat_cmp first.number (numbers_of members) sorted) more)) (Contains-cons_cases first members member stands)
   where
     here : first ≡ member → cond (is_number member.number first) (Some first) (member_at members member.number) ≡ Some member
     here same =
         subst (λ (one : Member). cond (is_number one.number first) (Some first) (member_at members one.number) ≡ Some one) same
         (ap (λ (b : Bool). cond b (Some first) (member_at members first.number)) (itself first.number))
 
-    later : Contains members member → cond (is_number member.number first) (Some first) (member_at members member.number) ≡ Some member
-    later more = cases (is_number member.number first) refl
+    later : Contains members member → member_at members member.number ≡ Some member → cond (is_number member.number first) (Some first) (member_at members member.number) ≡ Some member
+    later more rest = cases (is_number member.number first) refl
       where
         less : nat_cmp first.number member.number ≡ Less
         less =
@@ -66,7 +67,7 @@ found_itself (first ∷ members) member sorted stands = ⊎_elim here later (Con
         cases true tied =
             let equal : nat_cmp first.number member.number ≡ Equal = ap (nat_cmp first.number) (sym (same_number first.number member.number tied)) ∙ tied_itself nat_cmp_total first.number in
             absurd (cc)
-        cases false apart = found_itself members member (sorted_tail nat_cmp first.number (numbers_of members) sorted) more
+        cases false apart = rest
 
 pub found_by_number : (members : List Member) (member : Member) → IsStrictlyIncreasing (numbers_of members) → Contains members member → member_at members member.number ≡ Some member
 found_by_number members member rising stands = found_itself members member (sorted_from_strictly_increasing (numbers_of members) rising) stands
@@ -88,12 +89,12 @@ sharing_there network device folder rising shares =
 pub absent_shares_none : (network : Network) (device : Device) (folder : Folder) → IsStrictlyIncreasing (numbers_of network.members) → member_at network.members device ≡ None → ¬ SharesFolder (config_of network) device folder
 absent_shares_none network device folder rising none shares =
     let there = sharing_there network device folder rising shares in
-    let both : None ≡ Some there.0 = sym none ∙ there.2.0 in
+    let both : None ≡ Some there.0 = sym none ∙ there.2 in
     absurd (cc)
 
 pub without_shares_none : (network : Network) (device : Device) (folder : Folder) (member : Member) → IsStrictlyIncreasing (numbers_of network.members) → member_at network.members device ≡ Some member → get (tables_of member).replicas folder ≡ None → ¬ SharesFolder (config_of network) device folder
 without_shares_none network device folder member rising found none shares =
     let there = sharing_there network device folder rising shares in
-    let same : there.0 ≡ member = let e : Some there.0 ≡ Some member = sym there.2.0 ∙ found in cc in
-    let both : None ≡ Some there.1 = sym none ∙ ap (λ (m : Member). get (tables_of m).replicas folder) (sym same) ∙ there.2.1 in
+    let same : there.0 ≡ member = let e : Some there.0 ≡ Some member = sym there.2 ∙ found in cc in
+    let both : None ≡ Some there.1 = sym none ∙ ap (λ (m : Member). get (tables_of m).replicas folder) (sym same) ∙ there.3 in
     absurd (cc)

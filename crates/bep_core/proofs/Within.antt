@@ -52,8 +52,8 @@ module _ (folder : Folder) (row : Replica → Row Replica) where
       ⊎_elim
       (λ refused. equal_folders _ _ (ap (λ (m : Member). (tables_of m).replicas) refused.1.0))
       (λ made.
-      subst (λ (p : Peer). SameFolders (tables_of was).replicas p.replicas) (sym made.1.1.1.1.1)
-      (folder_changed (tables_of was).replicas folder made.1.0 made.1.1.0 made.1.1.1.0 (keeps made.1.0 made.1.1.0 answer made.1.1.1.1.0)))
+      subst (λ (p : Peer). SameFolders (tables_of was).replicas p.replicas) (sym made.1.4)
+      (folder_changed (tables_of was).replicas folder made.1.0 made.1.1 made.1.2 (keeps made.1.0 made.1.1 answer made.1.3)))
       rest)
       step
 
@@ -69,23 +69,17 @@ module _ (folder : Folder) (row : Replica → Row Replica) where
         let none = tables_at was.folders folder ∙ ap (option_map (λ (held : Held). held.tables)) refused.0 in
         inr (inl (without_shares_none network device folder was rules.devices r.found none, (nothing_changed network device place was after r (ap tables_of refused.1.0), refused.1.1))))
         (λ made.
-        let there : SharesFolder (config_of network) device folder = (made.1.0.kind, subst (λ (n : Device). Contains ((config_of network).sharing folder) (n, made.1.0.kind)) r.number ((rules.joined device was r.found).folders folder made.1.0 made.1.1.1.0).kind) in
+        let there : SharesFolder (config_of network) device folder = (made.1.0.kind, subst (λ (n : Device). Contains ((config_of network).sharing folder) (n, made.1.0.kind)) r.number ((rules.joined device was r.found).folders folder made.1.0 made.1.2).kind) in
         let here : peer_of (member_at network.members device) ≡ tables_of was = ap peer_of r.found in
         inr (inr (
           λ absent. absent there,
           (
             made.1.0,
-            (
-              made.1.1.0,
-              (
-                ap (λ (p : Peer). get p.replicas folder) here ∙ made.1.1.1.0,
-                (
-                  made.1.1.1.1.0,
-                  one_device network device place was after r
-                  ∙ ap (with_peer (cluster_of network) device) (made.1.1.1.1.1 ∙ ap (λ (p : Peer). with_replica p folder made.1.1.0) (sym here)),
-                ),
-              ),
-            ),
+            made.1.1,
+            ap (λ (p : Peer). get p.replicas folder) here ∙ made.1.2,
+            made.1.3,
+            one_device network device place was after r
+            ∙ ap (with_peer (cluster_of network) device) (made.1.4 ∙ ap (λ (p : Peer). with_replica p folder made.1.1) (sym here)),
           ),
         )))
         rest)
