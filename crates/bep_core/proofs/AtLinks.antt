@@ -1,5 +1,5 @@
 -- A step of one link is a step of the whole cluster.
-use Rattle.std.proofs.Common.{◌≡◌, ◌⊎◌, ◌<◌, ℕ, cond, nat_lt, true, false, Bool, List, [], ◌∷◌, length, get_or, Option, Some, None, Result, Ok, Err, Contains, refl, sym, ap, subst, ◌∙◌, inl, inr}
+use Rattle.std.proofs.Common.{zero, suc, ◌≡◌, ◌⊎◌, ◌<◌, ℕ, cond, nat_lt, true, false, Bool, List, [], ◌∷◌, length, get_or, Option, Some, None, Result, Ok, Err, Contains, refl, sym, ap, subst, ◌∙◌, inl, inr}
 use Rattle.std.specs.List.{find, position, position_or_len}
 use Rattle.std.proofs.lemmas.List.Folds.{find_at}
 use Rattle.std.proofs.lemmas.List.Quantifiers.{position-Some}
@@ -15,9 +15,9 @@ use Rattle.bep_machine.specs.Steps.{AtLink}
 use Rattle.bep_links.specs.Link.{LinkBetween}
 use Rattle.bep_core.specs.declared.why.Why.{Why}
 use Rattle.bep_core.specs.declared.why.Why.TheVariants.{Refused, ConfigBad, Memory}
-use Rattle.bep_core.specs.Network.{Network, cluster_of, between_at, ends_of, link_of}
+use Rattle.bep_core.specs.Network.{Network, is_between as joins, cluster_of, between_at, ends_of, link_of}
 use Rattle.bep_core.specs.Why.{Gives}
-use Rattle.bep_core.proofs.Lift.{ReplacesLink, with_between, one_link, found_joins, none_joins}
+use Rattle.bep_core.proofs.Lift.{ReplacesLink, with_between, one_link, joins_ends, found_joins, none_joins}
 
 -- ---- the first that passes a test
 
@@ -45,6 +45,19 @@ none_found p xs is = cases (nat_lt (position_or_len p xs) (length xs)) refl is
     cases : (b : Bool) → nat_lt (position_or_len p xs) (length xs) ≡ b → cond b (Some (position_or_len p xs)) None ≡ None → find p xs ≡ None
     cases true less e = absurd (cc)
     cases false past e = find_at p xs ∙ none_at xs (position_or_len p xs) past
+
+-- the link at the place where the search found it
+pub replaces_link : (links : List LinkBetween) (lower upper : Device) (place : ℕ) (was after : LinkBetween) → position (joins lower upper) links ≡ Some place → was ≡ get_or links place was → after.ends ≡ was.ends → ReplacesLink links lower upper place was after
+replaces_link links lower upper place was after is value same =
+    let first = first_found (joins lower upper) links place was is in
+    record {
+      first = first.0;
+      there = first.1;
+      is = sym value;
+      found = first.2 ∙ ap Some (sym value);
+      ends = joins_ends lower upper was (ap (joins lower upper) value ∙ (position-Some (joins lower upper) links place was is).1);
+      same = same;
+    }
 
 -- ---- what is answered
 

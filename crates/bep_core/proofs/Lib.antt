@@ -7,8 +7,9 @@ mod Sharing
 mod OneDevice
 mod Lift
 mod Changed
-mod Within
 mod Over
 mod AtLinks
+mod Within
+mod DeviceSteps
 mod BegunJoined
 mod Restarted

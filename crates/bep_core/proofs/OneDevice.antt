@@ -1,6 +1,7 @@
 -- What the tables of a cluster are where one of its devices was changed.
-use Rattle.std.proofs.Common.{◌≡◌, ◌≢◌, ◌<◌, ◌≤◌, ◌==◌, ℕ, Bool, true, false, if◌then◌else◌, List, [], ◌∷◌, ◌++◌, length, set, get_or, Option, Some, None, Contains, refl, sym, ap, subst, ◌∙◌}
+use Rattle.std.proofs.Common.{zero, suc, ◌↔◌, ◌≡◌, ◌≢◌, ◌<◌, ◌≤◌, ◌==◌, ℕ, Bool, true, false, if◌then◌else◌, List, [], ◌∷◌, ◌++◌, length, set, get_or, Option, Some, None, Contains, refl, sym, ap, subst, ◌∙◌}
 use Rattle.std.specs.List.{find, flat_map, position_or_len}
+use Rattle.std.specs.FinMap.{get}
 use Rattle.std.specs.List.Sorted.{IsStrictlyIncreasing}
 use Rattle.std.proofs.Math.Path.{fun_ext}
 use Rattle.std.proofs.Math.Seq.{map-set_same}
@@ -14,6 +15,7 @@ use Rattle.bep_machine.specs.Cluster.{Config, Cluster, with_peer}
 use Rattle.bep_machine.specs.Peer.{Peer}
 use Rattle.bep_machine.specs.Replica.{Replica}
 use Rattle.bep_machine.specs.Sound.{FitsFolder}
+use Rattle.bep_machine.specs.Steps.{AreLinked}
 use Rattle.bep_peer.specs.Member.{Member, tables_of}
 use Rattle.bep_core.specs.Network.{Network, IsNetwork, IsJoined, is_number, numbers_of, ends_of, member_at, between_at, peer_of, link_of, config_of, sharing_of, kind_of, cluster_of, failed_of, failed_at}
 use Rattle.bep_core.proofs.OthersThat.{itself, same_number}
@@ -121,7 +123,7 @@ module _ (network : Network) (device : Device) (place : ℕ) (was after : Member
 
   joined_after : IsJoined (config_of network) was → IsJoined (config_of network) after
   joined_after joined = record {
-    linked = λ other. subst (λ (links : List Device). Contains links other ↔ _) (sym r.linked) (subst (λ (n : Device). Contains was.linked other ↔ AreLinked (config_of network) n other) (sym r.same) (joined.linked other));
+    linked = λ other. subst (λ (links : List Device). Contains links other ↔ AreLinked (config_of network) after.number other) (sym r.linked) (subst (λ (n : Device). Contains was.linked other ↔ AreLinked (config_of network) n other) (sym r.same) (joined.linked other));
     folders = λ folder replica is.
         let earlier = was_there (get (tables_of was).replicas folder) (get (tables_of after).replicas folder) replica (r.folders folder) is in
         subst (λ (n : Device). FitsFolder (config_of network) n folder replica) (sym r.same)

@@ -1,5 +1,6 @@
 -- A step of one device over a link that it is lent is a step of the whole cluster.
-use Rattle.std.proofs.Common.{◌≡◌, ◌⊎◌, ◌<◌, ⊤, ℕ, Bool, true, false, nat_lt, if◌then◌else◌, List, Option, Some, None, Contains, tt, refl, sym, ap, subst, ◌∙◌, inl, inr, ⊎_elim}
+use Rattle.std.proofs.Common.{◌≡◌, ◌⊎◌, ◌<◌, ℕ, Bool, true, false, nat_lt, if◌then◌else◌, List, Option, Some, None, Contains, refl, sym, ap, subst, ◌∙◌, inl, inr, ⊎_elim}
+use Rattle.std.specs.Bool.{⊤}
 use Rattle.bep_model.specs.Tables.{Device}
 use Rattle.bep_machine.specs.declared.refusal.Refusal.TheVariants.{NotShared}
 use Rattle.bep_machine.specs.Answer.{Answer, Refused as Refuses, Row}
@@ -15,11 +16,15 @@ use Rattle.bep_core.proofs.Lift.{ReplacesLink, with_between, one_link, same_link
 use Rattle.bep_core.proofs.OneDevice.{Replaces, with_member, one_device, nothing_changed}
 use Rattle.bep_core.proofs.Within.{StepOf}
 
+-- the two devices, in this order or turned
+abbrev ordered : Bool → Device → Device → Device × Device
+ordered upward device other = if upward then (device, other) else (other, device)
+
 -- the two devices in order are the two
 either_way : (device other : Device) → (in_order device other ≡ (device, other)) ⊎ (in_order device other ≡ (other, device))
 either_way device other = cases (nat_lt device other)
   where
-    cases : (b : Bool) → ((if b then (device, other) else (other, device)) ≡ (device, other)) ⊎ ((if b then (device, other) else (other, device)) ≡ (other, device))
+    cases : (b : Bool) → (ordered b device other ≡ (device, other)) ⊎ (ordered b device other ≡ (other, device))
     cases true = inl refl
     cases false = inr refl
 
@@ -27,14 +32,14 @@ either_way device other = cases (nat_lt device other)
 link_found : (network : Network) (device other : Device) → link_between (cluster_of network) device other ≡ link_of (between_at network.links (in_order device other).0 (in_order device other).1)
 link_found network device other = cases (nat_lt device other)
   where
-    cases : (b : Bool) → (if b then link_of (between_at network.links device other) else link_of (between_at network.links other device)) ≡ link_of (between_at network.links (if b then (device, other) else (other, device)).0 (if b then (device, other) else (other, device)).1)
+    cases : (b : Bool) → (if b then link_of (between_at network.links device other) else link_of (between_at network.links other device)) ≡ link_of (between_at network.links (ordered b device other).0 (ordered b device other).1)
     cases true = refl
     cases false = refl
 
 link_put : (cluster : Cluster) (device other : Device) (link : Link) → with_link cluster (in_order device other).0 (in_order device other).1 link ≡ with_link_between cluster device other link
 link_put cluster device other link = cases (nat_lt device other)
   where
-    cases : (b : Bool) → with_link cluster (if b then (device, other) else (other, device)).0 (if b then (device, other) else (other, device)).1 link ≡ (if b then with_link cluster device other link else with_link cluster other device link)
+    cases : (b : Bool) → with_link cluster (ordered b device other).0 (ordered b device other).1 link ≡ (if b then with_link cluster device other link else with_link cluster other device link)
     cases true = refl
     cases false = refl
 

@@ -1,5 +1,5 @@
 -- What no step changes of a device's folders: which ones there are, of which kind, and who shares them.
-use Rattle.std.proofs.Common.{◌≡◌, Bool, true, false, cond, List, Option, Some, None, option_map, Contains, ◌↔◌, refl, sym, ap, subst, ◌∙◌}
+use Rattle.std.proofs.Common.{◌≡◌, Bool, true, false, cond, List, [], ◌∷◌, ◌≢◌, Option, Some, None, option_map, Contains, ◌↔◌, refl, sym, ap, subst, ◌∙◌}
 use Rattle.std.specs.Ordering.{nat_cmp, eq_by_cmp}
 use Rattle.std.specs.Cmp.Lexicographic.{slice_cmp, nat_list_cmp_total}
 use Rattle.std.specs.FinMap.{get, insert, get-insert, slice_cmp-IsAntisymmetric, nat_cmp-IsAntisymmetric}
@@ -10,6 +10,7 @@ use Rattle.bep_model.specs.Tables.{Device, Folder}
 use Rattle.bep_machine.specs.Cluster.{Config}
 use Rattle.bep_machine.specs.Replica.{Replica}
 use Rattle.bep_machine.specs.Sound.{FitsFolder}
+use Rattle.bep_machine.specs.Steps.{SharesFolder}
 use Rattle.bep_core.specs.Network.{kind_of}
 
 -- a replica's kind, and who shares the folder
@@ -51,7 +52,7 @@ same_kinds device old new same = kinds_are device new ∙ ap (kinds device) same
 pub same_fit : (config : Config) (device : Device) (folder : Folder) (old new : Replica) → outline new ≡ outline old → FitsFolder config device folder old → FitsFolder config device folder new
 same_fit config device folder old new same fit = record {
   kind = subst (λ (kind : FolderKind). Contains (config.sharing folder) (device, kind)) (sym (ap (λ (line : FolderKind × List Device). line.0) same)) fit.kind;
-  others = λ other. subst (λ (line : FolderKind × List Device). Contains line.1 other ↔ _) (sym same) (fit.others other);
+  others = λ other. subst (λ (line : FolderKind × List Device). Contains line.1 other ↔ ((other ≢ device) × SharesFolder config other folder)) (sym same) (fit.others other);
 }
 
 -- a folder that is there afterwards was there before

@@ -66,6 +66,7 @@ found_itself (first ∷ members) member sorted stands =
         cases : (b : Bool) → is_number member.number first ≡ b → cond b (Some first) (member_at members member.number) ≡ Some member
         cases true tied =
             let equal : nat_cmp first.number member.number ≡ Equal = ap (nat_cmp first.number) (sym (same_number first.number member.number tied)) ∙ tied_itself nat_cmp_total first.number in
+            let both : Less ≡ Equal = sym less ∙ equal in
             absurd (cc)
         cases false apart = rest
 

@@ -1,6 +1,9 @@
 -- A step of one device within one of its folders is a step of the whole cluster.
-use Rattle.std.proofs.Common.{◌≡◌, ◌⊎◌, ⊤, ℕ, Option, Some, None, Result, Ok, Err, Contains, tt, refl, sym, ap, subst, ◌∙◌, inl, inr, ⊎_elim, option_map}
+use Rattle.std.proofs.Common.{◌≡◌, ◌⊎◌, ℕ, List, get_or, Option, Some, None, Result, Ok, Err, Contains, refl, sym, ap, subst, ◌∙◌, inl, inr, ⊎_elim, option_map}
+use Rattle.std.specs.Bool.{⊤}
 use Rattle.std.specs.FinMap.{get}
+use Rattle.std.specs.List.{position}
+use Rattle.std.proofs.lemmas.List.Quantifiers.{position-Some}
 use Rattle.bep_model.specs.Tables.{Device, Folder}
 use Rattle.bep_machine.specs.declared.moved.Moved.{Moved}
 use Rattle.bep_machine.specs.declared.refusal.Refusal.TheVariants.{NotShared}
@@ -15,8 +18,10 @@ use Rattle.bep_peer.specs.declared.error.PeerError.TheVariants as peer
 use Rattle.bep_peer.specs.Member.{Member, tables_of}
 use Rattle.bep_peer.specs.PeerError.{Gives as GivesThere}
 use Rattle.bep_peer.specs.Within.{AtFolder, StepWithin}
-use Rattle.bep_core.specs.Network.{Network, IsNetwork, cluster_of, config_of, member_at, peer_of}
+use Rattle.bep_core.specs.Network.{Network, IsNetwork, is_number, cluster_of, config_of, member_at, peer_of}
 use Rattle.bep_core.specs.Why.{Gives, answer_of}
+use Rattle.bep_core.proofs.AtLinks.{first_found}
+use Rattle.bep_core.proofs.OthersThat.{same_number}
 use Rattle.bep_core.proofs.Changed.{tables_at}
 use Rattle.bep_core.proofs.OneDevice.{Replaces, with_member, one_device, nothing_changed}
 use Rattle.bep_core.proofs.RowsKeep.{Keeps}
@@ -88,3 +93,19 @@ module _ (folder : Folder) (row : Replica → Row Replica) where
 -- a step that can't be made, as the device isn't there
 pub absent : (network : Network) (device : Device) (folder : Folder) (row : Row Cluster) → IsNetwork network → member_at network.members device ≡ None → StepOf (SharesFolder (config_of network) device folder) row (cluster_of network) (cluster_of network) (Refuses NotShared)
 absent network device folder row rules none = inr (inl (absent_shares_none network device folder rules.devices none, (refl, refl)))
+
+-- the device at the place where the search found it
+pub replaces : (members : List Member) (device : Device) (place : ℕ) (was after : Member) → position (is_number device) members ≡ Some place → was ≡ get_or members place was →
+    after.number ≡ was.number → after.linked ≡ was.linked → SameFolders (tables_of was).replicas (tables_of after).replicas → Replaces members device place was after
+replaces members device place was after is value same linked folders =
+    let first = first_found (is_number device) members place was is in
+    record {
+      first = first.0;
+      there = first.1;
+      is = sym value;
+      found = first.2 ∙ ap Some (sym value);
+      number = same_number was.number device (ap (is_number device) value ∙ (position-Some (is_number device) members place was is).1);
+      same = same;
+      linked = linked;
+      folders = folders;
+    }
