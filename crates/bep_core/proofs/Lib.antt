@@ -13,3 +13,5 @@ mod Within
 mod DeviceSteps
 mod BegunJoined
 mod Restarted
+mod ListDone
+mod MessagesKeep
