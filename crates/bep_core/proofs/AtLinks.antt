@@ -23,7 +23,7 @@ use Rattle.bep_core.proofs.Lift.{ReplacesLink, with_between, one_link, joins_end
 
 none_at : {X : Type 0} (xs : List X) (place : ℕ) → nat_lt place (length xs) ≡ false → slice_get xs place ≡ None
 none_at [] place past = refl
-none_at (x ∷ xs) zero past = absurd (cc)
+none_at (x ∷ xs) zero past = let both : true ≡ false = past in absurd (cc)
 none_at (x ∷ xs) (suc place) past = none_at xs place past
 
 pub first_found : {X : Type 0} (p : X → Bool) (xs : List X) (place : ℕ) (d : X) → position p xs ≡ Some place → (place ≡ position_or_len p xs) × (place < length xs) × (find p xs ≡ Some (get_or xs place d))
