@@ -1,6 +1,7 @@
 -- A step of one link is a step of the whole cluster.
-use Rattle.std.proofs.Common.{zero, suc, ◌≡◌, ◌⊎◌, ◌<◌, ℕ, cond, nat_lt, true, false, Bool, List, [], ◌∷◌, length, get_or, Option, Some, None, Result, Ok, Err, Contains, refl, sym, ap, subst, ◌∙◌, inl, inr}
+use Rattle.std.proofs.Common.{zero, suc, arith, ◌≡◌, ◌⊎◌, ◌<◌, ℕ, cond, nat_lt, true, false, Bool, List, [], ◌∷◌, length, get_or, Option, Some, None, Result, Ok, Err, Contains, refl, sym, ap, subst, ◌∙◌, inl, inr}
 use Rattle.std.specs.List.{find, position, position_or_len}
+use Rattle.std.proofs.lemmas.Bool.Decides.{nat_tests}
 use Rattle.std.proofs.lemmas.List.Folds.{find_at}
 use Rattle.std.proofs.lemmas.List.Quantifiers.{position-Some}
 use Rattle.std.specs.List.{slice_get}
@@ -23,7 +24,7 @@ use Rattle.bep_core.proofs.Lift.{ReplacesLink, with_between, one_link, joins_end
 
 none_at : {X : Type 0} (xs : List X) (place : ℕ) → nat_lt place (length xs) ≡ false → slice_get xs place ≡ None
 none_at [] place past = refl
-none_at (x ∷ xs) zero past = let both : true ≡ false = past in absurd (cc)
+none_at (x ∷ xs) zero past = let less : nat_lt 0 (length (x ∷ xs)) ≡ true = grind (arith, nat_tests) in let both : true ≡ false = sym less ∙ past in absurd (cc)
 none_at (x ∷ xs) (suc place) past = none_at xs place past
 
 pub first_found : {X : Type 0} (p : X → Bool) (xs : List X) (place : ℕ) (d : X) → position p xs ≡ Some place → (place ≡ position_or_len p xs) × (place < length xs) × (find p xs ≡ Some (get_or xs place d))

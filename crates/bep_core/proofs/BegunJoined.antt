@@ -262,11 +262,10 @@ module _ {S : Type 0} (contents : S → ByName NodeParts) (faults : S → ℕ) w
           let there = sharing_there made other folder (rising_made rising) shares in
           let here = has_number made.members other there.0 there.2 in
           let of = Contains-from_image (begun_member contents faults config) config.devices there.0 here.1 in
-          let number : of.0 ≡ other = ap (λ (m : Member). m.number) of.2 ∙ here.0 in
-          (
+          let number : of.0 ≡ other = ap (λ (m : Member). m.number) of.2 ∙ here.0 in (
             subst (Contains config.devices) number of.1,
             subst (λ (n : Device). Contains keys (folder, n)) number
-            (shares_where of.0 folder there.1 (ap (λ (m : Member). get (tables_of m).replicas folder) of.2 ∙ there.3)).0,
+                (shares_where of.0 folder there.1 (ap (λ (m : Member). get (tables_of m).replicas folder) of.2 ∙ there.3)).0,
           ),
       λ there.
           let held = begun_there config.devices keys config.shares other folder there.1 in

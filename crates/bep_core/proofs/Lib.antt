@@ -7,11 +7,7 @@ mod Sharing
 mod OneDevice
 mod Lift
 mod Changed
-mod Over
 mod AtLinks
 mod Within
 mod DeviceSteps
 mod BegunJoined
-mod Restarted
-mod ListDone
-mod MessagesKeep

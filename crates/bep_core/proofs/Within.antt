@@ -84,7 +84,7 @@ module _ (folder : Folder) (row : Replica → Row Replica) where
             ap (λ (p : Peer). get p.replicas folder) here ∙ made.1.2,
             made.1.3,
             one_device network device place was after r
-            ∙ ap (with_peer (cluster_of network) device) (made.1.4 ∙ ap (λ (p : Peer). with_replica p folder made.1.1) (sym here)),
+                ∙ ap (with_peer (cluster_of network) device) (made.1.4 ∙ ap (λ (p : Peer). with_replica p folder made.1.1) (sym here)),
           ),
         )))
         rest)

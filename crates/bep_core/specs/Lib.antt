@@ -1,4 +1,3 @@
 pub mod Begin
 pub mod Network
-pub mod Restart
 pub mod Why

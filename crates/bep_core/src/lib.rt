@@ -12,8 +12,6 @@ mod folder_steps;
 mod folders;
 mod link_steps;
 mod others;
-mod restarting;
-mod session_steps;
 #[cfg(test)]
 mod tests;
 mod why;
