@@ -1,11 +1,11 @@
 -- A step of one link is a step of the whole cluster.
-use Rattle.std.proofs.Common.{zero, suc, arith, ◌≡◌, ◌⊎◌, ◌<◌, ℕ, cond, nat_lt, true, false, Bool, List, [], ◌∷◌, length, get_or, Option, Some, None, Result, Ok, Err, Contains, refl, sym, ap, subst, ◌∙◌, inl, inr}
+use Rattle.std.proofs.Common.{arith, ◌≡◌, ◌⊎◌, ◌<◌, ◌≤◌, ℕ, cond, nat_lt, true, false, Bool, List, [], ◌∷◌, length, get_or, Option, Some, None, Result, Ok, Err, Contains, refl, sym, ap, subst, ◌∙◌, inl, inr}
 use Rattle.std.specs.List.{find, position, position_or_len}
 use Rattle.std.proofs.lemmas.Bool.Decides.{nat_tests}
 use Rattle.std.proofs.lemmas.List.Folds.{find_at}
 use Rattle.std.proofs.lemmas.List.Quantifiers.{position-Some}
 use Rattle.std.specs.List.{slice_get}
-use Rattle.std.proofs.lemmas.Option.{slice_get-get_or}
+use Rattle.std.proofs.lemmas.Option.{slice_get-get_or, slice_get_past}
 use Rattle.bep_model.specs.Tables.{Device}
 use Rattle.bep_machine.specs.declared.moved.Moved.{Moved}
 use Rattle.bep_machine.specs.declared.refusal.Refusal.TheVariants.{NotShared}
@@ -22,10 +22,8 @@ use Rattle.bep_core.proofs.Lift.{ReplacesLink, with_between, one_link, joins_end
 
 -- ---- the first that passes a test
 
-none_at : {X : Type 0} (xs : List X) (place : ℕ) → nat_lt place (length xs) ≡ false → slice_get xs place ≡ None
-none_at [] place past = refl
-none_at (x ∷ xs) zero past = let less : nat_lt 0 (length (x ∷ xs)) ≡ true = grind (arith, nat_tests) in let both : true ≡ false = sym less ∙ past in absurd (cc)
-none_at (x ∷ xs) (suc place) past = none_at xs place past
+past_end : (place end : ℕ) → nat_lt place end ≡ false → end ≤ place
+past_end place end h = grind (arith, nat_tests)
 
 pub first_found : {X : Type 0} (p : X → Bool) (xs : List X) (place : ℕ) (d : X) → position p xs ≡ Some place → (place ≡ position_or_len p xs) × (place < length xs) × (find p xs ≡ Some (get_or xs place d))
 first_found p xs place d is = cases (nat_lt (position_or_len p xs) (length xs)) refl is
@@ -45,7 +43,7 @@ none_found p xs is = cases (nat_lt (position_or_len p xs) (length xs)) refl is
   where
     cases : (b : Bool) → nat_lt (position_or_len p xs) (length xs) ≡ b → cond b (Some (position_or_len p xs)) None ≡ None → find p xs ≡ None
     cases true less e = absurd (cc)
-    cases false past e = find_at p xs ∙ none_at xs (position_or_len p xs) past
+    cases false past e = find_at p xs ∙ slice_get_past xs (position_or_len p xs) (past_end (position_or_len p xs) (length xs) past)
 
 -- the link at the place where the search found it
 pub replaces_link : (links : List LinkBetween) (lower upper : Device) (place : ℕ) (was after : LinkBetween) → position (joins lower upper) links ≡ Some place → was ≡ get_or links place was → after.ends ≡ was.ends → ReplacesLink links lower upper place was after
