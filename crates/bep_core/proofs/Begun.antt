@@ -62,17 +62,6 @@ pub ends-begun : (links : List (Device × Device)) → ends_of (map (λ ends. ne
 ends-begun [] = refl
 ends-begun (ends ∷ links) = ap (λ more. ends ∷ more) (ends-begun links)
 
--- devices that begin, one for each number, and links that begin are a network
-pub begun_network : (begin : Device → Member) → ((device : Device) → (begin device).number ≡ device) →
-    (devices : List Device) (links : List (Device × Device)) (members : List Member) (between : List LinkBetween) →
-    IsStrictlyIncreasing devices → length devices ≤ MAX_DEVICES → IsStrictlySortedBy by_ends links →
-    members ≡ map begin devices → between ≡ map (λ ends. new_link ends.0 ends.1) links → IsNetwork (record { members = members; links = between })
-begun_network begin numbered devices links members between rising few sorted made joined = record {
-  devices = subst IsStrictlyIncreasing (sym (ap numbers_of made ∙ numbers-begun begin numbered devices)) rising;
-  few = subst (λ n. n ≤ MAX_DEVICES) (sym (ap length made ∙ length-map devices begin)) few;
-  links = subst (IsStrictlySortedBy by_ends) (sym (ap ends_of joined ∙ ends-begun links)) sorted;
-}
-
 module _ {S : Type 0} (contents : S → ByName NodeParts) (faults : S → ℕ) (config : Configuration S) where
   -- what was made of the parts is what begins from the configuration
   pub is_begun : (members : List Member) (between : List LinkBetween) (folders : ByDevice (ByName Held))

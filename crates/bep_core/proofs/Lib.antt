@@ -1,3 +1,13 @@
 mod OthersThat
 mod FoldersAt
 mod Begun
+mod SameFolders
+mod RowsKeep
+mod Sharing
+mod OneDevice
+mod Lift
+mod Changed
+mod AtLinks
+mod Within
+mod DeviceSteps
+mod BegunJoined

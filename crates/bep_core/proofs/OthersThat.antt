@@ -20,7 +20,7 @@ pub another_number : (m n : ℕ) → (m == n) ≡ false → m ≢ n
 another_number m n e same = let both : true ≡ false = sym (itself m) ∙ ap (λ k. m == k) same ∙ e in absurd (cc)
 
 -- what is kept by a test passes it
-kept_passes : {X : Type 0} (p : X → Bool) (xs : List X) (x : X) → Contains (filter p xs) x → p x ≡ true
+pub kept_passes : {X : Type 0} (p : X → Bool) (xs : List X) (x : X) → Contains (filter p xs) x → p x ≡ true
 kept_passes p [] x h = absurd (not_in_none x h)
 kept_passes p (y ∷ xs) x h = cases (kept_passes p xs x) (p y) refl h where
   cases : (Contains (filter p xs) x → p x ≡ true) → (b : Bool) → p y ≡ b → Contains (cond b (y ∷ filter p xs) (filter p xs)) x → p x ≡ true

@@ -1,6 +1,6 @@
 -- A cluster as it is kept: its devices and its links, and what the tables of a cluster say of them (BEP v1, 'Cluster
 -- Config').
-use Rattle.std.specs.Prelude.{◌≤◌, ◌==◌, ◌&&◌, false, List, [], ◌∷◌, map, length, Option, Some, None, refl}
+use Rattle.std.specs.Prelude.{◌≡◌, ◌↔◌, ◌<◌, ◌≤◌, ◌==◌, ◌&&◌, nat_lt, ℕ, Bool, false, List, [], ◌∷◌, map, length, Option, Some, None, Contains, if◌then◌else◌, refl}
 use Rattle.std.specs.List.{find, flat_map}
 use Rattle.std.specs.List.Sorted.{IsStrictlyIncreasing, IsStrictlySortedBy}
 use Rattle.std.specs.Coded.{Coded, code_by, coded×, coded_list}
@@ -12,7 +12,9 @@ use Rattle.bep_model.specs.Tables.{Device, Folder}
 use Rattle.bep_machine.specs.Link.{Link}
 use Rattle.bep_machine.specs.Peer.{Peer}
 use Rattle.bep_machine.specs.Cluster.{Config, Cluster}
-use Rattle.bep_folder.specs.Held.{Held}
+use Rattle.bep_machine.specs.Replica.{Replica}
+use Rattle.bep_machine.specs.Sound.{FitsFolder}
+use Rattle.bep_machine.specs.Steps.{AreLinked}
 use Rattle.bep_links.specs.Link.{LinkBetween}
 use Rattle.bep_peer.specs.Member.{Member, tables_of}
 
@@ -33,30 +35,36 @@ numbers_of members = map (λ member. member.number) members
 abbrev pub ends_of : List LinkBetween → List (Device × Device)
 ends_of links = map (λ between. between.ends) links
 
--- each device stands once, and each link; both rise
-pub record IsNetwork (network : Network) : Type 0 where
-  pub devices : IsStrictlyIncreasing (numbers_of network.members)
-  pub few : length network.members ≤ MAX_DEVICES
-  pub links : IsStrictlySortedBy by_ends (ends_of network.links)
-
 -- ---- what the tables of a cluster say of it
 
 -- the device, in the kind in which it has the folder, if it has it
-abbrev pub kind_of : Device → Option Held → List (Device × FolderKind)
+abbrev pub kind_of : Device → Option Replica → List (Device × FolderKind)
 kind_of device None = []
-kind_of device (Some held) = (device, held.tables.kind) ∷ []
+kind_of device (Some replica) = (device, replica.kind) ∷ []
 
 -- the devices that have the folder, each in its kind
 abbrev pub sharing_of : List Member → Folder → List (Device × FolderKind)
-sharing_of members folder = flat_map (λ member. kind_of member.number (get member.folders folder)) members
+sharing_of members folder = flat_map (λ member. kind_of member.number (get (tables_of member).replicas folder)) members
+
+-- the device has the number
+abbrev pub is_number : Device → Member → Bool
+is_number device member = member.number == device
 
 -- the device of this number, if it is there
 abbrev pub member_at : List Member → Device → Option Member
-member_at members device = find (λ member. member.number == device) members
+member_at members device = find (is_number device) members
 
--- the link between the two, the smaller first, if it is there
+-- the link joins the two, the smaller first
+abbrev pub is_between : Device → Device → LinkBetween → Bool
+is_between lower upper between = (between.ends.0 == lower) && (between.ends.1 == upper)
+
+-- the two devices, the smaller first
+abbrev pub in_order : Device → Device → Device × Device
+in_order device other = if nat_lt device other then (device, other) else (other, device)
+
+-- the link between the two, if it is there
 abbrev pub between_at : List LinkBetween → Device → Device → Option LinkBetween
-between_at links lower upper = find (λ between. (between.ends.0 == lower) && (between.ends.1 == upper)) links
+between_at links lower upper = find (is_between lower upper) links
 
 -- the device's tables; one that isn't there has nothing
 abbrev pub peer_of : Option Member → Peer
@@ -81,3 +89,30 @@ cluster_of network = record {
   peer = λ device. peer_of (member_at network.members device);
   link = λ lower upper. link_of (between_at network.links lower upper);
 }
+
+-- ---- what holds of every network
+
+-- the device's links are those of the cluster, and each of its folders is shared by the devices that it says
+pub record IsJoined (config : Config) (member : Member) : Type 0 where
+  pub linked : (other : Device) → Contains member.linked other ↔ AreLinked config member.number other
+  pub folders : (folder : Folder) (replica : Replica) → get (tables_of member).replicas folder ≡ Some replica → FitsFolder config member.number folder replica
+
+-- Each device stands once, and each link; both rise. Links join devices that are there, the smaller first, and each device
+-- knows its links and who shares its folders.
+pub record IsNetwork (network : Network) : Type 0 where
+  pub devices : IsStrictlyIncreasing (numbers_of network.members)
+  pub few : length network.members ≤ MAX_DEVICES
+  pub links : IsStrictlySortedBy by_ends (ends_of network.links)
+  pub ends : (one other : Device) → Contains (ends_of network.links) (one, other) →
+      (one < other) × Contains (numbers_of network.members) one × Contains (numbers_of network.members) other
+  pub joined : (device : Device) (member : Member) → member_at network.members device ≡ Some member → IsJoined (config_of network) member
+
+-- ---- what the last step told
+
+-- which call of the store failed in the device's last action; one that isn't there made none
+abbrev pub failed_of : Option Member → Option ℕ
+failed_of None = None
+failed_of (Some member) = member.trace.failed
+
+abbrev pub failed_at : List Member → Device → Option ℕ
+failed_at members device = failed_of (member_at members device)

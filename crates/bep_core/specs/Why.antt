@@ -1,8 +1,11 @@
 -- The numbers and the names of refusals, as the product prints them.
-use Rattle.std.specs.Prelude.{ℕ, List, Option, Some, None, codes}
+use Rattle.std.specs.Prelude.{ℕ, List, Option, Some, None, Result, Ok, Err, codes}
 use Rattle.bep_machine.specs.declared.refusal.Refusal.{Refusal}
 use Rattle.bep_machine.specs.declared.refusal.Refusal.TheVariants.{CounterFull, TooManyCounters, NameBad, SequenceFull, IndexFull, StoreFault, Unscanned, NotNeeded, BlocksMissing, CopyExists, PullsFull, KindForbids, LinkDown, LinkFull, EpochFull, NotBegun, NotShared, NothingToDo}
-use Rattle.bep_machine.specs.Answer.{number_of as number_of_refusal}
+use Rattle.bep_machine.specs.declared.moved.Moved.{Moved}
+use Rattle.bep_machine.specs.Answer.{Row, Done, Refused as Refuses, OutOfMemory, number_of as number_of_refusal}
+use Rattle.bep_peer.specs.declared.error.PeerError.{PeerError}
+use Rattle.bep_peer.specs.declared.error.PeerError.TheVariants as peer
 use Rattle.bep_core.specs.declared.why.Why.{Why}
 use Rattle.bep_core.specs.declared.why.Why.TheVariants.{Refused, ConfigBad, Memory}
 
@@ -36,3 +39,20 @@ abbrev pub name_of : Why → Option (List ℕ)
 name_of (Refused refusal) = Some (name_of_refusal refusal)
 name_of ConfigBad = Some (codes "ConfigBad")
 name_of Memory = None
+
+-- The row gives this state with what was answered. (A step is no configuration.)
+abbrev pub Gives : {S : Type 0} → Row S → S → Result Moved Why → Type 0
+Gives row new (Ok moved) = row new (Done moved)
+Gives row new (Err (Refused refusal)) = row new (Refuses refusal)
+Gives row new (Err ConfigBad) = ⊥
+Gives row new (Err Memory) = row new OutOfMemory
+
+-- what a device's action answers, as this crate's; no step answers `Stale`
+abbrev pub why_of : PeerError → Why
+why_of (peer.Refused refusal) = Refused refusal
+why_of peer.Stale = Memory
+why_of peer.Memory = Memory
+
+abbrev pub answer_of : Result Moved PeerError → Result Moved Why
+answer_of (Ok moved) = Ok moved
+answer_of (Err error) = Err (why_of error)

@@ -23,8 +23,8 @@ use std::marker::Model;
 /// BEP v1, 'Cluster Config'; at most 16 devices, and one link a pair, are this project's profile.
 #[derive(Drop)]
 pub struct Cluster<S: Store> {
-    peers: Vec<Peer<S>>,
-    links: Vec<Link>,
+    pub(crate) peers: Vec<Peer<S>>,
+    pub(crate) links: Vec<Link>,
 }
 
 impl<S: Store> Model for Cluster<S> {

@@ -8,7 +8,9 @@
 
 mod begin;
 mod cluster;
+mod folder_steps;
 mod folders;
+mod link_steps;
 mod others;
 mod why;
 

@@ -1,11 +1,10 @@
-use Rattle.std.proofs.Common.{◌≤◌, length, Contains, sym, subst, refl, ap, ◌∙◌}
-use Rattle.std.specs.List.Sorted.{IsStrictlyIncreasing}
-use Rattle.bep_record.specs.declared.limits.TheConstants.{MAX_DEVICES}
+use Rattle.std.proofs.Common.{Contains, sym, subst, ap, ◌∙◌}
 use Rattle.bep_config.specs.Config.{Configuration}
-use Rattle.bep_peer.specs.Member.{AreOwn, new_member}
-use Rattle.bep_core.specs.Begin.{folders_at, linked_with}
+use Rattle.bep_peer.specs.Member.{AreOwn}
 use Rattle.bep_core.proofs.FoldersAt.{begun_own}
-use Rattle.bep_core.proofs.Begun.{begun_network, is_begun, shared_there}
+use Rattle.bep_core.proofs.Begun.{is_begun, shared_there}
+use Rattle.bep_core.proofs.BegunJoined.{begun_network}
+use Rattle.bep_core.specs.Network.{IsNetwork}
 use Rattle.bep_core.proofs.cluster.Cluster.new.Goals as goal
 
 pub folders_of-requires-clause-there : goal.folders_of-requires-clause-there
@@ -20,13 +19,16 @@ peers_of-requires-clause-own g c = λ device.
 
 pub invariant_of-result : goal.invariant_of-result
 invariant_of-result g c =
-    let devices = c.as_slice-3.ensures.value ∙ c.in_ok-numbers.ensures.value in
-    begun_network
-    (λ device. new_member device (folders_at c.in_ok-folders.folders device) (linked_with c.as_slice-3.result.now c.into_parts-folders.result.links.keys device))
-    (λ device. refl) c.as_slice-3.result.now c.args.config.links c.in_ok-peers_of.field-0.items c.in_ok-joining.joining.items
-    (subst IsStrictlyIncreasing (sym devices) c.in_ok-numbers.ensures.rising)
-    (subst (λ numbers. length numbers ≤ MAX_DEVICES) (sym devices) c.into_parts-folders.ensures.a_config.few_devices)
-    c.in_ok-joining.ensures.rising c.in_ok-peers_of.ensures c.in_ok-joining.ensures.value
+    let parts = c.into_parts-folders.ensures.value in
+    subst IsNetwork
+    (sym
+    (is_begun g.S.Store.contents g.S.Store.faults c.args.config
+    c.in_ok-peers_of.field-0.items c.in_ok-joining.joining.items c.in_ok-folders.folders
+    c.as_slice-3.result.now c.as_slice.result.now c.as_slice-2.result.now c.into_parts-folders.result.shares.entries c.into_parts-folders.result.links.keys
+    c.in_ok-peers_of.ensures c.in_ok-folders.ensures c.in_ok-joining.ensures.value
+    (c.as_slice-3.ensures.value ∙ c.in_ok-numbers.ensures.value) (c.as_slice.ensures.value ∙ c.in_ok-numbers.ensures.value) (c.as_slice-2.ensures.value ∙ c.in_ok-keys.ensures)
+    (ap (λ (config : Configuration g.row.S.Denot). config.shares) parts) (ap (λ (config : Configuration g.row.S.Denot). config.links) parts)))
+    (begun_network g.S.Store.contents g.S.Store.faults c.args.config c.into_parts-folders.ensures.a_config c.in_ok-numbers.ensures.rising c.in_ok-joining.ensures.rising)
 
 pub returns : goal.returns
 returns g c =
