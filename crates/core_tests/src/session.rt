@@ -2,10 +2,12 @@
 use bep_index::{Index, IndexId, Plan};
 use bep_machine::{Announced, Code, Message, Request};
 use bep_map::FolderMap;
+use bep_peer::{
+    Session, answer_to, cursor_for, has_bytes, index_message, is_all_sent, next_batch, sent_with,
+};
 use bep_record::{
     Block, FolderName, HASH_OF_NOTHING, Items, Kind, Name, Node, NodeParts, RecordError, Target,
 };
-use bep_peer::{Session, answer_to, cursor_for, has_bytes, index_message, is_all_sent, next_batch, sent_with};
 use std::alloc::Global;
 use std::test::Fail;
 
