@@ -199,11 +199,17 @@ def is_number(value):
     return isinstance(value, int) and not isinstance(value, bool)
 
 
+def is_hint(said, written):
+    """Whether what stands on standard error is nothing, or one line beside a fault that has no place."""
+    has_no_place = written.split()[1:2] in ([b"181"], [b"182"], [b"183"], [b"184"])
+    return said == b"" or (has_no_place and said.count(b"\n") == 1 and said.endswith(b"\n"))
+
+
 def is_same(command, document, wanted):
     ran = subprocess.run([PROGRAM, command], input=document, capture_output=True, check=False)
     lines = ran.stdout.splitlines(keepends=True)
     written = b"".join(line for line in lines if command != "explain" or not line.startswith(b"  "))
-    if (written, ran.returncode, ran.stderr) == (*wanted, b""):
+    if (written, ran.returncode) == wanted and is_hint(ran.stderr, written):
         return True
     print("differs:", document.decode(errors="replace"), "wanted:", wanted, "program:", ran, sep="\n")
     return False
