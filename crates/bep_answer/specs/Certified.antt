@@ -1,8 +1,8 @@
 -- What the program answers where it is asked for a certificate of the cut of a document, and what it has written after it.
-use Rattle.std.specs.Prelude.{◌≡◌, ◌++◌, ℕ, List, Option, None}
+use Rattle.std.specs.Prelude.{◌≡◌, ◌≤◌, ◌++◌, ℕ, List, length, Option, None}
 use Rattle.std.specs.Io.KnownBytes.{Appends, Keeps}
 use Rattle.bep_audit.specs.Certifier.{IsSettledIfAny, IsNeverSettled}
-use Rattle.bep_document.specs.Reading.{Reading, Read, Refused}
+use Rattle.bep_document.specs.Reading.{Reading, Read, Refused, most_bytes}
 use Rattle.bep_model.specs.declared.reason.Reason.TheVariants.{NotWinner}
 use Rattle.bep_model.specs.declared.row.Row.{Row}
 use Rattle.bep_model.specs.Settled.{IsListOfWinners}
@@ -12,7 +12,7 @@ use Rattle.bep_model.specs.WithoutWinner.{IsFirstWithoutWinner}
 use Rattle.bep_tables.specs.declared.cut.CutParts.{CutParts}
 use Rattle.bep_tables.specs.Cut.{tables_of}
 use Rattle.bep_tables.specs.document.Trees.{check_text}
-use Rattle.bep_tables.specs.document.Written.{cut_of_document}
+use Rattle.bep_tables.specs.document.Written.{check_of, cut_of_document}
 use Rattle.bep_report.specs.declared.error.ReportError.{ReportError}
 use Rattle.bep_report.specs.declared.error.ReportError.TheVariants.{Memory}
 use Rattle.bep_report.specs.declared.error.ReportError.TheVariants as faults
@@ -34,6 +34,8 @@ pub record IsDocumentOf (cut : CutParts) (text : List ℕ) : Type 0 where
   pub winners : IsListOfWinners (tables_of cut) rows
   pub settled_if_any : IsSettledIfAny (tables_of cut) rows
   pub written : text ≡ document_text cut rows
+  -- without its line's end it is read as the very cut and rows, where it isn't longer than a document may be
+  pub read_back : length (check_text cut rows) ≤ most_bytes → check_of (check_text cut rows) ≡ Read (cut, rows)
 
 -- the text is the line of the cut's first known name without a winner, and the cut is settled for no list of rows
 pub record IsLineWithout (cut : CutParts) (text : List ℕ) : Type 0 where

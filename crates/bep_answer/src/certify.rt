@@ -1,8 +1,12 @@
 //! The certificate for a document's cut, from the bytes that come in to the bytes that go out.
-ghost use Rattle.std.specs.Prelude.{◌≡◌, None, IfOk, IfErr};
+ghost use Rattle.std.specs.Prelude.{◌≡◌, ◌≤◌, None, length, IfOk, IfErr, OnOk};
+ghost use Rattle.bep_document.specs.Reading.{Read, most_bytes};
+ghost use Rattle.bep_model.specs.Settled.{IsListOfWinners};
+ghost use Rattle.bep_tables.specs.Cut.{tables_of};
+ghost use Rattle.bep_tables.specs.document.Trees.{check_text};
 ghost use Rattle.bep_model.specs.declared.reason.Reason.TheVariants.{NotWinner};
 ghost use Rattle.bep_model.specs.Verdict.{Not};
-ghost use Rattle.bep_tables.specs.document.Written.{cut_of_document};
+ghost use Rattle.bep_tables.specs.document.Written.{check_of, cut_of_document};
 ghost use Rattle.bep_report.specs.Lines.{verdict_line};
 ghost use Rattle.bep_answer.specs.Answer.{fault_text};
 ghost use Rattle.bep_answer.specs.Certified.{IsCertificate, IsCertified, IsCertifiedWhole, IsUncertified, document_text};
@@ -14,13 +18,14 @@ use bep_audit::{Certificate, CertifyError, certify};
 use bep_model::Reason;
 use bep_record::{FolderName, Name};
 use bep_report::{ReportError, push_not_settled, read_document, write_all};
-use bep_tables::{Cut, DocError, check_document, read_cut};
+use bep_tables::{Cut, DocError, check_document, read_cut, winners_are_in_range};
 use std::alloc::{AllocError, Global};
 use std::io::{Read, Write};
 
 /// Reads the cut of a check document, whose certificate may be missing and isn't looked at, and writes the check document
 /// of that cut with the list of its names' winners, on a line; or the line of the first known name that has none; or that
-/// of the fault for which the document is refused. At most 67108865 bytes are read.
+/// of the fault for which the document is refused. At most 67108865 bytes are read. The document that is written reads back
+/// as the cut and its winners, where it isn't longer than a document may be.
 ///
 /// `Read` and `Write` are answered where the reader or the writer answers any error, or takes nothing; `Memory` may come
 /// in place of an answer. Only after `Write` a beginning of the text may be written, and else nothing.
@@ -84,10 +89,13 @@ fn answer_for(alloc: Global, cut: &Cut) -> Result<(Certified, Vec<u8>), AllocErr
     }
 }
 
-// The document of the cut with this certificate.
+// The document of the cut with this certificate, which is the list of its winners.
 fn document_of(alloc: Global, cut: &Cut, certificate: &Certificate) -> Result<Vec<u8>, AllocError>
-    ensures { IfOk result (λ text. text.items ≡ document_text cut.now certificate.now) }
+    requires winners { IsListOfWinners (tables_of cut.now) certificate.now }
+    ensures text { IfOk result (λ text. text.items ≡ document_text cut.now certificate.now) }
+    ensures read_back { OnOk result (length (check_text cut.now certificate.now) ≤ most_bytes → check_of (check_text cut.now certificate.now) ≡ Read (cut.now, certificate.now)) }
 {
+    winners_are_in_range(cut);
     let mut text = check_document(alloc, cut, certificate.rows())?.into_bytes();
     text.push(b'\n')?;
     Ok(text)

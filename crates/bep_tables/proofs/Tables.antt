@@ -41,7 +41,7 @@ share_has_folder cut folder share h = cases (find (is_folder folder) cut.folders
       (held, gives.0, exact_bytes held.folder folder ((Equal-is _).0 gives.1))
 
 -- the shares of a folder are those of a cut
-are_shares : (cut : CutParts) (folder : Folder) (share : Share) → IsCut cut → Contains (shares_of folder cut.folders) share → AreShares (shares_of folder cut.folders)
+pub are_shares : (cut : CutParts) (folder : Folder) (share : Share) → IsCut cut → Contains (shares_of folder cut.folders) share → AreShares (shares_of folder cut.folders)
 are_shares cut folder share is_cut h =
     let held = share_has_folder cut folder share h in
     let same : shares_of folder cut.folders ≡ held.0.shares = ap (λ f. shares_of f cut.folders) (sym held.2) ∙ folder_is_found cut held.0 is_cut held.1 in

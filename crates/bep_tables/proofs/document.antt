@@ -9,5 +9,8 @@ mod AsWrittenViews
 mod AsWrittenLinks
 mod ToldFacts
 pub mod RangeTold
+mod ReadAgain
+mod Shallow
 mod WholeNumbers
+mod WinnersInRange
 pub mod back

@@ -20,7 +20,9 @@ mod table;
 pub use bep_document::{DocError, DocFault, Fault, MAX_BYTES};
 pub use bep_model::{Flight, Row};
 pub use cut::{Cut, CutParts};
-pub use document::{check_document, check_value, cut_is_as_written, read_check, read_cut};
+pub use document::{
+    check_document, check_value, cut_is_as_written, read_check, read_cut, winners_are_in_range,
+};
 pub use laws::{cut_says, names_are_known};
 pub use link::LinkState;
 pub use share::{PeerView, Share, SharedFolder};

@@ -27,11 +27,13 @@ use Rattle.bep_document.specs.read.Shares.{is_share, read_share}
 use Rattle.bep_document.specs.read.Views.{is_view, read_view}
 use Rattle.bep_model.specs.declared.flight.Flight.{Flight}
 use Rattle.bep_model.specs.declared.row.Row.{Row}
+use Rattle.bep_model.specs.Settled.{IsListOfWinners}
 use Rattle.bep_tables.specs.declared.share.Share.{Share}
 use Rattle.bep_tables.specs.declared.share.PeerView.{PeerView}
 use Rattle.bep_tables.specs.declared.share.SharedFolder.{SharedFolder}
 use Rattle.bep_tables.specs.declared.link.LinkState.{LinkState}
 use Rattle.bep_tables.specs.declared.cut.CutParts.{CutParts}
+use Rattle.bep_tables.specs.Cut.{tables_of}
 use Rattle.bep_tables.specs.document.Trees.{view_tree, share_tree, folder_tree, flight_tree, link_tree, cut_tree, row_tree}
 use Rattle.bep_tables.specs.document.Written.{cut_written}
 
@@ -122,6 +124,10 @@ pub record IsLinkInRange (link : LinkState) : Type 0 where
 -- the rows of a certificate are
 abbrev pub AreRowsInRange : List Row → Type 0
 AreRowsInRange = AllByRecursion (λ row. row.entry.sequence ≤ MAX_SEQUENCE)
+
+-- the rows of a cut's winners are
+abbrev pub WinnersAreInRange : CutParts → Type 0
+WinnersAreInRange cut = (rows : List Row) → IsListOfWinners (tables_of cut) rows → AreRowsInRange rows
 
 -- ---- what is read again, where it is in range
 abbrev pub IsRecordTold : Entry → Type 0

@@ -1,6 +1,8 @@
-//! What the cut of a document says, as a law.
+//! What the cut of a document says, and that its winners can be written, as laws.
+ghost use Rattle.bep_tables.specs.document.Told.{WinnersAreInRange};
 ghost use Rattle.bep_tables.specs.document.AsWritten.{SharingIsAsWritten, OwnIsAsWritten, NodeIsAsWritten, ViewedIsAsWritten, TargetIsAsWritten, FlyingIsAsWritten, UnlinkedIsQuiet};
 
+use crate::Cut;
 use bep_index::records_make_an_index;
 
 /// The cut that a document without faults writes down says what the document lists: who shares what, each device's own
@@ -15,4 +17,11 @@ pub fn cut_is_as_written()
     ensures unlinked { UnlinkedIsQuiet }
 {
     records_make_an_index();
+}
+
+/// The rows of the cut's winners have sequences that a document can have.
+pub fn winners_are_in_range(cut: &Cut)
+    ensures { WinnersAreInRange cut.now }
+{
+    let _folders = cut.folders();
 }

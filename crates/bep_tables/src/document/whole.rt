@@ -1,11 +1,11 @@
 //! Whole cuts and check documents as JSON trees, which are read again as they were.
-ghost use Rattle.std.specs.Prelude.{◌≡◌, map, IfOk, OnOk, string_bytes};
+ghost use Rattle.std.specs.Prelude.{◌≡◌, ◌≤◌, length, map, IfOk, OnOk, string_bytes};
 ghost use Rattle.serde_json.specs.View.{view};
 ghost use Rattle.bep_json.specs.Written.{list_of};
-ghost use Rattle.bep_document.specs.Reading.{Read};
+ghost use Rattle.bep_document.specs.Reading.{Read, most_bytes};
 ghost use Rattle.bep_tables.specs.document.Trees.{folder_tree, link_tree, cut_tree, row_tree, check_tree, check_text};
 ghost use Rattle.bep_tables.specs.document.Told.{IsCutTold, AreRowsInRange};
-ghost use Rattle.bep_tables.specs.document.Written.{cut_of_tree, check_of_tree};
+ghost use Rattle.bep_tables.specs.document.Written.{cut_of_tree, check_of, check_of_tree};
 
 use crate::document::trees::list_tree;
 use crate::{Cut, Row};
@@ -75,9 +75,12 @@ fn check_members(
     json!(in alloc; {"certificate": certificate, "cut": tree, "version": 1u64})
 }
 
-/// The check document of a cut and the rows of a certificate for it, as JSON without spaces, or want of memory.
+/// The check document of a cut and the rows of a certificate for it, as JSON without spaces, or want of memory. Its bytes
+/// are read as the very cut and rows, where they aren't more than a document may have and the sequences of the rows' records
+/// are at most 9223372036854775807.
 pub fn check_document(alloc: Global, cut: &Cut, rows: &[Row]) -> Result<String, AllocError>
-    ensures { IfOk result (λ text. string_bytes text ≡ check_text cut.now rows.now) }
+    ensures text { IfOk result (λ text. string_bytes text ≡ check_text cut.now rows.now) }
+    ensures read_back { OnOk result (length (check_text cut.now rows.now) ≤ most_bytes → AreRowsInRange rows.now → check_of (check_text cut.now rows.now) ≡ Read (cut.now, rows.now)) }
 {
     let tree = check_value(alloc, cut, rows)?;
     let text = tree.to_string(alloc)?;
