@@ -26,21 +26,16 @@ mod ending;
 mod error;
 mod finish;
 mod found;
+mod names;
 mod overriding;
 mod pull;
-#[cfg(test)]
-mod pull_tests;
 mod pulled;
 mod readers;
 mod replica;
 mod reverting;
 mod scan_result;
-#[cfg(test)]
-mod scan_tests;
 mod settle;
 mod start_pull;
-#[cfg(test)]
-mod tests;
 mod traced;
 mod views;
 mod wanted;
