@@ -14,7 +14,10 @@ use bep_tables::Share;
 use std::array;
 
 // The device and the record that win a name among these shares, whose own records of it are looked up there.
-pub(crate) fn winner_among<'a>(shares: &'a [Share], owns: Owns<'_, 'a>) -> Option<(DeviceId, &'a Record)>
+pub(crate) fn winner_among<'a>(
+    shares: &'a [Share],
+    owns: Owns<'_, 'a>,
+) -> Option<(DeviceId, &'a Record)>
     requires few { length shares.now ≤ MAX_DEVICES }
     requires rise { IsStrictlyIncreasing (devices_of shares.now) }
     ensures wins { IfSome result (λ one. IsChoice (chooser_of shares.now) (owned_by (own_by owns) shares.now) (candidate_of one)) }
@@ -88,7 +91,11 @@ fn first_own<'a>(shares: &'a [Share], owns: Owns<'_, 'a>) -> Option<&'a Record>
 }
 
 // Puts the own records of the name to the front, each beside its device, and tells how many there are.
-fn gather<'a>(found: &mut [(DeviceId, &'a Record)], shares: &'a [Share], owns: Owns<'_, 'a>) -> usize
+fn gather<'a>(
+    found: &mut [(DeviceId, &'a Record)],
+    shares: &'a [Share],
+    owns: Owns<'_, 'a>,
+) -> usize
     requires { length shares.now ≤ length found.old }
     ensures candidates { candidates_of (take result found.new) ≡ owned_by (own_by owns) shares.now }
     ensures within { result ≤ length found.new }

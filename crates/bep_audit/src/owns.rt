@@ -49,6 +49,7 @@ fn own_at<'a>(entry: &TableEntry<'a>, device: DeviceId) -> Option<&'a Record>
     }
     match entry.held {
         Held::Record(Source::Own, own) => Some(own),
-        _ => None,
+        Held::Record(_, _) => None,
+        Held::Node(_) => None,
     }
 }

@@ -44,7 +44,10 @@ pub(crate) fn least_failure<'a>(
 }
 
 // The folder and the name that come next: the lesser of those of the first entry and the first row.
-pub(crate) fn next_key<'a>(entries: &[TableEntry<'a>], rows: &'a [Row]) -> Option<(&'a FolderName, &'a Name)>
+pub(crate) fn next_key<'a>(
+    entries: &[TableEntry<'a>],
+    rows: &'a [Row],
+) -> Option<(&'a FolderName, &'a Name)>
     ensures { option_map key_shown result ≡ next_key entries.now rows.now }
 {
     match (entries, rows) {

@@ -9,9 +9,11 @@ use Rattle.bep_audit.proofs.WonWalk.{Won, won_starts, won_ends, won_tells, won_g
 use Rattle.bep_audit.proofs.certifier.winning_rows.Goals as goal
 
 pub loop-folder-init : goal.loop-folder-init
-loop-folder-init c =
-    (omega arith, subst (Won c.args.cut.now c.args.table.now) (sym c.new-rows.ensures.items)
-    (won_starts c.args.cut.now c.entries_are_held.ensures.held c.entries_are_held.ensures.shares c.folders-folders.ensures.a_cut c.args.table.now c.requires))
+loop-folder-init c = (
+  omega arith,
+  subst (Won c.args.cut.now c.args.table.now) (sym c.new-rows.ensures.items)
+      (won_starts c.args.cut.now c.entries_are_held.ensures.held c.entries_are_held.ensures.shares c.folders-folders.ensures.a_cut c.args.table.now c.requires),
+)
 
 pub add_row-requires : goal.add_row-requires
 add_row-requires c =
