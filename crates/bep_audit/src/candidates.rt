@@ -20,8 +20,8 @@ pub(crate) fn winner_among<'a>(
 ) -> Option<(DeviceId, &'a Record)>
     requires few { length shares.now ≤ MAX_DEVICES }
     requires rise { IsStrictlyIncreasing (devices_of shares.now) }
-    ensures wins { IfSome result (λ one. IsChoice (chooser_of shares.now) (owned_by (own_by owns) shares.now) (candidate_of one)) }
-    ensures none { IfNone result ((one : Candidate) → ¬ IsChoice (chooser_of shares.now) (owned_by (own_by owns) shares.now) one) }
+    ensures wins { IfSome result (λ one. IsChoice (chooser_of shares.now) (owned_by (own_by owns.entry) shares.now) (candidate_of one)) }
+    ensures none { IfNone result ((one : Candidate) → ¬ IsChoice (chooser_of shares.now) (owned_by (own_by owns.entry) shares.now) one) }
 {
     match (first_device(shares), first_own(shares, owns)) {
         (Some(chooser), Some(own)) => {
@@ -52,8 +52,8 @@ fn winner_within<'a>(
 ) -> Option<(DeviceId, &'a Record)>
     requires room { length shares.now ≤ length found.old }
     requires rise { IsStrictlyIncreasing (devices_of shares.now) }
-    ensures wins { IfSome result (λ one. IsChoice chooser (owned_by (own_by owns) shares.now) (candidate_of one)) }
-    ensures none { IfNone result ((one : Candidate) → ¬ IsChoice chooser (owned_by (own_by owns) shares.now) one) }
+    ensures wins { IfSome result (λ one. IsChoice chooser (owned_by (own_by owns.entry) shares.now) (candidate_of one)) }
+    ensures none { IfNone result ((one : Candidate) → ¬ IsChoice chooser (owned_by (own_by owns.entry) shares.now) one) }
 {
     let count = gather(found, shares, owns);
     chosen(chooser, &found[..count])
@@ -79,7 +79,7 @@ fn chosen<'a>(
 
 // The first of the own records of the name.
 fn first_own<'a>(shares: &'a [Share], owns: Owns<'_, 'a>) -> Option<&'a Record>
-    ensures { IsNone result ↔ (owned_by (own_by owns) shares.now ≡ []) }
+    ensures { IsNone result ↔ (owned_by (own_by owns.entry) shares.now ≡ []) }
 {
     for share in shares {
         match owns.of_share(share) {
@@ -97,7 +97,7 @@ fn gather<'a>(
     owns: Owns<'_, 'a>,
 ) -> usize
     requires { length shares.now ≤ length found.old }
-    ensures candidates { candidates_of (take result found.new) ≡ owned_by (own_by owns) shares.now }
+    ensures candidates { candidates_of (take result found.new) ≡ owned_by (own_by owns.entry) shares.now }
     ensures within { result ≤ length found.new }
     ensures length { length found.new ≡ length found.old }
 {

@@ -19,7 +19,7 @@ pub(crate) enum Owns<'s, 'a> {
 impl<'s, 'a> Owns<'s, 'a> {
     // The own record of the share's device, if it has one.
     pub(crate) fn of_share(self, share: &'a Share) -> Option<&'a Record>
-        ensures { option_copied result ≡ own_by self share.now }
+        ensures { option_copied result ≡ own_by self.entry share.now }
     {
         match self {
             Owns::Named(name) => share.own.get(name),
