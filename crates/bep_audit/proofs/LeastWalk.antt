@@ -29,7 +29,7 @@ use Rattle.bep_audit.proofs.FailingRow.{less_by_order}
 use Rattle.bep_audit.proofs.GroupRow.{unknown_holds}
 use Rattle.bep_audit.proofs.GroupWalk as groups
 use Rattle.bep_audit.proofs.GroupWalk.{Stands, same_or_not, stands_at_first, unlisted_is_unknown, stands_afterwards, rows_are, table_left, rows_left_at}
-use Rattle.bep_audit.proofs.NameWalk.{Key, IsUnder, Remains, none_left, was_left, left_above, not_left, left_or_here}
+use Rattle.bep_audit.proofs.NameWalk.{Key, IsUnder, IsNext, Remains, none_left, was_left, left_above, not_left, left_or_here}
 
 -- ---- the order of failures
 
@@ -123,6 +123,7 @@ module _ (cut : CutParts) (rows : List Row) where
       least walked.finds
 
   module _ (entries : List TableEntry) (rest : List Row) (least : Option Failure) (walked : Walked entries rest least) (key : Key) (is : next_key entries rest ≡ Some key) where
+    next : IsNext entries rest key
     next = groups.next cut rows entries rest walked.stands key is
 
     one_in_order : first_disordered (take (rows_about key rest) rest) ≡ None

@@ -45,23 +45,23 @@ is_own_at device one entry here holds =
 
 own_is_among : (device : Device) (group : List Listed) (entry : Entry) → own_among device group ≡ Some entry → IsOwnIn device group entry
 own_is_among device [] entry e = absurd (cc)
-own_is_among device (one ∷ more) entry = cases (own_at device one) refl where
-  cases : (own : Option Entry) → own_at device one ≡ own → first_of own (own_among device more) ≡ Some entry → IsOwnIn device (one ∷ more) entry
-  cases None is e = let found = own_is_among device more entry e in (found.0, Contains-more one more found.0 found.1, found.2, found.3)
-  cases (Some own) is e = let at = own_is_at device one entry (is ∙ e) in (one, Contains-first one more, at.0, at.1)
+own_is_among device (one ∷ more) entry = cases (own_at device one) refl (own_is_among device more entry) where
+  cases : (own : Option Entry) → own_at device one ≡ own → (own_among device more ≡ Some entry → IsOwnIn device more entry) → first_of own (own_among device more) ≡ Some entry → IsOwnIn device (one ∷ more) entry
+  cases None is later e = let found = later e in (found.0, Contains-more one more found.0 found.1, found.2, found.3)
+  cases (Some own) is later e = let at = own_is_at device one entry (is ∙ e) in (one, Contains-first one more, at.0, at.1)
 
 none_is_own : (device : Device) (group : List Listed) (entry : Entry) → own_among device group ≡ None → ¬ IsOwnIn device group entry
 none_is_own device [] entry e is = not_in_none is.0 is.1
-none_is_own device (one ∷ more) entry = cases (own_at device one) refl where
-  cases : (own : Option Entry) → own_at device one ≡ own → first_of own (own_among device more) ≡ None → ¬ IsOwnIn device (one ∷ more) entry
-  cases None at e is =
+none_is_own device (one ∷ more) entry = cases (own_at device one) refl (none_is_own device more entry) where
+  cases : (own : Option Entry) → own_at device one ≡ own → (own_among device more ≡ None → ¬ IsOwnIn device more entry) → first_of own (own_among device more) ≡ None → ¬ IsOwnIn device (one ∷ more) entry
+  cases None at rest e is =
       ⊎_elim
       (λ same.
       let here : own_at device one ≡ Some entry = is_own_at device one entry (ap (λ (l : Listed). l.device) same ∙ is.2) (ap (λ (l : Listed). l.holding) same ∙ is.3) in
       absurd (cc))
-      (λ later. none_is_own device more entry e (is.0, later, is.2, is.3))
+      (λ later. rest e (is.0, later, is.2, is.3))
       (Contains-cons_cases one more is.0 is.1)
-  cases (Some own) at e is = absurd (cc)
+  cases (Some own) at rest e is = absurd (cc)
 
 module _ (said : OwnIsSaid) (held : EntriesAreHeld) (cut : CutParts) (is_cut : IsCut cut) (key : Folder × FileName) (group : List Listed) (is_group : IsGroupOf cut key group) where
   own_said : (share : Share) → Contains (shares_of key.0 cut.folders) share → own_among share.device group ≡ get share.own key.1
