@@ -1,5 +1,5 @@
 -- A step of one link is a step of the whole cluster.
-use Rattle.std.proofs.Common.{arith, ◌≡◌, ◌⊎◌, ◌<◌, ◌≤◌, ℕ, cond, nat_lt, true, false, Bool, List, [], ◌∷◌, length, get_or, Option, Some, None, Result, Ok, Err, Contains, refl, sym, ap, subst, ◌∙◌, inl, inr}
+use Rattle.std.proofs.Common.{arith, ◌≡◌, ◌⊎◌, ◌<◌, ◌≤◌, ℕ, cond, nat_lt, true, false, Bool, List, length, get_or, Some, None, Result, Ok, Err, Contains, refl, sym, ap, subst, ◌∙◌, inl, inr}
 use Rattle.std.specs.List.{find, position, position_or_len}
 use Rattle.std.proofs.lemmas.Bool.Decides.{nat_tests}
 use Rattle.std.proofs.lemmas.List.Folds.{find_at}
@@ -10,7 +10,7 @@ use Rattle.bep_model.specs.Tables.{Device}
 use Rattle.bep_machine.specs.declared.moved.Moved.{Moved}
 use Rattle.bep_machine.specs.declared.refusal.Refusal.TheVariants.{NotShared}
 use Rattle.bep_machine.specs.Answer.{Answer, Done, OutOfMemory, Refused as Refuses, Row, becomes, ◌answers◌when◌else◌}
-use Rattle.bep_machine.specs.Cluster.{Cluster, with_link}
+use Rattle.bep_machine.specs.Cluster.{Cluster}
 use Rattle.bep_machine.specs.Link.{Link}
 use Rattle.bep_machine.specs.Steps.{AtLink}
 use Rattle.bep_links.specs.Link.{LinkBetween}

@@ -1,30 +1,28 @@
 -- Devices and links that begin, one after another.
-use Rattle.std.proofs.Common.{◌≡◌, ◌≢◌, ◌<◌, ◌≤◌, ◌++◌, ℕ, true, false, List, [], ◌∷◌, length, map, All, Contains, refl, sym, ap, subst, ◌∙◌, arith}
+use Rattle.std.proofs.Common.{◌≡◌, ◌≢◌, ◌<◌, ◌++◌, ℕ, true, false, List, [], ◌∷◌, length, map, All, Contains, refl, sym, ap, subst, ◌∙◌, arith}
 use Rattle.std.specs.declared.cmp.Ordering.TheVariants.{Less, Equal}
 use Rattle.std.specs.Ordering.{nat_cmp, eq_by_cmp}
 use Rattle.std.specs.Cmp.{nat_cmp_total}
 use Rattle.std.specs.FinMap.{nat_cmp-IsAntisymmetric}
 use Rattle.std.specs.Map.{keys_of}
-use Rattle.std.specs.List.Sorted.{IsStrictlyIncreasing, IsStrictlySortedBy}
 use Rattle.std.specs.BTreeMap.Range.{IsLtBy}
 use Rattle.std.proofs.Math.Path.{fun_ext}
 use Rattle.std.proofs.lemmas.Cmp.{tied_itself}
-use Rattle.std.proofs.lemmas.List.{append_assoc, append-nil, length-map}
+use Rattle.std.proofs.lemmas.List.{append_assoc, append-nil}
 use Rattle.std.proofs.lemmas.List.Elements.{All-contains}
 use Rattle.std.proofs.lemmas.Map.Views.{Contains-from_any}
 use Rattle.bep_map.specs.NameMap.{ByName}
 use Rattle.bep_facts.specs.Maps.{same_key}
 use Rattle.bep_facts.specs.Members.{Contains-image}
 use Rattle.bep_record.specs.declared.node.NodeParts.{NodeParts}
-use Rattle.bep_record.specs.declared.limits.TheConstants.{MAX_DEVICES}
 use Rattle.bep_config.specs.declared.sharing.Sharing.{Sharing}
-use Rattle.bep_config.specs.Config.{Configuration, IsConfig, by_ends, has_device}
+use Rattle.bep_config.specs.Config.{Configuration, IsConfig, has_device}
 use Rattle.bep_model.specs.Tables.{Device, Folder}
 use Rattle.bep_machine.specs.Replica.{ByDevice}
 use Rattle.bep_folder.specs.Held.{Held}
 use Rattle.bep_links.specs.Link.{LinkBetween, new_link}
 use Rattle.bep_peer.specs.Member.{Member, new_member}
-use Rattle.bep_core.specs.Network.{Network, IsNetwork, numbers_of, ends_of}
+use Rattle.bep_core.specs.Network.{Network, numbers_of, ends_of}
 use Rattle.bep_core.specs.Begin.{folders_at, linked_with, begun_folders, begun_member, begun}
 
 pub none_left : {X : Type 0} (xs : List X) → (0 < length xs → false ≡ true) → xs ≡ []

@@ -1,5 +1,5 @@
 -- A cluster that begins from a configuration is a network: its devices know their links, and who shares their folders.
-use Rattle.std.proofs.Common.{◌≡◌, ◌≢◌, ◌⊎◌, ◌↔◌, ◌<◌, ◌≤◌, ◌==◌, ◌&&◌, ◌||◌, not, ℕ, Bool, true, false, cond, if◌then◌else◌, List, [], ◌∷◌, ◌++◌, length, map, Option, Some, None, option_map, All, Contains, refl, sym, ap, subst, ◌∙◌, inl, inr, ⊎_elim, arith}
+use Rattle.std.proofs.Common.{◌≡◌, ◌≢◌, ◌⊎◌, ◌↔◌, ◌<◌, ◌≤◌, ◌==◌, ◌&&◌, ◌||◌, not, ℕ, Bool, true, false, cond, if◌then◌else◌, List, [], ◌∷◌, ◌++◌, Option, Some, None, option_map, Contains, refl, sym, ap, subst, ◌∙◌, inl, inr, ⊎_elim, arith}
 use Rattle.std.specs.List.{filter, flat_map, list_any}
 use Rattle.std.specs.List.Sorted.{IsStrictlyIncreasing, IsStrictlySortedBy}
 use Rattle.std.specs.Map.{keys_of}
@@ -7,7 +7,7 @@ use Rattle.std.specs.BTreeMap.{is_at}
 use Rattle.std.specs.Ordering.{nat_cmp, eq_by_cmp}
 use Rattle.std.specs.Cmp.{IsTotalOrder, nat_cmp_total, eq_by_cmp_equiv}
 use Rattle.std.specs.Cmp.Lexicographic.{slice_cmp, nat_list_cmp_total}
-use Rattle.std.specs.FinMap.{get, from_entries, insert, get-insert, nat_cmp-IsAntisymmetric, slice_cmp-IsAntisymmetric}
+use Rattle.std.specs.FinMap.{get, from_entries, insert, get-insert, nat_cmp-IsAntisymmetric}
 use Rattle.std.proofs.lemmas.Cmp.{on_total, then_total}
 use Rattle.std.proofs.lemmas.List.{length-map}
 use Rattle.std.proofs.lemmas.List.Elements.{All-contains}
@@ -16,25 +16,21 @@ use Rattle.std.proofs.lemmas.Map.Views.{Contains-from_any, list_any-from_Contain
 use Rattle.bep_facts.specs.Maps.{same_key, nothing_in_empty, found_after_insert, get-insert_here}
 use Rattle.bep_facts.specs.Members.{not_in_none, Contains-cons_cases, Contains-first, Contains-more, Contains-image, Contains-from_image, Contains-flat_map}
 use Rattle.bep_map.specs.NameMap.{ByName}
-use Rattle.bep_record.specs.declared.folder_kind.FolderKind.{FolderKind}
 use Rattle.bep_record.specs.declared.limits.TheConstants.{MAX_DEVICES}
 use Rattle.bep_record.specs.declared.node.NodeParts.{NodeParts}
 use Rattle.bep_config.specs.declared.sharing.Sharing.{Sharing}
 use Rattle.bep_config.specs.Config.{Configuration, IsConfig, Joins, by_ends, by_share}
 use Rattle.bep_model.specs.Tables.{Device, Folder}
-use Rattle.bep_machine.specs.Cluster.{Config}
 use Rattle.bep_machine.specs.Replica.{Replica}
-use Rattle.bep_machine.specs.Sound.{FitsFolder}
 use Rattle.bep_machine.specs.Steps.{AreLinked, SharesFolder}
 use Rattle.bep_folder.specs.Held.{Held}
-use Rattle.bep_links.specs.Link.{new_link}
 use Rattle.bep_peer.specs.Member.{Member, tables_of}
-use Rattle.bep_core.specs.Network.{Network, IsNetwork, IsJoined, numbers_of, ends_of, config_of, kind_of, member_at}
+use Rattle.bep_core.specs.Network.{Network, IsNetwork, IsJoined, numbers_of, ends_of, config_of, kind_of}
 use Rattle.bep_core.specs.Begin.{others_that, is_shared, is_linked, linked_with, sharing_with, own_share, begun_share, begun_folders, begun_member, begun}
 use Rattle.bep_core.proofs.Begun.{numbers-begun, ends-begun}
 use Rattle.bep_core.proofs.Changed.{tables_at}
 use Rattle.bep_core.proofs.OthersThat.{itself, same_number, another_number, kept_passes}
-use Rattle.bep_core.proofs.Sharing.{has_number, listed, sharing_there}
+use Rattle.bep_core.proofs.Sharing.{has_number, sharing_there}
 
 -- ---- what is kept by a test
 

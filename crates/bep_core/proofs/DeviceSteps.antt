@@ -1,5 +1,5 @@
 -- What a device did within one of its folders, as the cluster answers it.
-use Rattle.std.proofs.Common.{◌≡◌, ℕ, List, get_or, Option, Some, None, Result, refl, sym, ap, subst, ◌∙◌}
+use Rattle.std.proofs.Common.{◌≡◌, ℕ, get_or, Option, Some, None, Result, sym, ap, subst, ◌∙◌}
 use Rattle.std.specs.List.{position}
 use Rattle.bep_model.specs.Tables.{Device, Folder}
 use Rattle.bep_machine.specs.declared.moved.Moved.{Moved}
@@ -9,7 +9,7 @@ use Rattle.bep_machine.specs.Cluster.{Cluster}
 use Rattle.bep_machine.specs.Replica.{Replica}
 use Rattle.bep_machine.specs.Steps.{AtReplica, SharesFolder}
 use Rattle.bep_peer.specs.declared.error.PeerError.{PeerError}
-use Rattle.bep_peer.specs.Member.{Member, Remains, tables_of}
+use Rattle.bep_peer.specs.Member.{Member, Remains}
 use Rattle.bep_peer.specs.PeerError.{Gives as GivesThere}
 use Rattle.bep_peer.specs.Within.{StepWithin}
 use Rattle.bep_core.specs.declared.why.Why.{Why}

@@ -1,6 +1,6 @@
 -- What the tables of a cluster are where one of its devices was changed.
-use Rattle.std.proofs.Common.{zero, suc, ◌↔◌, ◌≡◌, ◌≢◌, ◌<◌, ◌≤◌, ◌==◌, ℕ, Bool, true, false, if◌then◌else◌, List, [], ◌∷◌, ◌++◌, length, set, get_or, Option, Some, None, Contains, refl, sym, ap, subst, ◌∙◌}
-use Rattle.std.specs.List.{find, flat_map, position_or_len}
+use Rattle.std.proofs.Common.{zero, suc, ◌↔◌, ◌≡◌, ◌<◌, ◌≤◌, ◌==◌, ℕ, Bool, true, false, if◌then◌else◌, List, [], ◌∷◌, ◌++◌, length, set, get_or, Option, Some, Contains, refl, sym, ap, subst, ◌∙◌}
+use Rattle.std.specs.List.{flat_map, position_or_len}
 use Rattle.std.specs.FinMap.{get}
 use Rattle.std.specs.List.Sorted.{IsStrictlyIncreasing}
 use Rattle.std.proofs.Math.Path.{fun_ext}
@@ -8,12 +8,9 @@ use Rattle.std.proofs.Math.Seq.{map-set_same}
 use Rattle.std.proofs.lemmas.List.{length-set}
 use Rattle.std.proofs.lemmas.List.Folds.{find-set, find_past}
 use Rattle.std.proofs.lemmas.Option.{same_Some}
-use Rattle.bep_record.specs.declared.folder_kind.FolderKind.{FolderKind}
 use Rattle.bep_record.specs.declared.limits.TheConstants.{MAX_DEVICES}
 use Rattle.bep_model.specs.Tables.{Device, Folder}
-use Rattle.bep_machine.specs.Cluster.{Config, Cluster, with_peer}
-use Rattle.bep_machine.specs.Peer.{Peer}
-use Rattle.bep_machine.specs.Replica.{Replica}
+use Rattle.bep_machine.specs.Cluster.{Config, with_peer}
 use Rattle.bep_machine.specs.Sound.{FitsFolder}
 use Rattle.bep_machine.specs.Steps.{AreLinked}
 use Rattle.bep_peer.specs.Member.{Member, tables_of}

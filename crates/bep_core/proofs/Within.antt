@@ -1,5 +1,5 @@
 -- A step of one device within one of its folders is a step of the whole cluster.
-use Rattle.std.proofs.Common.{◌≡◌, ◌⊎◌, ℕ, List, get_or, Option, Some, None, Result, Ok, Err, Contains, refl, sym, ap, subst, ◌∙◌, inl, inr, ⊎_elim, option_map}
+use Rattle.std.proofs.Common.{◌≡◌, ◌⊎◌, ℕ, List, get_or, Some, None, Result, Ok, Err, Contains, refl, sym, ap, subst, ◌∙◌, inl, inr, ⊎_elim, option_map}
 use Rattle.std.specs.Bool.{⊤}
 use Rattle.std.specs.FinMap.{get}
 use Rattle.std.specs.List.{position}
@@ -17,7 +17,7 @@ use Rattle.bep_peer.specs.declared.error.PeerError.{PeerError}
 use Rattle.bep_peer.specs.declared.error.PeerError.TheVariants as peer
 use Rattle.bep_peer.specs.Member.{Member, tables_of}
 use Rattle.bep_peer.specs.PeerError.{Gives as GivesThere}
-use Rattle.bep_peer.specs.Within.{AtFolder, StepWithin}
+use Rattle.bep_peer.specs.Within.{StepWithin}
 use Rattle.bep_core.specs.Network.{Network, IsNetwork, is_number, cluster_of, config_of, member_at, peer_of}
 use Rattle.bep_core.specs.Why.{Gives, answer_of}
 use Rattle.bep_core.proofs.AtLinks.{first_found}
@@ -25,7 +25,7 @@ use Rattle.bep_core.proofs.OthersThat.{same_number}
 use Rattle.bep_core.proofs.Changed.{tables_at}
 use Rattle.bep_core.proofs.OneDevice.{Replaces, with_member, one_device, nothing_changed}
 use Rattle.bep_core.proofs.RowsKeep.{Keeps}
-use Rattle.bep_core.proofs.SameFolders.{SameFolders, equal_folders, folder_changed, outline}
+use Rattle.bep_core.proofs.SameFolders.{SameFolders, equal_folders, folder_changed}
 use Rattle.bep_core.proofs.Sharing.{absent_shares_none, without_shares_none}
 
 -- a step that grows, where `there` is all that it names, and the row that it makes

@@ -84,10 +84,6 @@ module _ (old new : Member) (folder : Folder) (read : IsReadIn folder old new) w
       subst (λ (o : Option Held). IfSome o (λ held. nodes ≡ held.tables.store)) (sym now_there)
       (right ∙ ap (λ (r : Replica). r.store) (sym read.tables))
 
--- the number and the tables are as before
-pub same_seen : (old new : Member) → new.number ≡ old.number → tables_of new ≡ tables_of old → seen new ≡ seen old
-same_seen old new number tables = λ i. (number i, tables i)
-
 -- where the device has the folder, a refusal is the store's
 pub fault_of : (old new : Member) (folder : Folder) (refusal : Refusal) → IsSome (get old.folders folder) → ReadsOutIn folder old new (Err (Refused refusal)) → HasRisen (faults_of old) (faults_of new)
 fault_of old new folder StoreFault has reads = has_risen old new folder reads.0 reads.1

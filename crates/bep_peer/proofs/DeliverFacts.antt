@@ -1,17 +1,15 @@
 -- Taking what came over a link is the step of the table on the device and the link, and tells what it did.
-use Rattle.std.proofs.Common.{◌≡◌, ℕ, List, [], ◌∷◌, Option, Result, Ok, Err, slice_get, inl, inr, refl, sym, ap, subst, ◌∙◌}
+use Rattle.std.proofs.Common.{◌≡◌, ℕ, Option, Result, Ok, Err, inl, refl, sym, ap, subst, ◌∙◌}
 use Rattle.std.specs.FinMap.{get}
 use Rattle.bep_map.specs.NameMap.{ByName}
 use Rattle.bep_folder.specs.Held.{Held}
 use Rattle.bep_model.specs.Tables.{Device}
 use Rattle.bep_machine.specs.declared.message.Message.{Message}
-use Rattle.bep_machine.specs.declared.message.Code.{Code}
-use Rattle.bep_machine.specs.declared.message.Code.TheVariants as codes
 use Rattle.bep_machine.specs.declared.refusal.Refusal.TheVariants.{NotShared}
 use Rattle.bep_machine.specs.declared.moved.Moved.{Moved}
 use Rattle.bep_machine.specs.Answer.{Answer, Row, Done, Refused as Refuses}
 use Rattle.bep_machine.specs.Exchange.{DeliverRow, SessionRow, WaitingRow}
-use Rattle.bep_machine.specs.Link.{End, Link, Sight, end_of, sight_of, after_deed, first_of_queue}
+use Rattle.bep_machine.specs.Link.{End, Link, Sight, end_of, sight_of, after_deed}
 use Rattle.bep_machine.specs.Peer.{Session, Peer, Acted, idle}
 use Rattle.bep_links.specs.Link.{LinkBetween}
 use Rattle.bep_peer.specs.declared.effect.Effect.{Effect}
@@ -20,17 +18,12 @@ use Rattle.bep_peer.specs.declared.error.PeerError.{PeerError}
 use Rattle.bep_peer.specs.declared.error.PeerError.TheVariants.{Refused, Stale, Memory}
 use Rattle.bep_peer.specs.declared.trace.Trace.{Trace}
 use Rattle.bep_peer.specs.Delivered.{TellsRead, failure_sent}
-use Rattle.bep_peer.specs.Effect.{TellsAnswer, Takes, deed_of, failure_answered, failure_of, moved_of}
+use Rattle.bep_peer.specs.Effect.{TellsAnswer, Takes, deed_of, failure_answered, moved_of}
 use Rattle.bep_peer.specs.InSession.{IsOver, NothingDone}
 use Rattle.bep_peer.specs.Lent.{Lent, Joins, NamesNone, StepOver, twice}
 use Rattle.bep_peer.specs.Member.{Member, HasFailed, Remains, nothing_told, tables_of, untold}
 use Rattle.bep_peer.specs.PeerError.{Gives}
 use Rattle.bep_peer.proofs.StepFacts.{begun_with, in_session, made_as, nothing_carried, refused_as, refused_as_not_shared, session_refused}
-
--- what waits first
-pub first_waits : (queue : List Message) → slice_get queue 0 ≡ first_of_queue queue
-first_waits [] = refl
-first_waits (message ∷ more) = refl
 
 -- ---- the ends of the call
 
@@ -79,11 +72,6 @@ module _ (old : Lent) (begun : Member) (same : begun ≡ untold old.member) wher
     refused_first Stale takes tables told = absurd takes
     refused_first Memory takes tables told = inl (record { tables = tables ∙ ap tables_of same; link = refl; silent = ap (λ (trace : Trace). trace.put) told }, refl)
 
-    -- memory is wanting for an answer
-    pub wanting : (effect : Effect) (link : LinkBetween) → link ≡ old.link → tables_of taken ≡ tables_of begun → TellsAnswer taken.trace (Ok effect) →
-        Gives (StepOver (delivering taken.trace.failed) NamesNone old) (record { member = taken; link = link }) (Err Memory)
-    wanting effect link is tables told = inl (record { tables = tables ∙ ap tables_of same; link = is; silent = ap (λ (trace : Trace). trace.put) told }, refl)
-
     -- the message is taken
     pub delivered : (effect : Effect) (moved : Moved) (put : Option (Message × Message)) (link : LinkBetween) → TakesFrom (Ok effect) →
         moved ≡ moved_of effect → put ≡ twice (deed_of effect).sends → link ≡ record old.link { link = after_deed end (deed_of effect) old.link.link } →
@@ -93,23 +81,6 @@ module _ (old : Lent) (begun : Member) (same : begun ≡ untold old.member) wher
         (acts (record { peer = tables_of taken; deed = deed_of effect }) (record taken { trace = record taken.trace { put = put } }) link (Done (moved_of effect)) takes refl carried told)
 
 -- ---- what is told of a read
-
-pub nothing_failed : (trace : Trace) (error : PeerError) → trace ≡ nothing_told → TellsRead trace (Err error)
-nothing_failed trace (Refused refusal) told = ap (λ (t : Trace). t.failed) told
-nothing_failed trace Stale told = ap (λ (t : Trace). t.failed) told
-nothing_failed trace Memory told = inl (ap (λ (t : Trace). t.failed) told)
-
--- memory was wanting for the answer
-pub answer_failed : (trace : Trace) (effect : Effect) → TellsAnswer trace (Ok effect) → TellsRead trace (Err Memory)
-answer_failed trace Taken told = inl (ap (λ (t : Trace). t.failed) told)
-answer_failed trace Lost told = inl (ap (λ (t : Trace). t.failed) told)
-answer_failed trace (Answered response) told = by_code response.code (ap (λ (t : Trace). t.failed) told)
-  where
-    by_code : (code : Code) → trace.failed ≡ failure_of code → TellsRead trace (Err Memory)
-    by_code codes.NoError is = inl is
-    by_code codes.Generic is = inr is
-    by_code codes.NoSuchFile is = inl is
-    by_code codes.InvalidFile is = inl is
 
 sent_as_answered : (effect : Effect) → failure_sent (twice (deed_of effect).sends) ≡ failure_answered effect
 sent_as_answered Taken = refl

@@ -18,8 +18,7 @@ use Rattle.bep_machine.specs.Peer.{Session}
 use Rattle.bep_machine.specs.Replica.{ByDevice, Replica, with_view}
 use Rattle.bep_folder.specs.Held.{Held}
 use Rattle.bep_folder.specs.Views.{exchanged, unchanged, with_exchanged}
-use Rattle.bep_peer.specs.declared.trace.Trace.{Trace}
-use Rattle.bep_peer.specs.Member.{Member, IsMember, Remains, tables_in, nothing_told}
+use Rattle.bep_peer.specs.Member.{IsMember, tables_in}
 use Rattle.bep_peer.specs.Renewed.{AreFramed, AreSharedBy, IsUnder, frame_of}
 use Rattle.bep_peer.specs.Viewing.{IsSharedBy}
 use Rattle.bep_peer.proofs.MemberFacts.{has_tables, tables-given, tables-same}
@@ -68,22 +67,6 @@ member_framed number old new sessions linked framed member = record {
       (ap (λ (f : Frame). f.0) back.2 ∙ was.0, ap (λ (f : Frame). f.1.0) back.2 ∙ was.1);
   named = λ other session folder has named. shared_framed old new framed folder other (member.named other session folder has named);
   linked_to = member.linked_to;
-}
-
-pub remains_framed : (old : Member) (folders : ByName Held) (sessions : ByDevice Session) → old.trace ≡ nothing_told → AreFramed old.folders folders → Remains old (record old { folders = folders; sessions = sessions })
-remains_framed old folders sessions told framed = record {
-  number = refl;
-  linked = refl;
-  failed = (
-    λ some. absurd (let none = subst (λ (t : Trace). IsSome t.failed) told some in cc),
-    λ failed. absurd (
-        let back = framed_back old.folders folders framed failed.folder failed.now failed.after in
-        let found : Some failed.was ≡ Some back.0 = sym failed.before ∙ back.1 in
-        let one : failed.was ≡ back.0 = cc in
-        let same : failed.now.faults ≡ back.0.faults = ap (λ (f : Frame). f.1.1.1) back.2 in
-        let rose = subst (λ (h : Held). h.faults < failed.now.faults) one failed.rose in omega arith
-        ),
-  );
 }
 
 -- ---- the folders that are named

@@ -13,16 +13,12 @@ use Rattle.bep_machine.specs.Peer.{Session, Peer, Acted}
 use Rattle.bep_machine.specs.Replica.{node_at}
 use Rattle.bep_folder.specs.declared.error.FolderError.{FolderError}
 use Rattle.bep_folder.specs.Held.{Held}
-use Rattle.bep_peer.specs.declared.effect.Effect.TheVariants.{Answered, Lost}
+use Rattle.bep_peer.specs.declared.effect.Effect.TheVariants.{Answered}
 use Rattle.bep_peer.specs.declared.error.PeerError.TheVariants.{Refused}
 use Rattle.bep_peer.specs.Effect.{Takes, deed_of}
 use Rattle.bep_peer.specs.Member.{Member, tables_of}
 use Rattle.bep_peer.specs.Read.{IsNodeAt}
 use Rattle.bep_peer.proofs.MemberFacts.{has_tables}
-
-pub request_lost : (other : Device) (failed : Option ℕ) (full : Bool) (session : Session) (request : Request) (member : Member) → ¬ IsNamed session request.folder →
-    Takes (MessageRow other failed full session (messages.Request request) (tables_of member)) member member (Ok Lost)
-request_lost other failed full session request member unnamed = inr (unnamed, (refl, refl))
 
 pub request_waits : (other : Device) (failed : Option ℕ) (full : Bool) (session : Session) (request : Request) (member : Member) (held : Held) →
     full ≡ true → IsNamed session request.folder → get member.folders request.folder ≡ Some held →

@@ -1,10 +1,9 @@
 use Rattle.std.proofs.Common.{ℕ, Option, sym, ◌∙◌}
 use Rattle.bep_model.specs.Tables.{Device}
 use Rattle.bep_machine.specs.Local.{OverrideRow}
-use Rattle.bep_machine.specs.Replica.{Replica}
 use Rattle.bep_machine.specs.declared.step.Step.TheVariants.{Override}
 use Rattle.bep_machine.specs.Steps.{IsStep}
-use Rattle.bep_core.specs.Network.{Network, failed_at}
+use Rattle.bep_core.specs.Network.{failed_at}
 use Rattle.bep_core.proofs.DeviceSteps.{none_within, within_made, within_rules}
 use Rattle.bep_core.proofs.RowsKeep.{override_keeps}
 use Rattle.bep_core.proofs.cluster.Cluster.override_one.Goals as goal
