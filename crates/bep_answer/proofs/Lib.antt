@@ -1,1 +1,2 @@
 mod SettledSaid
+mod PlayFacts
