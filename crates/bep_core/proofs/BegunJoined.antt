@@ -19,13 +19,13 @@ use Rattle.bep_map.specs.NameMap.{ByName}
 use Rattle.bep_record.specs.declared.limits.TheConstants.{MAX_DEVICES}
 use Rattle.bep_record.specs.declared.node.NodeParts.{NodeParts}
 use Rattle.bep_config.specs.declared.sharing.Sharing.{Sharing}
-use Rattle.bep_config.specs.Config.{Configuration, IsConfig, Joins, by_ends, by_share}
+use Rattle.bep_config.specs.Config.{Configuration, IsConfig, has_folder, Joins, by_ends, by_share}
 use Rattle.bep_model.specs.Tables.{Device, Folder}
 use Rattle.bep_machine.specs.Replica.{Replica}
 use Rattle.bep_machine.specs.Steps.{AreLinked, SharesFolder}
 use Rattle.bep_folder.specs.Held.{Held}
 use Rattle.bep_peer.specs.Member.{Member, tables_of}
-use Rattle.bep_core.specs.Network.{Network, IsNetwork, IsJoined, numbers_of, ends_of, config_of, kind_of}
+use Rattle.bep_core.specs.Network.{Network, IsNetwork, IsJoined, AreFew, ShareSome, numbers_of, ends_of, config_of, kind_of}
 use Rattle.bep_core.specs.Begin.{others_that, is_shared, is_linked, linked_with, sharing_with, own_share, begun_share, begun_folders, begun_member, begun}
 use Rattle.bep_core.proofs.Begun.{numbers-begun, ends-begun}
 use Rattle.bep_core.proofs.Changed.{tables_at}
@@ -82,6 +82,11 @@ others_are test devices device other = (
         decide : (b : Bool) → (other == device) ≡ b → (not b && test other) ≡ true
         decide true tied = absurd (different (same_number other device tied))
         decide false distinct = e
+
+-- one of them passes the test
+first_any : {X : Type 0} (p : X → Bool) (xs : List X) → list_any p xs ≡ true → (x : X) × Contains xs x × (p x ≡ true)
+first_any p [] e = absurd (cc)
+first_any p (y ∷ xs) e = ⊎_elim (λ here. (y, Contains-first y xs, here)) (λ more. let later = first_any p xs more in (later.0, Contains-more y xs later.0 later.1, later.2)) (one_passes (p y) (list_any p xs) e)
 
 -- ---- keys of two parts
 
@@ -288,6 +293,24 @@ module _ {S : Type 0} (contents : S → ByName NodeParts) (faults : S → ℕ) w
               (others_are (is_shared keys folder) config.devices device other).1 (is.0, shares.0, (shared_iff keys folder other).1 is.1),
         )
 
+    -- the folders are the configured ones, and each device has a share
+    few_made : IsStrictlyIncreasing config.devices → AreFew (config_of made)
+    few_made rising = record {
+      folders = config.folders;
+      few = rules.few_folders;
+      all = λ device folder shares.
+          let key = ((shares_iff rising folder device).0 shares).1 in
+          let has : has_folder config folder ≡ true = All-contains (λ (key : Folder × Device). has_folder config key.0 ≡ true) keys (folder, device) rules.of_folders key in
+          Contains-from_any {eq = eq_by_cmp (slice_cmp nat_cmp)} (same_key exact_bytes) folder config.folders has;
+    }
+
+    some_made : IsStrictlyIncreasing config.devices → ShareSome (config_of made)
+    some_made rising device stands =
+        let there : Contains config.devices device = subst (λ (numbers : List Device). Contains numbers device) numbers_made stands in
+        let key = first_any (λ (key : Folder × Device). key.1 == device) keys (All-contains (λ (one : Device). list_any (λ (key : Folder × Device). key.1 == one) keys ≡ true) config.devices device rules.sharing there) in
+        let mine : Contains keys (key.0.0, device) = subst (λ (number : Device). Contains keys (key.0.0, number)) (same_number key.0.1 device key.2) key.1 in
+        (key.0.0, (shares_iff rising key.0.0 device).1 (there, mine))
+
     pub begun_network : IsStrictlyIncreasing config.devices → IsStrictlySortedBy by_ends config.links → IsNetwork made
     begun_network rising sorted = record {
       devices = rising_made rising;
@@ -300,4 +323,6 @@ module _ {S : Type 0} (contents : S → ByName NodeParts) (faults : S → ℕ) w
           let here = has_number made.members device member is in
           let of = Contains-from_image (begun_member contents faults config) config.devices member here.1 in
           subst (IsJoined (config_of made)) of.2 (begun_joined rising of.0 of.1);
+      folders = few_made rising;
+      some = some_made rising;
     }

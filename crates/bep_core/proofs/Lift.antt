@@ -10,7 +10,7 @@ use Rattle.bep_config.specs.Config.{by_ends}
 use Rattle.bep_model.specs.Tables.{Device}
 use Rattle.bep_machine.specs.Cluster.{Config, with_link}
 use Rattle.bep_links.specs.Link.{LinkBetween}
-use Rattle.bep_core.specs.Network.{Network, IsNetwork, IsJoined, is_between as joins, ends_of, between_at, link_of, member_at, peer_of, config_of, sharing_of, numbers_of, cluster_of}
+use Rattle.bep_core.specs.Network.{Network, IsNetwork, IsJoined, AreFew, ShareSome, is_between as joins, ends_of, between_at, link_of, member_at, peer_of, config_of, sharing_of, numbers_of, cluster_of}
 use Rattle.bep_core.proofs.OthersThat.{itself, same_number}
 
 both_true : (a b : Bool) → (a && b) ≡ true → (a ≡ true) × (b ≡ true)
@@ -78,6 +78,8 @@ network_after_links network links same rules = record {
   links = subst (IsStrictlySortedBy by_ends) (sym same) rules.links;
   ends = λ one other stands. rules.ends one other (subst (λ (all : List (Device × Device)). Contains all (one, other)) same stands);
   joined = λ device member is. subst (λ (config : Config). IsJoined config member) (sym config) (rules.joined device member is);
+  folders = subst AreFew (sym config) rules.folders;
+  some = subst ShareSome (sym config) rules.some;
 }
   where
     config : config_of (record network { links = links }) ≡ config_of network
