@@ -11,3 +11,4 @@ mod AtLinks
 mod Within
 mod DeviceSteps
 mod BegunJoined
+mod HavingFacts

@@ -1,3 +1,4 @@
 pub mod Begin
 pub mod Network
 pub mod Why
+pub mod Sharing

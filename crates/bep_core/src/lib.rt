@@ -12,7 +12,9 @@ mod folder_steps;
 mod folders;
 mod link_steps;
 mod others;
+mod having;
 mod why;
 
 pub use cluster::Cluster;
+pub use having::sharing_is_having;
 pub use why::Why;
