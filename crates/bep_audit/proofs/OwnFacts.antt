@@ -1,6 +1,7 @@
 -- The own records among the entries of a name are those that the devices have of it.
-use Rattle.std.proofs.Common.{◌≡◌, ℕ, Bool, true, false, cond, List, [], ◌∷◌, Contains, Option, Some, None, map, refl, sym, ap, subst, ◌∙◌, inl, inr, ◌⊎◌, ⊎_elim}
+use Rattle.std.proofs.Common.{◌≡◌, ℕ, Bool, true, false, cond, List, [], ◌∷◌, Contains, Option, Some, None, map, refl, sym, ap, subst, ◌∙◌, inl, inr, ◌⊎◌, ⊎_elim, eq-eqb}
 use Rattle.std.specs.Prelude.{◌==◌}
+use Rattle.std.proofs.lemmas.Bool.{eqb-true}
 use Rattle.std.specs.FinMap.{get}
 use Rattle.bep_facts.specs.Members.{Contains-cons_cases, Contains-first, Contains-more, not_in_none}
 use Rattle.bep_record.specs.declared.entry.Entry.{Entry}
@@ -27,7 +28,7 @@ own_is_held (Record source held) entry e = absurd (cc)
 own_is_held (Node node) entry e = absurd (cc)
 
 same_device : (one device : ℕ) → (one == device) ≡ true → one ≡ device
-same_device one device is = cc
+same_device one device is = eqb-true one device is
 
 own_is_at : (device : Device) (one : Listed) (entry : Entry) → own_at device one ≡ Some entry → (one.device ≡ device) × (one.holding ≡ Record Own entry)
 own_is_at device one entry = cases (one.device == device) refl where
@@ -37,7 +38,7 @@ own_is_at device one entry = cases (one.device == device) refl where
 
 is_own_at : (device : Device) (one : Listed) (entry : Entry) → one.device ≡ device → one.holding ≡ Record Own entry → own_at device one ≡ Some entry
 is_own_at device one entry here holds =
-    (λ i. cond (here i == device) (own_held (holds i)) None) ∙ at_itself (device == device) (cc)
+    (λ i. cond (here i == device) (own_held (holds i)) None) ∙ at_itself (device == device) (eq-eqb device device refl)
   where
     at_itself : (b : Bool) → b ≡ true → cond b (Some entry) None ≡ Some entry
     at_itself true is = refl
