@@ -45,14 +45,14 @@ is_own_at device one entry here holds =
     at_itself false is = absurd (cc)
 
 own_is_among : (device : Device) (group : List Listed) (entry : Entry) → own_among device group ≡ Some entry → IsOwnIn device group entry
-own_is_among device [] entry e = absurd (cc)
+own_is_among device [] entry = λ e. let is : ◌≡◌ {A = Option Entry} None (Some entry) = e in absurd (cc)
 own_is_among device (one ∷ more) entry = cases (own_at device one) refl (own_is_among device more entry) where
   cases : (own : Option Entry) → own_at device one ≡ own → (own_among device more ≡ Some entry → IsOwnIn device more entry) → first_of own (own_among device more) ≡ Some entry → IsOwnIn device (one ∷ more) entry
   cases None is later e = let found = later e in (found.0, Contains-more one more found.0 found.1, found.2, found.3)
   cases (Some own) is later e = let at = own_is_at device one entry (is ∙ e) in (one, Contains-first one more, at.0, at.1)
 
 none_is_own : (device : Device) (group : List Listed) (entry : Entry) → own_among device group ≡ None → ¬ IsOwnIn device group entry
-none_is_own device [] entry e is = not_in_none is.0 is.1
+none_is_own device [] entry = λ e is. not_in_none is.0 is.1
 none_is_own device (one ∷ more) entry = cases (own_at device one) refl (none_is_own device more entry) where
   cases : (own : Option Entry) → own_at device one ≡ own → (own_among device more ≡ None → ¬ IsOwnIn device more entry) → first_of own (own_among device more) ≡ None → ¬ IsOwnIn device (one ∷ more) entry
   cases None at rest e is =
