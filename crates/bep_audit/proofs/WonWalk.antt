@@ -1,12 +1,12 @@
 -- The rows of the winners of the known names that a walk has come past.
-use Rattle.std.proofs.Common.{◌≡◌, ◌⊎◌, ◌≤◌, ◌<◌, ◌+◌, ℕ, List, [], ◌∷◌, ◌++◌, map, length, drop, Contains, Some, None, refl, sym, ap, subst, ◌∙◌, inl, inr, ⊎_elim, arith}
+use Rattle.std.proofs.Common.{◌≡◌, ◌⊎◌, ◌<◌, ◌+◌, ℕ, List, [], ◌∷◌, ◌++◌, length, drop, Contains, Some, None, refl, sym, subst, ◌∙◌, inl, inr, ⊎_elim, arith}
 use Rattle.std.specs.declared.cmp.Ordering.TheVariants.{Less}
 use Rattle.std.proofs.lemmas.List.Elements.{Contains-append_left, Contains-append_right, Contains-append_cases}
 use Rattle.bep_facts.specs.Members.{Contains-first, Contains-more, Contains-one, not_in_none}
 use Rattle.bep_model.specs.declared.row.Row.{Row}
 use Rattle.bep_model.specs.Foreign.{IsKnown}
 use Rattle.bep_model.specs.Settled.{key_of, key_cmp, Rise, HasRow, IsListOfWinners}
-use Rattle.bep_model.specs.Tables.{Tables, Folder, FileName}
+use Rattle.bep_model.specs.Tables.{Tables}
 use Rattle.bep_model.specs.Winner.{IsWinner}
 use Rattle.bep_model.specs.WithoutWinner.{HasWinner, IsWithoutWinner, IsFirstWithoutWinner}
 use Rattle.bep_tables.specs.declared.cut.CutParts.{CutParts}
@@ -19,7 +19,7 @@ use Rattle.bep_audit.specs.declared.error.CertifyError.TheVariants.{NoWinner, Me
 use Rattle.bep_audit.specs.Certifier.{TellsOf, TellsOfFirst, IsWon, IsUnwon, AddsIfKnown, IsUnwonHere}
 use Rattle.bep_audit.specs.Walk.{next_key, count_at}
 use Rattle.bep_audit.proofs.GroupWalk.{Stands, next, same_or_not, stands_at_first, unlisted_is_unknown, stands_afterwards, table_left, smaller_at}
-use Rattle.bep_audit.proofs.NameWalk.{Key, IsUnder, IsNext, Remains, none_left, under_itself, was_left, left_above, left_or_here, not_under_next}
+use Rattle.bep_audit.proofs.NameWalk.{Key, IsUnder, IsNext, Remains, none_left, was_left, left_above, left_or_here, not_under_next}
 
 -- ---- a row that comes last
 rise_with : (rows : List Row) (row : Row) → Rise rows → ((one : Row) → Contains rows one → key_cmp (key_of one) (key_of row) ≡ Less) → Rise (rows ++ row ∷ [])

@@ -1,4 +1,4 @@
-use Rattle.std.proofs.Common.{◌↔◌, map, refl, sym, subst, ◌∙◌, inl, inr, true≢false}
+use Rattle.std.proofs.Common.{map, refl, sym, ◌∙◌, inl, inr, true≢false}
 use Rattle.bep_tables.specs.Cut.{tables_of}
 use Rattle.bep_tables.specs.Listed.{listed}
 use Rattle.bep_audit.specs.Certifier.{TellsOf, IsUnwonHere}

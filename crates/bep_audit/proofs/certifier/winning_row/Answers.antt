@@ -1,4 +1,4 @@
-use Rattle.std.proofs.Common.{map, option_map, sym, ap, subst}
+use Rattle.std.proofs.Common.{option_map, sym, ap, subst}
 use Rattle.bep_choice.specs.Choice.{candidate_of}
 use Rattle.bep_tables.specs.Cut.{tables_of}
 use Rattle.bep_audit.specs.Candidates.{FindsWinner}

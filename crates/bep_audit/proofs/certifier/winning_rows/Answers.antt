@@ -1,5 +1,4 @@
 use Rattle.std.proofs.Common.{◌≡◌, ◌≤◌, [], length, take, drop, Some, None, sym, subst, arith}
-use Rattle.bep_model.specs.Settled.{IsListOfWinners}
 use Rattle.bep_tables.specs.Cut.{tables_of}
 use Rattle.bep_audit.specs.Certifier.{TellsOfFirst}
 use Rattle.bep_audit.specs.Walk.{count_at}

@@ -1,8 +1,8 @@
-use Rattle.std.proofs.Common.{option_map, refl, subst, ap, Option}
-use Rattle.bep_choice.specs.Choice.{Candidate, candidate_of}
+use Rattle.std.proofs.Common.{option_map, refl, subst, ap}
+use Rattle.bep_choice.specs.Choice.{candidate_of}
 use Rattle.bep_tables.specs.Cut.{tables_of}
 use Rattle.bep_audit.specs.Candidates.{FindsWinner}
-use Rattle.bep_audit.proofs.WinnerFacts.{row_exactly, row_unwon}
+use Rattle.bep_audit.proofs.WinnerFacts.{row_exactly}
 use Rattle.bep_audit.proofs.winner.is_winner_in.Goals as goal
 
 pub returns-in-None : goal.returns-in-None

@@ -1,4 +1,4 @@
-use Rattle.std.proofs.Common.{◌≡◌, ◌≤◌, ◌∙◌, ℕ, List, Option, Some, None, length, map, option_map, refl, sym, ap, subst}
+use Rattle.std.proofs.Common.{◌≡◌, ◌≤◌, ◌∙◌, ℕ, List, Option, Some, None, length, map, option_map, sym, ap, subst}
 use Rattle.std.specs.Prelude.{IfSome, IfNone}
 use Rattle.std.specs.FinMap.{get}
 use Rattle.bep_choice.specs.Choice.{Candidate, candidate_of, IsChoice}
@@ -9,7 +9,6 @@ use Rattle.bep_tables.specs.Cut.{AreShares, tables_of}
 use Rattle.bep_tables.specs.Listed.{listed}
 use Rattle.bep_tables.specs.declared.share.Share.{Share}
 use Rattle.bep_audit.specs.Candidates.{FindsWinner, own_among, owned_by, chooser_of}
-use Rattle.bep_audit.specs.Group.{IsGroupOf}
 use Rattle.bep_audit.proofs.OwnFacts.{group_owns}
 use Rattle.bep_audit.proofs.WinnerFacts.{Lent}
 use Rattle.bep_audit.proofs.WinnerSaid.{are_shares, few_shares, winner_said, winner_is_named}
