@@ -16,11 +16,12 @@ pub mod GroupFacts
 pub mod FailingDevice
 pub mod GroupRow
 pub mod NameWalk
+pub mod GroupWalk
 pub mod LeastWalk
 pub mod ReasonWalk
 pub mod WinnerFacts
 pub mod CandidateFacts
 pub mod WinnerSaid
-pub mod NamesFacts
-pub mod AddedFacts
+pub mod OwnFacts
+pub mod WonWalk
 pub mod CertifierFacts

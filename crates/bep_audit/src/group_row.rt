@@ -17,8 +17,9 @@ use crate::checkers::REASONS;
 use crate::failing::unless;
 use crate::failure::Failure;
 use crate::group::{has_known, meets_group};
+use crate::share_is_asked;
 use crate::spot::Spot;
-use crate::{is_winner, share_is_asked};
+use crate::winner::is_winner_in;
 use bep_model::{Reason, Row, reasons_are_numbered};
 use bep_record::{DeviceId, FolderName, Name};
 use bep_tables::{Cut, Share, TableEntry, cut_says, entries_are_held};
@@ -92,7 +93,7 @@ fn failing_in<'a>(
     match reason {
         Reason::CertificateOrder | Reason::NameMissing => None,
         Reason::NameUnknown => unless(has_known(group), row),
-        Reason::NotWinner => unless(is_winner(cut, row), row),
+        Reason::NotWinner => unless(is_winner_in(cut, group, row), row),
         _ => failing_device_in(cut, group, row, reason),
     }
 }

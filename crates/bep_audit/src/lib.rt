@@ -25,6 +25,7 @@ mod least;
 mod missing;
 mod missing_held;
 mod missing_on_its_way;
+mod owns;
 mod rows;
 mod share;
 mod spot;
