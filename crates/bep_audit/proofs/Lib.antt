@@ -15,6 +15,7 @@ pub mod FailingRow
 pub mod GroupFacts
 pub mod FailingDevice
 pub mod GroupRow
+pub mod FaultlessRow
 pub mod NameWalk
 pub mod GroupWalk
 pub mod LeastWalk

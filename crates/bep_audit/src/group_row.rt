@@ -16,6 +16,7 @@ ghost use Rattle.bep_audit.specs.Walk.{FindsLeast, FindsHere, failure_shown};
 use crate::checkers::REASONS;
 use crate::failing::unless;
 use crate::failure::Failure;
+use crate::faultless::is_faultless;
 use crate::group::{has_known, meets_group};
 use crate::share_is_asked;
 use crate::spot::Spot;
@@ -70,6 +71,9 @@ fn failure_at_row<'a>(cut: &'a Cut, group: &[TableEntry<'a>], row: &'a Row) -> O
     ensures { FindsLeast (tables_of cut.now) (row.now ∷ []) (λ key. key ≡ key_of row.now) (option_map failure_shown result) }
 {
     reasons_are_numbered();
+    if is_faultless(cut, group, row) {
+        return None;
+    }
     for reason in REASONS {
         if let Some(spot) = failing_in(cut, group, row, reason) {
             return Some(Failure { reason, spot });

@@ -17,6 +17,7 @@ mod checkers;
 mod error;
 mod failing;
 mod failure;
+mod faultless;
 mod foreign;
 mod group;
 mod group_row;
