@@ -10,4 +10,9 @@ mod Changed
 mod AtLinks
 mod Within
 mod DeviceSteps
+mod Keeping
+mod SessionsKeep
+mod SharedBetween
+mod Over
+mod SessionSteps
 mod BegunJoined

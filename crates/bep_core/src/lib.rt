@@ -12,6 +12,7 @@ mod folder_steps;
 mod folders;
 mod link_steps;
 mod others;
+mod session_steps;
 mod why;
 
 pub use cluster::Cluster;
