@@ -11,3 +11,8 @@ mod AtLinks
 mod Within
 mod DeviceSteps
 mod BegunJoined
+mod Restarted
+mod ListDone
+mod Scanned
+mod Reaching
+mod BegunSound

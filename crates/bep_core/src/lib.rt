@@ -6,13 +6,18 @@
 //! ```
 #![tactic(auto)]
 
+mod applying;
 mod begin;
 mod cluster;
 mod folder_steps;
 mod folders;
+mod laws;
 mod link_steps;
 mod others;
+mod restarting;
+mod scanning;
 mod why;
 
 pub use cluster::Cluster;
+pub use laws::reached_is_gapless;
 pub use why::Why;
