@@ -10,6 +10,11 @@ mod Changed
 mod AtLinks
 mod Within
 mod DeviceSteps
+mod Keeping
+mod SessionsKeep
+mod SharedBetween
+mod Over
+mod SessionSteps
 mod BegunJoined
 mod Restarted
 mod ListDone

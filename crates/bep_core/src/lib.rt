@@ -16,6 +16,7 @@ mod link_steps;
 mod others;
 mod restarting;
 mod scanning;
+mod session_steps;
 mod why;
 
 pub use cluster::Cluster;
