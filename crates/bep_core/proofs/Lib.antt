@@ -16,3 +16,8 @@ mod SharedBetween
 mod Over
 mod SessionSteps
 mod BegunJoined
+mod Restarted
+mod ListDone
+mod Scanned
+mod Reaching
+mod BegunSound

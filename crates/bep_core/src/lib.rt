@@ -6,14 +6,19 @@
 //! ```
 #![tactic(auto)]
 
+mod applying;
 mod begin;
 mod cluster;
 mod folder_steps;
 mod folders;
+mod laws;
 mod link_steps;
 mod others;
+mod restarting;
+mod scanning;
 mod session_steps;
 mod why;
 
 pub use cluster::Cluster;
+pub use laws::reached_is_gapless;
 pub use why::Why;
