@@ -1,5 +1,5 @@
 -- What the tables of a cluster are where one of its links was changed.
-use Rattle.std.proofs.Common.{◌≡◌, ◌≢◌, ◌<◌, ◌==◌, ◌&&◌, ℕ, Bool, true, false, cond, if◌then◌else◌, List, [], ◌∷◌, length, set, get_or, Some, None, Contains, refl, sym, ap, subst, ◌∙◌, ⊎_elim}
+use Rattle.std.proofs.Common.{zero, suc, ◌≡◌, ◌≢◌, ◌<◌, ◌==◌, ◌&&◌, ℕ, Bool, true, false, cond, if◌then◌else◌, List, [], ◌∷◌, length, set, get_or, Some, None, Contains, refl, sym, ap, subst, ◌∙◌, ⊎_elim}
 use Rattle.std.specs.List.{position_or_len}
 use Rattle.std.specs.List.Sorted.{IsStrictlySortedBy}
 use Rattle.std.proofs.Math.Path.{fun_ext}
@@ -118,3 +118,13 @@ one_link network lower upper place was after l = λ i. record {
             ∙ find-set (joins lower upper) network.links place after l.first l.there (ends_join lower upper after (l.same ∙ l.ends)))
         cases false e =
             ap link_of (find_past (joins a b) network.links place after was (ap (joins a b) l.is ∙ apart a b e was l.ends) (apart a b e after (l.same ∙ l.ends)))
+
+-- a link that is put where it stands changes nothing
+set_itself : {X : Type 0} (xs : List X) (place : ℕ) (x : X) → get_or xs place x ≡ x → set xs place x ≡ xs
+set_itself [] place x is = refl
+set_itself (y ∷ xs) zero x is = ap (λ (z : _). z ∷ xs) (sym is)
+set_itself (y ∷ xs) (suc place) x is = ap (λ ys. y ∷ ys) (set_itself xs place x is)
+
+pub same_link : (network : Network) (place : ℕ) (was after : LinkBetween) → get_or network.links place was ≡ was → after ≡ was → cluster_of (with_between network place after) ≡ cluster_of network
+same_link network place was after is same =
+    ap (λ (links : List LinkBetween). cluster_of (record network { links = links })) (ap (set network.links place) same ∙ set_itself network.links place was is)

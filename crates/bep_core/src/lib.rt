@@ -6,15 +6,19 @@
 //! ```
 #![tactic(auto)]
 
+mod applying;
 mod begin;
 mod cluster;
 mod folder_steps;
 mod folders;
+mod laws;
 mod link_steps;
 mod others;
-mod having;
+mod restarting;
+mod scanning;
+mod session_steps;
 mod why;
 
 pub use cluster::Cluster;
-pub use having::sharing_is_having;
+pub use laws::{reached_is_gapless, sharing_is_having};
 pub use why::Why;
