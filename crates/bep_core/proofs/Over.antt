@@ -19,7 +19,7 @@ use Rattle.bep_core.proofs.SessionsKeep.{KeepsFolders}
 use Rattle.bep_core.proofs.Within.{StepOf}
 
 -- the two devices, in this order or turned
-abbrev ordered : Bool → Device → Device → Device × Device
+abbrev pub ordered : Bool → Device → Device → Device × Device
 ordered upward device other = if upward then (device, other) else (other, device)
 
 -- the two devices in order are the two

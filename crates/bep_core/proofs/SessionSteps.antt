@@ -1,5 +1,5 @@
 -- What a device did over its link with another one, as the cluster answers it.
-use Rattle.std.proofs.Common.{◌≡◌, ℕ, get_or, Option, Some, Result, refl, sym, ap, subst, ◌∙◌, inl, inr}
+use Rattle.std.proofs.Common.{◌≡◌, ◌⊎◌, ℕ, get_or, Option, Some, None, Result, refl, sym, ap, subst, ◌∙◌, inl, inr}
 use Rattle.std.specs.List.{position}
 use Rattle.bep_model.specs.Tables.{Device, Folder, FileName}
 use Rattle.bep_machine.specs.declared.moved.Moved.{Moved}
@@ -25,7 +25,7 @@ use Rattle.bep_core.proofs.Lift.{ReplacesLink, network_after_link}
 use Rattle.bep_core.proofs.OneDevice.{Replaces, with_member, network_after, failed_now}
 use Rattle.bep_core.proofs.Over.{with_both, over, over_keeps, over_ends}
 use Rattle.bep_core.proofs.SessionsKeep.{KeepsFolders, begin_keeps, deliver_keeps, announce_keeps, ask_keeps}
-use Rattle.bep_core.proofs.SharedBetween.{shares_with, both_share}
+use Rattle.bep_core.proofs.SharedBetween.{not_linked, shares_with, both_share}
 use Rattle.bep_core.proofs.Within.{StepOf, carried, replaces, whichever}
 
 -- A step of a device over its link with another one: what it names besides, as the device has it at hand, and the row that
@@ -104,9 +104,11 @@ ask_step device other folder name = record {
 
 module _ (s : SessionStep) where
   -- there is no link between the two
-  pub none_over : (self : Network) (failed : Option ℕ) → (¬ AreLinked (config_of self) s.device s.other) → IsStep s.step failed (cluster_of self) (cluster_of self) (Refuses NotShared)
-  none_over self failed none =
-      s.is failed (cluster_of self) (cluster_of self) (Refuses NotShared) (inr (inl (λ there. none (s.linked (config_of self) there), (refl, refl))))
+  pub none_over : (self network : Network) (failed : Option ℕ) → network ≡ self → IsNetwork network →
+      (position (is_number s.device) self.members ≡ None) ⊎ (position (is_between (in_order s.device s.other).0 (in_order s.device s.other).1) self.links ≡ None) → IsStep s.step failed (cluster_of self) (cluster_of self) (Refuses NotShared)
+  none_over self network failed seen rules none =
+      s.is failed (cluster_of self) (cluster_of self) (Refuses NotShared)
+      (inr (inl (λ there. not_linked self (subst IsNetwork seen rules) s.device s.other none (s.linked (config_of self) there), (refl, refl))))
 
   module _ (self network : Network) (seen : network ≡ self) (rules : IsNetwork network) (place between : ℕ) (was after : Member) (had has : LinkBetween)
       (found : position (is_number s.device) self.members ≡ Some place) (joined : position (is_between (in_order s.device s.other).0 (in_order s.device s.other).1) self.links ≡ Some between)

@@ -1,5 +1,5 @@
 -- Between which devices there are links, and which of these share a folder, as a device and its cluster say it.
-use Rattle.std.proofs.Common.{arith, ◌≡◌, ◌≢◌, ◌<◌, ◌==◌, ◌||◌, ℕ, Bool, true, false, if◌then◌else◌, nat_lt, List, [], ◌∷◌, Some, None, Contains, IsTrue, refl, sym, ap, subst, ◌∙◌, inl, inr, ⊎_elim}
+use Rattle.std.proofs.Common.{arith, ◌≡◌, ◌≢◌, ◌⊎◌, ◌<◌, ◌==◌, ◌||◌, ℕ, Bool, true, false, if◌then◌else◌, nat_lt, List, [], ◌∷◌, Some, None, Contains, IsTrue, refl, sym, ap, subst, ◌∙◌, inl, inr, ⊎_elim}
 use Rattle.std.specs.List.{list_any, position}
 use Rattle.std.specs.FinMap.{get}
 use Rattle.std.proofs.lemmas.Bool.Decides.{nat_tests}
@@ -43,11 +43,10 @@ module _ (network : Network) (rules : IsNetwork network) (device other : Device)
   stands_in_order (inr stands) =
       subst (λ (b : Bool). Contains (ends_of network.links) (if b then (device, other) else (other, device))) (sym (greater_is device other (rules.ends other device stands).0)) stands
 
-  pub no_device : position (is_number device) network.members ≡ None → ¬ AreLinked (config_of network) device other
-  no_device none linked = not_listed network.members device (none_found (is_number device) network.members none) (device_there linked)
-
-  pub no_link_between : position (is_between (in_order device other).0 (in_order device other).1) network.links ≡ None → ¬ AreLinked (config_of network) device other
-  no_link_between none linked =
+  -- where one of the two isn't found, there is none
+  pub not_linked : (position (is_number device) network.members ≡ None) ⊎ (position (is_between (in_order device other).0 (in_order device other).1) network.links ≡ None) → ¬ AreLinked (config_of network) device other
+  not_linked (inl none) linked = not_listed network.members device (none_found (is_number device) network.members none) (device_there linked)
+  not_linked (inr none) linked =
       none_joins (in_order device other).0 (in_order device other).1 network.links
       (none_found (is_between (in_order device other).0 (in_order device other).1) network.links none) (stands_in_order linked)
 

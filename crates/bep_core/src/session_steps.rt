@@ -1,9 +1,9 @@
 //! The steps of one device over its link with another one.
-ghost use Rattle.std.specs.Prelude.{◌≡◌, Some, IfSome, IfNone};
+ghost use Rattle.std.specs.Prelude.{◌≡◌, ◌⊎◌, Some, None, IfSome, IfNone};
 ghost use Rattle.std.specs.List.{position};
 ghost use Rattle.bep_machine.specs.declared.step.Step.TheVariants.{Begin, Announce, Ask, Deliver};
-ghost use Rattle.bep_machine.specs.Steps.{IsStep, AreLinked};
-ghost use Rattle.bep_core.specs.Network.{cluster_of, config_of, failed_at, in_order, is_between, is_number};
+ghost use Rattle.bep_machine.specs.Steps.{IsStep};
+ghost use Rattle.bep_core.specs.Network.{cluster_of, failed_at, in_order, is_between, is_number};
 ghost use Rattle.bep_core.specs.Why.{Gives};
 
 use crate::folder_steps::answered;
@@ -28,7 +28,7 @@ impl<S: Store> Cluster<S> {
     fn places(&self, device: DeviceId, other: DeviceId) -> Option<(usize, usize)>
         ensures device { IfSome result (λ places. position (is_number device) self.now.members ≡ Some places.0) }
         ensures link { IfSome result (λ places. position (is_between (in_order device other).0 (in_order device other).1) self.now.links ≡ Some places.1) }
-        ensures none { IfNone result (¬ AreLinked (config_of self.now) device other) }
+        ensures none { IfNone result ((position (is_number device) self.now.members ≡ None) ⊎ (position (is_between (in_order device other).0 (in_order device other).1) self.now.links ≡ None)) }
     {
         let place = self.device_place(device)?;
         let between = self.place_between(device, other)?;
