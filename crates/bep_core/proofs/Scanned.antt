@@ -43,17 +43,17 @@ is_there None some = absurd (cc)
 is_there (Some held) some = (held, refl)
 
 -- where the look is refused, so is the scan
-pub look_failed : (folder : Folder) (name : FileName) (old new : Member) (error : PeerError) →
+refused : (folder : Folder) (name : FileName) (old new : Member) (error : PeerError) →
     FindsWithin folder name old new (Err error) → tables_of new ≡ tables_of old → OnlyFolder folder old new →
     Gives (StepWithin folder (ScanRow old.number name new.trace.failed) old) new (Err error)
-look_failed folder name old new Memory there same only = inl (same, refl)
-look_failed folder name old new Stale there same only = absurd there
-look_failed folder name old new (Refused NotShared) none same only =
+refused folder name old new Memory there same only = inl (same, refl)
+refused folder name old new Stale there same only = absurd there
+refused folder name old new (Refused NotShared) none same only =
     ⊎_elim
     (λ untold. inr (inl (none, (untold.1, refl))))
     (λ changed. let held = is_there (get old.folders folder) changed.1 in let e = sym none ∙ held.1 in absurd (cc))
     only
-look_failed folder name old new (Refused StoreFault) failed same only =
+refused folder name old new (Refused StoreFault) failed same only =
     let held = is_there (get old.folders folder) failed.0 in
     let here = has_tables old folder held.0 held.1 in
     inr (inr (
@@ -66,7 +66,13 @@ look_failed folder name old new (Refused StoreFault) failed same only =
         same ∙ sym (λ i. record (tables_of old) { replicas = insert-what_is_there nat_list_cmp_total exact_bytes (tables_of old).replicas folder held.0.tables here i }),
       ),
     ))
-look_failed folder name old new (Refused refusal) there same only = absurd there
+refused folder name old new (Refused refusal) there same only = absurd there
+
+pub look_failed : (folder : Folder) (name : FileName) (old new : Member) (error : PeerError) (result : Result Moved PeerError) → result ≡ Err error →
+    FindsWithin folder name old new (Err error) → tables_of new ≡ tables_of old → OnlyFolder folder old new →
+    Gives (StepWithin folder (ScanRow old.number name new.trace.failed) old) new result
+look_failed folder name old new error result is found same only =
+    subst (Gives (StepWithin folder (ScanRow old.number name new.trace.failed) old) new) (sym is) (refused folder name old new error found same only)
 
 module _ (folder : Folder) (name : FileName) (old looked new : Member) (node : Option NodeParts) (result : Result Moved PeerError)
     (found : FindsWithin folder name old looked (Ok node)) (same : tables_of looked ≡ tables_of old) (number : looked.number ≡ old.number) where
@@ -101,8 +107,8 @@ module _ (folder : Folder) (name : FileName) (old looked new : Member) (node : O
       step
 
   -- so the commit isn't stale, and is the scan
-  pub committed : CommitsWithin folder (record { name = name; node = node }) looked new result → Gives (StepWithin folder (ScanRow old.number name new.trace.failed) old) new result
-  committed commits = cases result commits
+  pub committed : (scan : Scanned) → scan ≡ record { name = name; node = node } → CommitsWithin folder scan looked new result → Gives (StepWithin folder (ScanRow old.number name new.trace.failed) old) new result
+  committed scan is commits = cases result (subst (λ (scan : Scanned). CommitsWithin folder scan looked new result) is commits)
     where
       cases : (result : Result Moved PeerError) → CommitsWithin folder (record { name = name; node = node }) looked new result → Gives (StepWithin folder (ScanRow old.number name new.trace.failed) old) new result
       cases (Err Stale) stale = absurd (stale.0.2 (fresh stale.0.0 stale.0.1))

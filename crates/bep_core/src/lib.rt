@@ -1,7 +1,9 @@
-//! A cluster: devices with their folders, and the links between them, made of a configuration.
+//! A cluster: devices with their folders, and the links between them, made of a configuration, and each of its steps.
 //!
 //! ```rust
-//! let cluster = Cluster::new(alloc, config)?;
+//! let mut cluster = Cluster::new(alloc, config)?;
+//! cluster.apply(Step::Connect(one, two))?; // Changed: their link is up
+//! cluster.apply(Step::Begin(one, two))?; // Changed: a ClusterConfig is on its way to the second
 //! let (peers, links) = cluster.into_parts();
 //! ```
 #![tactic(auto)]

@@ -22,14 +22,14 @@ impl<S: Store> Cluster<S> {
             return Err(Why::Refused(Refusal::NotShared));
         };
         self.peers[place].restart();
-        lose_links(self.links.as_mut_slice(), device);
+        lose_links(&mut self.links, device);
         Ok(Moved::Changed)
     }
 }
 
 // Each link of the device is lost.
-fn lose_links(links: &mut [Link], device: DeviceId)
-    ensures { links.new ≡ map (left_by device) links.old }
+fn lose_links(links: &mut Vec<Link>, device: DeviceId)
+    ensures { links.new.items ≡ map (left_by device) links.old.items }
 {
     for link in links.iter_mut() {
         leave(link, device);

@@ -1,4 +1,4 @@
-use Rattle.std.proofs.Common.{sym, ◌∙◌}
+use Rattle.std.proofs.Common.{set, sym, ◌∙◌}
 use Rattle.bep_core.specs.Network.{Network, failed_at, is_number}
 use Rattle.bep_core.proofs.AtLinks.{none_found}
 use Rattle.bep_core.proofs.Restarted.{none_restarts, restart_made, restart_rules}
@@ -12,12 +12,12 @@ returns-in_default g c =
 pub invariant_of-self : goal.invariant_of-self
 invariant_of-self g c =
     let network : Network = record { members = c.self.inside.peers.items; links = c.self.inside.links.items } in
-    restart_rules c.args.self.now network c.self.view_is c.self.invariant c.args.device c.in-Some.place c.index_mut.result.now c.restart.new.self c.lose_links.new.links
+    restart_rules c.args.self.now network c.self.view_is c.self.invariant c.args.device c.in-Some.place c.index_mut.result.now c.restart.new.self c.lose_links.new.links.items
     (sym c.device_place.ensures ∙ c.in-Some.is) c.index_mut.ensures.value c.restart.ensures.step c.restart.ensures.rest.number c.restart.ensures.rest.linked c.lose_links.ensures
 
 pub returns : goal.returns
 returns g c =
     let network : Network = record { members = c.self.inside.peers.items; links = c.self.inside.links.items } in
-    restart_made c.args.self.now network c.self.view_is c.self.invariant c.args.device c.in-Some.place c.index_mut.result.now c.restart.new.self c.lose_links.new.links
+    restart_made c.args.self.now network c.self.view_is c.self.invariant c.args.device c.in-Some.place c.index_mut.result.now c.restart.new.self c.lose_links.new.links.items
     (sym c.device_place.ensures ∙ c.in-Some.is) c.index_mut.ensures.value c.restart.ensures.step c.restart.ensures.rest.number c.restart.ensures.rest.linked c.lose_links.ensures
-    (failed_at _ c.args.device)
+    (failed_at (set c.self.inside.peers.items c.in-Some.place c.restart.new.self) c.args.device)
