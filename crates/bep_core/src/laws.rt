@@ -1,5 +1,6 @@
-//! What holds of every cluster that steps lead to. The function does nothing; its contract is the law.
+//! What holds of every cluster, and of every one that steps lead to. The functions do nothing; their contracts are the laws.
 ghost use Rattle.bep_core.specs.Reached.{ReachedIsGapless};
+ghost use Rattle.bep_core.specs.Sharing.{FoundByNumber, SharingIsHaving};
 
 use bep_machine::{runs_are_gapless, steps_keep_sound};
 
@@ -10,4 +11,11 @@ pub fn reached_is_gapless()
 {
     steps_keep_sound();
     runs_are_gapless();
+}
+
+/// A device shares a folder exactly where it is there and has it, and each device is the one that its number finds.
+pub fn sharing_is_having()
+    ensures sharing { SharingIsHaving }
+    ensures found { FoundByNumber }
+{
 }
