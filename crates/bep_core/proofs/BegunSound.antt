@@ -1,5 +1,5 @@
 -- A cluster that begins from a configuration whose stores hold only nodes is sound, and nothing was exchanged in it yet.
-use Rattle.std.proofs.Common.{◌≡◌, ◌≤◌, ◌==◌, ◌&&◌, ℕ, Bool, true, false, cond, List, [], ◌∷◌, map, Option, Some, None, IsSome, is_some, unwrap_or, Contains, refl, sym, ap, subst, ◌∙◌, arith}
+use Rattle.std.proofs.Common.{◌≡◌, ◌≤◌, ◌==◌, ◌&&◌, ℕ, Bool, true, false, cond, List, [], ◌∷◌, map, Option, Some, None, is_some, unwrap_or, Contains, refl, sym, ap, subst, ◌∙◌, arith}
 use Rattle.std.specs.List.Sorted.{IsStrictlyIncreasing, IsStrictlySortedBy}
 use Rattle.std.specs.Map.{keys_of, values_of}
 use Rattle.std.specs.Ordering.{nat_cmp}
@@ -15,15 +15,14 @@ use Rattle.bep_config.specs.declared.sharing.Sharing.{Sharing}
 use Rattle.bep_config.specs.Config.{Configuration, IsConfig, by_ends}
 use Rattle.bep_index.specs.View.{cleared}
 use Rattle.bep_model.specs.Tables.{Device, Folder}
-use Rattle.bep_machine.specs.Cluster.{Cluster}
 use Rattle.bep_machine.specs.Gapless.{IsFresh}
 use Rattle.bep_machine.specs.Laws.{FreshIsApart}
 use Rattle.bep_machine.specs.Link.{Link}
 use Rattle.bep_machine.specs.Replica.{Pull, Replica, view_of}
-use Rattle.bep_machine.specs.Sound.{FitsFolder, IsSound, IsSoundConfig, IsSoundLink, IsSoundPeer, IsSoundReplica, IsSoundQueue}
+use Rattle.bep_machine.specs.Sound.{FitsFolder, IsSound, IsSoundLink, IsSoundPeer, IsSoundReplica, IsSoundQueue}
 use Rattle.bep_links.specs.Link.{new_link}
 use Rattle.bep_peer.specs.Member.{Member, tables_of}
-use Rattle.bep_core.specs.Network.{Network, IsNetwork, cluster_of, config_of, member_at, between_at, peer_of, link_of, numbers_of}
+use Rattle.bep_core.specs.Network.{Network, IsNetwork, cluster_of, config_of, member_at, between_at, peer_of, link_of}
 use Rattle.bep_core.specs.Begin.{begun, begun_member, begun_share}
 use Rattle.bep_core.specs.Reached.{HoldNodes, IsReached}
 use Rattle.bep_core.proofs.BegunJoined.{begun_network, numbers_made, replica_begun}

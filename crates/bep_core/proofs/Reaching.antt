@@ -1,5 +1,5 @@
 -- What a step answers, and that it leads from a reached cluster to another.
-use Rattle.std.proofs.Common.{◌≡◌, ◌≢◌, ◌++◌, ℕ, List, [], ◌∷◌, Option, Result, Ok, Err, OnErr, refl, sym, subst}
+use Rattle.std.proofs.Common.{◌≢◌, ◌++◌, ℕ, List, [], ◌∷◌, Option, Result, Ok, Err, OnErr, refl, sym, subst}
 use Rattle.bep_machine.specs.declared.moved.Moved.{Moved}
 use Rattle.bep_machine.specs.declared.step.Step.{Step}
 use Rattle.bep_machine.specs.Answer.{Answer, Done, Refused as Refuses, OutOfMemory, Row}

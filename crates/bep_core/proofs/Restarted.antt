@@ -1,11 +1,10 @@
 -- A device that starts again, and each of whose links is lost, is a step of the whole cluster.
-use Rattle.std.proofs.Common.{◌≡◌, ◌==◌, ◌||◌, ◌&&◌, ℕ, Bool, true, false, cond, if◌then◌else◌, List, [], ◌∷◌, map, get_or, Option, Some, None, option_map, Contains, refl, sym, ap, subst, ◌∙◌, inl, inr}
-use Rattle.std.specs.List.{find, position}
+use Rattle.std.proofs.Common.{◌≡◌, ◌==◌, ◌||◌, ◌&&◌, ℕ, Bool, true, false, cond, if◌then◌else◌, List, [], ◌∷◌, map, get_or, Option, Some, None, option_map, refl, sym, ap, subst, ◌∙◌, inl, inr}
+use Rattle.std.specs.List.{position}
 use Rattle.std.proofs.Math.Path.{fun_ext}
 use Rattle.std.specs.Cmp.Lexicographic.{nat_list_cmp_total}
 use Rattle.std.specs.FinMap.{get}
-use Rattle.bep_map.specs.NameMap.{ByName}
-use Rattle.bep_model.specs.Tables.{Device, Folder}
+use Rattle.bep_model.specs.Tables.{Device}
 use Rattle.bep_machine.specs.declared.moved.Moved.TheVariants.{Changed}
 use Rattle.bep_machine.specs.declared.step.Step.TheVariants.{Restart}
 use Rattle.bep_machine.specs.declared.refusal.Refusal.TheVariants.{NotShared}
@@ -88,8 +87,8 @@ restarts network device place was after r is failed =
       λ absent. absent (listed network.members device was r.found),
       (
         links_left (with_member network place after) device
-        ∙ ap (λ (c : Cluster). without_links c device) (one_device network device place was after r)
-        ∙ ap (λ (p : Peer). without_links (with_peer (cluster_of network) device p) device) (is ∙ ap restarted (sym here)),
+            ∙ ap (λ (c : Cluster). without_links c device) (one_device network device place was after r)
+            ∙ ap (λ (p : Peer). without_links (with_peer (cluster_of network) device p) device) (is ∙ ap restarted (sym here)),
         refl,
       ),
     ))

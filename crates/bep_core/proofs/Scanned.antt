@@ -1,5 +1,5 @@
 -- A device that looks at a name, and then records what it found, makes a scan.
-use Rattle.std.proofs.Common.{◌≡◌, ℕ, Option, Some, None, IsSome, option_map, Result, Ok, Err, refl, sym, ap, subst, ◌∙◌, inl, inr, ⊎_elim}
+use Rattle.std.proofs.Common.{◌≡◌, Option, Some, None, IsSome, option_map, Result, Ok, Err, refl, sym, ap, subst, ◌∙◌, inl, inr, ⊎_elim}
 use Rattle.std.specs.FinMap.{get}
 use Rattle.std.specs.Cmp.Lexicographic.{nat_list_cmp_total}
 use Rattle.std.proofs.lemmas.Map.Lookups.{exact_bytes}
@@ -7,9 +7,8 @@ use Rattle.bep_facts.specs.Maps.{insert-what_is_there}
 use Rattle.bep_record.specs.declared.node.NodeParts.{NodeParts}
 use Rattle.bep_model.specs.Tables.{Device, Folder, FileName}
 use Rattle.bep_machine.specs.declared.moved.Moved.{Moved}
-use Rattle.bep_machine.specs.declared.refusal.Refusal.{Refusal}
 use Rattle.bep_machine.specs.declared.refusal.Refusal.TheVariants.{NotShared, StoreFault}
-use Rattle.bep_machine.specs.Answer.{Answer, Refused as Refuses, OutOfMemory, Row}
+use Rattle.bep_machine.specs.Answer.{Answer}
 use Rattle.bep_machine.specs.Local.{ScanRow}
 use Rattle.bep_machine.specs.Peer.{Peer, with_replica}
 use Rattle.bep_machine.specs.Replica.{Replica, node_at}

@@ -1,4 +1,3 @@
-use Rattle.std.proofs.Common.{◌≡◌, Err, subst}
 use Rattle.bep_machine.specs.Steps.{IsStep}
 use Rattle.bep_core.specs.Applying.{failed_by}
 use Rattle.bep_core.specs.Network.{cluster_of}
