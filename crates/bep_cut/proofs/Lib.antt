@@ -2,3 +2,10 @@ mod RecordsFacts
 mod FlightFacts
 mod FolderFacts
 mod LinkFacts
+mod Gathered
+mod PullsCut
+mod ViewsCut
+mod SharesCut
+mod FoldersCut
+mod LinksCut
+mod CutFacts
