@@ -1,9 +1,7 @@
 -- A step of one device over a link that it is lent is a step of the whole cluster.
-use Rattle.std.proofs.Common.{◌≡◌, ◌⊎◌, ◌<◌, ℕ, Bool, true, false, nat_lt, if◌then◌else◌, List, Option, Some, None, Contains, refl, sym, ap, subst, ◌∙◌, inl, inr, ⊎_elim}
-use Rattle.std.specs.Bool.{⊤}
+use Rattle.std.proofs.Common.{◌≡◌, ◌⊎◌, ℕ, Bool, true, false, nat_lt, if◌then◌else◌, refl, sym, ap, subst, ◌∙◌, inl, inr, ⊎_elim}
 use Rattle.bep_model.specs.Tables.{Device}
-use Rattle.bep_machine.specs.declared.refusal.Refusal.TheVariants.{NotShared}
-use Rattle.bep_machine.specs.Answer.{Answer, Refused as Refuses, Row}
+use Rattle.bep_machine.specs.Answer.{Answer, Row}
 use Rattle.bep_machine.specs.Cluster.{Cluster, link_between, with_link, with_link_between, with_peer}
 use Rattle.bep_machine.specs.Link.{Link, Sight, end_of, sight_of, after_deed}
 use Rattle.bep_machine.specs.Peer.{Peer, Acted}
@@ -112,14 +110,13 @@ module _ (network : Network) (rules : IsNetwork network) (device other : Device)
     acted_over one answer joins acts =
         let link : had.link ≡ link_between (cluster_of network) device other = sym (link_found network device other ∙ ap link_of l.found) in
         let peer : tables_of was ≡ peer_of (member_at network.members device) = sym (ap peer_of r.found) in
-        let same = other_is one joins in
-        (
+        let same = other_is one joins in (
           acts.acted,
           subst (λ (x : (Device × Device) × (Link × Peer)). row x.0.0 (sight_of (end_of x.0.1 x.0.0) x.1.0) x.1.1 acts.acted answer)
-          (λ i. ((same i, r.number i), (link i, peer i))) acts.made,
+              (λ i. ((same i, r.number i), (link i, peer i))) acts.made,
           both_changed
-          ∙ (λ i. with_link_between (with_peer (cluster_of network) device (acts.tables i)) device other (acts.carried i).link)
-          ∙ (λ i. with_link_between (with_peer (cluster_of network) device acts.acted.peer) device other (after_deed (end_of (r.number i) (same i)) acts.acted.deed (link i))),
+              ∙ (λ i. with_link_between (with_peer (cluster_of network) device (acts.tables i)) device other (acts.carried i).link)
+              ∙ (λ i. with_link_between (with_peer (cluster_of network) device acts.acted.peer) device other (after_deed (end_of (r.number i) (same i)) acts.acted.deed (link i))),
         )
 
     -- the whole cluster makes the step

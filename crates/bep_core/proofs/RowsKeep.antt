@@ -1,12 +1,12 @@
 -- A step within a folder changes nothing of its kind, and of who shares it.
-use Rattle.std.proofs.Common.{◌≡◌, ℕ, Option, Some, None, refl, ap, ◌∙◌, ⊎_elim}
+use Rattle.std.proofs.Common.{◌≡◌, ℕ, Option, Some, None, refl, ⊎_elim}
 use Rattle.bep_record.specs.declared.entry.Entry.{Entry}
 use Rattle.bep_record.specs.declared.node.NodeParts.{NodeParts}
 use Rattle.bep_record.specs.declared.folder_kind.FolderKind.{FolderKind}
 use Rattle.bep_record.specs.declared.folder_kind.FolderKind.TheVariants.{SendReceive, SendOnly, ReceiveOnly}
 use Rattle.bep_model.specs.Tables.{Device, FileName}
 use Rattle.bep_machine.specs.declared.moved.Moved.TheVariants.{Changed}
-use Rattle.bep_machine.specs.Answer.{Answer, Done, Row, becomes, when◌then◌else◌, ◌answers◌when◌else◌}
+use Rattle.bep_machine.specs.Answer.{Answer, Done, Row, becomes}
 use Rattle.bep_machine.specs.Local.{EditRow, RemoveRow, PutRow, FoundRow, ScanRow, OverridingRow, OverrideRow, RevertedRow, RevertRow}
 use Rattle.bep_machine.specs.Pull.{StartPullRow, SettlingRow, RoomRow, CopyingRow, EndingRow, FinishRow, IsAdopted}
 use Rattle.bep_machine.specs.Replica.{Pull, Replica, own_at, node_at, with_node, with_record, without_pull}
