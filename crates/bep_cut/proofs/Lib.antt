@@ -9,3 +9,4 @@ mod SharesCut
 mod FoldersCut
 mod LinksCut
 mod CutFacts
+mod OfClusterFacts

@@ -15,6 +15,7 @@ mod folder;
 mod folders;
 mod links;
 mod names;
+mod of_cluster;
 mod records;
 mod share;
 mod views;
@@ -26,3 +27,4 @@ pub use bep_tables::{
 };
 pub use cut::cut_of;
 pub use error::CutError;
+pub use of_cluster::clusters_are_parts;
