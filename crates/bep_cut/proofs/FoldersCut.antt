@@ -57,7 +57,7 @@ all_added names (first ∷ all) one folder stands has =
     (λ later. all_added (with_folders names first) all one folder later has)
     (Contains-cons_cases first all one stands)
 
-rising_keys : {V : Type 0} (es : List (Folder × V)) → T (is_sorted (slice_cmp nat_cmp) es) → IsStrictlySortedBy (slice_cmp nat_cmp) (map (λ (e : Folder × V). e.0) es)
+pub rising_keys : {V : Type 0} (es : List (Folder × V)) → T (is_sorted (slice_cmp nat_cmp) es) → IsStrictlySortedBy (slice_cmp nat_cmp) (map (λ (e : Folder × V). e.0) es)
 unfolding IsStrictlySortedBy
 rising_keys [] sorted = tt
 rising_keys {V} (e ∷ es) sorted =

@@ -9,7 +9,7 @@ use Rattle.std.proofs.lemmas.Map.Keys.{IsDistinct-from_sorted}
 use Rattle.std.proofs.lemmas.Map.Lookups.{exact_bytes}
 use Rattle.std.proofs.lemmas.Map.Made.{length-le_from_is_member}
 use Rattle.std.proofs.lemmas.Map.Views.{Contains-from_any, list_any-from_Contains}
-use Rattle.bep_facts.specs.Maps.{key_has_value, same_key}
+use Rattle.bep_facts.specs.Maps.{key_has_value, nothing_in_empty, same_key}
 use Rattle.bep_facts.specs.Members.{Contains-first, Contains-from_image, Contains-image, Contains-more}
 use Rattle.bep_model.specs.Tables.{Device, Folder}
 use Rattle.bep_machine.specs.Replica.{Replica}
@@ -55,8 +55,15 @@ all_named names (first ∷ all) folder has =
     (λ later. inr (record { one = later.one; there = Contains-more first all later.one later.there; has = later.has }))
     (all_named (with_folders names first) all folder has)
 
-nothing_named : (folder : Folder) → ¬ IsSome (get {R = slice_cmp nat_cmp} {X = Unit {0}} empty folder)
-nothing_named folder has = absurd (cc)
+abbrev no_names : Names
+no_names = empty
+
+nothing_named : (folder : Folder) → ¬ IsSome (get no_names folder)
+nothing_named folder has = nothing_in_empty (slice_cmp nat_cmp) folder tt (named (get no_names folder) has)
+  where
+    named : (o : Option (Unit {0})) → IsSome o → o ≡ Some tt
+    named None is = absurd (cc)
+    named (Some tt) is = refl
 
 some_of : {A B : Type 0} (f : A → B) (found : Option A) → IsSome (option_map f found) → IsSome found
 some_of f None has = absurd (cc)
