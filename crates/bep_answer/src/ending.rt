@@ -13,7 +13,7 @@ use crate::check::outcome_of;
 use crate::outcome::Outcome;
 use bep_audit::{Certificate, CertifyError, Verdict, certify, check};
 use bep_core::Cluster;
-use bep_cut::cut_of;
+use bep_cut::{clusters_are_parts, cut_of};
 use bep_model::Reason;
 use bep_record::{FolderName, Name};
 use bep_report::{push_certificate, push_report};
@@ -29,6 +29,7 @@ pub(crate) fn report_on_end(
 ) -> Result<(Outcome, Vec<u8>), AllocError>
     ensures { IfOk result (λ answer. IsEnd (cut_at cluster.members cluster.links) told.items answer.0 answer.1.items) }
 {
+    clusters_are_parts();
     let (mut peers, links) = cluster.into_parts();
     match cut_of(alloc, peers.as_mut_slice(), links.as_slice()) {
         Ok(cut) => audit(alloc, &cut, told),
