@@ -25,14 +25,14 @@ steps_on [] event = refl
 steps_on (first ∷ more) event = ap (λ steps. first.step ∷ steps) (steps_on more event)
 
 -- the line of one step more stands at the end
-lines_on : (place : ℕ) (events : List Event) (event : Event) → refused_lines place (events ++ event ∷ []) ≡ refused_lines place events ++ answer_line (length events + place) event.answer
+lines_on : (place : ℕ) (events : List Event) (event : Event) → refused_lines place (events ++ event ∷ []) ≡ refused_lines place events ++ answer_line (place + length events) event.answer
 lines_on place [] event = append-nil (answer_line place event.answer)
 lines_on place (first ∷ more) event =
     ap (λ told. answer_line place first.answer ++ told) (lines_on (suc place) more event
     ∙ ap (λ (at : ℕ). refused_lines (suc place) more ++ answer_line at event.answer) (further (length more) place))
-    ∙ sym (append_assoc (answer_line place first.answer) (refused_lines (suc place) more) (answer_line (suc (length more) + place) event.answer))
+    ∙ sym (append_assoc (answer_line place first.answer) (refused_lines (suc place) more) (answer_line (place + suc (length more)) event.answer))
   where
-    further : (n p : ℕ) → n + suc p ≡ suc n + p
+    further : (n p : ℕ) → suc p + n ≡ p + suc n
     further n p = omega arith
 
 length_on : (events : List Event) (event : Event) → length (events ++ event ∷ []) ≡ suc (length events)
@@ -82,7 +82,7 @@ module _ (old : Cluster) (steps : List Step) (now : Cluster) (step : Step) (left
         place_is = ap suc so_far.place_is ∙ sym (length_on so_far.events event);
       }
     where
-      next : (n : ℕ) → suc n ≡ n + 1
+      next : (n : ℕ) → suc n ≡ 1 + n
       next n = omega arith
 
   -- a step was made, or refused and told

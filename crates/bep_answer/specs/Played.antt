@@ -25,9 +25,8 @@ use Rattle.bep_model.specs.WithoutWinner.{IsFirstWithoutWinner}
 use Rattle.bep_report.specs.declared.error.ReportError.{ReportError}
 use Rattle.bep_report.specs.declared.error.ReportError.TheVariants.{Memory}
 use Rattle.bep_report.specs.declared.error.ReportError.TheVariants as faults
-use Rattle.bep_report.specs.Certificate.{certificate_lines}
+use Rattle.bep_report.specs.Certificate.{certificate_lines, step_line}
 use Rattle.bep_report.specs.Input.{IsRead}
-use Rattle.bep_report.specs.Lines.{step_line}
 use Rattle.bep_report.specs.Output.{AppendsBeginning}
 use Rattle.bep_report.specs.Report.{report_text}
 use Rattle.bep_scenario.specs.Scenario.{scenario_of}

@@ -53,10 +53,10 @@ fn audit(alloc: Global, cut: &Cut, told: Vec<u8>) -> Result<(Outcome, Vec<u8>), 
 }
 
 // The outcome under the certificate, and the text.
-fn report_under(
+fn report_under<'a>(
     alloc: Global,
-    cut: &Cut,
-    certificate: &Certificate,
+    cut: &'a Cut,
+    certificate: &'a Certificate,
     mut text: Vec<u8>,
 ) -> Result<(Outcome, Vec<u8>), AllocError>
     requires { IsListOfWinners (tables_of cut.now) certificate.now }
@@ -69,11 +69,11 @@ fn report_under(
 }
 
 // The text where a name has no winner.
-fn report_without(
+fn report_without<'a>(
     alloc: Global,
     cut: &Cut,
-    folder: &FolderName,
-    name: &Name,
+    folder: &'a FolderName,
+    name: &'a Name,
     mut text: Vec<u8>,
 ) -> Result<Vec<u8>, AllocError>
     ensures { IfOk result (λ whole. whole.items ≡ text.items ++ report_text cut.now (Not NotWinner folder.now name.now None)) }
