@@ -3,13 +3,12 @@
 use bep_config::Config;
 use bep_core::{Cluster, Why};
 use bep_machine::{Moved, Step};
-use bep_record::{
-    DeviceId, FolderKind, FolderName, Items, Kind, Name, Node, NodeParts, Target,
-};
+use bep_record::{DeviceId, FolderKind, FolderName, Items, Kind, Name, Node, NodeParts, Target};
 use bep_store::MemStore;
 use std::alloc::Global;
 
 // Numbers by Knuth's linear congruential generator.
+#[derive(Drop)]
 struct Dice {
     state: u64,
 }
@@ -73,13 +72,14 @@ fn node(alloc: Global, bit: u64) -> Option<Node> {
         kind: Kind::File,
         bytes: Items::new(bytes),
         target: Target::empty(alloc),
-        modified_s: 1000 + bit as i64,
+        modified_s: i64::try_from(bit).ok()?.checked_add(1000)?,
         modified_ns: 0,
     });
     made.ok()
 }
 
 // What a step is about.
+#[derive(Drop)]
 struct Drawn {
     kind: u64,
     bit: u64,
@@ -91,7 +91,11 @@ struct Drawn {
 
 fn draw(alloc: Global, dice: &mut Dice) -> Option<Drawn> {
     let (kind, device, shift) = (dice.below(24), dice.below(3), dice.below(2));
-    let folder: &[u8] = if dice.below(2) == 0 { b"docs" } else { b"music" };
+    let folder: &[u8] = if dice.below(2) == 0 {
+        b"docs"
+    } else {
+        b"music"
+    };
     let name: &[u8] = match dice.below(3) {
         0 => b"a",
         1 => b"b",
@@ -100,8 +104,14 @@ fn draw(alloc: Global, dice: &mut Dice) -> Option<Drawn> {
     Some(Drawn {
         kind,
         bit: dice.below(8),
-        device: DeviceId::read(device + 1)?,
-        other: DeviceId::read((device + 1 + shift) % 3 + 1)?,
+        device: DeviceId::read(device.checked_add(1)?)?,
+        other: DeviceId::read(
+            device
+                .checked_add(shift)?
+                .checked_add(1)?
+                .checked_rem(3)?
+                .checked_add(1)?,
+        )?,
         folder: FolderName::read(alloc, folder).ok()?,
         name: Name::read(alloc, name).ok()?,
     })
@@ -110,7 +120,11 @@ fn draw(alloc: Global, dice: &mut Dice) -> Option<Drawn> {
 // A step of a link, the smaller device first.
 fn step_of_link(drawn: &Drawn) -> Step {
     let (one, other) = (drawn.device, drawn.other);
-    let (lower, upper) = if one < other { (one, other) } else { (other, one) };
+    let (lower, upper) = if one < other {
+        (one, other)
+    } else {
+        (other, one)
+    };
     if drawn.kind == 6 {
         Step::Lose(lower, upper)
     } else {
@@ -186,9 +200,26 @@ fn answers_are_those_of_the_second_reading(rt: HostRuntime) {
         return;
     };
     for wanted in [
-        754037230u32, 172896498, 150360117, 516536498, 741813796, 2684120635, 3258531587,
-        518115035, 1376749378, 514735284, 380916810, 3834270504, 1314264483, 3573219596,
-        2339895135, 186623264, 3972689114, 699614973, 398974701, 23250374,
+        754037230u32,
+        172896498,
+        150360117,
+        516536498,
+        741813796,
+        2684120635,
+        3258531587,
+        518115035,
+        1376749378,
+        514735284,
+        380916810,
+        3834270504,
+        1314264483,
+        3573219596,
+        2339895135,
+        186623264,
+        3972689114,
+        699614973,
+        398974701,
+        23250374,
     ] {
         assert_eq!(rt; digest(rt.alloc(), &mut dice, &mut cluster), Some(wanted));
     }

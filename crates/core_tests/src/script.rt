@@ -3,9 +3,7 @@ use crate::dice::code_of;
 use bep_config::Config;
 use bep_core::Cluster;
 use bep_machine::Step;
-use bep_record::{
-    DeviceId, FolderKind, FolderName, Items, Kind, Name, Node, NodeParts, Target,
-};
+use bep_record::{DeviceId, FolderKind, FolderName, Items, Kind, Name, Node, NodeParts, Target};
 use bep_store::MemStore;
 use std::alloc::Global;
 
@@ -72,11 +70,7 @@ pub(crate) fn pair(alloc: Global, kinds: [FolderKind; 2]) -> Option<Cluster<MemS
 }
 
 // The step of a device with a name alone.
-fn step_on(
-    alloc: Global,
-    device: u64,
-    name: &[u8],
-) -> Option<(DeviceId, FolderName, Name)> {
+fn step_on(alloc: Global, device: u64, name: &[u8]) -> Option<(DeviceId, FolderName, Name)> {
     Some((
         DeviceId::read(device)?,
         docs(alloc)?,
@@ -155,11 +149,7 @@ fn step_of(alloc: Global, step: Do<'_>) -> Option<Step> {
 }
 
 /// The answer to one step: the number of a refusal, or 0 to 3 for Changed, Unchanged, Dropped and LinkLost.
-pub(crate) fn answer(
-    alloc: Global,
-    cluster: &mut Cluster<MemStore>,
-    step: Do<'_>,
-) -> Option<u32> {
+pub(crate) fn answer(alloc: Global, cluster: &mut Cluster<MemStore>, step: Do<'_>) -> Option<u32> {
     code_of(cluster.apply(step_of(alloc, step)?))
 }
 

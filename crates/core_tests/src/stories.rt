@@ -48,10 +48,10 @@ fn a_file_goes_from_one_device_to_the_other(rt: HostRuntime) {
     let Some([made, met, told, fetched]) = sent else {
         return;
     };
-    assert_eq!(rt; made.as_slice(), &[0, 0]);
-    assert_eq!(rt; met.as_slice(), &[0, 0, 0, 0, 0]);
-    assert_eq!(rt; told.as_slice(), &[0, 0]);
-    assert_eq!(rt; fetched.as_slice(), &[0, 0, 0, 0, 0, 142]);
+    assert_eq!(rt; made.as_slice(), [0, 0].as_slice());
+    assert_eq!(rt; met.as_slice(), [0, 0, 0, 0, 0].as_slice());
+    assert_eq!(rt; told.as_slice(), [0, 0].as_slice());
+    assert_eq!(rt; fetched.as_slice(), [0, 0, 0, 0, 0, 142].as_slice());
 }
 
 // Whether each of these steps changed something.
@@ -64,22 +64,33 @@ fn all_change(alloc: Global, cluster: &mut Cluster<MemStore>, steps: &[Do<'_>]) 
     Some(())
 }
 
-// The counters of the device's own record of the name, as far as there are two, and how many names it has records of.
+// The counters of a record, as far as there are two, and how many names have records.
+#[derive(Clone, Copy, Debug, PartialEq)]
+struct OwnRecord {
+    counters: [(u64, u64); 2],
+    names: usize,
+}
+
+// The device's own record of the name, and how many names it has records of.
 fn recorded(
     alloc: Global,
     cluster: &Cluster<MemStore>,
     device: u64,
     name: &[u8],
-) -> Option<([(u64, u64); 2], usize)> {
+) -> Option<OwnRecord> {
     let peer = cluster.peer(DeviceId::read(device)?)?;
     let index = peer.replica(&docs(alloc)?)?.index();
     let own = index.get(&Name::read(alloc, name).ok()?)?;
     let count = index.place_above(index.max_sequence());
-    match *own.entry().version.counters() {
-        [one] => Some(([one, (0, 0)], count)),
-        [one, other] => Some(([one, other], count)),
-        _ => None,
-    }
+    let counters = match *own.entry().version.counters() {
+        [one] => [one, (0, 0)],
+        [one, other] => [one, other],
+        _ => return None,
+    };
+    Some(OwnRecord {
+        counters,
+        names: count,
+    })
 }
 
 // Both devices have the name with the version `{1:1}`; then the link goes down.
@@ -104,7 +115,7 @@ const TELL: [Do<'static>; 4] = [
 ];
 
 // Device 1 changes the file, and device 2 deletes it: the file wins, on both, and nothing is kept beside it.
-fn deleted_beside_a_change(alloc: Global) -> Option<(Vec<u32>, [([(u64, u64); 2], usize); 2])> {
+fn deleted_beside_a_change(alloc: Global) -> Option<(Vec<u32>, OwnRecord, OwnRecord)> {
     let mut cluster = shared(alloc, b"a")?;
     let steps = [
         Do::Edit(1, b"a", b"second", 2000),
@@ -125,23 +136,28 @@ fn deleted_beside_a_change(alloc: Global) -> Option<(Vec<u32>, [([(u64, u64); 2]
     ];
     let last = answers(alloc, &mut cluster, &steps)?;
     let one = recorded(alloc, &cluster, 1, b"a")?;
-    Some((last, [one, recorded(alloc, &cluster, 2, b"a")?]))
+    Some((last, one, recorded(alloc, &cluster, 2, b"a")?))
 }
 
 #[test]
 fn a_change_wins_over_a_deletion(rt: HostRuntime) {
     let ended = deleted_beside_a_change(rt.alloc());
     assert!(rt; ended.is_some());
-    let Some((last, records)) = ended else {
+    let Some((last, one, two)) = ended else {
         return;
     };
     // the last pull needs no block
-    assert_eq!(rt; last.as_slice(), &[0, 0, 0, 163, 0]);
-    assert_eq!(rt; records, [([(1, 2), (2, 1)], 1), ([(1, 2), (2, 1)], 1)]);
+    assert_eq!(rt; last.as_slice(), [0, 0, 0, 163, 0].as_slice());
+    let wanted = OwnRecord {
+        counters: [(1, 2), (2, 1)],
+        names: 1,
+    };
+    assert_eq!(rt; one, wanted);
+    assert_eq!(rt; two, wanted);
 }
 
 // Both change the file at one time: device 1 wins, and device 2 keeps its own beside it, which a scan finds.
-fn changed_by_both(alloc: Global) -> Option<([u32; 2], ([(u64, u64); 2], usize))> {
+fn changed_by_both(alloc: Global) -> Option<(u32, u32, OwnRecord)> {
     let copy = b"notes.sync-conflict-2000-0000000000000002.txt";
     let mut cluster = shared(alloc, b"notes.txt")?;
     let steps = [
@@ -159,11 +175,14 @@ fn changed_by_both(alloc: Global) -> Option<([u32; 2], ([(u64, u64); 2], usize))
         return None;
     };
     let ended = recorded(alloc, &cluster, 2, b"notes.txt")?;
-    Some(([first, second], ended))
+    Some((first, second, ended))
 }
 
 #[test]
 fn a_losing_change_is_kept_beside(rt: HostRuntime) {
-    let wanted = ([0, 1], ([(1, 2), (2, 1)], 2));
-    assert_eq!(rt; changed_by_both(rt.alloc()), Some(wanted));
+    let wanted = OwnRecord {
+        counters: [(1, 2), (2, 1)],
+        names: 2,
+    };
+    assert_eq!(rt; changed_by_both(rt.alloc()), Some((0, 1, wanted)));
 }
