@@ -9,3 +9,7 @@ mod SharesCut
 mod FoldersCut
 mod LinksCut
 mod CutFacts
+mod SaidDevices
+mod SaidRecords
+mod SaidFlights
+mod SaidFacts

@@ -13,6 +13,7 @@ mod error;
 mod flights;
 mod folder;
 mod folders;
+mod laws;
 mod links;
 mod names;
 mod records;
@@ -26,3 +27,4 @@ pub use bep_tables::{
 };
 pub use cut::cut_of;
 pub use error::CutError;
+pub use laws::cut_says_cluster;
