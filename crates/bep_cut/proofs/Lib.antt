@@ -10,3 +10,7 @@ mod FoldersCut
 mod LinksCut
 mod CutFacts
 mod OfClusterFacts
+mod SaidDevices
+mod SaidRecords
+mod SaidFlights
+mod SaidFacts

@@ -16,7 +16,7 @@ use Rattle.bep_cut.specs.LinkState.{HasBatch, both_have, link_cut}
 use Rattle.bep_cut.specs.Cut.{IsSoundLink, Seen, seen, link_at, replicas_of, replicas_at}
 
 -- a device is found among the seen ones as among the members
-seen_at : (members : List Member) (device : Device) → find (λ (one : Seen). one.0 == device) (map seen members) ≡ option_map seen (find (λ (member : Member). member.number == device) members)
+pub seen_at : (members : List Member) (device : Device) → find (λ (one : Seen). one.0 == device) (map seen members) ≡ option_map seen (find (λ (member : Member). member.number == device) members)
 seen_at [] device = refl
 seen_at (member ∷ members) device = cases (member.number == device) (seen_at members device)
   where

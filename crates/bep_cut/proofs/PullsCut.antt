@@ -34,7 +34,7 @@ few_from (e ∷ es) =
     len-insert_le nat_list_cmp_total (from_entries {R = slice_cmp nat_cmp} es) e.0 e.1 (suc (length es)) (omega (arith, few)) (λ none. omega (arith, few))
 
 module _ (pulls : ByName Pull) where
-  target_found : (name : FileName) → get (targets_cut pulls) name ≡ option_map (λ (p : Pull). p.target) (get pulls name)
+  pub target_found : (name : FileName) → get (targets_cut pulls) name ≡ option_map (λ (p : Pull). p.target) (get pulls name)
   target_found name =
       get-from_entries nat_list_cmp_total (map target_cut (entries pulls)) name
       ∙ find_target (entries pulls) name

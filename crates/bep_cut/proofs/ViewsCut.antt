@@ -17,7 +17,7 @@ use Rattle.bep_cut.specs.Share.{IsIndexIn, is_unknown, known_cut, views_cut}
 use Rattle.bep_cut.proofs.Gathered.{all_each, from_one, gathered_rise}
 
 -- the view of a device, of whose index this is known
-abbrev shown : Device → Listing → PeerView
+abbrev pub shown : Device → Listing → PeerView
 shown other view = record { of = other; index_id = view.id; max_sequence = view.sequence; records = view.records }
 
 view_or_none : (other : Device) (known : Option Listing) → (known_cut other known ≡ []) ⊎ ((view : PeerView) × (known_cut other known ≡ view ∷ []) × (view.of ≡ other))

@@ -13,9 +13,9 @@ mod error;
 mod flights;
 mod folder;
 mod folders;
+mod laws;
 mod links;
 mod names;
-mod of_cluster;
 mod records;
 mod share;
 mod views;
@@ -27,4 +27,4 @@ pub use bep_tables::{
 };
 pub use cut::cut_of;
 pub use error::CutError;
-pub use of_cluster::clusters_are_parts;
+pub use laws::{clusters_are_parts, cut_says_cluster};
