@@ -26,7 +26,10 @@ steps_on (first ∷ more) event = ap (λ steps. first.step ∷ steps) (steps_on 
 
 -- the line of one step more stands at the end
 lines_on : (place : ℕ) (events : List Event) (event : Event) → refused_lines place (events ++ event ∷ []) ≡ refused_lines place events ++ answer_line (place + length events) event.answer
-lines_on place [] event = append-nil (answer_line place event.answer)
+lines_on place [] event = append-nil (answer_line place event.answer) ∙ ap (λ (at : ℕ). answer_line at event.answer) (here place)
+  where
+    here : (n : ℕ) → n ≡ n + 0
+    here n = omega arith
 lines_on place (first ∷ more) event =
     ap (λ told. answer_line place first.answer ++ told) (lines_on (suc place) more event
     ∙ ap (λ (at : ℕ). refused_lines (suc place) more ++ answer_line at event.answer) (further (length more) place))
@@ -86,8 +89,16 @@ module _ (old : Cluster) (steps : List Step) (now : Cluster) (step : Step) (left
       next n = omega arith
 
   -- a step was made, or refused and told
-  pub leads_on : (answer : Result Moved Why) (later : List ℕ) → Gives (IsStep step failed now) new answer → IsTold (suc place) answer told later → LeadsSoFar old steps new left later (suc place)
-  leads_on (Ok moved) later is tells = one_more (Done moved) later (λ same. absurd (cc)) is (tells ∙ sym (append-nil told))
-  leads_on (Err (whys.Refused refusal)) later is tells = one_more (Refuses refusal) later (λ same. absurd (cc)) is tells
-  leads_on (Err whys.ConfigBad) later is tells = absurd is
-  leads_on (Err whys.Memory) later is tells = absurd tells
+  next_so_far : (answer : Result Moved Why) (later : List ℕ) → Gives (IsStep step failed now) new answer → IsTold (suc place) answer told later → LeadsSoFar old steps new left later (suc place)
+  next_so_far (Ok moved) later is tells = one_more (Done moved) later (λ same. absurd (cc)) is (tells ∙ sym (append-nil told))
+  next_so_far (Err (whys.Refused refusal)) later is tells = one_more (Refuses refusal) later (λ same. absurd (cc)) is tells
+  next_so_far (Err whys.ConfigBad) later is tells = absurd is
+  next_so_far (Err whys.Memory) later is tells = absurd tells
+
+  pub leads_on : (answer : Result Moved Why) (later : List ℕ) → Gives (IsStep step failed now) new answer → IsTold (place + 1) answer told later → LeadsSoFar old steps new left later (place + 1)
+  leads_on answer later is tells =
+      subst (LeadsSoFar old steps new left later) (sym (one_above place))
+      (next_so_far answer later is (subst (λ (at : ℕ). IsTold at answer told later) (one_above place) tells))
+    where
+      one_above : (n : ℕ) → n + 1 ≡ suc n
+      one_above n = omega arith

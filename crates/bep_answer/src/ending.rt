@@ -1,9 +1,11 @@
 //! The cut to which a scenario leads, under the list of its winners.
 ghost use Rattle.std.specs.Prelude.{◌≡◌, ◌++◌, None, IfOk};
+ghost use Rattle.bep_audit.specs.Shown.{verdict_shown};
 ghost use Rattle.bep_cut.specs.Cut.{cut_at};
 ghost use Rattle.bep_model.specs.declared.reason.Reason.TheVariants.{NotWinner};
 ghost use Rattle.bep_model.specs.Settled.{IsListOfWinners};
 ghost use Rattle.bep_model.specs.Verdict.{Not};
+ghost use Rattle.bep_report.specs.Certificate.{certificate_lines};
 ghost use Rattle.bep_report.specs.Report.{report_text};
 ghost use Rattle.bep_tables.specs.Cut.{tables_of};
 ghost use Rattle.bep_answer.specs.Played.{IsAudited, IsEnd};
@@ -57,15 +59,33 @@ fn report_under<'a>(
     alloc: Global,
     cut: &'a Cut,
     certificate: &'a Certificate,
-    mut text: Vec<u8>,
+    told: Vec<u8>,
 ) -> Result<(Outcome, Vec<u8>), AllocError>
     requires { IsListOfWinners (tables_of cut.now) certificate.now }
-    ensures { IfOk result (λ answer. IsAudited cut.now text.items answer.0 answer.1.items) }
+    ensures { IfOk result (λ answer. IsAudited cut.now told.items answer.0 answer.1.items) }
 {
-    let verdict = check(alloc, cut, certificate)?;
-    push_report(alloc, &mut text, cut, &verdict)?;
+    match check(alloc, cut, certificate) {
+        Ok(verdict) => {
+            let text = with_report(alloc, cut, certificate, &verdict, told)?;
+            Ok((outcome_of(&verdict), text))
+        }
+        Err(_) => Err(AllocError),
+    }
+}
+
+// The text with the report of this verdict and the certificate.
+fn with_report(
+    alloc: Global,
+    cut: &Cut,
+    certificate: &Certificate,
+    verdict: &Verdict<'_>,
+    mut text: Vec<u8>,
+) -> Result<Vec<u8>, AllocError>
+    ensures { IfOk result (λ whole. whole.items ≡ (text.items ++ report_text cut.now (verdict_shown verdict.now)) ++ certificate_lines certificate.now) }
+{
+    push_report(alloc, &mut text, cut, verdict)?;
     push_certificate(&mut text, certificate)?;
-    Ok((outcome_of(&verdict), text))
+    Ok(text)
 }
 
 // The text where a name has no winner.
