@@ -72,16 +72,16 @@ module _ (old : Cluster) (steps : List Step) (now : Cluster) (step : Step) (left
       record {
         events = so_far.events ++ event ∷ [];
         all =
-          ap (λ (made : List Step). made ++ left) (steps_on so_far.events event)
-          ∙ append_assoc (map (λ (e : Event). e.step) so_far.events) (step ∷ []) left
-          ∙ so_far.all;
+            ap (λ (made : List Step). made ++ left) (steps_on so_far.events event)
+            ∙ append_assoc (map (λ (e : Event). e.step) so_far.events) (step ∷ []) left
+            ∙ so_far.all;
         run = run_on old so_far.events now new event so_far.run is;
         made = made_on so_far.events event so_far.made made;
         tells =
-          tells
-          ∙ ap (λ (before : List ℕ). before ++ answer_line (suc place) answer) so_far.tells
-          ∙ ap (λ (at : ℕ). refused_lines 1 so_far.events ++ answer_line at answer) (ap suc so_far.place_is ∙ next (length so_far.events))
-          ∙ sym (lines_on 1 so_far.events event);
+            tells
+            ∙ ap (λ (before : List ℕ). before ++ answer_line (suc place) answer) so_far.tells
+            ∙ ap (λ (at : ℕ). refused_lines 1 so_far.events ++ answer_line at answer) (ap suc so_far.place_is ∙ next (length so_far.events))
+            ∙ sym (lines_on 1 so_far.events event);
         place_is = ap suc so_far.place_is ∙ sym (length_on so_far.events event);
       }
     where

@@ -29,11 +29,7 @@ pub(crate) fn play(
 }
 
 // Appends the line of a step that was refused; want of memory ends the run.
-fn tell(
-    told: &mut Vec<u8>,
-    place: u64,
-    answer: Result<Moved, Why>,
-) -> Result<(), AllocError>
+fn tell(told: &mut Vec<u8>, place: u64, answer: Result<Moved, Why>) -> Result<(), AllocError>
     ensures { OnOk result (IsTold place answer told.old.items told.new.items) }
 {
     match answer {
