@@ -77,11 +77,9 @@ fn scan_all(alloc: Global, replica: &mut Replica<MemStore>) -> Option<()> {
 }
 
 fn fill(alloc: Global, replica: &mut Replica<MemStore>, bytes: &[u8]) -> Option<()> {
-    let mut number = 0;
-    for piece in bytes.chunks(4096) {
-        let name = name_of(alloc, number)?;
+    for (place, piece) in bytes.chunks(4096).enumerate() {
+        let name = name_of(alloc, (place % 4096) as u32)?;
         replica.edit(&name, &node(alloc, piece)?).ok()?;
-        number = (number + 1) % 4096;
     }
     scan_all(alloc, replica)
 }
