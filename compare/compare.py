@@ -237,4 +237,5 @@ def main():
     print(f"{len(examples)} examples, {len(fixed)} fixed and {count} random documents: the same answers")
 
 
-main()
+if __name__ == "__main__":
+    main()

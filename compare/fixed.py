@@ -3,7 +3,7 @@
 
     compare/fixed.py [--long]
 
-Prints a digest of each hundred answers, after which that crate's `random.rt` takes the same steps; with --long each step
+Prints a digest of each hundred answers, after which that crate's `dice.rt` takes the same steps; with --long each step
 with its answer.
 """
 

@@ -12,3 +12,5 @@ mod explain;
 mod report;
 #[cfg(test)]
 mod streams;
+#[cfg(test)]
+mod walk;

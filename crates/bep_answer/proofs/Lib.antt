@@ -1,1 +1,3 @@
 mod SettledSaid
+mod PlayFacts
+mod SettledEnd

@@ -11,7 +11,7 @@ use Rattle.bep_answer.specs.declared.outcome.Outcome.{Outcome}
 use Rattle.bep_answer.specs.declared.outcome.Outcome.TheVariants as outcomes
 use Rattle.bep_answer.specs.Answer.{IsAnswer, outcome_of}
 
-settled_verdict : (cut : CutParts) (rows : List Row) (verdict : verdicts.Verdict) → verdicts.IsVerdict (tables_of cut) rows verdict → outcomes.Settled ≡ outcome_of verdict → IsSettled (tables_of cut) rows
+pub settled_verdict : (cut : CutParts) (rows : List Row) (verdict : verdicts.Verdict) → verdicts.IsVerdict (tables_of cut) rows verdict → outcomes.Settled ≡ outcome_of verdict → IsSettled (tables_of cut) rows
 settled_verdict cut rows verdicts.Settled judged told = judged
 settled_verdict cut rows (verdicts.Not reason folder name device) judged told = absurd (cc)
 

@@ -1,3 +1,4 @@
 pub mod Answer
 pub mod Certified
 pub mod Explained
+pub mod Played

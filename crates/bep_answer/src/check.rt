@@ -95,7 +95,8 @@ fn report_of(
     Ok((outcome_of(verdict), text))
 }
 
-fn outcome_of(verdict: &Verdict<'_>) -> Outcome
+/// The outcome of a verdict.
+pub(crate) fn outcome_of(verdict: &Verdict<'_>) -> Outcome
     ensures { result ≡ spec.outcome_of (verdict_shown verdict.now) }
 {
     match *verdict {

@@ -13,14 +13,18 @@
 
 mod certify;
 mod check;
+mod ending;
 mod explain;
 mod hints;
 mod json;
 mod outcome;
+mod play;
 mod refusal;
+mod run;
 
 pub use certify::{certified, certify_text};
 pub use check::{check_text, checked};
 pub use explain::{explain_text, explained};
 pub use hints::Hinted;
 pub use outcome::{Certified, Form, Outcome};
+pub use run::run_text;

@@ -1,18 +1,17 @@
 -- The least failure of the names that a walk has come past.
-use Rattle.std.proofs.Common.{◌≡◌, ◌≢◌, ◌⊎◌, ◌↔◌, ◌≤◌, ◌<◌, ◌+◌, ◌-◌, ℕ, zero, suc, Bool, true, false, cond, List, [], ◌∷◌, map, length, take, drop, Contains, Option, Some, None, refl, sym, ap, subst, ◌∙◌, inl, inr, ⊎_elim, arith, length-drop}
+use Rattle.std.proofs.Common.{◌≡◌, ◌↔◌, ◌+◌, ℕ, Bool, true, false, cond, List, [], ◌∷◌, take, drop, Contains, Option, Some, None, refl, sym, ap, subst, ◌∙◌, inr, ⊎_elim}
 use Rattle.std.specs.Prelude.{⊤, nat_lt, ◌==◌}
 use Rattle.std.specs.declared.cmp.Ordering.{Ordering}
 use Rattle.std.specs.declared.cmp.Ordering.TheVariants.{Less, Equal, Greater}
 use Rattle.std.specs.Ordering.{nat_cmp, is_lt, is_eq, ordering_then, ordering_reverse}
 use Rattle.std.specs.Cmp.Lexicographic.{slice_cmp}
 use Rattle.std.proofs.lemmas.Cmp.{nat_cmp_total, tied_itself}
-use Rattle.bep_facts.specs.Members.{Contains-image, Contains-from_image, not_in_none}
-use Rattle.bep_facts.specs.Orders.{order_cases, texts_total, texts_exact, Equal_from_same}
+use Rattle.bep_facts.specs.Members.{not_in_none}
+use Rattle.bep_facts.specs.Orders.{texts_total}
 use Rattle.bep_model.specs.declared.row.Row.{Row}
 use Rattle.bep_model.specs.declared.reason.Reason.{Reason}
 use Rattle.bep_model.specs.declared.reason.Reason.TheVariants.{CertificateOrder, NameMissing, NameUnknown, NotWinner}
 use Rattle.bep_model.specs.Tables.{Tables, Device, Folder, FileName}
-use Rattle.bep_model.specs.Foreign.{IsKnown}
 use Rattle.bep_model.specs.Settled.{key_of, key_cmp, Rise, IsSettled}
 use Rattle.bep_model.specs.Reasons.{Place, place_cmp, device_rank, Asks, AsksAt, first_disordered}
 use Rattle.bep_model.specs.Verdict.{number_of, IsFirstFault}
@@ -20,18 +19,17 @@ use Rattle.bep_model.specs.Laws.{RowsRiseInOrder, SettledIsFaultless}
 use Rattle.bep_tables.specs.declared.cut.CutParts.{CutParts}
 use Rattle.bep_tables.specs.declared.table.entry.TableEntry.{TableEntry}
 use Rattle.bep_tables.specs.Cut.{IsCut, tables_of}
-use Rattle.bep_tables.specs.Listed.{Listed, key_at, listed, AreInOrder, IsGrouped, cut_listed}
+use Rattle.bep_tables.specs.Listed.{IsGrouped, cut_listed}
 use Rattle.bep_tables.specs.Said.{EntriesAreHeld, HoldersShare}
 use Rattle.bep_audit.specs.FailureOrder.{failure_total}
-use Rattle.bep_audit.specs.Grouped.{same_group_same}
-use Rattle.bep_audit.specs.Group.{IsGroupOf}
 use Rattle.bep_audit.specs.Search.{lesser}
 use Rattle.bep_audit.specs.Walk.{Failure, failure_cmp, key_in, FindsLeast, replaces, next_key, count_at, rows_about}
 use Rattle.bep_audit.proofs.SearchFacts.{finds_as, lesser_finds}
 use Rattle.bep_audit.proofs.FailingRow.{less_by_order}
-use Rattle.bep_audit.proofs.GroupFacts.{known_by_group}
 use Rattle.bep_audit.proofs.GroupRow.{unknown_holds}
-use Rattle.bep_audit.proofs.NameWalk.{Key, IsUnder, Remains, IsNext, in_either, from_front, from_rest, under_itself, is_next, none_left, entries_part, rows_part, was_left, left_above, not_left, left_or_here, order_rest, rise_rest, shorter}
+use Rattle.bep_audit.proofs.GroupWalk as groups
+use Rattle.bep_audit.proofs.GroupWalk.{Stands, same_or_not, stands_at_first, unlisted_is_unknown, stands_afterwards, rows_are, table_left, rows_left_at}
+use Rattle.bep_audit.proofs.NameWalk.{Key, IsUnder, IsNext, Remains, none_left, was_left, left_above, not_left, left_or_here}
 
 -- ---- the order of failures
 
@@ -88,16 +86,6 @@ found_among t one other one_order other_order key same =
     (λ failure asked is. asked_alike t one other other_order key same failure.reason failure.place is (asked is))
     (λ failure asked is. asked_alike t other one one_order key (λ row here. ((same row here).1, (same row here).0)) failure.reason failure.place is (asked is))
 
--- keys are the same or not
-same_or_not : (one other : Key) → (one ≡ other) ⊎ (one ≢ other)
-same_or_not one other =
-    ⊎_elim
-    (λ less. inr (λ same. let e : Less ≡ Equal = sym less ∙ Equal_from_same texts_total one other same in absurd (cc)))
-    (⊎_elim
-    (λ equal. inl (texts_exact one other equal))
-    (λ greater. inr (λ same. let e : Greater ≡ Equal = sym greater ∙ Equal_from_same texts_total one other same in absurd (cc))))
-    (order_cases (key_cmp one other))
-
 -- what fails at a name is there
 fails_there : (t : Tables) (rows : List Row) (key : Key) (failure : Failure) → FindsLeast t rows (λ k. k ≡ key) (Some failure) → key_in failure.place ≡ key
 fails_there t rows key failure first =
@@ -107,47 +95,24 @@ fails_there t rows key failure first =
 module _ (cut : CutParts) (rows : List Row) where
   -- these entries and rows are left, and this is the least failure at the other names
   pub record Walked (entries : List TableEntry) (rest : List Row) (least : Option Failure) : Type 0 where
-    pub order : AreInOrder (map listed entries)
-    pub rise : Rise rest
-    pub listed_all : (entry : TableEntry) → Contains entries entry → Contains (cut_listed cut) (listed entry)
-    pub entries_left : (one : Listed) → Contains (cut_listed cut) one → Remains entries rest (key_at one) → Contains (map listed entries) one
-    pub of_rows : (row : Row) → Contains rest row → Contains rows row
-    pub rows_left : (row : Row) → Contains rows row → Remains entries rest (key_of row) → Contains rest row
+    pub stands : Stands cut rows entries rest
     pub finds : FindsLeast (tables_of cut) rows (λ key. ¬ Remains entries rest key) least
     pub below : (found : Failure) → least ≡ Some found → (key : Key) → Remains entries rest key → IsUnder (key_in found.place) key
 
   -- it starts
   pub least_starts : EntriesAreHeld → HoldersShare → RowsRiseInOrder → IsCut cut → Rise rows → (table : List TableEntry) → IsGrouped (cut_listed cut) table → Walked table rows None
   least_starts held share in_order is_cut rise table grouped = record {
-    order = grouped.in_order;
-    rise = rise;
-    listed_all = λ entry member. same_group_same (listed entry) (map listed table) (cut_listed cut) (grouped.groups (key_at (listed entry))) (Contains-image listed table entry member);
-    entries_left = λ one member left. same_group_same one (cut_listed cut) (map listed table) (sym (grouped.groups (key_at one))) member;
-    of_rows = λ row member. member;
-    rows_left = λ row member left. member;
+    stands = stands_at_first cut rows table grouped rise;
     finds = nothing;
     below = λ found e. absurd (cc);
   }
     where
-      no_group : (key : Key) → ¬ Remains table rows key → IsGroupOf cut key []
-      no_group key none one = (
-        λ member. absurd (not_in_none one member),
-        λ there.
-            let image = Contains-from_image listed table one (same_group_same one (cut_listed cut) (map listed table) (sym (grouped.groups (key_at one))) there.0) in
-            absurd (none (inl (image.0, image.1, ap key_at image.2 ∙ there.1))),
-      )
-
-      unknown : (key : Key) → ¬ Remains table rows key → ¬ IsKnown (tables_of cut) key.0 key.1
-      unknown key none known =
-          let counted = (known_by_group held cut is_cut key [] (no_group key none) share).1 known in
-          not_in_none counted.0 counted.1
-
       nothing : (failure : Failure) → ¬ Remains table rows (key_in failure.place) → Asks (tables_of cut) rows failure.reason failure.place
       nothing failure none =
           asked_alike (tables_of cut) [] rows ((in_order rows).1 rise) (key_in failure.place)
           (λ row here. (λ member. absurd (not_in_none row member), λ member. absurd (none (inr (row, member, here)))))
           failure.reason failure.place refl
-          (unknown_holds (tables_of cut) (key_in failure.place) (unknown (key_in failure.place) none) failure refl)
+          (unknown_holds (tables_of cut) (key_in failure.place) (unlisted_is_unknown cut rows table grouped held share is_cut (key_in failure.place) none) failure refl)
 
   -- it ends
   pub least_ends : (entries : List TableEntry) (rest : List Row) (least : Option Failure) → Walked entries rest least → next_key entries rest ≡ None → FindsLeast (tables_of cut) rows (λ _. ⊤) least
@@ -159,40 +124,7 @@ module _ (cut : CutParts) (rows : List Row) where
 
   module _ (entries : List TableEntry) (rest : List Row) (least : Option Failure) (walked : Walked entries rest least) (key : Key) (is : next_key entries rest ≡ Some key) where
     next : IsNext entries rest key
-    next = is_next entries rest key walked.order walked.rise is
-
-    -- the entries at the front are the name's
-    pub front_is_group : IsGroupOf cut key (map listed (take (count_at key entries) entries))
-    front_is_group one = (
-      λ member.
-          let image = Contains-from_image listed (take (count_at key entries) entries) one member in (
-            subst (Contains (cut_listed cut)) image.2 (walked.listed_all image.0 (from_front entries (count_at key entries) image.0 image.1)),
-            ap key_at (sym image.2) ∙ (entries_part entries rest key walked.order walked.rise next).here image.0 image.1,
-          ),
-      λ there. of_front there.1 (Contains-from_image listed entries one (walked.entries_left one there.0 (subst (Remains entries rest) (sym there.1) next.remains))),
-    )
-      where
-        of_front : key_at one ≡ key → (entry : TableEntry) × Contains entries entry × (listed entry ≡ one) → Contains (map listed (take (count_at key entries) entries)) one
-        of_front here image =
-            ⊎_elim
-            (λ front. subst (Contains (map listed (take (count_at key entries) entries))) image.2 (Contains-image listed (take (count_at key entries) entries) image.0 front))
-            (λ later.
-            let under = (entries_part entries rest key walked.order walked.rise next).later image.0 later in
-            absurd (under_itself key (subst (IsUnder key) (ap key_at image.2 ∙ here) under)))
-            (in_either entries (count_at key entries) image.0 image.1)
-
-    -- the rows at the front are the name's
-    pub front_is_about : (row : Row) → Contains (take (rows_about key rest) rest) row → key_of row ≡ key
-    front_is_about = (rows_part entries rest key walked.order walked.rise next).here
-
-    rows_are : (row : Row) → key_of row ≡ key → Contains (take (rows_about key rest) rest) row ↔ Contains rows row
-    rows_are row here = (
-      λ member. walked.of_rows row (from_front rest (rows_about key rest) row member),
-      λ member.
-          ⊎_elim (λ front. front)
-          (λ later. absurd (under_itself key (subst (IsUnder key) here ((rows_part entries rest key walked.order walked.rise next).later row later))))
-          (in_either rest (rows_about key rest) row (walked.rows_left row member (subst (Remains entries rest) (sym here) next.remains))),
-    )
+    next = groups.next cut rows entries rest walked.stands key is
 
     one_in_order : first_disordered (take (rows_about key rest) rest) ≡ None
     one_in_order = of_few rest where
@@ -206,30 +138,12 @@ module _ (cut : CutParts) (rows : List Row) where
     abbrev Left : Key → Type 0
     Left other = Remains (drop (count_at key entries) entries) (drop (rows_about key rest) rest) other
 
-    entries_stay : (one : Listed) → Contains (cut_listed cut) one → Left (key_at one) → Contains (map listed (drop (count_at key entries) entries)) one
-    entries_stay one member left = of_rest (Contains-from_image listed entries one (walked.entries_left one member (was_left entries rest key walked.order walked.rise next (key_at one) left))) where
-      of_rest : (entry : TableEntry) × Contains entries entry × (listed entry ≡ one) → Contains (map listed (drop (count_at key entries) entries)) one
-      of_rest image =
-          ⊎_elim
-          (λ front.
-          let here : key_at one ≡ key = ap key_at (sym image.2) ∙ (entries_part entries rest key walked.order walked.rise next).here image.0 front in
-          absurd (not_left entries rest key walked.order walked.rise next (subst Left here left)))
-          (λ later. subst (Contains (map listed (drop (count_at key entries) entries))) image.2 (Contains-image listed (drop (count_at key entries) entries) image.0 later))
-          (in_either entries (count_at key entries) image.0 image.1)
-
-    rows_stay : (row : Row) → Contains rows row → Left (key_of row) → Contains (drop (rows_about key rest) rest) row
-    rows_stay row member left =
-        ⊎_elim
-        (λ front. absurd (not_left entries rest key walked.order walked.rise next (subst Left (front_is_about row front) left)))
-        (λ later. later)
-        (in_either rest (rows_about key rest) row (walked.rows_left row member (was_left entries rest key walked.order walked.rise next (key_of row) left)))
-
     module _ (in_order : first_disordered rows ≡ None) (here : Option Failure) (found : FindsLeast (tables_of cut) (take (rows_about key rest) rest) (λ k. k ≡ key) here) where
       Asked : Failure → Type 0
       Asked failure = Asks (tables_of cut) rows failure.reason failure.place
 
       here_among : FindsLeast (tables_of cut) rows (λ k. k ≡ key) here
-      here_among = found_among (tables_of cut) (take (rows_about key rest) rest) rows one_in_order in_order key rows_are here found
+      here_among = found_among (tables_of cut) (take (rows_about key rest) rest) rows one_in_order in_order key (rows_are cut rows entries rest walked.stands key is) here found
 
       is_there : (failure : Failure) → here ≡ Some failure → key_in failure.place ≡ key
       is_there failure some = fails_there (tables_of cut) rows key failure (subst (FindsLeast (tables_of cut) rows (λ k. k ≡ key)) some here_among)
@@ -243,11 +157,11 @@ module _ (cut : CutParts) (rows : List Row) where
           (λ failure both not.
           ⊎_elim
           (λ same. both.1 same)
-          (λ apart. both.0 (λ remains. ⊎_elim (λ left. not left) (λ same. apart same) (left_or_here entries rest key walked.order walked.rise next (key_in failure.place) remains)))
+          (λ apart. both.0 (λ remains. ⊎_elim (λ left. not left) (λ same. apart same) (left_or_here entries rest key walked.stands.order walked.stands.rise next (key_in failure.place) remains)))
           (same_or_not (key_in failure.place) key))
           (λ failure asked. (
-            λ gone. asked (λ left. gone (was_left entries rest key walked.order walked.rise next (key_in failure.place) left)),
-            λ same. asked (λ left. not_left entries rest key walked.order walked.rise next (subst Left same left)),
+            λ gone. asked (λ left. gone (was_left entries rest key walked.stands.order walked.stands.rise next (key_in failure.place) left)),
+            λ same. asked (λ left. not_left entries rest key walked.stands.order walked.stands.rise next (subst Left same left)),
           ))
           (lesser failure_cmp least here)
           (lesser_finds failure_cmp failure_total
@@ -259,18 +173,13 @@ module _ (cut : CutParts) (rows : List Row) where
       under_here one other was now = subst (IsUnder (key_in one.place)) (sym (is_there other now)) (walked.below one was key next.remains)
 
       below_left : (b : Bool) (failure : Failure) → cond b here least ≡ Some failure → (other : Key) → Left other → IsUnder (key_in failure.place) other
-      below_left true failure some other left = subst (λ k. IsUnder k other) (sym (is_there failure some)) (left_above entries rest key walked.order walked.rise next other left)
-      below_left false failure some other left = walked.below failure some other (was_left entries rest key walked.order walked.rise next other left)
+      below_left true failure some other left = subst (λ k. IsUnder k other) (sym (is_there failure some)) (left_above entries rest key walked.stands.order walked.stands.rise next other left)
+      below_left false failure some other left = walked.below failure some other (was_left entries rest key walked.stands.order walked.stands.rise next other left)
 
       -- it goes on
       pub least_goes_on : Walked (drop (count_at key entries) entries) (drop (rows_about key rest) rest) (cond (replaces here least) here least)
       least_goes_on = record {
-        order = order_rest (count_at key entries) entries walked.order;
-        rise = rise_rest key rest walked.rise;
-        listed_all = λ entry member. walked.listed_all entry (from_rest entries (count_at key entries) entry member);
-        entries_left = entries_stay;
-        of_rows = λ row member. walked.of_rows row (from_rest rest (rows_about key rest) row member);
-        rows_left = rows_stay;
+        stands = stands_afterwards cut rows entries rest walked.stands key is;
         finds = subst (FindsLeast (tables_of cut) rows (λ other. ¬ Left other)) (sym (replaced_is_lesser here least under_here)) both_found;
         below = below_left (replaces here least);
       }
@@ -290,54 +199,12 @@ module _ (t : Tables) (rows : List Row) where
   none_is_settled faultless none = (faultless t rows).1 (λ reason place. none (record { reason = reason; place = place }) tt)
 
 -- ---- the walk by its places
-drop_none : {X : Type 0} (n : ℕ) → ◌≡◌ {A = List X} (drop n []) []
-drop_none zero = refl
-drop_none (suc n) = refl
-
-drop_more : {X : Type 0} (at n : ℕ) (xs : List X) → drop (at + n) xs ≡ drop n (drop at xs)
-drop_more zero n xs = let same : 0 + n ≡ n = omega arith in ap (λ k. drop k xs) same
-drop_more (suc at) n [] = drop_none (suc at + n) ∙ sym (drop_none n)
-drop_more (suc at) n (x ∷ xs) = let same : suc at + n ≡ suc (at + n) = omega arith in ap (λ k. drop k (x ∷ xs)) same ∙ drop_more at n xs
-
-pub within_at : {X : Type 0} (xs : List X) (at n : ℕ) → at ≤ length xs → n ≤ length (drop at xs) → at + n ≤ length xs
-within_at xs at n inside few = let rest = length-drop at xs in omega (arith, inside, few, rest)
-
 module _ (cut : CutParts) (rows : List Row) (table : List TableEntry) (at place : ℕ) (least : Option Failure) (walked : Walked cut rows (drop at table) (drop place rows) least) (key : Key) (is : next_key (drop at table) (drop place rows) ≡ Some key) where
-  pub group_at : (group : List TableEntry) → group ≡ take (count_at key (drop at table)) (drop at table) → IsGroupOf cut key (map listed group)
-  group_at group front = subst (λ (g : List TableEntry). IsGroupOf cut key (map listed g)) (sym front) (front_is_group cut rows (drop at table) (drop place rows) least walked key is)
-
-  pub about_at : (about : List Row) → about ≡ take (rows_about key (drop place rows)) (drop place rows) → (row : Row) → Contains about row → key_of row ≡ key
-  about_at about front = subst (λ (a : List Row). (row : Row) → Contains a row → key_of row ≡ key) (sym front) (front_is_about cut rows (drop at table) (drop place rows) least walked key is)
-
   module _ (n m : ℕ) (held : n ≡ count_at key (drop at table)) (about : m ≡ rows_about key (drop place rows)) where
-    table_left : drop (at + n) table ≡ drop (count_at key (drop at table)) (drop at table)
-    table_left = drop_more at n table ∙ ap (λ k. drop k (drop at table)) held
-
-    rows_left_at : drop (place + m) rows ≡ drop (rows_about key (drop place rows)) (drop place rows)
-    rows_left_at = drop_more place m rows ∙ ap (λ k. drop k (drop place rows)) about
-
-    pub smaller_at : length (drop (at + n) table) + length (drop (place + m) rows) < length (drop at table) + length (drop place rows)
-    smaller_at =
-        let one = ap length table_left in
-        let other = ap length rows_left_at in
-        let less = shorter (drop at table) (drop place rows) key walked.order walked.rise (is_next (drop at table) (drop place rows) key walked.order walked.rise is) in
-        omega (arith, one, other, less)
-
     pub goes_on_at : first_disordered rows ≡ None → (lines : List Row) → lines ≡ take (rows_about key (drop place rows)) (drop place rows) → (here : Option Failure) → FindsLeast (tables_of cut) lines (λ k. k ≡ key) here → (now : Option Failure) → now ≡ cond (replaces here least) here least → Walked cut rows (drop (at + n) table) (drop (place + m) rows) now
     goes_on_at in_order lines front here found now chosen =
-        subst (λ (entries : List TableEntry). Walked cut rows entries (drop (place + m) rows) now) (sym table_left)
-        (subst (λ (rest : List Row). Walked cut rows (drop (count_at key (drop at table)) (drop at table)) rest now) (sym rows_left_at)
+        subst (λ (entries : List TableEntry). Walked cut rows entries (drop (place + m) rows) now) (sym (table_left cut rows table at place walked.stands key is n m held about))
+        (subst (λ (rest : List Row). Walked cut rows (drop (count_at key (drop at table)) (drop at table)) rest now) (sym (rows_left_at cut rows table at place walked.stands key is n m held about))
         (subst (Walked cut rows (drop (count_at key (drop at table)) (drop at table)) (drop (rows_about key (drop place rows)) (drop place rows))) (sym chosen)
         (least_goes_on cut rows (drop at table) (drop place rows) least walked key is in_order here
         (subst (λ (all : List Row). FindsLeast (tables_of cut) all (λ k. k ≡ key) here) front found))))
-
-take_whole : {X : Type 0} (xs : List X) → take (length xs) xs ≡ xs
-take_whole [] = refl
-take_whole (x ∷ xs) = ap (λ l. x ∷ l) (take_whole xs)
-
--- what is left from a place on
-pub rest_is : {X : Type 0} (xs : List X) (at : ℕ) → take (length xs - at) (drop at xs) ≡ drop at xs
-rest_is xs at = ap (λ k. take k (drop at xs)) (sym (length-drop at xs)) ∙ take_whole (drop at xs)
-
-pub next_at : (table : List TableEntry) (rows : List Row) (at place : ℕ) (found : Option Key) → found ≡ next_key (take (length table - at) (drop at table)) (take (length rows - place) (drop place rows)) → next_key (drop at table) (drop place rows) ≡ found
-next_at table rows at place found is = sym (is ∙ (λ i. next_key (rest_is table at i) (rest_is rows place i)))

@@ -15,12 +15,14 @@ pub mod FailingRow
 pub mod GroupFacts
 pub mod FailingDevice
 pub mod GroupRow
+pub mod FaultlessRow
 pub mod NameWalk
+pub mod GroupWalk
 pub mod LeastWalk
 pub mod ReasonWalk
 pub mod WinnerFacts
 pub mod CandidateFacts
 pub mod WinnerSaid
-pub mod NamesFacts
-pub mod AddedFacts
+pub mod OwnFacts
+pub mod WonWalk
 pub mod CertifierFacts

@@ -184,6 +184,11 @@ pub record IsNext (entries : List TableEntry) (rows : List Row) (key : Key) : Ty
   pub of_rows : (row : Row) → Contains rows row → IsUpTo key (key_of row)
   pub remains : Remains entries rows key
 
+-- so nothing that is left is under it
+pub not_under_next : (entries : List TableEntry) (rows : List Row) (key : Key) → IsNext entries rows key → (other : Key) → Remains entries rows other → ¬ IsUnder other key
+not_under_next entries rows key next other (inl entry) under = under_itself other (under_then_up_to other key other under (subst (IsUpTo key) entry.2 (next.of_entries entry.0 entry.1)))
+not_under_next entries rows key next other (inr row) under = under_itself other (under_then_up_to other key other under (subst (IsUpTo key) row.2 (next.of_rows row.0 row.1)))
+
 row_up_to : (row : Row) (more : List Row) → Rise (row ∷ more) → (other : Row) → Contains (row ∷ more) other → IsUpTo (key_of row) (key_of other)
 row_up_to row more rise other member =
     ⊎_elim

@@ -89,6 +89,6 @@ pub winner_is_named : FolderIsFound → ShareHasFolder → OwnIsSaid → (cut : 
 winner_is_named found has_folder said cut folder name is_cut one wins =
     let shares = shares_of folder cut.folders in
     let among = subst (λ (candidates : List Candidate). Contains candidates one) (candidates_said said cut folder name is_cut) wins.left.valid.0 in
-    let share = owned_from name shares one among in
+    let share = owned_from (λ s. get s.own name) shares one among in
     let index = All-contains (λ (s : Share). IsIndex (index_of s)) shares share.0 (are_shares found has_folder cut is_cut folder).indexes share.1 in
     (index.numbered name one.1 share.2).0

@@ -1,12 +1,12 @@
--- How a certificate is made: a row for each known name, one after the other.
+-- What the certificate of a cut is, or the error that there is none.
 use Rattle.std.specs.Prelude.{◌≡◌, ◌⊎◌, List, [], ◌∷◌, ◌++◌, ⊤}
-use Rattle.std.specs.FinMap.{keys}
 use Rattle.bep_choice.specs.Choice.{Candidate}
 use Rattle.bep_model.specs.declared.row.Row.{Row}
 use Rattle.bep_model.specs.Settled.{key_of, IsSettled}
 use Rattle.bep_model.specs.Tables.{Tables, Folder, FileName}
+use Rattle.bep_model.specs.Foreign.{IsKnown}
 use Rattle.bep_model.specs.Winner.{IsWinner}
-use Rattle.bep_model.specs.WithoutWinner.{HasWinner, IsFirstWithoutWinner}
+use Rattle.bep_model.specs.WithoutWinner.{IsWithoutWinner, IsFirstWithoutWinner}
 use Rattle.bep_audit.specs.declared.error.CertifyError.{CertifyError}
 use Rattle.bep_audit.specs.declared.error.CertifyError.TheVariants.{NoWinner, Memory}
 
@@ -31,24 +31,16 @@ IsNeverSettled t = (rows : List Row) → ¬ IsSettled t rows
 abbrev pub IsWon : Tables → Folder × FileName → Row → Type 0
 IsWon t key row = (key_of row ≡ key) × IsWinner t key.0 key.1 (row.device, row.entry)
 
--- these rows are those of the names, each in its place
-abbrev pub AreWon : Tables → List (Folder × FileName) → List Row → Type 0
-AreWon t [] [] = ⊤
-AreWon t (key ∷ keys) (row ∷ rows) = IsWon t key row × AreWon t keys rows
-AreWon t [] (row ∷ rows) = ⊥
-AreWon t (key ∷ keys) [] = ⊥
-
--- the names' rows come to the old ones
-pub record Adds (t : Tables) (keys : List (Folder × FileName)) (old new : List Row) : Type 0 where
-  pub more : List Row
-  pub added : new ≡ old ++ more
-  pub won : AreWon t keys more
-
 -- no candidate wins the name
 abbrev pub IsUnwon : Tables → Folder × FileName → Type 0
 IsUnwon t key = (one : Candidate) → ¬ IsWinner t key.0 key.1 one
 
--- it is one of these names and has no winner, and each one before it has one
-abbrev pub FailsIn : Tables → List (Folder × FileName) → Folder × FileName → Type 0
-FailsIn t [] failed = ⊥
-FailsIn t (key ∷ keys) failed = ((key ≡ failed) × IsUnwon t key) ⊎ (HasWinner t key.0 key.1 × FailsIn t keys failed)
+-- a known name's row comes to the old ones, and no row of one that isn't known
+abbrev pub AddsIfKnown : Tables → Folder × FileName → List Row → List Row → Type 0
+AddsIfKnown t key old new =
+    (IsKnown t key.0 key.1 × ((row : Row) × IsWon t key row × (new ≡ old ++ row ∷ [])))
+    ⊎ ((¬ IsKnown t key.0 key.1) × (new ≡ old))
+
+-- it is this name, which is known and has no winner
+abbrev pub IsUnwonHere : Tables → Folder × FileName → Folder × FileName → Type 0
+IsUnwonHere t key other = (other ≡ key) × IsWithoutWinner t other.0 other.1

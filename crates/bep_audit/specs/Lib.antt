@@ -1,6 +1,7 @@
 pub mod Candidates
 pub mod Certifier
 pub mod FailureOrder
+pub mod Faultless
 pub mod Foreign
 pub mod Group
 pub mod Grouped

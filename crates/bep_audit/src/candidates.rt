@@ -5,24 +5,28 @@ ghost use Rattle.std.specs.Option.{option_copied};
 ghost use Rattle.bep_choice.specs.Choice.{Candidate, candidate_of, candidates_of, IsChoice};
 ghost use Rattle.bep_tables.specs.Cut.{devices_of};
 ghost use Rattle.bep_record.specs.declared.limits.TheConstants.{MAX_DEVICES};
-ghost use Rattle.bep_audit.specs.Candidates.{owned_in, chooser_of};
+ghost use Rattle.bep_audit.specs.Candidates.{own_by, owned_by, chooser_of};
 
+use crate::owns::Owns;
 use bep_choice::choose;
-use bep_record::{DeviceId, MAX_DEVICES, Name, Record};
+use bep_record::{DeviceId, MAX_DEVICES, Record};
 use bep_tables::Share;
 use std::array;
 
-// The device and the record that win the name among these shares.
-pub(crate) fn winner_among<'a>(shares: &'a [Share], name: &Name) -> Option<(DeviceId, &'a Record)>
+// The device and the record that win a name among these shares, whose own records of it are looked up there.
+pub(crate) fn winner_among<'a>(
+    shares: &'a [Share],
+    owns: Owns<'_, 'a>,
+) -> Option<(DeviceId, &'a Record)>
     requires few { length shares.now ≤ MAX_DEVICES }
     requires rise { IsStrictlyIncreasing (devices_of shares.now) }
-    ensures wins { IfSome result (λ one. IsChoice (chooser_of shares.now) (owned_in name.now shares.now) (candidate_of one)) }
-    ensures none { IfNone result ((one : Candidate) → ¬ IsChoice (chooser_of shares.now) (owned_in name.now shares.now) one) }
+    ensures wins { IfSome result (λ one. IsChoice (chooser_of shares.now) (owned_by (own_by owns.entry) shares.now) (candidate_of one)) }
+    ensures none { IfNone result ((one : Candidate) → ¬ IsChoice (chooser_of shares.now) (owned_by (own_by owns.entry) shares.now) one) }
 {
-    match (first_device(shares), first_own(shares, name)) {
+    match (first_device(shares), first_own(shares, owns)) {
         (Some(chooser), Some(own)) => {
             let mut found: [_; MAX_DEVICES] = array::from_fn(|_| (chooser, own));
-            winner_within(&mut found, chooser, shares, name)
+            winner_within(&mut found, chooser, shares, owns)
         }
         _ => None,
     }
@@ -44,14 +48,14 @@ fn winner_within<'a>(
     found: &mut [(DeviceId, &'a Record)],
     chooser: DeviceId,
     shares: &'a [Share],
-    name: &Name,
+    owns: Owns<'_, 'a>,
 ) -> Option<(DeviceId, &'a Record)>
     requires room { length shares.now ≤ length found.old }
     requires rise { IsStrictlyIncreasing (devices_of shares.now) }
-    ensures wins { IfSome result (λ one. IsChoice chooser (owned_in name.now shares.now) (candidate_of one)) }
-    ensures none { IfNone result ((one : Candidate) → ¬ IsChoice chooser (owned_in name.now shares.now) one) }
+    ensures wins { IfSome result (λ one. IsChoice chooser (owned_by (own_by owns.entry) shares.now) (candidate_of one)) }
+    ensures none { IfNone result ((one : Candidate) → ¬ IsChoice chooser (owned_by (own_by owns.entry) shares.now) one) }
 {
-    let count = gather(found, shares, name);
+    let count = gather(found, shares, owns);
     chosen(chooser, &found[..count])
 }
 
@@ -74,11 +78,11 @@ fn chosen<'a>(
 }
 
 // The first of the own records of the name.
-fn first_own<'a>(shares: &'a [Share], name: &Name) -> Option<&'a Record>
-    ensures { IsNone result ↔ (owned_in name.now shares.now ≡ []) }
+fn first_own<'a>(shares: &'a [Share], owns: Owns<'_, 'a>) -> Option<&'a Record>
+    ensures { IsNone result ↔ (owned_by (own_by owns.entry) shares.now ≡ []) }
 {
     for share in shares {
-        match share.own.get(name) {
+        match owns.of_share(share) {
             Some(own) => return Some(own),
             None => {}
         }
@@ -87,15 +91,19 @@ fn first_own<'a>(shares: &'a [Share], name: &Name) -> Option<&'a Record>
 }
 
 // Puts the own records of the name to the front, each beside its device, and tells how many there are.
-fn gather<'a>(found: &mut [(DeviceId, &'a Record)], shares: &'a [Share], name: &Name) -> usize
+fn gather<'a>(
+    found: &mut [(DeviceId, &'a Record)],
+    shares: &'a [Share],
+    owns: Owns<'_, 'a>,
+) -> usize
     requires { length shares.now ≤ length found.old }
-    ensures candidates { candidates_of (take result found.new) ≡ owned_in name.now shares.now }
+    ensures candidates { candidates_of (take result found.new) ≡ owned_by (own_by owns.entry) shares.now }
     ensures within { result ≤ length found.new }
     ensures length { length found.new ≡ length found.old }
 {
     let mut count = 0;
     for share in shares {
-        match share.own.get(name) {
+        match owns.of_share(share) {
             Some(own) => {
                 found[count] = (share.device, own);
                 count += 1;

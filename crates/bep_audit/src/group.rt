@@ -61,8 +61,8 @@ fn meets_elsewhere(
     }
 }
 
-// Whether each of the device's records from there passes.
-fn all_pass(
+/// Whether each of the device's records from there passes.
+pub(crate) fn all_pass(
     source: Source,
     row: &Row,
     group: &[TableEntry<'_>],

@@ -16,9 +16,11 @@ ghost use Rattle.bep_audit.specs.Walk.{FindsLeast, FindsHere, failure_shown};
 use crate::checkers::REASONS;
 use crate::failing::unless;
 use crate::failure::Failure;
+use crate::faultless::is_faultless;
 use crate::group::{has_known, meets_group};
+use crate::share_is_asked;
 use crate::spot::Spot;
-use crate::{is_winner, share_is_asked};
+use crate::winner::is_winner_in;
 use bep_model::{Reason, Row, reasons_are_numbered};
 use bep_record::{DeviceId, FolderName, Name};
 use bep_tables::{Cut, Share, TableEntry, cut_says, entries_are_held};
@@ -69,6 +71,9 @@ fn failure_at_row<'a>(cut: &'a Cut, group: &[TableEntry<'a>], row: &'a Row) -> O
     ensures { FindsLeast (tables_of cut.now) (row.now ∷ []) (λ key. key ≡ key_of row.now) (option_map failure_shown result) }
 {
     reasons_are_numbered();
+    if is_faultless(cut, group, row) {
+        return None;
+    }
     for reason in REASONS {
         if let Some(spot) = failing_in(cut, group, row, reason) {
             return Some(Failure { reason, spot });
@@ -92,7 +97,7 @@ fn failing_in<'a>(
     match reason {
         Reason::CertificateOrder | Reason::NameMissing => None,
         Reason::NameUnknown => unless(has_known(group), row),
-        Reason::NotWinner => unless(is_winner(cut, row), row),
+        Reason::NotWinner => unless(is_winner_in(cut, group, row), row),
         _ => failing_device_in(cut, group, row, reason),
     }
 }

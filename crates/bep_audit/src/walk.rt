@@ -44,7 +44,10 @@ pub(crate) fn least_failure<'a>(
 }
 
 // The folder and the name that come next: the lesser of those of the first entry and the first row.
-fn next_key<'a>(entries: &[TableEntry<'a>], rows: &'a [Row]) -> Option<(&'a FolderName, &'a Name)>
+pub(crate) fn next_key<'a>(
+    entries: &[TableEntry<'a>],
+    rows: &'a [Row],
+) -> Option<(&'a FolderName, &'a Name)>
     ensures { option_map key_shown result ≡ next_key entries.now rows.now }
 {
     match (entries, rows) {
@@ -62,7 +65,7 @@ fn next_key<'a>(entries: &[TableEntry<'a>], rows: &'a [Row]) -> Option<(&'a Fold
 }
 
 // The entries of the folder and name at the front.
-fn entries_at<'s, 'a>(
+pub(crate) fn entries_at<'s, 'a>(
     entries: &'s [TableEntry<'a>],
     folder: &FolderName,
     name: &Name,

@@ -1,5 +1,5 @@
 -- What stays in sets and maps that grow, and sets whose growth is taken back.
-use Rattle.std.proofs.Common.{◌≡◌, ◌<◌, ◌≤◌, ◌+◌, if◌then◌else◌, subst, arith, ℕ, Bool, true, false, not, cond, ◌||◌, List, [], ◌∷◌, Some, is_some, refl, ap, sym, ◌∙◌}
+use Rattle.std.proofs.Common.{◌≡◌, ◌<◌, ◌≤◌, ◌+◌, if◌then◌else◌, subst, arith, ℕ, Bool, true, false, not, cond, ◌||◌, List, [], ◌∷◌, Some, is_some, refl, ap, ◌∙◌}
 use Rattle.std.specs.declared.cmp.Ordering.{Ordering}
 use Rattle.std.specs.declared.cmp.Ordering.TheVariants.{Less, Equal, Greater}
 use Rattle.std.specs.List.{list_any}

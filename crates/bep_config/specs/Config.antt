@@ -4,7 +4,7 @@ use Rattle.std.specs.declared.cmp.Ordering.{Ordering}
 use Rattle.std.specs.List.{list_any}
 use Rattle.std.specs.Ordering.{nat_cmp, on, then_cmp}
 use Rattle.std.specs.Cmp.Lexicographic.{slice_cmp}
-use Rattle.std.specs.Map.{keys_of, lookup}
+use Rattle.std.specs.Map.{keys_of, values_of, lookup}
 use Rattle.std.specs.BTreeMap.{is_at, insert_entry}
 use Rattle.std.specs.BTreeSet.{insert_key}
 use Rattle.bep_record.specs.FolderName.{IsFolderName}
@@ -67,7 +67,8 @@ abbrev pub Joins : List ℕ → ℕ × ℕ → Type 0
 Joins devices ends =
     (ends.0 < ends.1) × (list_any (is_at (nat_cmp ends.0)) devices ≡ true) × (list_any (is_at (nat_cmp ends.1)) devices ≡ true)
 
--- at most 16 folders and 16 devices; what a device has is of a folder and a device that are there
+-- at most 16 folders and 16 devices, whose numbers are 1 or more; what a device has is of a folder and a device that are
+-- there, with an index id other than 0
 pub record IsConfig {S : Type 0} (config : Configuration S) : Type 0 where
   pub few_folders : length config.folders ≤ MAX_FOLDERS
   pub named : All IsFolderName config.folders
@@ -76,6 +77,8 @@ pub record IsConfig {S : Type 0} (config : Configuration S) : Type 0 where
   pub of_devices : All (λ key. has_device config key.1 ≡ true) (keys_of config.shares)
   pub sharing : All (λ device. list_any (λ key. key.1 == device) (keys_of config.shares) ≡ true) config.devices
   pub joined : All (Joins config.devices) config.links
+  pub numbered : All (λ device. 1 ≤ device) config.devices
+  pub indexed : All (λ sharing. 1 ≤ sharing.index_id) (values_of config.shares)
 
 -- ---- what may be added, and the configuration with it
 

@@ -208,6 +208,7 @@ impl<S: Drop> Config<S> {
         ensures ok { OnOk result (self.new ≡ with_share self.old key.0 key.1 sharing) }
         ensures err { OnErr result (self.new ≡ self.old) }
     {
+        let _number = key.1.number();
         add_share(&mut self.devices, &mut self.shares, key, sharing)?;
         Ok(())
     }

@@ -19,13 +19,13 @@ use Rattle.bep_map.specs.NameMap.{ByName}
 use Rattle.bep_record.specs.declared.limits.TheConstants.{MAX_DEVICES}
 use Rattle.bep_record.specs.declared.node.NodeParts.{NodeParts}
 use Rattle.bep_config.specs.declared.sharing.Sharing.{Sharing}
-use Rattle.bep_config.specs.Config.{Configuration, IsConfig, Joins, by_ends, by_share}
+use Rattle.bep_config.specs.Config.{Configuration, IsConfig, has_folder, Joins, by_ends, by_share}
 use Rattle.bep_model.specs.Tables.{Device, Folder}
 use Rattle.bep_machine.specs.Replica.{Replica}
 use Rattle.bep_machine.specs.Steps.{AreLinked, SharesFolder}
 use Rattle.bep_folder.specs.Held.{Held}
 use Rattle.bep_peer.specs.Member.{Member, tables_of}
-use Rattle.bep_core.specs.Network.{Network, IsNetwork, IsJoined, numbers_of, ends_of, config_of, kind_of}
+use Rattle.bep_core.specs.Network.{Network, IsNetwork, IsJoined, AreFew, ShareSome, numbers_of, ends_of, config_of, kind_of}
 use Rattle.bep_core.specs.Begin.{others_that, is_shared, is_linked, linked_with, sharing_with, own_share, begun_share, begun_folders, begun_member, begun}
 use Rattle.bep_core.proofs.Begun.{numbers-begun, ends-begun}
 use Rattle.bep_core.proofs.Changed.{tables_at}
@@ -83,6 +83,11 @@ others_are test devices device other = (
         decide true tied = absurd (different (same_number other device tied))
         decide false distinct = e
 
+-- one of them passes the test
+first_any : {X : Type 0} (p : X → Bool) (xs : List X) → list_any p xs ≡ true → (x : X) × Contains xs x × (p x ≡ true)
+first_any p [] e = absurd (cc)
+first_any p (y ∷ xs) e = ⊎_elim (λ here. (y, Contains-first y xs, here)) (λ more. let later = first_any p xs more in (later.0, Contains-more y xs later.0 later.1, later.2)) (one_passes (p y) (list_any p xs) e)
+
 -- ---- keys of two parts
 
 exact_ends : CmpEqualImpliesEq by_ends
@@ -126,26 +131,33 @@ shared_iff keys folder device = (
 -- ---- what begins
 
 module _ {S : Type 0} (contents : S → ByName NodeParts) (faults : S → ℕ) where
-  -- what a device has of a folder is of a share, and so many others share it
+  -- what a device has of a folder is of a share
   begun_of : (devices : List Device) (keys : List (Folder × Device)) (shares : List ((Folder × Device) × Sharing S)) (device : Device) (folder : Folder) (held : Held) →
       get (begun_folders contents faults devices keys shares device) folder ≡ Some held →
-      Contains (keys_of shares) (folder, device) × (held.tables.others ≡ sharing_with devices keys folder device)
+      (sharing : Sharing S) × Contains shares ((folder, device), sharing) × (held ≡ begun_share contents faults devices keys (folder, device) sharing)
   begun_of devices keys [] device folder held is = nothing_in_empty (slice_cmp nat_cmp) folder held is
   begun_of devices keys (share ∷ shares) device folder held is = cases (begun_of devices keys shares device folder held) (share.0.1 == device) refl is
     where
-      here : share.0.1 ≡ device → folder ≡ share.0.0 → held ≡ begun_share contents faults devices keys share.0 share.1 → Contains (keys_of (share ∷ shares)) (folder, device) × (held.tables.others ≡ sharing_with devices keys folder device)
+      later : (sharing : Sharing S) × Contains shares ((folder, device), sharing) × (held ≡ begun_share contents faults devices keys (folder, device) sharing) →
+          (sharing : Sharing S) × Contains (share ∷ shares) ((folder, device), sharing) × (held ≡ begun_share contents faults devices keys (folder, device) sharing)
+      later of = (of.0, Contains-more share shares ((folder, device), of.0) of.1, of.2)
+
+      here : share.0.1 ≡ device → folder ≡ share.0.0 → held ≡ begun_share contents faults devices keys share.0 share.1 →
+          (sharing : Sharing S) × Contains (share ∷ shares) ((folder, device), sharing) × (held ≡ begun_share contents faults devices keys (folder, device) sharing)
       here number name same = (
-        subst (Contains (keys_of (share ∷ shares))) (λ i. (sym name i, number i)) (Contains-first share.0 (keys_of shares)),
-        ap (λ (h : Held). h.tables.others) same ∙ (λ i. sharing_with devices keys (sym name i) (number i)),
+        share.1,
+        subst (Contains (share ∷ shares)) (λ i. ((sym name i, number i), share.1)) (Contains-first share shares),
+        same ∙ (λ i. begun_share contents faults devices keys (sym name i, number i) share.1),
       )
 
-      cases : (get (begun_folders contents faults devices keys shares device) folder ≡ Some held → Contains (keys_of shares) (folder, device) × (held.tables.others ≡ sharing_with devices keys folder device)) → (b : Bool) → (share.0.1 == device) ≡ b →
+      cases : (get (begun_folders contents faults devices keys shares device) folder ≡ Some held → (sharing : Sharing S) × Contains shares ((folder, device), sharing) × (held ≡ begun_share contents faults devices keys (folder, device) sharing)) →
+          (b : Bool) → (share.0.1 == device) ≡ b →
           get (from_entries {R = slice_cmp nat_cmp} ((if b then (share.0.0, begun_share contents faults devices keys share.0 share.1) ∷ [] else []) ++ flat_map (own_share contents faults devices keys device) shares)) folder ≡ Some held →
-          Contains (keys_of (share ∷ shares)) (folder, device) × (held.tables.others ≡ sharing_with devices keys folder device)
+          (sharing : Sharing S) × Contains (share ∷ shares) ((folder, device), sharing) × (held ≡ begun_share contents faults devices keys (folder, device) sharing)
       cases rest true tied found =
-          ⊎_elim (λ same. here (same_number share.0.1 device tied) same.0 same.1) (λ more. let later = rest more.1 in (Contains-more share.0 (keys_of shares) (folder, device) later.0, later.1))
+          ⊎_elim (λ same. here (same_number share.0.1 device tied) same.0 same.1) (λ more. later (rest more.1))
           (found_after_insert nat_list_cmp_total exact_bytes (begun_folders contents faults devices keys shares device) share.0.0 (begun_share contents faults devices keys share.0 share.1) folder held found)
-      cases rest false apart found = let later = rest found in (Contains-more share.0 (keys_of shares) (folder, device) later.0, later.1)
+      cases rest false apart found = later (rest found)
 
   -- a device has each folder of which it has a share
   begun_there : (devices : List Device) (keys : List (Folder × Device)) (shares : List ((Folder × Device) × Sharing S)) (device : Device) (folder : Folder) →
@@ -185,22 +197,22 @@ module _ {S : Type 0} (contents : S → ByName NodeParts) (faults : S → ℕ) w
           split
 
   module _ (config : Configuration S) (rules : IsConfig config) where
-    abbrev keys : List (Folder × Device)
+    abbrev pub keys : List (Folder × Device)
     keys = keys_of config.shares
 
-    abbrev made : Network
+    abbrev pub made : Network
     made = begun contents faults config
 
-    numbers_made : numbers_of made.members ≡ config.devices
+    pub numbers_made : numbers_of made.members ≡ config.devices
     numbers_made = numbers-begun (begun_member contents faults config) (λ device. refl) config.devices
 
-    ends_made : ends_of made.links ≡ config.links
+    pub ends_made : ends_of made.links ≡ config.links
     ends_made = ends-begun config.links
 
     device_there : (device : Device) → list_any (is_at (nat_cmp device)) config.devices ≡ true → Contains config.devices device
     device_there device e = Contains-from_any {eq = eq_by_cmp nat_cmp} (same_key nat_cmp-IsAntisymmetric) device config.devices e
 
-    ends_there : (one other : Device) → Contains config.links (one, other) → (one < other) × Contains config.devices one × Contains config.devices other
+    pub ends_there : (one other : Device) → Contains config.links (one, other) → (one < other) × Contains config.devices one × Contains config.devices other
     ends_there one other stands =
         let joins : Joins config.devices (one, other) = All-contains (Joins config.devices) config.links (one, other) rules.joined stands in
         (joins.0, device_there one joins.1, device_there other joins.2)
@@ -226,11 +238,12 @@ module _ {S : Type 0} (contents : S → ByName NodeParts) (faults : S → ℕ) w
             stands
 
     -- the device has the folder where it has a share of it
-    shares_where : (device : Device) (folder : Folder) (replica : Replica) → get (tables_of (begun_member contents faults config device)).replicas folder ≡ Some replica →
-        Contains keys (folder, device) × (replica.others ≡ sharing_with config.devices keys folder device)
-    shares_where device folder replica is = cases (get (begun_folders contents faults config.devices keys config.shares device) folder) refl
+    pub replica_begun : (device : Device) (folder : Folder) (replica : Replica) → get (tables_of (begun_member contents faults config device)).replicas folder ≡ Some replica →
+        (sharing : Sharing S) × Contains config.shares ((folder, device), sharing) × (replica ≡ (begun_share contents faults config.devices keys (folder, device) sharing).tables)
+    replica_begun device folder replica is = cases (get (begun_folders contents faults config.devices keys config.shares device) folder) refl
       where
-        cases : (found : Option Held) → get (begun_folders contents faults config.devices keys config.shares device) folder ≡ found → Contains keys (folder, device) × (replica.others ≡ sharing_with config.devices keys folder device)
+        cases : (found : Option Held) → get (begun_folders contents faults config.devices keys config.shares device) folder ≡ found →
+            (sharing : Sharing S) × Contains config.shares ((folder, device), sharing) × (replica ≡ (begun_share contents faults config.devices keys (folder, device) sharing).tables)
         cases None none =
             let e = sym is ∙ tables_at (begun_folders contents faults config.devices keys config.shares device) folder ∙ ap (option_map (λ (held : Held). held.tables)) none in
             absurd (cc)
@@ -238,7 +251,13 @@ module _ {S : Type 0} (contents : S → ByName NodeParts) (faults : S → ℕ) w
             let e : Some replica ≡ Some held.tables = sym is ∙ tables_at (begun_folders contents faults config.devices keys config.shares device) folder ∙ ap (option_map (λ (held : Held). held.tables)) has in
             let same : replica ≡ held.tables = cc in
             let of = begun_of config.devices keys config.shares device folder held has in
-            (of.0, ap (λ (r : Replica). r.others) same ∙ of.1)
+            (of.0, of.1, same ∙ ap (λ (h : Held). h.tables) of.2)
+
+    shares_where : (device : Device) (folder : Folder) (replica : Replica) → get (tables_of (begun_member contents faults config device)).replicas folder ≡ Some replica →
+        Contains keys (folder, device) × (replica.others ≡ sharing_with config.devices keys folder device)
+    shares_where device folder replica is =
+        let of = replica_begun device folder replica is in
+        (Contains-image (λ (share : (Folder × Device) × Sharing S). share.0) config.shares ((folder, device), of.0) of.1, ap (λ (r : Replica). r.others) of.2)
 
     in_kind : (device : Device) (replica : Replica) (found : Option Replica) → found ≡ Some replica → Contains (kind_of device found) (device, replica.kind)
     in_kind device replica found is = subst (λ (o : Option Replica). Contains (kind_of device o) (device, replica.kind)) (sym is) (Contains-first (device, replica.kind) [])
@@ -288,6 +307,24 @@ module _ {S : Type 0} (contents : S → ByName NodeParts) (faults : S → ℕ) w
               (others_are (is_shared keys folder) config.devices device other).1 (is.0, shares.0, (shared_iff keys folder other).1 is.1),
         )
 
+    -- the folders are the configured ones, and each device has a share
+    few_made : IsStrictlyIncreasing config.devices → AreFew (config_of made)
+    few_made rising = record {
+      folders = config.folders;
+      few = rules.few_folders;
+      all = λ device folder shares.
+          let key = ((shares_iff rising folder device).0 shares).1 in
+          let has : has_folder config folder ≡ true = All-contains (λ (key : Folder × Device). has_folder config key.0 ≡ true) keys (folder, device) rules.of_folders key in
+          Contains-from_any {eq = eq_by_cmp (slice_cmp nat_cmp)} (same_key exact_bytes) folder config.folders has;
+    }
+
+    some_made : IsStrictlyIncreasing config.devices → ShareSome (config_of made)
+    some_made rising device stands =
+        let there : Contains config.devices device = subst (λ (numbers : List Device). Contains numbers device) numbers_made stands in
+        let key = first_any (λ (key : Folder × Device). key.1 == device) keys (All-contains (λ (one : Device). list_any (λ (key : Folder × Device). key.1 == one) keys ≡ true) config.devices device rules.sharing there) in
+        let mine : Contains keys (key.0.0, device) = subst (λ (number : Device). Contains keys (key.0.0, number)) (same_number key.0.1 device key.2) key.1 in
+        (key.0.0, (shares_iff rising key.0.0 device).1 (there, mine))
+
     pub begun_network : IsStrictlyIncreasing config.devices → IsStrictlySortedBy by_ends config.links → IsNetwork made
     begun_network rising sorted = record {
       devices = rising_made rising;
@@ -300,4 +337,6 @@ module _ {S : Type 0} (contents : S → ByName NodeParts) (faults : S → ℕ) w
           let here = has_number made.members device member is in
           let of = Contains-from_image (begun_member contents faults config) config.devices member here.1 in
           subst (IsJoined (config_of made)) of.2 (begun_joined rising of.0 of.1);
+      folders = few_made rising;
+      some = some_made rising;
     }

@@ -9,7 +9,7 @@ use Rattle.bep_machine.specs.Cluster.{Cluster}
 use Rattle.bep_machine.specs.Replica.{Replica}
 use Rattle.bep_machine.specs.Steps.{AtReplica, SharesFolder}
 use Rattle.bep_peer.specs.declared.error.PeerError.{PeerError}
-use Rattle.bep_peer.specs.Member.{Member, Remains}
+use Rattle.bep_peer.specs.Member.{Member}
 use Rattle.bep_peer.specs.PeerError.{Gives as GivesThere}
 use Rattle.bep_peer.specs.Within.{StepWithin}
 use Rattle.bep_core.specs.declared.why.Why.{Why}
@@ -32,10 +32,10 @@ module _ (device : Device) (folder : Folder) (step : Option ℕ → Cluster → 
 
   module _ (self network : Network) (seen : network ≡ self) (rules : IsNetwork network) (place : ℕ) (was after : Member)
       (found : position (is_number device) self.members ≡ Some place) (value : was ≡ get_or network.members place was)
-      (result : Result Moved PeerError) (given : GivesThere (StepWithin folder (row was.number after.trace.failed) was) after result) (rest : Remains was after) where
+      (result : Result Moved PeerError) (given : GivesThere (StepWithin folder (row was.number after.trace.failed) was) after result) (numbered : after.number ≡ was.number) (linked : after.linked ≡ was.linked) where
     replaced : Replaces network.members device place was after
     replaced =
-        replaces network.members device place was after (ap (λ (n : Network). position (is_number device) n.members) seen ∙ found) value rest.number rest.linked
+        replaces network.members device place was after (ap (λ (n : Network). position (is_number device) n.members) seen ∙ found) value numbered linked
         (whichever (StepWithin folder (row was.number after.trace.failed) was) after (within_keeps folder (row was.number after.trace.failed) (keeps was.number after.trace.failed) was after) result given)
 
     -- the cluster is a network still

@@ -10,4 +10,15 @@ mod Changed
 mod AtLinks
 mod Within
 mod DeviceSteps
+mod Keeping
+mod SessionsKeep
+mod SharedBetween
+mod Over
+mod SessionSteps
 mod BegunJoined
+mod HavingFacts
+mod Restarted
+mod ListDone
+mod Scanned
+mod Reaching
+mod BegunSound

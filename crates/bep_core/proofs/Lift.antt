@@ -1,5 +1,5 @@
 -- What the tables of a cluster are where one of its links was changed.
-use Rattle.std.proofs.Common.{◌≡◌, ◌≢◌, ◌<◌, ◌==◌, ◌&&◌, ℕ, Bool, true, false, cond, if◌then◌else◌, List, [], ◌∷◌, length, set, get_or, Some, None, Contains, refl, sym, ap, subst, ◌∙◌, ⊎_elim}
+use Rattle.std.proofs.Common.{zero, suc, ◌≡◌, ◌≢◌, ◌<◌, ◌==◌, ◌&&◌, ℕ, Bool, true, false, cond, if◌then◌else◌, List, [], ◌∷◌, length, set, get_or, Some, None, Contains, refl, sym, ap, subst, ◌∙◌, ⊎_elim}
 use Rattle.std.specs.List.{position_or_len}
 use Rattle.std.specs.List.Sorted.{IsStrictlySortedBy}
 use Rattle.std.proofs.Math.Path.{fun_ext}
@@ -10,7 +10,7 @@ use Rattle.bep_config.specs.Config.{by_ends}
 use Rattle.bep_model.specs.Tables.{Device}
 use Rattle.bep_machine.specs.Cluster.{Config, with_link}
 use Rattle.bep_links.specs.Link.{LinkBetween}
-use Rattle.bep_core.specs.Network.{Network, IsNetwork, IsJoined, is_between as joins, ends_of, between_at, link_of, member_at, peer_of, config_of, sharing_of, numbers_of, cluster_of}
+use Rattle.bep_core.specs.Network.{Network, IsNetwork, IsJoined, AreFew, ShareSome, is_between as joins, ends_of, between_at, link_of, member_at, peer_of, config_of, sharing_of, numbers_of, cluster_of}
 use Rattle.bep_core.proofs.OthersThat.{itself, same_number}
 
 both_true : (a b : Bool) → (a && b) ≡ true → (a ≡ true) × (b ≡ true)
@@ -78,6 +78,8 @@ network_after_links network links same rules = record {
   links = subst (IsStrictlySortedBy by_ends) (sym same) rules.links;
   ends = λ one other stands. rules.ends one other (subst (λ (all : List (Device × Device)). Contains all (one, other)) same stands);
   joined = λ device member is. subst (λ (config : Config). IsJoined config member) (sym config) (rules.joined device member is);
+  folders = subst AreFew (sym config) rules.folders;
+  some = subst ShareSome (sym config) rules.some;
 }
   where
     config : config_of (record network { links = links }) ≡ config_of network
@@ -116,3 +118,13 @@ one_link network lower upper place was after l = λ i. record {
             ∙ find-set (joins lower upper) network.links place after l.first l.there (ends_join lower upper after (l.same ∙ l.ends)))
         cases false e =
             ap link_of (find_past (joins a b) network.links place after was (ap (joins a b) l.is ∙ apart a b e was l.ends) (apart a b e after (l.same ∙ l.ends)))
+
+-- a link that is put where it stands changes nothing
+set_itself : {X : Type 0} (xs : List X) (place : ℕ) (x : X) → get_or xs place x ≡ x → set xs place x ≡ xs
+set_itself [] place x is = refl
+set_itself (y ∷ xs) zero x is = ap (λ (z : _). z ∷ xs) (sym is)
+set_itself (y ∷ xs) (suc place) x is = ap (λ ys. y ∷ ys) (set_itself xs place x is)
+
+pub same_link : (network : Network) (place : ℕ) (was after : LinkBetween) → get_or network.links place was ≡ was → after ≡ was → cluster_of (with_between network place after) ≡ cluster_of network
+same_link network place was after is same =
+    ap (λ (links : List LinkBetween). cluster_of (record network { links = links })) (ap (set network.links place) same ∙ set_itself network.links place was is)

@@ -14,7 +14,7 @@ use Rattle.bep_machine.specs.Cluster.{Config, with_peer}
 use Rattle.bep_machine.specs.Sound.{FitsFolder}
 use Rattle.bep_machine.specs.Steps.{AreLinked}
 use Rattle.bep_peer.specs.Member.{Member, tables_of}
-use Rattle.bep_core.specs.Network.{Network, IsNetwork, IsJoined, is_number, numbers_of, ends_of, member_at, between_at, peer_of, link_of, config_of, sharing_of, kind_of, cluster_of, failed_of, failed_at}
+use Rattle.bep_core.specs.Network.{Network, IsNetwork, IsJoined, AreFew, ShareSome, is_number, numbers_of, ends_of, member_at, between_at, peer_of, link_of, config_of, sharing_of, kind_of, cluster_of, failed_of, failed_at}
 use Rattle.bep_core.proofs.OthersThat.{itself, same_number}
 use Rattle.bep_core.proofs.SameFolders.{SameFolders, same_kinds, same_fit, was_there}
 
@@ -135,6 +135,8 @@ module _ (network : Network) (device : Device) (place : ℕ) (was after : Member
     links = rules.links;
     ends = λ one other stands. subst (λ (numbers : List Device). (one < other) × Contains numbers one × Contains numbers other) (sym numbers_same) (rules.ends one other stands);
     joined = λ one member is. subst (λ (config : Config). IsJoined config member) (sym config_same) (cases one member (one == device) (sym (at one) ∙ is));
+    folders = subst AreFew (sym config_same) rules.folders;
+    some = subst ShareSome (sym config_same) rules.some;
   }
     where
       cases : (one : Device) (member : Member) (b : Bool) → (if b then Some after else member_at network.members one) ≡ Some member → IsJoined (config_of network) member

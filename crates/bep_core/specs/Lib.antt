@@ -1,3 +1,7 @@
+pub mod Applying
 pub mod Begin
 pub mod Network
+pub mod Reached
+pub mod Restart
 pub mod Why
+pub mod Sharing

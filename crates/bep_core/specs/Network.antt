@@ -6,7 +6,7 @@ use Rattle.std.specs.List.Sorted.{IsStrictlyIncreasing, IsStrictlySortedBy}
 use Rattle.std.specs.Coded.{Coded, code_by, coded×, coded_list}
 use Rattle.std.specs.FinMap.{empty, get}
 use Rattle.bep_record.specs.declared.folder_kind.FolderKind.{FolderKind}
-use Rattle.bep_record.specs.declared.limits.TheConstants.{MAX_DEVICES}
+use Rattle.bep_record.specs.declared.limits.TheConstants.{MAX_DEVICES, MAX_FOLDERS}
 use Rattle.bep_config.specs.Config.{by_ends}
 use Rattle.bep_model.specs.Tables.{Device, Folder}
 use Rattle.bep_machine.specs.Link.{Link}
@@ -14,7 +14,7 @@ use Rattle.bep_machine.specs.Peer.{Peer}
 use Rattle.bep_machine.specs.Cluster.{Config, Cluster}
 use Rattle.bep_machine.specs.Replica.{Replica}
 use Rattle.bep_machine.specs.Sound.{FitsFolder}
-use Rattle.bep_machine.specs.Steps.{AreLinked}
+use Rattle.bep_machine.specs.Steps.{AreLinked, SharesFolder}
 use Rattle.bep_links.specs.Link.{LinkBetween}
 use Rattle.bep_peer.specs.Member.{Member, tables_of}
 
@@ -97,8 +97,18 @@ pub record IsJoined (config : Config) (member : Member) : Type 0 where
   pub linked : (other : Device) → Contains member.linked other ↔ AreLinked config member.number other
   pub folders : (folder : Folder) (replica : Replica) → get (tables_of member).replicas folder ≡ Some replica → FitsFolder config member.number folder replica
 
+-- the folders that devices share are among a few
+pub record AreFew (config : Config) : Type 0 where
+  pub folders : List Folder
+  pub few : length folders ≤ MAX_FOLDERS
+  pub all : (device : Device) (folder : Folder) → SharesFolder config device folder → Contains folders folder
+
+-- each device shares some folder
+abbrev pub ShareSome : Config → Type 0
+ShareSome config = (device : Device) → Contains config.devices device → (folder : Folder) × SharesFolder config device folder
+
 -- Each device stands once, and each link; both rise. Links join devices that are there, the smaller first, and each device
--- knows its links and who shares its folders.
+-- knows its links and who shares its folders, of which there are a few.
 pub record IsNetwork (network : Network) : Type 0 where
   pub devices : IsStrictlyIncreasing (numbers_of network.members)
   pub few : length network.members ≤ MAX_DEVICES
@@ -106,6 +116,8 @@ pub record IsNetwork (network : Network) : Type 0 where
   pub ends : (one other : Device) → Contains (ends_of network.links) (one, other) →
       (one < other) × Contains (numbers_of network.members) one × Contains (numbers_of network.members) other
   pub joined : (device : Device) (member : Member) → member_at network.members device ≡ Some member → IsJoined (config_of network) member
+  pub folders : AreFew (config_of network)
+  pub some : ShareSome (config_of network)
 
 -- ---- what the last step told
 

@@ -5,13 +5,15 @@ ghost use Rattle.std.specs.List.Sorted.{IsStrictlyIncreasing, IsStrictlySortedBy
 ghost use Rattle.bep_record.specs.declared.limits.TheConstants.{MAX_DEVICES};
 ghost use Rattle.bep_config.specs.Config.{by_ends};
 ghost use Rattle.bep_core.specs.Begin.{begun};
-ghost use Rattle.bep_core.specs.Network.{IsNetwork, numbers_of, ends_of, member_at, between_at};
+ghost use Rattle.bep_core.specs.Network.{IsNetwork, cluster_of, numbers_of, ends_of, member_at, between_at};
+ghost use Rattle.bep_core.specs.Reached.{HoldNodes, IsReached};
 
 use crate::begin::{links_of, peers_of};
 use crate::folders::folders_of;
 use crate::others::{numbers_of, sharing_of};
 use bep_config::{Config, ConfigParts};
 use bep_links::Link;
+use bep_machine::runs_are_gapless;
 use bep_peer::Peer;
 use bep_record::DeviceId;
 use bep_store::Store;
@@ -25,6 +27,7 @@ use std::marker::Model;
 pub struct Cluster<S: Store> {
     pub(crate) peers: Vec<Peer<S>>,
     pub(crate) links: Vec<Link>,
+    pub(crate) alloc: Global,
 }
 
 impl<S: Store> Model for Cluster<S> {
@@ -54,8 +57,10 @@ impl<S: Store> Cluster<S> {
     /// its index id, its store and the others that share it; nothing is recorded or known, and all links are down, in epoch
     /// 0. Only want of memory is an error.
     pub fn new(alloc: Global, config: Config<S>) -> Result<Self, AllocError>
-        ensures { IfOk result (λ made. made ≡ begun S.contents S.faults config) }
+        ensures begun { IfOk result (λ made. made ≡ begun S.contents S.faults config) }
+        ensures reached { HoldNodes S.contents config → IfOk result (λ made. IsReached (cluster_of made)) }
     {
+        runs_are_gapless();
         let numbers = numbers_of(alloc, &config)?;
         let keys = sharing_of(alloc, &config)?;
         let joining = links_of(alloc, &config)?;
@@ -69,6 +74,7 @@ impl<S: Store> Cluster<S> {
         Ok(Cluster {
             peers: peers_of(alloc, numbers.as_slice(), devices, &links, folders)?,
             links: joining,
+            alloc,
         })
     }
 

@@ -22,7 +22,7 @@ use Rattle.bep_peer.specs.declared.error.PeerError.{PeerError}
 use Rattle.bep_peer.specs.declared.error.PeerError.TheVariants.{Refused, Stale, Memory}
 use Rattle.bep_peer.specs.Contents.{IsReadIn, ReadsOutIn}
 use Rattle.bep_peer.specs.Laws.{TablesAreFound}
-use Rattle.bep_peer.specs.Member.{Member, tables_of}
+use Rattle.bep_peer.specs.Member.{Member}
 use Rattle.bep_cut.specs.Share.{IsSoundAt, share_cut}
 use Rattle.bep_cut.specs.Cut.{IsSoundIn, Seen, seen, share_at, shared_by}
 use Rattle.bep_cut.specs.declared.error.CutError.{CutError}

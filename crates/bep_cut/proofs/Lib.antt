@@ -2,3 +2,15 @@ mod RecordsFacts
 mod FlightFacts
 mod FolderFacts
 mod LinkFacts
+mod Gathered
+mod PullsCut
+mod ViewsCut
+mod SharesCut
+mod FoldersCut
+mod LinksCut
+mod CutFacts
+mod OfClusterFacts
+mod SaidDevices
+mod SaidRecords
+mod SaidFlights
+mod SaidFacts

@@ -1,21 +1,22 @@
 -- The folders of a link's devices.
-use Rattle.std.proofs.Common.{◌≡◌, ◌∙◌, ◌==◌, ◌&&◌, Bool, true, false, cond, List, [], ◌∷◌, map, Option, Some, None, option_map, is_some, refl, sym, ap}
+use Rattle.std.proofs.Common.{◌≡◌, ◌∙◌, ◌==◌, ◌&&◌, Bool, true, false, cond, List, [], ◌∷◌, map, Option, Some, None, option_map, is_some, Result, Ok, Err, IfOk, OnOk, refl, sym, ap, subst}
 use Rattle.std.proofs.Math.Path.{fun_ext}
-use Rattle.std.specs.List.{find}
+use Rattle.std.specs.List.{AllByRecursion, find}
 use Rattle.std.specs.Ordering.{nat_cmp}
 use Rattle.std.specs.Cmp.Lexicographic.{slice_cmp}
 use Rattle.std.specs.FinMap.{empty, get, get-empty}
 use Rattle.bep_map.specs.NameMap.{ByName}
 use Rattle.bep_model.specs.Tables.{Device, Folder}
 use Rattle.bep_folder.specs.Held.{Held}
-use Rattle.bep_links.specs.Link.{LinkBetween}
+use Rattle.bep_links.specs.Link.{LinkBetween, IsLink}
 use Rattle.bep_peer.specs.Laws.{TablesAreFound}
 use Rattle.bep_peer.specs.Member.{Member}
-use Rattle.bep_cut.specs.LinkState.{both_have, link_cut}
-use Rattle.bep_cut.specs.Cut.{Seen, seen, replicas_of, replicas_at}
+use Rattle.bep_tables.specs.declared.link.LinkState.{LinkState}
+use Rattle.bep_cut.specs.LinkState.{HasBatch, both_have, link_cut}
+use Rattle.bep_cut.specs.Cut.{IsSoundLink, Seen, seen, link_at, replicas_of, replicas_at}
 
 -- a device is found among the seen ones as among the members
-seen_at : (members : List Member) (device : Device) → find (λ (one : Seen). one.0 == device) (map seen members) ≡ option_map seen (find (λ (member : Member). member.number == device) members)
+pub seen_at : (members : List Member) (device : Device) → find (λ (one : Seen). one.0 == device) (map seen members) ≡ option_map seen (find (λ (member : Member). member.number == device) members)
 seen_at [] device = refl
 seen_at (member ∷ members) device = cases (member.number == device) (seen_at members device)
   where
@@ -48,3 +49,13 @@ pub same_link : {V W : Type 0} (lower upper : ByName V) (from to : ByName W) (be
     link_cut (both_have lower upper) between ≡ link_cut (both_have from to) between
 same_link lower upper from to between one other =
     ap (λ (both : Folder → Bool). link_cut both between) (fun_ext (λ folder. λ i. (one folder i) && (other folder i)))
+
+-- what was made of a link is sound
+pub sound_link : {E : Type 0} (all : List Seen) (between : LinkBetween) (result : Result LinkState E) → IfOk result (λ made. made ≡ link_at all between) →
+    IfOk result (λ made. AllByRecursion HasBatch made.to_a) → IfOk result (λ made. AllByRecursion HasBatch made.to_b) → IsLink between → OnOk result (IsSoundLink all between)
+sound_link all between (Ok made) is to_a to_b a_link = record {
+  a_link = a_link;
+  to_a = subst (λ (state : LinkState). AllByRecursion HasBatch state.to_a) is to_a;
+  to_b = subst (λ (state : LinkState). AllByRecursion HasBatch state.to_b) is to_b;
+}
+sound_link all between (Err error) is to_a to_b a_link = tt

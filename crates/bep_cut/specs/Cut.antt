@@ -1,13 +1,13 @@
 -- The cut of a cluster: what its devices have of their folders, and what is on its way between them; sessions, received
 -- blocks and all messages but those with records are forgotten (this project's profile).
 use Rattle.std.specs.Prelude.{◌==◌, List, [], ◌∷◌, fold, map, Option, Some, None, IfSome}
-use Rattle.std.specs.List.{find, flat_map}
+use Rattle.std.specs.List.{find, flat_map, AllByRecursion}
 use Rattle.std.specs.FinMap.{empty, get, keys}
 use Rattle.bep_map.specs.NameMap.{ByName}
 use Rattle.bep_model.specs.Tables.{Device, Folder}
 use Rattle.bep_machine.specs.Replica.{Replica}
 use Rattle.bep_machine.specs.Peer.{Peer}
-use Rattle.bep_links.specs.Link.{LinkBetween}
+use Rattle.bep_links.specs.Link.{LinkBetween, IsLink}
 use Rattle.bep_peer.specs.Member.{Member, tables_of}
 use Rattle.bep_tables.specs.declared.share.Share.{Share}
 use Rattle.bep_tables.specs.declared.share.SharedFolder.{SharedFolder}
@@ -15,7 +15,7 @@ use Rattle.bep_tables.specs.declared.link.LinkState.{LinkState}
 use Rattle.bep_tables.specs.declared.cut.CutParts.{CutParts}
 use Rattle.bep_tables.specs.Names.{Names, with_names}
 use Rattle.bep_cut.specs.Share.{IsSoundAt, share_cut}
-use Rattle.bep_cut.specs.LinkState.{both_have, link_cut}
+use Rattle.bep_cut.specs.LinkState.{HasBatch, both_have, link_cut}
 
 -- a device, by its number, and its tables
 abbrev pub Seen : Type 0
@@ -73,3 +73,15 @@ cut_at members links = parts_at (map seen members) links
 -- what the device has of the folder, if it shares it, is sound
 abbrev pub IsSoundIn : Folder → Seen → Type 0
 IsSoundIn folder one = IfSome (get one.1.replicas folder) (IsSoundAt one.0)
+
+-- and so is what each of them has of it
+abbrev pub AreSoundIn : List Seen → Folder → Type 0
+AreSoundIn all folder = AllByRecursion (IsSoundIn folder) all
+
+-- ---- what holds of every link
+
+-- it is one, and the messages with records that it carries have batches
+pub record IsSoundLink (all : List Seen) (between : LinkBetween) : Type 0 where
+  pub a_link : IsLink between
+  pub to_a : AllByRecursion HasBatch (link_at all between).to_a
+  pub to_b : AllByRecursion HasBatch (link_at all between).to_b

@@ -57,6 +57,10 @@ pub record AreParts (members : List Member) (links : List LinkBetween) : Type 0 
 
 -- ---- reading the stores
 
+-- the devices with which each of them has links
+abbrev pub links_of : List Member → List (List Device)
+links_of = map (λ member. member.linked)
+
 -- why no cut is taken where the store of a folder that a device has isn't read
 abbrev pub error_of : PeerError → CutError
 error_of errors.Memory = Memory

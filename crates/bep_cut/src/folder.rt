@@ -3,7 +3,7 @@ ghost use Rattle.std.specs.Prelude.{◌≡◌, ◌++◌, IfOk, OnOk, IfSome, IsS
 ghost use Rattle.std.specs.List.{flat_map, AllByRecursion};
 ghost use Rattle.std.specs.FinMap as finite;
 ghost use Rattle.bep_cut.specs.Cut.{IsSoundIn, seen, share_at};
-ghost use Rattle.bep_cut.specs.Parts.{Counts, CountsAll, error_of, faults_of};
+ghost use Rattle.bep_cut.specs.Parts.{Counts, CountsAll, error_of, faults_of, links_of};
 
 use crate::CutError;
 use crate::share::share_cut;
@@ -25,6 +25,7 @@ pub(crate) fn add_share<S: Store>(
     ensures share { OnOk result (shares.new.items ≡ shares.old.items ++ share_at folder.now (seen peer.old)) }
     ensures sound { OnOk result (IsSoundIn folder.now (seen peer.old)) }
     ensures seen { seen peer.new ≡ seen peer.old }
+    ensures linked { peer.new.linked ≡ peer.old.linked }
     ensures counts { Counts (faults_of peer.old) (faults_of peer.new) result }
 {
     tables_are_found();
@@ -41,6 +42,7 @@ fn read_store<S: Store>(peer: &mut Peer<S>, folder: &FolderName) -> Result<NameM
     requires { IsSome (finite.get peer.old.folders folder.now) }
     ensures store { IfOk result (λ nodes. IfSome (finite.get peer.new.folders folder.now) (λ held. nodes ≡ held.tables.store)) }
     ensures seen { seen peer.new ≡ seen peer.old }
+    ensures linked { peer.new.linked ≡ peer.old.linked }
     ensures counts { Counts (faults_of peer.old) (faults_of peer.new) result }
 {
     match peer.contents(folder) {
@@ -91,6 +93,7 @@ pub(crate) fn shares_at<S: Store>(
     ensures shares { IfOk result (λ made. made.items ≡ flat_map (share_at folder.now) (map seen peers.old)) }
     ensures sound { OnOk result (AllByRecursion (IsSoundIn folder.now) (map seen peers.old)) }
     ensures seen { map seen peers.new ≡ map seen peers.old }
+    ensures linked { links_of peers.new ≡ links_of peers.old }
     ensures counts { CountsAll (map faults_of peers.old) (map faults_of peers.new) result }
 {
     let mut shares = Vec::new(alloc);

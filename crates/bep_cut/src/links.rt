@@ -1,10 +1,10 @@
 //! The links of a cluster, with what is on its way over them.
-ghost use Rattle.std.specs.Prelude.{◌≡◌, ◌==◌, IfOk, is_some, map};
+ghost use Rattle.std.specs.Prelude.{◌≡◌, ◌==◌, IfOk, OnOk, is_some, map};
 ghost use Rattle.std.specs.Option.{option_copied};
-ghost use Rattle.std.specs.List.{find};
+ghost use Rattle.std.specs.List.{find, AllByRecursion};
 ghost use Rattle.std.specs.FinMap as finite;
 ghost use Rattle.bep_model.specs.Tables.{Folder};
-ghost use Rattle.bep_cut.specs.Cut.{seen, replicas_at, link_at};
+ghost use Rattle.bep_cut.specs.Cut.{IsSoundLink, seen, replicas_at, link_at};
 
 use crate::flights::link_cut;
 use bep_folder::Replica;
@@ -22,7 +22,8 @@ pub(crate) fn links_cut<S: Store>(
     peers: &[Peer<S>],
     links: &[Link],
 ) -> Result<Vec<LinkState>, AllocError>
-    ensures { IfOk result (λ made. made.items ≡ map (link_at (map seen peers.now)) links.now) }
+    ensures links { IfOk result (λ made. made.items ≡ map (link_at (map seen peers.now)) links.now) }
+    ensures sound { OnOk result (AllByRecursion (IsSoundLink (map seen peers.now)) links.now) }
 {
     let mut made = Vec::new(alloc);
     for link in links {
@@ -32,7 +33,8 @@ pub(crate) fn links_cut<S: Store>(
 }
 
 fn link_at<S: Store>(alloc: Global, peers: &[Peer<S>], link: &Link) -> Result<LinkState, AllocError>
-    ensures { IfOk result (λ made. made ≡ link_at (map seen peers.now) link.now) }
+    ensures link { IfOk result (λ made. made ≡ link_at (map seen peers.now) link.now) }
+    ensures sound { OnOk result (IsSoundLink (map seen peers.now) link.now) }
 {
     let (lower, upper) = link.ends();
     let none = FolderMap::new(alloc);

@@ -117,6 +117,7 @@ pub kept_is_pull : (target : Entry) (node : Option NodeParts) (arrived : List Bo
 kept_is_pull target node arrived kept = record {
   formed = kept.formed;
   valid = kept.valid;
+  within = kept.within;
   received = ⊎_elim
       (λ full.
       ⊎_elim
@@ -178,6 +179,7 @@ module _ (target : Entry) (node : Option NodeParts) (arrived : List Bool) (kept 
   kept_after = record {
     formed = kept.formed;
     valid = kept.valid;
+    within = kept.within;
     flags = length-set arrived place true ∙ kept.flags;
     made = made_with target node held kept.made ∙ ap (node_of target) (sym bytes_there);
     filled = inl (

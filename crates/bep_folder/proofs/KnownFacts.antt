@@ -24,7 +24,7 @@ use Rattle.bep_model.specs.Winner.{beside}
 use Rattle.bep_machine.specs.Replica.{ByDevice, Replica, viewed_by, candidates, own_at, Chooses}
 use Rattle.bep_machine.specs.Pull.{ChoosesNone}
 use Rattle.bep_folder.specs.Held.{Held}
-use Rattle.bep_folder.specs.Known.{AreNamed, IsOwn, record_in, viewed_among, known_by}
+use Rattle.bep_folder.specs.Known.{AreNamed, IsOf, IsOwn, record_in, viewed_among, known_by}
 
 -- ---- a device at its place among the others
 
@@ -201,22 +201,22 @@ pub none_chosen : (device : Device) (replica : Replica) (name : FileName) (found
 none_chosen device replica name None only = λ one chooses. absurd (none-some one (only one chooses))
 none_chosen device replica name (Some one) only = tt
 
--- ---- they stand under the name
+-- ---- they stand under the name in an index
 
 no_names : (name : FileName) → AreNamed name []
 no_names name one member = absurd (not_in_none one member)
 
 beside_named : (name : FileName) (device : Device) (own : Option Entry) → IsOwn name own → AreNamed name (beside device own)
 beside_named name device None owns one member = absurd (not_in_none one member)
-beside_named name device (Some entry) owns one member = ap (λ (c : Candidate). c.1.name) (sym (Contains-one (device, entry) one member)) ∙ owns entry refl
+beside_named name device (Some entry) owns one member = subst (λ (c : Candidate). IsOf name c.1) (Contains-one (device, entry) one member) (owns entry refl)
 
 both_named : (name : FileName) (candidates more : List Candidate) → AreNamed name candidates → AreNamed name more → AreNamed name (candidates ++ more)
 both_named name candidates more named rest one member = ⊎_elim (λ first. named one first) (λ later. rest one later) (Contains-append_cases candidates more one member)
 
 -- what is lent is the record itself
-pub lent_own : (name : FileName) (found : Option (Bor Entry)) (own : Option Entry) → option_copied found ≡ own → IfSome found (λ one. one.now.name ≡ name) → IsOwn name own
+pub lent_own : (name : FileName) (found : Option (Bor Entry)) (own : Option Entry) → option_copied found ≡ own → IfSome found (λ one. IsOf name one.now) → IsOwn name own
 lent_own name None own is named one there = absurd (let e : None ≡ Some one = is ∙ there in cc)
-lent_own name (Some lent) own is named one there = let e : Some lent.now ≡ Some one = is ∙ there in let same : lent.now ≡ one = cc in ap (λ (entry : Entry). entry.name) (sym same) ∙ named
+lent_own name (Some lent) own is named one there = let e : Some lent.now ≡ Some one = is ∙ there in let same : lent.now ≡ one = cc in subst (IsOf name) same named
 
 -- the view of one more device
 pub viewed_named : (views : ByDevice Listing) (name : FileName) (others : List Device) (other : Device) → AreNamed name (viewed_among views name others) → IsOwn name (record_in views name other) →
@@ -233,6 +233,6 @@ in_order_named views name device own lower upper first owns last =
     (both_named name (beside device own) (viewed_among views name upper) (beside_named name device own owns) last)
 
 -- and so does the choice
-pub choice_named : (name : FileName) (device : Device) (all : List Candidate) → AreNamed name all → (found : Option (Bor Entry)) → IfSome found (λ one. (from : ℕ) × IsChoice device all (from, one.now)) → IfSome found (λ one. one.now.name ≡ name)
+pub choice_named : (name : FileName) (device : Device) (all : List Candidate) → AreNamed name all → (found : Option (Bor Entry)) → IfSome found (λ one. (from : ℕ) × IsChoice device all (from, one.now)) → IfSome found (λ one. IsOf name one.now)
 choice_named name device all named None chosen = tt
 choice_named name device all named (Some one) chosen = named (chosen.0, one.now) chosen.1.left.valid.0

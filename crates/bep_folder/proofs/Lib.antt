@@ -10,6 +10,7 @@ mod FinishFacts
 mod HeldFacts
 mod KeptFacts
 mod KnownFacts
+mod NamesFacts
 mod OverrideFacts
 mod PullFacts
 mod RevertFacts

@@ -6,6 +6,7 @@ pub mod FolderError
 pub mod Held
 pub mod Known
 pub mod Makes
+pub mod Names
 pub mod Override
 pub mod Pull
 pub mod Pulled

@@ -1,11 +1,12 @@
 -- A pull at its device: what counts as a block's bytes, and where they are kept (this project's profile).
-use Rattle.std.specs.Prelude.{◌≡◌, ◌⊎◌, ℕ, zero, suc, Bool, true, false, List, [], ◌∷◌, length, take, drop, Option, Some, None, Contains, slice_get, refl}
+use Rattle.std.specs.Prelude.{◌≡◌, ◌⊎◌, ◌≤◌, ℕ, zero, suc, Bool, true, false, List, [], ◌∷◌, length, take, drop, Option, Some, None, Contains, slice_get, refl}
 use Rattle.std.specs.Coded.{Coded, code_by, coded×, coded_ℕ, coded_list, coded_option}
 use Rattle.bep_record.specs.declared.block.Block.{Block}
 use Rattle.bep_record.specs.declared.entry.Entry.{Entry}
 use Rattle.bep_record.specs.declared.node.NodeParts.{NodeParts}
 use Rattle.bep_record.specs.Entry.{IsWellFormed}
 use Rattle.bep_blocks.specs.Plain.{hash_of}
+use Rattle.bep_index.specs.declared.limits.TheConstants.{MAX_SEQUENCE}
 use Rattle.bep_machine.specs.Replica.{Pull}
 use Rattle.bep_machine.specs.Sound.{AreReceived}
 use Rattle.bep_folder.specs.Pulled.{node_of, bytes_in}
@@ -15,10 +16,12 @@ abbrev pub pull_code : Coded Entry → Coded Pull
 pull_code entry =
     code_by (Entry × List (Option (List ℕ))) (coded× entry (coded_list (coded_option (coded_list coded_ℕ)))) (λ p. (p.target, p.received)) (λ p. record { target = p.0; received = p.1 }) (λ _. refl)
 
--- nobody pulls an invalid record, and each block that was received has its block's size
+-- nobody pulls an invalid record, what is pulled was a record of an index, and each block that was received has its
+-- block's size
 pub record IsPull (pull : Pull) : Type 0 where
   pub formed : IsWellFormed pull.target
   pub valid : pull.target.invalid ≡ false
+  pub within : pull.target.sequence ≤ MAX_SEQUENCE
   pub received : AreReceived pull.target.blocks pull.received
 
 -- ---- receiving blocks
@@ -60,6 +63,7 @@ received_of block_size (false ∷ more) bytes = None ∷ received_of block_size 
 pub record IsKept (target : Entry) (node : Option NodeParts) (arrived : List Bool) : Type 0 where
   pub formed : IsWellFormed target
   pub valid : target.invalid ≡ false
+  pub within : target.sequence ≤ MAX_SEQUENCE
   pub flags : length arrived ≡ length target.blocks
   pub made : node ≡ node_of target (bytes_in node)
   pub filled : (length (bytes_in node) ≡ target.size) ⊎ ((bytes_in node ≡ []) × ¬ Contains arrived true)

@@ -8,7 +8,7 @@ ghost use Rattle.bep_model.specs.Winner.{beside};
 ghost use Rattle.bep_machine.specs.Replica.{Chooses};
 ghost use Rattle.bep_machine.specs.Pull.{ChoosesNone};
 ghost use Rattle.bep_folder.specs.Held.{AreOthers};
-ghost use Rattle.bep_folder.specs.Known.{AreNamed, IsOwn, record_in, viewed_among, known_by};
+ghost use Rattle.bep_folder.specs.Known.{AreNamed, IsOf, IsOwn, record_in, viewed_among, known_by};
 
 use crate::Replica;
 use bep_choice::choose;
@@ -25,7 +25,7 @@ impl<S: Store> Replica<S> {
         ensures chosen { IfSome result (λ one. Chooses self.now.device self.now.tables name.now one.now) }
         ensures only { (one : Entry) → Chooses self.now.device self.now.tables name.now one → option_copied result ≡ Some one }
         ensures none { IfNone result (ChoosesNone self.now.device self.now.tables name.now) }
-        ensures named { IfSome result (λ one. one.now.name ≡ name.now) }
+        ensures named { IfSome result (λ one. IsOf name.now one.now) }
     {
         let own = self.index.get(name);
         best_known(self.device, own, &self.views, self.others.as_slice(), name)
@@ -44,7 +44,7 @@ fn best_known<'a>(
     requires own { IsOwn name.now (option_copied own) }
     ensures chosen { IfSome result (λ one. (from : ℕ) × IsChoice device (known_by device (option_copied own.entry) views.now name.now others.now) (from, one.now)) }
     ensures only { (one : Candidate) → IsChoice device (known_by device (option_copied own.entry) views.now name.now others.now) one → option_copied result ≡ Some one.1 }
-    ensures named { IfSome result (λ one. one.now.name ≡ name.now) }
+    ensures named { IfSome result (λ one. IsOf name.now one.now) }
 {
     let any = any_known(own, views, others, name)?;
     let mut found: [_; MAX_DEVICES] = array::from_fn(|_| (device, any));
@@ -96,7 +96,7 @@ fn best_within<'a>(
     requires own { IsOwn name.now (option_copied own) }
     ensures chosen { IfSome result (λ one. (from : ℕ) × IsChoice device (known_by device (option_copied own.entry) views.now name.now others.now) (from, one.now)) }
     ensures only { (one : Candidate) → IsChoice device (known_by device (option_copied own.entry) views.now name.now others.now) one → option_copied result ≡ Some one.1 }
-    ensures named { IfSome result (λ one. one.now.name ≡ name.now) }
+    ensures named { IfSome result (λ one. IsOf name.now one.now) }
 {
     choice_is_of_the_set();
     let place = place_among(device, others);
@@ -166,7 +166,7 @@ fn put<'a>(
 // The record of the name in the view of a device.
 fn viewed<'a>(views: &'a DeviceMap<View>, other: DeviceId, name: &Name) -> Option<&'a Record>
     ensures value { option_copied result ≡ record_in views.now name.now other }
-    ensures named { IfSome result (λ one. one.now.name ≡ name.now) }
+    ensures named { IfSome result (λ one. IsOf name.now one.now) }
 {
     match views.get(other) {
         Some(view) => view.get(name),

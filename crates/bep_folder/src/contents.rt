@@ -1,5 +1,5 @@
 //! What the store of a folder holds, read out.
-ghost use Rattle.std.specs.Prelude.{◌≡◌, ◌⊎◌, false, IfOk, IfErr, OnOk};
+ghost use Rattle.std.specs.Prelude.{◌≡◌, ◌⊎◌, false, Some, IfOk, IfErr, IsErrOf, OnOk};
 ghost use Rattle.std.specs.FinMap as map;
 ghost use Rattle.bep_folder.specs.Contents.{ReadsOut, with_read};
 ghost use Rattle.bep_folder.specs.Makes.{Stays, CountsFaults};
@@ -12,8 +12,8 @@ use bep_store::Store;
 use std::alloc::Global;
 
 impl<S: Store> Replica<S> {
-    /// The nodes of the store, each a copy of its own. Refuses `StoreFault` where the store fails to list its names or to
-    /// read one, and else only for want of memory. Nothing changes.
+    /// The nodes of the store, each a copy of its own. Refuses `StoreFault` exactly where the store fails to list its names
+    /// or to read one, which was then the last call of it, and else only for want of memory. Nothing changes.
     pub fn contents(&mut self) -> Result<NameMap<Node>, FolderError>
         ensures nodes { IfOk result (λ nodes. nodes ≡ self.old.tables.store) }
         ensures same { self.new.tables ≡ self.old.tables }
@@ -21,6 +21,7 @@ impl<S: Store> Replica<S> {
 
         ensures stays { Stays self.old self.new }
         ensures counted { CountsFaults self.old self.new result }
+        ensures last { IsErrOf result FolderError.StoreFault → self.new.trace.failed ≡ Some self.new.made }
         ensures uncopied { self.new.trace.copied ≡ false }
     {
         self.store.begin();

@@ -26,6 +26,7 @@ mod ending;
 mod error;
 mod finish;
 mod found;
+mod names;
 mod overriding;
 mod pull;
 #[cfg(test)]

@@ -1,6 +1,7 @@
 //! A record that is being pulled, with the blocks of it that were received.
-ghost use Rattle.std.specs.Prelude.{◌≡◌, ◌↔◌, true, false, Some, Contains, slice_get, IfOk, OnOk, OnErr, IsTrue};
+ghost use Rattle.std.specs.Prelude.{◌≡◌, ◌↔◌, ◌≤◌, true, false, Some, Contains, slice_get, IfOk, OnOk, OnErr, IsTrue};
 ghost use Rattle.std.specs.Option.{option_copied};
+ghost use Rattle.bep_index.specs.declared.limits.TheConstants.{MAX_SEQUENCE};
 ghost use Rattle.bep_machine.specs.Pull.{new_pull, written, IsMissingBlocks};
 ghost use Rattle.bep_folder.specs.Pull.{AreOf, AreOfBlockAt, IsPull, IsReceivedAt, with_bytes};
 
@@ -41,9 +42,10 @@ impl Model for Pull {
 
 impl Pull {
     /// The pull of this record, of which nothing was received yet, or want of memory. The caller sees to it that the
-    /// record isn't invalid.
+    /// record isn't invalid, and that it was one of an index.
     pub(crate) fn new(alloc: Global, target: Record) -> Result<Self, AllocError>
-        requires { target.invalid ≡ false }
+        requires valid { target.invalid ≡ false }
+        requires within { target.sequence ≤ MAX_SEQUENCE }
         ensures { IfOk result (λ pull. pull ≡ new_pull target) }
     {
         let entry = target.entry();
@@ -168,6 +170,7 @@ fn are_of(block: &Block, bytes: &[u8]) -> bool
 mod tests {
     use super::*;
     use bep_blocks::blocks;
+    use bep_index::MAX_SEQUENCE;
     use bep_record::{BlockSize, DeviceId, Entry, Kind, Name, Target, Vector};
 
     // The pull of a file with these bytes.
@@ -192,7 +195,7 @@ mod tests {
             target: Target::empty(alloc),
         });
         let target = made.ok()?;
-        if target.entry().invalid {
+        if target.entry().invalid || target.entry().sequence > MAX_SEQUENCE {
             return None;
         }
         Pull::new(alloc, target).ok()

@@ -3,8 +3,9 @@ ghost use Rattle.std.specs.Prelude.{◌≡◌, false, Some, IfSome, IfNone, IsSo
 ghost use Rattle.std.specs.Option.{option_copied};
 ghost use Rattle.std.specs.FinMap as map;
 ghost use Rattle.bep_machine.specs.Local.{IsLocalOnly, RevertRow};
+ghost use Rattle.bep_machine.specs.Replica.{node_at};
 ghost use Rattle.bep_folder.specs.Makes.{Makes, Stays, CountsFaults};
-ghost use Rattle.bep_folder.specs.Revert.{PutsAndRemoves};
+ghost use Rattle.bep_folder.specs.Revert.{CallsInRevert, PutsAndRemoves};
 
 use crate::deletion::deletion;
 use crate::error::index_error;
@@ -31,6 +32,7 @@ impl<S: Store> Replica<S> {
         ensures stays { Stays self.old self.new }
         ensures counted { CountsFaults self.old self.new result }
         ensures uncopied { self.new.trace.copied ≡ false }
+        ensures called { CallsInRevert (node_at self.old.tables name.now) self.new.made self.new.trace.failed result }
     {
         self.store.begin();
         if self.kind != FolderKind::ReceiveOnly {

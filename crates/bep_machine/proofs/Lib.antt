@@ -83,3 +83,4 @@ mod RecordsEffect
 mod RequestEffect
 mod ConfigEffect
 mod ResponseEffect
+mod UndoneSteps

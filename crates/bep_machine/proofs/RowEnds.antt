@@ -81,7 +81,7 @@ either_or row rest = ⊎_elim (λ refused undone. inl refused.1.0) (λ passed. r
 room_or : (name : FileName) (own : Option Entry) (target : Entry) (old new : Replica) (rest : Row Replica) (answer : Answer) → RoomRow name own target old rest new answer → (rest new answer → StaysOrChanges old new answer) → StaysOrChanges old new answer
 room_or name own target old new rest answer row more = either_or row (λ a. either_or a (λ b. either_or b more))
 
-settling_stays : (name : FileName) (pull : Pull) (call : ℕ) (failed : Option ℕ) (own : Option Entry) (had : Option NodeParts) (start new : Replica) (answer : Answer) → SettlingRow name pull call failed own had start new answer → Stays start new answer
+pub settling_stays : (name : FileName) (pull : Pull) (call : ℕ) (failed : Option ℕ) (own : Option Entry) (had : Option NodeParts) (start new : Replica) (answer : Answer) → SettlingRow name pull call failed own had start new answer → Stays start new answer
 settling_stays name pull call failed own had start new answer row =
     ⊎_elim (λ wants. stays_at wants) (λ ends. stays_or ends.2 (λ made. stays_done made.2)) row
 

@@ -54,7 +54,7 @@ same_peers old device peer is one = cases (one == device) refl
     cases true same = is ∙ ap old.peer (sym (eqb-true one device same))
     cases false apart = refl
 
-same_links : (old : Cluster) (lower upper : Device) (link : Link) → link ≡ old.link lower upper → (a b : Device) → (if (a == lower) && (b == upper) then link else old.link a b) ≡ old.link a b
+pub same_links : (old : Cluster) (lower upper : Device) (link : Link) → link ≡ old.link lower upper → (a b : Device) → (if (a == lower) && (b == upper) then link else old.link a b) ≡ old.link a b
 same_links old lower upper link is a b = cases ((a == lower) && (b == upper)) refl
   where
     cases : (t : Bool) → ((a == lower) && (b == upper)) ≡ t → (if t then link else old.link a b) ≡ old.link a b
@@ -66,6 +66,27 @@ same_links old lower upper link is a b = cases ((a == lower) && (b == upper)) re
 no_deed : (end : End) (link : Link) → after_deed end nothing_done link ≡ link
 no_deed Lower link = refl
 no_deed Upper link = refl
+
+-- the folder's replica in its own place again, and nothing done to device and link
+pub put_again : (old : Cluster) (device : Device) (folder : Folder) (before after : Replica) → get (old.peer device).replicas folder ≡ Some before → after ≡ before → with_peer old device (with_replica (old.peer device) folder after) ≡ old
+put_again old device folder before after is stays =
+    same_cluster (with_peer old device (with_replica (old.peer device) folder after)) old refl
+    (same_peers old device (with_replica (old.peer device) folder after) (λ i. record (old.peer device) { replicas = (ap (insert (old.peer device).replicas folder) stays ∙ insert_again (old.peer device).replicas folder before is) i }))
+    (λ a b. refl)
+
+pub nothing_between : (old : Cluster) (device other : Device) (acted : Acted) → acted ≡ idle (old.peer device) → with_link_between (with_peer old device acted.peer) device other (after_deed (end_of device other) acted.deed (link_between old device other)) ≡ old
+nothing_between old device other acted is =
+    (λ i. with_link_between (with_peer old device (is i).peer) device other (after_deed (end_of device other) (is i).deed (link_between old device other))) ∙ cases (nat_lt device other)
+  where
+    cases : (t : Bool) →
+        (if t then with_link (with_peer old device (old.peer device)) device other (after_deed (if t then Lower else Upper) nothing_done (if t then old.link device other else old.link other device))
+        else with_link (with_peer old device (old.peer device)) other device (after_deed (if t then Lower else Upper) nothing_done (if t then old.link device other else old.link other device))) ≡ old
+    cases true =
+        same_cluster (with_link (with_peer old device (old.peer device)) device other (after_deed Lower nothing_done (old.link device other))) old refl
+        (same_peers old device (old.peer device) refl) (same_links old device other (old.link device other) refl)
+    cases false =
+        same_cluster (with_link (with_peer old device (old.peer device)) other device (after_deed Upper nothing_done (old.link other device))) old refl
+        (same_peers old device (old.peer device) refl) (same_links old other device (old.link other device) refl)
 
 -- ---- what is touched
 
@@ -100,17 +121,11 @@ module _ (device : Device) (folder : Folder) (row : Replica → Row Replica) (Sa
   folder_made ends (before, after, is, made, same) =
       ⊎_elim
       (λ done. inr (happens (inl done)))
-      (λ undone. ⊎_elim (λ stays. inl (undone, kept stays)) (λ moved. inr (happens (inr moved))) (ends before after made undone))
+      (λ undone. ⊎_elim (λ stays. inl (undone, same ∙ put_again old device folder before after is stays)) (λ moved. inr (happens (inr moved))) (ends before after made undone))
       (done_or_not answer)
     where
       changed : Peer
       changed = with_replica (old.peer device) folder after
-
-      kept : after ≡ before → new ≡ old
-      kept stays =
-          same ∙ same_cluster (with_peer old device changed) old refl
-          (same_peers old device changed (λ i. record (old.peer device) { replicas = (ap (insert (old.peer device).replicas folder) stays ∙ insert_again (old.peer device).replicas folder before is) i }))
-          (λ a b. refl)
 
       happens : IsDone answer ⊎ (¬ (after ≡ before)) → FolderMade new
       happens why =
@@ -131,20 +146,6 @@ module _ (device other : Device) (row : Sight → Peer → Row Acted) (tells : R
     pub links : (a b : Device) →
         OnlyIf (if nat_lt device other then (a == device) && (b == other) else (a == other) && (b == device))
         (Says × Carries (end_of device other) traffic (old.link a b) (later.link a b)) (old.link a b) (later.link a b)
-
-  kept_between : (acted : Acted) → acted ≡ idle (old.peer device) → with_link_between (with_peer old device acted.peer) device other (after_deed (end_of device other) acted.deed (link_between old device other)) ≡ old
-  kept_between acted is =
-      (λ i. with_link_between (with_peer old device (is i).peer) device other (after_deed (end_of device other) (is i).deed (link_between old device other))) ∙ cases (nat_lt device other)
-    where
-      cases : (t : Bool) →
-          (if t then with_link (with_peer old device (old.peer device)) device other (after_deed (if t then Lower else Upper) nothing_done (if t then old.link device other else old.link other device))
-          else with_link (with_peer old device (old.peer device)) other device (after_deed (if t then Lower else Upper) nothing_done (if t then old.link device other else old.link other device))) ≡ old
-      cases true =
-          same_cluster (with_link (with_peer old device (old.peer device)) device other (after_deed Lower nothing_done (old.link device other))) old refl
-          (same_peers old device (old.peer device) refl) (same_links old device other (old.link device other) refl)
-      cases false =
-          same_cluster (with_link (with_peer old device (old.peer device)) other device (after_deed Upper nothing_done (old.link other device))) old refl
-          (same_peers old device (old.peer device) refl) (same_links old other device (old.link other device) refl)
 
   links_between : (traffic : Option Traffic) (acted : Acted) →
       Carries (end_of device other) traffic (link_between old device other) (after_deed (end_of device other) acted.deed (link_between old device other)) → (a b : Device) →
@@ -172,7 +173,7 @@ module _ (device other : Device) (row : Sight → Peer → Row Acted) (tells : R
       sight = sight_of (end_of device other) (link_between old device other)
 
       rested : ¬ IsDone answer → ((¬ IsDone answer) × (new ≡ old)) ⊎ ((traffic : Option Traffic) × LinkMade traffic new)
-      rested undone = inl (undone, same ∙ kept_between acted (rests sight (old.peer device) acted answer made undone))
+      rested undone = inl (undone, same ∙ nothing_between old device other acted (rests sight (old.peer device) acted answer made undone))
 
       cases : (given : Answer) → answer ≡ given → ((¬ IsDone answer) × (new ≡ old)) ⊎ ((traffic : Option Traffic) × LinkMade traffic new)
       cases (Done moved) is =

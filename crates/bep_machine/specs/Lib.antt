@@ -16,3 +16,4 @@ pub mod LinkEffects
 pub mod Halves
 pub mod HalfLaws
 pub mod Files
+pub mod Undone

@@ -17,6 +17,7 @@ mod moved;
 mod refusal;
 mod sound;
 mod step;
+mod undone;
 
 pub use calm::{quiet_steps_keep_calm, quiet_steps_keep_records};
 pub use effects::{
@@ -40,3 +41,4 @@ pub use moved::Moved;
 pub use refusal::Refusal;
 pub use sound::steps_keep_sound;
 pub use step::Step;
+pub use undone::undone_steps_leave_all;

@@ -44,8 +44,9 @@ impl Model for Cut {
 }
 
 impl Cut {
-    // The cut of these parts.
-    pub(crate) fn of(parts: CutParts) -> Self
+    /// The cut of these parts. The caller sees to it that they are those of one: all that is said of a cut above holds of
+    /// them.
+    pub fn of(parts: CutParts) -> Self
         requires { IsCut parts }
         ensures { result ≡ parts }
     {

@@ -6,8 +6,14 @@ mod begin;
 #[cfg(test)]
 mod cluster;
 #[cfg(test)]
+mod dice;
+#[cfg(test)]
 mod local;
 #[cfg(test)]
 mod restart;
 #[cfg(test)]
+mod script;
+#[cfg(test)]
 mod session;
+#[cfg(test)]
+mod stories;

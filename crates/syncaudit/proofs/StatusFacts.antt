@@ -6,13 +6,14 @@ use Rattle.clap.specs.Words.{Text, fault_of}
 use Rattle.syncaudit.specs.Mode.{program}
 use Rattle.syncaudit.specs.Status.{IsDone, IsFollowed, status_of}
 use Rattle.syncaudit.specs.declared.mode.Mode.{Mode}
-use Rattle.syncaudit.specs.declared.mode.Mode.TheVariants.{Check, Certify, Explain}
+use Rattle.syncaudit.specs.declared.mode.Mode.TheVariants.{Check, Certify, Explain, Run}
 use Rattle.syncaudit.proofs.ModeFacts.{asked_mode}
 
 done_without_memory : (mode : Mode) (unread held : Option (List ℕ)) (status : ℕ) → status ≡ status_of (Err Memory) → IsDone mode unread unread held held status
 done_without_memory Check unread held status told = record { answer = Err Memory; told = told; done = Keeps-refl held }
 done_without_memory Certify unread held status told = record { answer = Err Memory; told = told; done = Keeps-refl held }
 done_without_memory (Explain form) unread held status told = record { answer = Err Memory; told = told; done = Keeps-refl held }
+done_without_memory Run unread held status told = record { answer = Err Memory; told = told; done = Keeps-refl held }
 
 -- words at which nothing is at fault are followed, also where memory ran out first
 pub followed_without_memory : (words : List Text) (unread held : Option (List ℕ)) (status : ℕ) → status ≡ status_of (Err Memory) → fault_of program words ≡ []

@@ -6,7 +6,7 @@ use Rattle.clap.specs.declared.builder.action.ArgAction.TheVariants.{SetTrue}
 use Rattle.bep_answer.specs.declared.outcome.Form.{Form}
 use Rattle.bep_answer.specs.declared.outcome.Form.TheVariants as forms
 use Rattle.syncaudit.specs.declared.mode.Mode.{Mode}
-use Rattle.syncaudit.specs.declared.mode.Mode.TheVariants.{Check, Certify, Explain}
+use Rattle.syncaudit.specs.declared.mode.Mode.TheVariants.{Check, Certify, Explain, Run}
 
 -- the program's own level: it has a version, and wants a subcommand
 abbrev top_level : App
@@ -23,7 +23,8 @@ abbrev pub program : App
 program =
     let check = with_subcommand top_level (new_app (codes "check")).top in
     let certify = with_subcommand check (new_app (codes "certify")).top in
-    with_subcommand certify (with_rule (new_app (codes "explain")) json_flag).top
+    let explain = with_subcommand certify (with_rule (new_app (codes "explain")) json_flag).top in
+    with_subcommand explain (new_app (codes "run")).top
 
 -- the name of the subcommand in the words
 abbrev pub named : List Text → Option Text
@@ -48,3 +49,4 @@ abbrev pub Asks : List Text → Mode → Type 0
 Asks words Check = named words ≡ Some (codes "check")
 Asks words Certify = named words ≡ Some (codes "certify")
 Asks words (Explain form) = (named words ≡ Some (codes "explain")) × (form ≡ form_of (subcommand_of program words))
+Asks words Run = named words ≡ Some (codes "run")

@@ -4,6 +4,7 @@ use Rattle.std.specs.Io.KnownBytes.{Keeps}
 use Rattle.bep_answer.specs.Answer.{IsAnswered, IsCutShort}
 use Rattle.bep_answer.specs.Certified.{IsCertifiedWhole, IsUncertified}
 use Rattle.bep_answer.specs.Explained.{IsExplainedWhole, IsUnexplained}
+use Rattle.bep_answer.specs.Played.{IsRunWhole, IsUnrun}
 use Rattle.bep_answer.specs.declared.outcome.Certified.{Certified}
 use Rattle.bep_answer.specs.declared.outcome.Certified.TheVariants as certificates
 use Rattle.bep_answer.specs.declared.outcome.Form.{Form}
@@ -14,7 +15,7 @@ use Rattle.bep_report.specs.declared.error.ReportError.TheVariants.{Memory, Read
 use Rattle.clap.specs.Words.{Text}
 use Rattle.syncaudit.specs.Mode.{Asks}
 use Rattle.syncaudit.specs.declared.mode.Mode.{Mode}
-use Rattle.syncaudit.specs.declared.mode.Mode.TheVariants.{Check, Certify, Explain}
+use Rattle.syncaudit.specs.declared.mode.Mode.TheVariants.{Check, Certify, Explain, Run}
 
 -- the status after an answer, or where there is none
 abbrev pub status_of : Result Outcome ReportError → ℕ
@@ -56,11 +57,18 @@ pub record IsExplanationTold (form : Form) (unread left held now : Option (List 
   pub told : status ≡ status_of answer
   pub done : MatchResult answer (IsExplainedWhole form unread left held now) (IsUnexplained form unread left held now)
 
+-- a scenario was run or refused, or cut short, and the status tells which
+pub record IsRunTold (unread left held now : Option (List ℕ)) (status : ℕ) : Type 0 where
+  pub answer : Result Outcome ReportError
+  pub told : status ≡ status_of answer
+  pub done : MatchResult answer (IsRunWhole unread left held now) (IsUnrun unread left held now)
+
 -- what came of the document in each mode
 abbrev pub IsDone : Mode → Option (List ℕ) → Option (List ℕ) → Option (List ℕ) → Option (List ℕ) → ℕ → Type 0
 IsDone Check = IsTold
 IsDone Certify = IsCertificateTold
 IsDone (Explain form) = IsExplanationTold form
+IsDone Run = IsRunTold
 
 -- the words ask for a mode, and this came of the document in it
 abbrev pub IsFollowed : List Text → Option (List ℕ) → Option (List ℕ) → Option (List ℕ) → Option (List ℕ) → ℕ → Type 0

@@ -17,6 +17,8 @@ pub enum Mode {
     Certify,
     /// Tell all that keeps the check document that comes on standard input from being settled, in this form.
     Explain(Form),
+    /// Make the steps of the scenario that comes on standard input, and audit where they lead.
+    Run,
 }
 
 const COMMANDS_HELP: &str =
@@ -43,6 +45,12 @@ const EXPLAIN_HELP: &str =
      Exit status: 0 settled, 1 not settled, 2 document refused, 3 usage or help, 4 out of memory, \
      5 read or write fault";
 
+const RUN_HELP: &str =
+    "The document FILE is a scenario, a cluster and its steps: DOCUMENTS.md describes it, and what is written.\n\n\
+     Example: syncaudit run < examples/scenarios/conflict.json\n\n\
+     Exit status: 0 settled, 1 not settled, 2 document refused, 3 usage or help, 4 out of memory, \
+     5 read or write fault";
+
 // The command line of the program.
 fn command<'a>(alloc: Global) -> Result<Command<'a>, AllocError>
     ensures { IfOk result (λ made. app_of made ≡ program) }
@@ -64,6 +72,10 @@ fn command<'a>(alloc: Global) -> Result<Command<'a>, AllocError>
         .override_usage("syncaudit explain [--json] < FILE")
         .after_help(EXPLAIN_HELP)
         .arg(json)?;
+    let run = Command::new(alloc, "run")
+        .about("Makes the steps of the scenario on standard input, and audits where they lead")
+        .override_usage("syncaudit run < FILE")
+        .after_help(RUN_HELP);
     Command::new(alloc, "syncaudit")
         .bin_name("syncaudit")?
         .version("0.1.0")
@@ -73,7 +85,8 @@ fn command<'a>(alloc: Global) -> Result<Command<'a>, AllocError>
         .arg_required_else_help(true)
         .subcommand(check)?
         .subcommand(certify)?
-        .subcommand(explain)
+        .subcommand(explain)?
+        .subcommand(run)
 }
 
 /// What the words ask for, of which the first is the program's name.
@@ -89,6 +102,7 @@ pub fn mode_of<'a, S: AsStr>(alloc: Global, words: &'a [S]) -> Result<Mode, Erro
         Some("check") => Ok(Mode::Check),
         Some("certify") => Ok(Mode::Certify),
         Some("explain") => Ok(Mode::Explain(form_of(&matches))),
+        Some("run") => Ok(Mode::Run),
         _ => unreachable!(),
     }
 }

@@ -2,15 +2,16 @@
 ghost use Rattle.std.specs.Prelude.{◌≡◌, ◌⊎◌, [], Err, map};
 ghost use Rattle.clap.specs.Words.{fault_of};
 ghost use Rattle.bep_answer.specs.Answer.{SaysSettled};
+ghost use Rattle.bep_answer.specs.Played.{EndsSettled};
 ghost use Rattle.bep_report.specs.declared.error.ReportError.TheVariants.{Memory};
 ghost use Rattle.syncaudit.specs.Mode.{Asks, program};
-ghost use Rattle.syncaudit.specs.Status.{IsCertificateTold, IsEnd, IsExplanationTold, IsFollowed, IsTold, usage};
+ghost use Rattle.syncaudit.specs.Status.{IsCertificateTold, IsEnd, IsExplanationTold, IsFollowed, IsRunTold, IsTold, usage};
 ghost use Rattle.syncaudit.specs.Status as spec;
-ghost use Rattle.syncaudit.specs.declared.mode.Mode.TheVariants.{Check};
+ghost use Rattle.syncaudit.specs.declared.mode.Mode.TheVariants.{Check, Run};
 
 use crate::mode::{Mode, mode_of};
 use crate::status::{USAGE, certified_status_of, status_of};
-use bep_answer::{Certified, Form, Outcome, certified, checked, explained};
+use bep_answer::{Certified, Form, Outcome, certified, checked, explained, run_text};
 use bep_report::ReportError;
 use clap::error::ErrorKind;
 use std::convert::AsStr;
@@ -33,11 +34,14 @@ pub fn run<P: AllocGlobal + Eprint, R: Read, W: Write, S: AsStr>(
     ensures end { IsEnd (map S.text words.entry.now) (R.remaining reader.old) (R.remaining reader.new) (W.contents writer.old) (W.contents writer.new) result }
     ensures settled { Asks (map S.text words.entry.now) Check
         → result ≡ 0 → SaysSettled (R.remaining reader.old) (R.remaining reader.new) }
+    ensures ends_settled { Asks (map S.text words.entry.now) Run
+        → result ≡ 0 → EndsSettled (R.remaining reader.old) (R.remaining reader.new) }
 {
     match mode_of(rt.alloc(), words) {
         Ok(Mode::Check) => check(rt, reader, writer),
         Ok(Mode::Certify) => certify(rt, reader, writer),
         Ok(Mode::Explain(form)) => explain(rt, form, reader, writer),
+        Ok(Mode::Run) => run_scenario(rt, reader, writer),
         Err(error) if error.kind() == ErrorKind::OutOfMemory => end(rt, Err(ReportError::Memory)),
         Err(error) => refuse(rt, error),
     }
@@ -110,6 +114,18 @@ fn explain<P: AllocGlobal + Eprint, R: Read, W: Write>(
         }
         Err(error) => end(rt, Err(error)),
     }
+}
+
+// Makes the steps of a scenario, and audits where they lead.
+fn run_scenario<P: AllocGlobal + Eprint, R: Read, W: Write>(
+    rt: &P,
+    reader: &mut R,
+    writer: &mut W,
+) -> u8
+    ensures told { IsRunTold (R.remaining reader.old) (R.remaining reader.new) (W.contents writer.old) (W.contents writer.new) result }
+    ensures settled { result ≡ 0 → EndsSettled (R.remaining reader.old) (R.remaining reader.new) }
+{
+    end(rt, run_text(rt.alloc(), reader, writer))
 }
 
 // Tells where a refused document is at fault, as far as there is something to say.

@@ -28,7 +28,7 @@ returns-in-NotWinner c =
     let row = c.args.row.now in
     let found = option_map place_shown c.unless-in-NotWinner.result in
     subst (λ reason. FindsHere t row reason found) (sym c.in-NotWinner.is)
-    (finds_here t row NotWinner (omega arith) found (finds_loser t row c.is_winner.result found c.is_winner.ensures c.unless-in-NotWinner.ensures))
+    (finds_here t row NotWinner (omega arith) found (finds_loser t row c.is_winner_in.result found c.is_winner_in.ensures c.unless-in-NotWinner.ensures))
 
 pub returns-in_default : goal.returns-in_default
 returns-in_default c =

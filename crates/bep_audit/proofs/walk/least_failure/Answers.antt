@@ -1,7 +1,8 @@
 use Rattle.std.proofs.Common.{◌≡◌, ◌≤◌, cond, option_map, length, take, drop, Some, None, sym, ap, subst, ◌∙◌, arith}
 use Rattle.std.proofs.lemmas.Bool.{cond-true, cond-false}
 use Rattle.bep_audit.specs.Walk.{failure_shown, count_at, rows_about, replaces}
-use Rattle.bep_audit.proofs.LeastWalk.{least_starts, least_ends, group_at, about_at, smaller_at, goes_on_at, within_at, rest_is, next_at}
+use Rattle.bep_audit.proofs.GroupWalk.{group_at, about_at, smaller_at, within_at, rest_is, next_at}
+use Rattle.bep_audit.proofs.LeastWalk.{least_starts, least_ends, goes_on_at}
 use Rattle.bep_audit.proofs.walk.least_failure.Goals as goal
 use Rattle.bep_audit.proofs.walk.least_failure.Goals.{then-replaces, else-replaces}
 
@@ -11,19 +12,19 @@ loop-folder-init c =
 
 pub failure_at-here-requires-clause-group : goal.failure_at-here-requires-clause-group
 failure_at-here-requires-clause-group c =
-    group_at c.args.cut.now c.args.rows.now c.args.table.now c.loop-folder.at c.loop-folder.place (option_map failure_shown c.loop-folder.least) c.loop-folder.invariant.2
+    group_at c.args.cut.now c.args.rows.now c.args.table.now c.loop-folder.at c.loop-folder.place c.loop-folder.invariant.2.stands
     (c.in-Some.folder.now, c.in-Some.name.now) (next_at c.args.table.now c.args.rows.now c.loop-folder.at c.loop-folder.place (Some (c.in-Some.folder.now, c.in-Some.name.now)) c.in-Some.ensures) c.entries_at-group.result.now
     (subst (λ es. c.entries_at-group.result.now ≡ take (count_at (c.in-Some.folder.now, c.in-Some.name.now) es) es) (rest_is c.args.table.now c.loop-folder.at) c.entries_at-group.ensures.front)
 
 pub failure_at-here-requires-clause-about : goal.failure_at-here-requires-clause-about
 failure_at-here-requires-clause-about c =
-    about_at c.args.cut.now c.args.rows.now c.args.table.now c.loop-folder.at c.loop-folder.place (option_map failure_shown c.loop-folder.least) c.loop-folder.invariant.2
+    about_at c.args.cut.now c.args.rows.now c.args.table.now c.loop-folder.at c.loop-folder.place c.loop-folder.invariant.2.stands
     (c.in-Some.folder.now, c.in-Some.name.now) (next_at c.args.table.now c.args.rows.now c.loop-folder.at c.loop-folder.place (Some (c.in-Some.folder.now, c.in-Some.name.now)) c.in-Some.ensures) c.rows_at-about.result.now
     (subst (λ rs. c.rows_at-about.result.now ≡ take (rows_about (c.in-Some.folder.now, c.in-Some.name.now) rs) rs) (rest_is c.args.rows.now c.loop-folder.place) c.rows_at-about.ensures.front)
 
 pub loop-folder-smaller : goal.loop-folder-smaller
 loop-folder-smaller c =
-    smaller_at c.args.cut.now c.args.rows.now c.args.table.now c.loop-folder.at c.loop-folder.place (option_map failure_shown c.loop-folder.least) c.loop-folder.invariant.2
+    smaller_at c.args.cut.now c.args.rows.now c.args.table.now c.loop-folder.at c.loop-folder.place c.loop-folder.invariant.2.stands
     (c.in-Some.folder.now, c.in-Some.name.now) (next_at c.args.table.now c.args.rows.now c.loop-folder.at c.loop-folder.place (Some (c.in-Some.folder.now, c.in-Some.name.now)) c.in-Some.ensures) (length c.entries_at-group.result.now) (length c.rows_at-about.result.now)
     (subst (λ es. length c.entries_at-group.result.now ≡ count_at (c.in-Some.folder.now, c.in-Some.name.now) es) (rest_is c.args.table.now c.loop-folder.at) c.entries_at-group.ensures.count)
     (subst (λ rs. length c.rows_at-about.result.now ≡ rows_about (c.in-Some.folder.now, c.in-Some.name.now) rs) (rest_is c.args.rows.now c.loop-folder.place) c.rows_at-about.ensures.count)

@@ -1,5 +1,6 @@
 use Rattle.std.proofs.Common.{◌∙◌, Err, ◌≡◌, ◌<◌, length, get_or, ap, arith}
 use Rattle.std.proofs.lemmas.Result.{err_from_is_err_and}
+use Rattle.bep_peer.specs.Member.{Member}
 use Rattle.bep_cut.specs.Cut.{IsSoundIn, seen, share_at}
 use Rattle.bep_cut.specs.Parts.{faults_of}
 use Rattle.bep_cut.proofs.FolderFacts.{counts_all, each_next, gathered_next, still_same}
@@ -9,6 +10,11 @@ pub returns-in_err-add_share-clause-seen : goal.returns-in_err-add_share-clause-
 returns-in_err-add_share-clause-seen g c =
     let below : c.loop-peer.peer-index < length c.loop-peer.peers = let t = c.loop-peer-test.true in let l = c.loop-peer.auto.peers in omega arith in
     still_same c.args.peers.now c.loop-peer.peers c.loop-peer.peer-index (get_or c.loop-peer.peers c.loop-peer.peer-index c.peer-item.result) c.add_share.new.peer below (ap (get_or c.loop-peer.peers c.loop-peer.peer-index) c.peer-item.is) seen c.in_err-add_share.ensures.seen c.loop-peer.invariant.same
+
+pub returns-in_err-add_share-clause-linked : goal.returns-in_err-add_share-clause-linked
+returns-in_err-add_share-clause-linked g c =
+    let below : c.loop-peer.peer-index < length c.loop-peer.peers = let t = c.loop-peer-test.true in let l = c.loop-peer.auto.peers in omega arith in
+    still_same c.args.peers.now c.loop-peer.peers c.loop-peer.peer-index (get_or c.loop-peer.peers c.loop-peer.peer-index c.peer-item.result) c.add_share.new.peer below (ap (get_or c.loop-peer.peers c.loop-peer.peer-index) c.peer-item.is) (λ (m : Member). m.linked) c.in_err-add_share.ensures.linked c.loop-peer.invariant.linked
 
 pub returns-in_err-add_share-clause-counts : goal.returns-in_err-add_share-clause-counts
 returns-in_err-add_share-clause-counts g c =
@@ -28,6 +34,7 @@ loop-peer-preserved g c =
     let other = c.add_share.new.peer in
     let before = c.loop-peer.invariant in record {
       same = still_same first all place one other below is seen c.in_ok-add_share.ensures.seen before.same;
+      linked = still_same first all place one other below is (λ (m : Member). m.linked) c.in_ok-add_share.ensures.linked before.linked;
       counts = still_same first all place one other below is faults_of c.in_ok-add_share.ensures.counts before.counts;
       made = gathered_next first all place one other below is (share_at c.args.folder.now) c.loop-peer.shares.items c.add_share.new.shares.items _ before.same c.in_ok-add_share.ensures.share before.made;
       each = λ later. before.each (each_next first all place one other below is (IsSoundIn c.args.folder.now) before.same c.in_ok-add_share.ensures.sound later);

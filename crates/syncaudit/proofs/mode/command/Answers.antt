@@ -30,10 +30,13 @@ returns c =
     let plain_local : (out-Command c.after_help.result).has_globals ≡ false = ap (λ f. f.has_globals) c.after_help.ensures ∙ ap (λ f. f.has_globals) c.override_usage-3.ensures ∙ ap (λ f. f.has_globals) c.about-3.ensures ∙ c.new-4.ensures.local in
     let explain : app_of c.in_ok-explain.explain ≡ with_rule (new_app (codes "explain")) json_flag = c.in_ok-explain.ensures.shape json_local ∙ ap₂ with_rule plain json in
     let explain_local : (out-Command c.in_ok-explain.explain).has_globals ≡ false = c.in_ok-explain.ensures.globals ∙ ap₂ (λ x y. x || y) plain_local json_local in
-    let named : app_of c.in_ok-bin_name.field-0 ≡ new_app (codes "syncaudit") = ap app_of_fields c.in_ok-bin_name.ensures.0 ∙ c.new-5.ensures.app in
-    let versioned : app_of c.after_help-2.result ≡ with_version (new_app (codes "syncaudit")) = ap app_of_fields c.after_help-2.ensures ∙ ap app_of_fields c.about-4.ensures ∙ ap app_of_fields c.version.ensures ∙ ap with_version named in
+    let run : app_of c.after_help-run.result ≡ new_app (codes "run") = ap app_of_fields c.after_help-run.ensures ∙ ap app_of_fields c.override_usage-4.ensures ∙ ap app_of_fields c.about-4.ensures ∙ c.new-5.ensures.app in
+    let run_local : (out-Command c.after_help-run.result).has_globals ≡ false = ap (λ f. f.has_globals) c.after_help-run.ensures ∙ ap (λ f. f.has_globals) c.override_usage-4.ensures ∙ ap (λ f. f.has_globals) c.about-4.ensures ∙ c.new-5.ensures.local in
+    let named : app_of c.in_ok-bin_name.field-0 ≡ new_app (codes "syncaudit") = ap app_of_fields c.in_ok-bin_name.ensures.0 ∙ c.new-6.ensures.app in
+    let versioned : app_of c.after_help-2.result ≡ with_version (new_app (codes "syncaudit")) = ap app_of_fields c.after_help-2.ensures ∙ ap app_of_fields c.about-5.ensures ∙ ap app_of_fields c.version.ensures ∙ ap with_version named in
     let required : app_of c.subcommand_required.result ≡ with_required (with_version (new_app (codes "syncaudit"))) = ap app_of_fields c.subcommand_required.ensures ∙ ap with_required versioned in
     let helping = ap app_of_fields c.arg_required_else_help.ensures ∙ ap with_help required in
     let checking = c.in_ok-subcommand.ensures.shape check_local ∙ ap₂ with_subcommand helping (ap (λ (a : App). a.top) check) in
     let certifying = c.in_ok-subcommand-2.ensures.shape certify_local ∙ ap₂ with_subcommand checking (ap (λ (a : App). a.top) certify) in
-    IfOk-weaker c.subcommand-3.result _ _ (λ made h. h.shape explain_local ∙ ap₂ with_subcommand certifying (ap (λ (a : App). a.top) explain)) c.subcommand-3.ensures
+    let explaining = c.in_ok-subcommand-3.ensures.shape explain_local ∙ ap₂ with_subcommand certifying (ap (λ (a : App). a.top) explain) in
+    IfOk-weaker c.subcommand-4.result _ _ (λ made h. h.shape run_local ∙ ap₂ with_subcommand explaining (ap (λ (a : App). a.top) run)) c.subcommand-4.ensures

@@ -13,6 +13,9 @@ returns-in-Some-certify-clause-faults g c = no_fault _ _ c.in_ok-command.ensures
 pub returns-in-Some-explain-clause-faults : goal.returns-in-Some-explain-clause-faults
 returns-in-Some-explain-clause-faults g c = no_fault _ _ c.in_ok-command.ensures c.in_ok-matches.ensures.kinds
 
+pub returns-in-Some-run-clause-faults : goal.returns-in-Some-run-clause-faults
+returns-in-Some-run-clause-faults g c = no_fault _ _ c.in_ok-command.ensures c.in_ok-matches.ensures.kinds
+
 pub returns-in-Some-explain-clause-asked : goal.returns-in-Some-explain-clause-asked
 returns-in-Some-explain-clause-asked g c =
     let lent = sym (ap (option_map (λ s. s.now)) c.in-Some-explain.is) ∙ c.subcommand_name.ensures in
@@ -38,10 +41,14 @@ unreachable-requires g c =
                 let one : Some w.in_default.field-0.now ≡ Some (codes "certify") = lent ∙ name in
                 let same : w.in_default.field-0.now ≡ codes "certify" = cc in
                 w.in_default.not-certify (search (rules, same, w.in_default.is))
-            | inr (inr name) ↦
+            | inr (inr (inl name)) ↦
                 let one : Some w.in_default.field-0.now ≡ Some (codes "explain") = lent ∙ name in
                 let same : w.in_default.field-0.now ≡ codes "explain" = cc in
                 w.in_default.not-explain (search (rules, same, w.in_default.is))
+            | inr (inr (inr name)) ↦
+                let one : Some w.in_default.field-0.now ≡ Some (codes "run") = lent ∙ name in
+                let same : w.in_default.field-0.now ≡ codes "run" = cc in
+                w.in_default.not-run (search (rules, same, w.in_default.is))
           ]
       | in_default-via-in_default w ↦
           let nothing = sym (ap (option_map (λ s. s.now)) w.in_default.is) ∙ c.subcommand_name.ensures in

@@ -15,4 +15,6 @@ invariant_of-self-2 g c = record {
   of_devices = c.self.invariant.of_devices;
   sharing = c.self.invariant.sharing;
   joined = c.self.invariant.joined;
+  numbered = c.self.invariant.numbered;
+  indexed = c.self.invariant.indexed;
 }

@@ -12,4 +12,6 @@ invariant_of-self-2 g c = record {
   of_devices = c.self.invariant.of_devices;
   sharing = c.self.invariant.sharing;
   joined = rw c.in_ok-insert.ensures.keys (All-insert_key by_ends (c.args.a, c.args.b) (Joins c.self.inside.devices.keys) c.self.inside.links.keys c.self.invariant.joined (search rules, search rules, search rules));
+  numbered = c.self.invariant.numbered;
+  indexed = c.self.invariant.indexed;
 }

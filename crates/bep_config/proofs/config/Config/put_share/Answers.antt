@@ -1,4 +1,4 @@
-use Rattle.std.proofs.Common.{◌≡◌, ◌==◌, ℕ, true, List, All, sym, subst, arith}
+use Rattle.std.proofs.Common.{◌≡◌, ◌≤◌, ◌==◌, ℕ, true, List, All, sym, subst, arith}
 use Rattle.std.specs.List.{list_any}
 use Rattle.std.specs.Ordering.{nat_cmp}
 use Rattle.std.specs.Map.{keys_of}
@@ -6,7 +6,7 @@ use Rattle.std.specs.BTreeMap.{is_at, insert_entry}
 use Rattle.std.specs.BTreeSet.{insert_key}
 use Rattle.std.proofs.lemmas.Bool.Decides.{nat_tests}
 use Rattle.std.proofs.lemmas.List.Elements.{All-weaker}
-use Rattle.std.proofs.lemmas.Map.Views.{All-insert_key, All-keys-insert_entry}
+use Rattle.std.proofs.lemmas.Map.Views.{All-insert_key, All-keys-insert_entry, All-values-insert_entry}
 use Rattle.bep_record.specs.declared.limits.TheConstants.{MAX_DEVICES}
 use Rattle.bep_config.specs.Config.{IsNewShare, by_share, by_name, Joins}
 use Rattle.bep_config.proofs.Kept.{kept_in, key_kept, key_there, few_then}
@@ -43,4 +43,6 @@ invariant_of-self-2 g c =
       of_devices = rw c.in_ok-add_share.ensures.shares of_devices;
       sharing = rw (c.in_ok-add_share.ensures.shares, c.in_ok-add_share.ensures.devices) shared;
       joined = joined;
+      numbered = rw c.in_ok-add_share.ensures.devices (All-insert_key nat_cmp key.1 (λ device. 1 ≤ device) old.devices.keys c.self.invariant.numbered c.number-number.ensures.positive);
+      indexed = rw c.in_ok-add_share.ensures.shares (All-values-insert_entry by_share key sharing (λ one. 1 ≤ one.index_id) old.shares.entries c.self.invariant.indexed is.index);
     }

@@ -4,7 +4,9 @@ use Rattle.bep_peer.specs.Member.{AreOwn}
 use Rattle.bep_core.proofs.FoldersAt.{begun_own}
 use Rattle.bep_core.proofs.Begun.{is_begun, shared_there}
 use Rattle.bep_core.proofs.BegunJoined.{begun_network}
-use Rattle.bep_core.specs.Network.{IsNetwork}
+use Rattle.bep_core.proofs.BegunSound.{begun_reached}
+use Rattle.bep_core.specs.Network.{Network, IsNetwork, cluster_of}
+use Rattle.bep_core.specs.Reached.{IsReached}
 use Rattle.bep_core.proofs.cluster.Cluster.new.Goals as goal
 
 pub folders_of-requires-clause-there : goal.folders_of-requires-clause-there
@@ -30,8 +32,8 @@ invariant_of-result g c =
     (ap (λ (config : Configuration g.row.S.Denot). config.shares) parts) (ap (λ (config : Configuration g.row.S.Denot). config.links) parts)))
     (begun_network g.S.Store.contents g.S.Store.faults c.args.config c.into_parts-folders.ensures.a_config c.in_ok-numbers.ensures.rising c.in_ok-joining.ensures.rising)
 
-pub returns : goal.returns
-returns g c =
+pub returns-clause-begun : goal.returns-clause-begun
+returns-clause-begun g c =
     let parts = c.into_parts-folders.ensures.value in
     is_begun g.S.Store.contents g.S.Store.faults c.args.config
     c.in_ok-peers_of.field-0.items c.in_ok-joining.joining.items c.in_ok-folders.folders
@@ -39,3 +41,8 @@ returns g c =
     c.in_ok-peers_of.ensures c.in_ok-folders.ensures c.in_ok-joining.ensures.value
     (c.as_slice-3.ensures.value ∙ c.in_ok-numbers.ensures.value) (c.as_slice.ensures.value ∙ c.in_ok-numbers.ensures.value) (c.as_slice-2.ensures.value ∙ c.in_ok-keys.ensures)
     (ap (λ (config : Configuration g.row.S.Denot). config.shares) parts) (ap (λ (config : Configuration g.row.S.Denot). config.links) parts)
+
+pub returns-clause-reached : goal.returns-clause-reached
+returns-clause-reached g c = λ nodes.
+    subst (λ (network : Network). IsReached (cluster_of network)) (sym (returns-clause-begun g c))
+    (begun_reached g.S.Store.contents g.S.Store.faults c.args.config c.into_parts-folders.ensures.a_config c.in_ok-numbers.ensures.rising c.in_ok-joining.ensures.rising nodes c.runs_are_gapless.ensures.fresh)

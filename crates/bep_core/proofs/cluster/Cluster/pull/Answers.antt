@@ -18,11 +18,11 @@ pub invariant_of-self : goal.invariant_of-self
 invariant_of-self g c =
     within_rules c.args.device c.args.folder.now (IsStep (StartPull c.args.device c.args.folder.now c.args.name.now)) (λ (number : Device) (failed : Option ℕ). StartPullRow number c.args.name.now) (λ failed old new answer made. made) (λ number failed replica. start_keeps number c.args.name.now replica)
     c.args.self.now (record { members = c.self.inside.peers.items; links = c.self.inside.links.items }) c.self.view_is c.self.invariant c.in-Some.place c.index_mut.result.now c.pull.new.self
-    (sym c.device_place.ensures ∙ c.in-Some.is) c.index_mut.ensures.value c.pull.result c.pull.ensures.step c.pull.ensures.rest
+    (sym c.device_place.ensures ∙ c.in-Some.is) c.index_mut.ensures.value c.pull.result c.pull.ensures.step c.pull.ensures.rest.number c.pull.ensures.rest.linked
 
 pub returns : goal.returns
 returns g c =
     within_made c.args.device c.args.folder.now (IsStep (StartPull c.args.device c.args.folder.now c.args.name.now)) (λ (number : Device) (failed : Option ℕ). StartPullRow number c.args.name.now) (λ failed old new answer made. made) (λ number failed replica. start_keeps number c.args.name.now replica)
     c.args.self.now (record { members = c.self.inside.peers.items; links = c.self.inside.links.items }) c.self.view_is c.self.invariant c.in-Some.place c.index_mut.result.now c.pull.new.self
-    (sym c.device_place.ensures ∙ c.in-Some.is) c.index_mut.ensures.value c.pull.result c.pull.ensures.step c.pull.ensures.rest
+    (sym c.device_place.ensures ∙ c.in-Some.is) c.index_mut.ensures.value c.pull.result c.pull.ensures.step c.pull.ensures.rest.number c.pull.ensures.rest.linked
     c.answered.result c.answered.ensures

@@ -18,11 +18,11 @@ pub invariant_of-self : goal.invariant_of-self
 invariant_of-self g c =
     within_rules c.args.device c.args.folder.now (IsStep (Revert c.args.device c.args.folder.now c.args.name.now)) (λ (number : Device) (failed : Option ℕ). RevertRow number c.args.name.now failed) (λ failed old new answer made. made) (λ number failed replica. revert_keeps number c.args.name.now failed replica)
     c.args.self.now (record { members = c.self.inside.peers.items; links = c.self.inside.links.items }) c.self.view_is c.self.invariant c.in-Some.place c.index_mut.result.now c.revert_one.new.self
-    (sym c.device_place.ensures ∙ c.in-Some.is) c.index_mut.ensures.value c.revert_one.result c.revert_one.ensures.step c.revert_one.ensures.rest
+    (sym c.device_place.ensures ∙ c.in-Some.is) c.index_mut.ensures.value c.revert_one.result c.revert_one.ensures.step c.revert_one.ensures.rest.number c.revert_one.ensures.rest.linked
 
 pub returns : goal.returns
 returns g c =
     within_made c.args.device c.args.folder.now (IsStep (Revert c.args.device c.args.folder.now c.args.name.now)) (λ (number : Device) (failed : Option ℕ). RevertRow number c.args.name.now failed) (λ failed old new answer made. made) (λ number failed replica. revert_keeps number c.args.name.now failed replica)
     c.args.self.now (record { members = c.self.inside.peers.items; links = c.self.inside.links.items }) c.self.view_is c.self.invariant c.in-Some.place c.index_mut.result.now c.revert_one.new.self
-    (sym c.device_place.ensures ∙ c.in-Some.is) c.index_mut.ensures.value c.revert_one.result c.revert_one.ensures.step c.revert_one.ensures.rest
+    (sym c.device_place.ensures ∙ c.in-Some.is) c.index_mut.ensures.value c.revert_one.result c.revert_one.ensures.step c.revert_one.ensures.rest.number c.revert_one.ensures.rest.linked
     c.answered.result c.answered.ensures

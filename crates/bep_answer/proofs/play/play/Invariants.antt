@@ -1,0 +1,7 @@
+use Rattle.bep_core.specs.Network.{cluster_of}
+use Rattle.bep_answer.proofs.PlayFacts.{LeadsSoFar}
+use Rattle.bep_answer.proofs.play.play.Given as goal
+
+-- the steps so far, with those that are left, are all of them
+abbrev pub invariant-loop-step : goal.invariant-loop-step
+invariant-loop-step l = LeadsSoFar (cluster_of l.fn.cluster) l.fn.steps.items (cluster_of l.cluster) l.step-iterator.rest.items l.told.items l.place

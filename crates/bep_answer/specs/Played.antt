@@ -1,0 +1,153 @@
+-- What the program answers to a scenario: the steps that are refused, then the report on the cut to which they lead, and
+-- the certificate of its winners (this project's profile).
+use Rattle.std.specs.Prelude.{◌≡◌, ◌≢◌, ◌⊎◌, ◌++◌, suc, ℕ, ⊤, List, [], ◌∷◌, map, codes, Option, None, Result, Ok, Err}
+use Rattle.std.specs.Io.KnownBytes.{Appends, Keeps}
+use Rattle.bep_audit.specs.Certifier.{IsNeverSettled}
+use Rattle.bep_core.specs.Begin.{begun}
+use Rattle.bep_core.specs.Network.{Network, cluster_of}
+use Rattle.bep_core.specs.Why.{name_of_refusal}
+use Rattle.bep_core.specs.declared.why.Why.{Why}
+use Rattle.bep_core.specs.declared.why.Why.TheVariants as whys
+use Rattle.bep_cut.specs.Cut.{cut_at}
+use Rattle.bep_document.specs.Reading.{Reading, Read, Refused}
+use Rattle.bep_machine.specs.Answer.{Answer, Done, OutOfMemory, Refused as Refuses, number_of as number_of_refusal}
+use Rattle.bep_machine.specs.Cluster.{Cluster}
+use Rattle.bep_machine.specs.Laws.{StaysPut, StaysSettled}
+use Rattle.bep_machine.specs.Steps.{Event, IsRun}
+use Rattle.bep_machine.specs.declared.moved.Moved.{Moved}
+use Rattle.bep_machine.specs.declared.step.Step.{Step}
+use Rattle.bep_model.specs.declared.reason.Reason.TheVariants.{NotWinner}
+use Rattle.bep_model.specs.declared.row.Row.{Row}
+use Rattle.bep_model.specs.Settled.{IsListOfWinners, IsSettled}
+use Rattle.bep_model.specs.Tables.{Folder, FileName}
+use Rattle.bep_model.specs.Verdict.{Verdict, IsVerdict, Not}
+use Rattle.bep_model.specs.WithoutWinner.{IsFirstWithoutWinner}
+use Rattle.bep_report.specs.declared.error.ReportError.{ReportError}
+use Rattle.bep_report.specs.declared.error.ReportError.TheVariants.{Memory}
+use Rattle.bep_report.specs.declared.error.ReportError.TheVariants as faults
+use Rattle.bep_report.specs.Certificate.{certificate_lines, step_line}
+use Rattle.bep_report.specs.Input.{IsRead}
+use Rattle.bep_report.specs.Output.{AppendsBeginning}
+use Rattle.bep_report.specs.Report.{report_text}
+use Rattle.bep_scenario.specs.Scenario.{scenario_of}
+use Rattle.bep_scenario.specs.declared.scenario.Scenario.{Scenario}
+use Rattle.bep_tables.specs.declared.cut.CutParts.{CutParts}
+use Rattle.bep_tables.specs.Cut.{tables_of}
+use Rattle.bep_answer.specs.Answer.{fault_text, outcome_of}
+use Rattle.bep_answer.specs.declared.outcome.Outcome.{Outcome}
+use Rattle.bep_answer.specs.declared.outcome.Outcome.TheVariants as outcomes
+
+-- ---- steps that are made, and what is told of them
+
+-- the line of a step that is refused; one that is made has none
+abbrev pub answer_line : ℕ → Answer → List ℕ
+answer_line place (Done moved) = []
+answer_line place (Refuses refusal) = step_line place (number_of_refusal refusal) (name_of_refusal refusal)
+answer_line place OutOfMemory = []
+
+-- the lines of those that are refused, counted from this number on
+abbrev pub refused_lines : ℕ → List Event → List ℕ
+refused_lines place [] = []
+refused_lines place (event ∷ more) = answer_line place event.answer ++ refused_lines (suc place) more
+
+-- memory was wanting in none
+abbrev pub AreMade : List Event → Type 0
+AreMade [] = ⊤
+AreMade (event ∷ more) = (event.answer ≢ OutOfMemory) × AreMade more
+
+-- The steps, made one after another as the definitions have each, lead from the one cluster to the other, and this is
+-- told of them. Which calls of a store fail is left open; a memory store's never do.
+pub record Leads (old : Cluster) (steps : List Step) (new : Cluster) (told : List ℕ) : Type 0 where
+  pub events : List Event
+  pub all : map (λ (event : Event). event.step) events ≡ steps
+  pub run : IsRun old events new
+  pub made : AreMade events
+  pub tells : told ≡ refused_lines 1 events
+
+-- what the answer of a step adds to what is told
+abbrev pub IsTold : ℕ → Result Moved Why → List ℕ → List ℕ → Type 0
+IsTold place (Ok moved) old new = new ≡ old
+IsTold place (Err (whys.Refused refusal)) old new = new ≡ old ++ step_line place (number_of_refusal refusal) (name_of_refusal refusal)
+IsTold place (Err whys.ConfigBad) old new = new ≡ old ++ step_line place 164 (codes "ConfigBad")
+IsTold place (Err whys.Memory) old new = ⊥
+
+-- ---- the end
+
+-- the cut under the one list of its winners has this verdict; it is reported, and the list is told
+pub record IsAudited (cut : CutParts) (told : List ℕ) (outcome : Outcome) (text : List ℕ) : Type 0 where
+  pub rows : List Row
+  pub winners : IsListOfWinners (tables_of cut) rows
+  pub verdict : Verdict
+  pub judged : IsVerdict (tables_of cut) rows verdict
+  pub outcome_is : outcome ≡ outcome_of verdict
+  pub reported : text ≡ (told ++ report_text cut verdict) ++ certificate_lines rows
+
+-- the cut's first known name without a winner is reported, and it is settled for no list of rows
+pub record IsUnwon (cut : CutParts) (told : List ℕ) (outcome : Outcome) (text : List ℕ) : Type 0 where
+  pub folder : Folder
+  pub name : FileName
+  pub without : IsFirstWithoutWinner (tables_of cut) folder name
+  pub never_settled : IsNeverSettled (tables_of cut)
+  pub outcome_is : outcome ≡ outcomes.NotSettled
+  pub reported : text ≡ told ++ report_text cut (Not NotWinner folder name None)
+
+-- the cut is audited under the list of its winners, if it has one
+abbrev pub IsEnd : CutParts → List ℕ → Outcome → List ℕ → Type 0
+IsEnd cut told outcome text = IsAudited cut told outcome text ⊎ IsUnwon cut told outcome text
+
+-- the cluster with which a scenario begins; its stores are in memory, empty, and don't fail
+abbrev pub beginning_of : Scenario → Network
+beginning_of scenario = begun (λ store. store) (λ _. 0) scenario.config
+
+-- the steps are made, and the cut to which they lead is reported
+pub record IsPlayed (scenario : Scenario) (outcome : Outcome) (text : List ℕ) : Type 0 where
+  pub last : Network
+  pub told : List ℕ
+  pub leads : Leads (cluster_of (beginning_of scenario)) scenario.steps (cluster_of last) told
+  pub end : IsEnd (cut_at last.members last.links) told outcome text
+
+-- the outcome and the text for what a document says: its scenario's run, or the fault for which it is refused
+abbrev pub IsRunOf : Reading Scenario → Outcome → List ℕ → Type 0
+IsRunOf (Read scenario) outcome text = IsPlayed scenario outcome text
+IsRunOf (Refused fault) outcome text = (outcome ≡ outcomes.Refused) × (text ≡ fault_text fault)
+
+-- ---- what is read and written
+
+-- a document was read, its outcome was told and its text written, and nothing else
+pub record IsRunWhole (unread left held now : Option (List ℕ)) (outcome : Outcome) : Type 0 where
+  pub bytes : List ℕ
+  pub read : IsRead unread left bytes
+  pub text : List ℕ
+  pub run : IsRunOf (scenario_of bytes) outcome text
+  pub written : Appends held now text
+
+-- a document was read, and a beginning of its text written
+pub record IsRunInPart (unread left held now : Option (List ℕ)) : Type 0 where
+  pub bytes : List ℕ
+  pub read : IsRead unread left bytes
+  pub outcome : Outcome
+  pub text : List ℕ
+  pub run : IsRunOf (scenario_of bytes) outcome text
+  pub written : AppendsBeginning held now text
+
+-- what is written where there is no answer: nothing after a read fault or want of memory, a beginning of the text after
+-- a write fault
+abbrev pub IsUnrun : Option (List ℕ) → Option (List ℕ) → Option (List ℕ) → Option (List ℕ) → ReportError → Type 0
+IsUnrun unread left held now Memory = Keeps held now
+IsUnrun unread left held now faults.Read = Keeps held now
+IsUnrun unread left held now faults.Write = IsRunInPart unread left held now
+
+-- the scenario that was read leads to a cut that is settled under its winners: so it stays, after every list of further
+-- steps without local edits
+pub record EndsSettled (unread left : Option (List ℕ)) : Type 0 where
+  pub bytes : List ℕ
+  pub read : IsRead unread left bytes
+  pub scenario : Scenario
+  pub says : scenario_of bytes ≡ Read scenario
+  pub last : Network
+  pub told : List ℕ
+  pub leads : Leads (cluster_of (beginning_of scenario)) scenario.steps (cluster_of last) told
+  pub rows : List Row
+  pub settled : IsSettled (tables_of (cut_at last.members last.links)) rows
+  pub stays_put : StaysPut (tables_of (cut_at last.members last.links)) rows
+  pub stays_settled : StaysSettled (tables_of (cut_at last.members last.links)) rows

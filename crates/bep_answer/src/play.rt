@@ -1,0 +1,42 @@
+//! The steps of a scenario, made one after another.
+ghost use Rattle.std.specs.Prelude.{IfOk, OnOk};
+ghost use Rattle.bep_core.specs.Network.{cluster_of};
+ghost use Rattle.bep_answer.specs.Played.{IsTold, Leads};
+
+use bep_core::{Cluster, Why};
+use bep_machine::{Moved, Step};
+use bep_report::push_step;
+use bep_store::MemStore;
+use std::alloc::{AllocError, Global};
+
+/// Makes the steps, and answers the lines of those that are refused. Where memory is wanting the cluster is left
+/// somewhere among them.
+pub(crate) fn play(
+    alloc: Global,
+    cluster: &mut Cluster<MemStore>,
+    steps: Vec<Step>,
+) -> Result<Vec<u8>, AllocError>
+    ensures { IfOk result (λ told. Leads (cluster_of cluster.old) steps.items (cluster_of cluster.new) told.items) }
+{
+    let mut told = Vec::new(alloc);
+    let mut place: u64 = 0;
+    for step in steps {
+        place += 1;
+        let answer = cluster.apply(step);
+        tell(&mut told, place, answer)?;
+    }
+    Ok(told)
+}
+
+// Appends the line of a step that was refused; want of memory ends the run.
+fn tell(told: &mut Vec<u8>, place: u64, answer: Result<Moved, Why>) -> Result<(), AllocError>
+    ensures { OnOk result (IsTold place answer told.old.items told.new.items) }
+{
+    match answer {
+        Ok(_moved) => Ok(()),
+        Err(why) => match (why.number(), why.name()) {
+            (Some(number), Some(name)) => push_step(told, place, number, name),
+            _ => Err(AllocError),
+        },
+    }
+}

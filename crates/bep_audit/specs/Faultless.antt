@@ -1,0 +1,37 @@
+-- What all reasons together ask of a device beside a row (this project's profile).
+use Rattle.std.specs.Prelude.{◌≡◌, List, Option}
+use Rattle.std.specs.FinMap.{get}
+use Rattle.bep_record.specs.declared.entry.Entry.{Entry}
+use Rattle.bep_record.specs.declared.node.NodeParts.{NodeParts}
+use Rattle.bep_record.specs.Content.{content_of}
+use Rattle.bep_record.specs.Node.{IsClean}
+use Rattle.bep_model.specs.declared.row.Row.{Row}
+use Rattle.bep_model.specs.Settled.{content_of_node}
+use Rattle.bep_model.specs.Tables.{Device}
+use Rattle.bep_tables.specs.declared.share.Share.{Share}
+use Rattle.bep_tables.specs.declared.table.entry.Source.TheVariants.{View, Flight, Pull}
+use Rattle.bep_tables.specs.Listed.{Listed}
+use Rattle.bep_audit.specs.Group.{GroupPasses}
+use Rattle.bep_audit.specs.Share.{AsksRecord, AsksContent, AsksValid}
+
+-- what they ask of its own record and its node
+unfoldable pub AsksAllHere : Option Entry → Option NodeParts → Entry → Type 0
+AsksAllHere own stored winner =
+    AsksRecord own winner
+    × AsksContent own winner
+    × AsksValid own
+    × (content_of_node stored ≡ content_of winner)
+    × IsClean stored own
+
+-- what they ask of its foreign records, of which these are the entries of the row's name
+unfoldable pub AsksAllElsewhere : Row → List Listed → Device → Option Entry → Type 0
+AsksAllElsewhere row group device own =
+    GroupPasses View device row own group
+    × GroupPasses Flight device row own group
+    × GroupPasses Pull device row own group
+
+-- what they ask of it
+unfoldable pub AsksAll : Row → List Listed → Share → Type 0
+AsksAll row group share =
+    AsksAllHere (get share.own row.entry.name) (get share.store row.entry.name) row.entry
+    × AsksAllElsewhere row group share.device (get share.own row.entry.name)

@@ -1,0 +1,83 @@
+//! Whether nothing fails at a name that has a row, told with one look at each device.
+ghost use Rattle.std.specs.Prelude.{◌≡◌, ◌↔◌, ◌∷◌, [], IsTrue, None, Contains, map};
+ghost use Rattle.std.specs.Option.{option_copied};
+ghost use Rattle.bep_model.specs.Settled.{key_of};
+ghost use Rattle.bep_tables.specs.declared.share.Share.{Share};
+ghost use Rattle.bep_tables.specs.Cut.{tables_of};
+ghost use Rattle.bep_tables.specs.Listed.{listed};
+ghost use Rattle.bep_audit.specs.Group.{IsGroupOf};
+ghost use Rattle.bep_audit.specs.Faultless.{AsksAll, AsksAllHere, AsksAllElsewhere};
+ghost use Rattle.bep_audit.specs.Walk.{FindsLeast};
+
+use crate::group::{all_pass, has_known};
+use crate::winner::is_winner_in;
+use crate::{is_clean, is_there, is_valid, says_as_winner, share_is_asked, store_holds};
+use bep_model::Row;
+use bep_record::{DeviceId, Node, Record};
+use bep_tables::{Cut, Share, Source, TableEntry, cut_says, entries_are_held};
+
+/// Whether no reason fails at the row's name, as if there were no other row. It looks each device's own record and node up
+/// once, where a search for the least failure does so for each reason.
+pub(crate) fn is_faultless<'a>(cut: &'a Cut, group: &[TableEntry<'a>], row: &Row) -> bool
+    requires { IsGroupOf cut.now (key_of row.now) (map listed group.now) }
+    ensures { IsTrue result → FindsLeast (tables_of cut.now) (row.now ∷ []) (λ key. key ≡ key_of row.now) None }
+{
+    cut_says();
+    entries_are_held();
+    share_is_asked();
+    if !has_known(group) {
+        return false;
+    }
+    if !is_winner_in(cut, group, row) {
+        return false;
+    }
+    are_met(cut.shares(&row.folder), group, row)
+}
+
+// Whether each of the devices meets what all reasons ask of it.
+fn are_met(shares: &[Share], group: &[TableEntry<'_>], row: &Row) -> bool
+    ensures { IsTrue result ↔ ((share : Share) → Contains shares.now share → AsksAll row.now (map listed group.now) share) }
+{
+    shares.iter().all(|share| is_met(share, group, row))
+}
+
+// Whether the device does.
+#[tactic(auto, unfolding(crate::specs::Faultless::AsksAll))]
+fn is_met(share: &Share, group: &[TableEntry<'_>], row: &Row) -> bool
+    ensures { IsTrue result ↔ AsksAll row.now (map listed group.now) share.now }
+{
+    let winner = &row.entry;
+    let name = &winner.entry().name;
+    let own = share.own.get(name);
+    meets_here(own, share.store.get(name), winner) && meets_elsewhere(group, row, share.device, own)
+}
+
+// Whether it does by its own record and its node.
+#[tactic(auto, unfolding(crate::specs::Faultless::AsksAllHere))]
+fn meets_here(own: Option<&Record>, node: Option<&Node>, winner: &Record) -> bool
+    ensures { IsTrue result ↔ AsksAllHere (option_copied own.entry) (option_copied node.entry) winner.now }
+{
+    is_there(own, winner)
+        && says_as_winner(own, winner)
+        && is_valid(own)
+        && store_holds(node, winner)
+        && is_clean(own, node)
+}
+
+// Whether it does by its foreign records.
+fn meets_elsewhere(
+    group: &[TableEntry<'_>],
+    row: &Row,
+    device: DeviceId,
+    own: Option<&Record>,
+) -> bool
+    ensures { IsTrue result ↔ AsksAllElsewhere row.now (map listed group.now) device (option_copied own.entry) }
+{
+    if !all_pass(Source::View, row, group, device, own) {
+        return false;
+    }
+    if !all_pass(Source::Flight, row, group, device, own) {
+        return false;
+    }
+    all_pass(Source::Pull, row, group, device, own)
+}

@@ -1,0 +1,64 @@
+//! The steps of a cluster, one after the other.
+ghost use Rattle.std.specs.Prelude.{◌≡◌, ◌≢◌, OnErr, Err};
+ghost use Rattle.bep_machine.specs.Laws.{IsSoundStep};
+ghost use Rattle.bep_machine.specs.Steps.{IsStep};
+ghost use Rattle.bep_machine.specs.Undone.{LeavesAll};
+ghost use Rattle.bep_core.specs.Applying.{failed_by};
+ghost use Rattle.bep_core.specs.Network.{cluster_of};
+ghost use Rattle.bep_core.specs.Reached.{IsReached};
+ghost use Rattle.bep_core.specs.Why.{Gives};
+ghost use Rattle.bep_core.specs.declared.why.Why.TheVariants.{ConfigBad};
+
+use crate::{Cluster, Why};
+use bep_machine::{Moved, Step, undone_steps_leave_all};
+use bep_store::Store;
+
+impl<S: Store> Cluster<S> {
+    /// Makes the step, and answers what it did. Refuses `NotShared` where something that the step names isn't there, and
+    /// then what the table of steps has for it; else only for want of memory. After an error all is as before, save that
+    /// the end of a pull may have kept a conflict copy.
+    ///
+    /// BEP v1; the steps are this project's profile.
+    pub fn apply(&mut self, step: Step) -> Result<Moved, Why>
+        ensures step { Gives (IsStep step (failed_by step self.new.members) (cluster_of self.old)) (cluster_of self.new) result }
+        ensures err { OnErr result (LeavesAll step (cluster_of self.old) (cluster_of self.new)) }
+        ensures only { result ≢ Err ConfigBad }
+
+        ensures reached { IsReached (cluster_of self.old) → IsReached (cluster_of self.new) }
+    {
+        undone_steps_leave_all();
+        puts_a_node(&step);
+        self.make(step)
+    }
+
+    // Makes the step.
+    fn make(&mut self, step: Step) -> Result<Moved, Why>
+        ensures { Gives (IsStep step (failed_by step self.new.members) (cluster_of self.old)) (cluster_of self.new) result }
+    {
+        match step {
+            Step::Edit(device, folder, name, node) => self.edit(device, &folder, &name, &node),
+            Step::Remove(device, folder, name) => self.remove(device, &folder, &name),
+            Step::Scan(device, folder, name) => self.scan(device, &folder, name),
+            Step::Override(device, folder, name) => self.override_one(device, &folder, &name),
+            Step::Revert(device, folder, name) => self.revert_one(device, &folder, &name),
+            Step::Connect(lower, upper) => self.connect(lower, upper),
+            Step::Lose(lower, upper) => self.lose(lower, upper),
+            Step::Begin(device, other) => self.begin(device, other),
+            Step::Deliver(device, other) => self.deliver(device, other),
+            Step::Announce(device, other, folder) => self.announce(device, other, &folder),
+            Step::StartPull(device, folder, name) => self.pull(device, &folder, &name),
+            Step::Ask(device, other, folder, name) => self.ask(device, other, &folder, &name),
+            Step::Finish(device, folder, name) => self.finish(device, &folder, &name),
+            Step::Restart(device) => self.restart(device),
+        }
+    }
+}
+
+// What a user gives a name is a node, as the type of nodes keeps it.
+fn puts_a_node(step: &Step)
+    ensures { IsSoundStep step.now }
+{
+    if let Step::Edit(_, _, _, node) = step {
+        let _parts = node.parts();
+    }
+}

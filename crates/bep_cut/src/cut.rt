@@ -1,0 +1,42 @@
+//! The cut of a cluster.
+ghost use Rattle.std.specs.Prelude.{◌≡◌, IfOk, map};
+ghost use Rattle.bep_cut.specs.Cut.{cut_at, seen};
+ghost use Rattle.bep_cut.specs.Parts.{AreParts, CountsAll, faults_of, links_of};
+
+use crate::CutError;
+use crate::folders::folders_cut;
+use crate::links::links_cut;
+use bep_links::Link;
+use bep_peer::{Peer, tables_are_found};
+use bep_record::Items;
+use bep_store::Store;
+use bep_tables::{Cut, CutParts};
+use std::alloc::Global;
+
+/// The cut of these devices and links: what each device recorded, holds, knows of the others and pulls at this moment, and
+/// the records that are on their way over each link, of folders that both its devices share. Sessions, the received blocks
+/// of pulls and all other messages aren't in it.
+///
+/// The caller hands over one peer of each device, and one link of each pair that they know of, both rising, of devices
+/// that agree on who shares what, as a cluster's parts are. Refuses `StoreFault` exactly where the store of some folder
+/// fails to list its names or to read one, and else only for want of memory. The devices' tables, and the devices with
+/// which each has links, are as before, whatever is answered.
+pub fn cut_of<S: Store>(
+    alloc: Global,
+    peers: &mut [Peer<S>],
+    links: &[Link],
+) -> Result<Cut, CutError>
+    requires { AreParts peers.old links.now }
+    ensures cut { IfOk result (λ cut. cut ≡ cut_at peers.old links.now) }
+    ensures same { map seen peers.new ≡ map seen peers.old }
+    ensures linked { links_of peers.new ≡ links_of peers.old }
+    ensures counts { CountsAll (map faults_of peers.old) (map faults_of peers.new) result }
+{
+    tables_are_found();
+    let folders = folders_cut(alloc, peers)?;
+    let links = links_cut(alloc, peers, links)?;
+    Ok(Cut::of(CutParts {
+        folders: Items::new(folders),
+        links: Items::new(links),
+    }))
+}

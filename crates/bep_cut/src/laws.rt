@@ -1,0 +1,18 @@
+//! What holds of the parts of every cluster, and of their cut. The functions do nothing; their contracts are the laws.
+ghost use Rattle.bep_cut.specs.Laws.{ClustersAreParts, CutSaysCluster};
+
+use bep_core::sharing_is_having;
+use bep_peer::tables_are_found;
+
+/// The devices and the links of every cluster are such that a cut can be taken of them.
+pub fn clusters_are_parts()
+    ensures { ClustersAreParts }
+{
+    sharing_is_having();
+    tables_are_found();
+}
+
+/// The cut of a cluster's devices and links says what the cluster does.
+pub fn cut_says_cluster()
+    ensures { CutSaysCluster }
+{}
