@@ -17,5 +17,4 @@ pub fn reached_is_gapless()
 pub fn sharing_is_having()
     ensures sharing { SharingIsHaving }
     ensures found { FoundByNumber }
-{
-}
+{}

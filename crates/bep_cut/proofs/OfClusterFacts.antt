@@ -128,7 +128,7 @@ module _ (sharing : SharingIsHaving) (found : FoundByNumber) (tables : TablesAre
       let shared = rules.some member.number (Contains-image (λ (one : Member). one.number) network.members member there) in
       let having = (has member.number shared.0).0 shared.1 in
       let same : having.member ≡ member =
-          let e : Some having.member ≡ Some member = sym (found network having.member rules having.there) ∙ ap (λ (number : Device). member_found number) having.number ∙ found network member rules there in cc in
+      let e : Some having.member ≡ Some member = sym (found network having.member rules having.there) ∙ ap (λ (number : Device). member_found number) having.number ∙ found network member rules there in cc in
       (shared.0, subst (λ (one : Member). IsSome (get one.folders shared.0)) same having.shares)
     where
       member_found : Device → Option Member
@@ -151,9 +151,9 @@ module _ (sharing : SharingIsHaving) (found : FoundByNumber) (tables : TablesAre
     rising = rules.links;
     few_devices = rules.few;
     few_folders =
-      let most = at_most (folders_of (map seen network.members)) rules.folders.folders (rising_keys (entries (fold with_folders empty (map seen network.members))) (entries_sorted (fold with_folders empty (map seen network.members)))) shared_folder in
-      let few = rules.folders.few in
-      omega (arith, most, few);
+        let most = at_most (folders_of (map seen network.members)) rules.folders.folders (rising_keys (entries (fold with_folders empty (map seen network.members))) (entries_sorted (fold with_folders empty (map seen network.members)))) shared_folder in
+        let few = rules.folders.few in
+        omega (arith, most, few);
     sharing = agree_on_sharing;
     linked = agree_on_links;
     some = share_some;
