@@ -1,5 +1,5 @@
 -- Steps that are made one after another, and what is told of them.
-use Rattle.std.proofs.Common.{zero, suc, ◌≡◌, ◌≢◌, ◌+◌, ◌<◌, ◌≤◌, ◌++◌, ℕ, List, [], ◌∷◌, map, length, Option, Result, Ok, Err, refl, sym, ap, subst, ◌∙◌, arith}
+use Rattle.std.proofs.Common.{suc, ◌≡◌, ◌≢◌, ◌+◌, ◌++◌, ℕ, List, [], ◌∷◌, map, length, Option, Result, Ok, Err, refl, sym, ap, subst, ◌∙◌, arith}
 use Rattle.std.proofs.lemmas.List.{append_assoc, append-nil}
 use Rattle.bep_machine.specs.declared.moved.Moved.{Moved}
 use Rattle.bep_machine.specs.declared.step.Step.{Step}
