@@ -19,7 +19,7 @@ from cluster.core import Cluster, Config
 from cluster.record import Kind, Node
 from cluster.step import (Announce, Ask, Begin, Connect, Deliver, Edit, Finish, Lose, Override, Remove, Restart, Revert,
                           Scan, StartPull, Step)
-from compare import ODD_VALUES, PROGRAM
+from compare import PROGRAM, Documents
 from runs import Walk
 from settled import Making, random_config
 
@@ -59,25 +59,6 @@ def random_steps(making: Making, config: Config) -> list[Step]:
     return steps
 
 
-def places(value, path=()):
-    """The places of a document's members and items."""
-    items = value.items() if isinstance(value, dict) else enumerate(value) if isinstance(value, list) else ()
-    for key, item in items:
-        yield value, key
-        yield from places(item, path + (key,))
-
-
-def spoil(making: Making, document: dict) -> None:
-    """Makes a mistake somewhere."""
-    holder, key = making.random.choice(list(places(document)))
-    if making.happens(0.3):
-        del holder[key]
-    elif isinstance(holder, list) and making.happens(0.3):
-        holder.append(holder[key])
-    else:
-        holder[key] = making.random.choice(ODD_VALUES)
-
-
 def random_document(number: int) -> bytes:
     """The scenario of this number."""
     making = Making(random.Random(number))
@@ -88,7 +69,7 @@ def random_document(number: int) -> bytes:
     document = {"version": 1, "folders": folders, "links": [list(ends) for ends in config.links],
                 "steps": list(map(step_value, random_steps(making, config)))}
     if making.happens(0.1):
-        spoil(making, document)
+        document = Documents(number).with_mistake(document)
     return json.dumps(document, ensure_ascii=making.happens(0.5)).encode()
 
 

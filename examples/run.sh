@@ -96,14 +96,10 @@ for file in examples/*.json; do
     echo "examples: $(basename "$file") has no row in README.md"
   fi
 done
-for file in examples/scenarios/*.json; do
-  if ! grep -qF "< $file\`" examples/README.md; then
-    failed=$((failed + 1))
-    echo "examples: $file has no row in README.md"
-  fi
-done
 for file in examples/faulty/*.json; do
   check_json "$file"
+done
+for file in examples/scenarios/*.json examples/faulty/*.json; do
   if ! grep -qF "< $file\`" examples/README.md; then
     failed=$((failed + 1))
     echo "examples: $file has no row in README.md"
