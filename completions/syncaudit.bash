@@ -11,6 +11,8 @@ _syncaudit() {
     mapfile -t COMPREPLY < <(compgen -W 'check certify explain run' -- "$word")
   elif [ "$COMP_CWORD" = 2 ] && [ "$before" = explain ]; then
     mapfile -t COMPREPLY < <(compgen -W '--json --help' -- "$word")
+  elif [ "$COMP_CWORD" = 2 ] && [ "$before" = run ]; then
+    mapfile -t COMPREPLY < <(compgen -W '--document --help' -- "$word")
   elif [ "$COMP_CWORD" = 2 ]; then
     mapfile -t COMPREPLY < <(compgen -W '--help' -- "$word")
   fi

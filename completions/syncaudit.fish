@@ -8,5 +8,6 @@ complete -c syncaudit -n "not __fish_seen_subcommand_from $commands help" -a run
 complete -c syncaudit -n "not __fish_seen_subcommand_from $commands help" -a help -d 'Tell how to use the program'
 complete -c syncaudit -n "__fish_seen_subcommand_from help; and not __fish_seen_subcommand_from $commands" -a "$commands"
 complete -c syncaudit -n "__fish_seen_subcommand_from explain" -l json -d 'Write one JSON document'
+complete -c syncaudit -n "__fish_seen_subcommand_from run" -l document -d 'Write the check document of the end'
 complete -c syncaudit -s h -l help -d 'Tell how to use the program or the command'
 complete -c syncaudit -n "not __fish_seen_subcommand_from $commands help" -s V -l version -d 'Tell its version'

@@ -77,16 +77,29 @@ has() {
   grep -qw -- "$1" "$2"
 }
 
+# offers FLAG FILE: the flag stands in the file, as its shell writes it.
+offers() {
+  grep -qE -- "(--|-l )$1([] []|$)" "$2"
+}
+
+# The flags in the usage line of a subcommand's help.
+flags_of() {
+  usage_of "$1" | grep -o -- '\[--[a-z]*\]' | tr -d '[]-' || true
+}
+
 for command in $(helped); do
   expect "the man page's synopsis has no '$(usage_of "$command")'" begins_synopsis "$(usage_of "$command")"
   for file in completions/*; do
     expect "$file has no '$command'" has "$command" "$file"
   done
+  # Its flags stand in each of them too.
+  for flag in $(flags_of "$command"); do
+    for file in docs/syncaudit.1 completions/*; do
+      expect "$file has no '--$flag'" offers "$flag" "$file"
+    done
+  done
 done
-# The flag of the explanation's help stands in each of them too.
-for file in docs/syncaudit.1 completions/*; do
-  expect "$file has no 'json'" has json "$file"
-done
+expect "no flag in the program's help" [ "$(flags_of explain) $(flags_of run)" = 'json document' ]
 for command in $(described); do
   expect "the program has no '$command', which the man page describes" is_one_of "$command" $(helped)
 done

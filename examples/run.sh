@@ -62,6 +62,23 @@ check_json() {
   fi
 }
 
+# cell_of PATTERN OUTPUT: the lines of a cell that the pattern finds, as a cell.
+cell_of() {
+  lines_of "$2" | grep -E "$1" | sed 's/.*/`&`/' | paste -sd '@' | sed 's/@/<br>/g' || true
+}
+
+# check_document FILE OUTPUT STATUS: the document of a scenario's end has the verdict that its run has in the row; where
+# it has none, the verdict's line stands in its place. The refused steps are told beside it.
+check_document() {
+  local words="syncaudit run --document < $1" report='^(settled|not settled|folder )'
+  if [[ $2 = *'NotWinner '* || $2 = *'refused: '* ]]; then
+    report='^(not settled|refused)'
+  else
+    words="syncaudit check < <($words)"
+  fi
+  check_row "$words" "$(cell_of "$report" "$2")" "$(cell_of '^step ' "$2")" "$3"
+}
+
 # A row of the first table has a file's name, what it shows, what is written, and the status.
 while IFS='|' read -r _ name _ output status _; do
   # Of a fault without a place standard error says more.
@@ -87,6 +104,10 @@ done < <(grep '^| `[a-z-]*\.json` |' examples/README.md)
 # A row of the other tables has the words, what they show, what is written, what is told, and the status.
 while IFS='|' read -r _ words _ output error status _; do
   check_row "$(lines_of "$words")" "$output" "$error" "$status"
+  scenario=$(lines_of "$words" | sed -n 's/^syncaudit run < //p')
+  if [ -n "$scenario" ] && [ "${status// /}" -le 2 ]; then
+    check_document "$scenario" "$output" "$status"
+  fi
 done < <(grep '^| `' examples/README.md | grep -v '^| `[a-z-]*\.json` |')
 
 # Each document has its row.

@@ -1,7 +1,7 @@
 //! A folder `docs` with a directory `a`, whose second version is device 2's; the wanted answers were worked out by hand.
 use bep_audit::{Certificate, CertifyError, Verdict, certify, check, check_plain};
 use bep_model::Reason;
-use bep_tables::{DocError, read_check};
+use bep_tables::{Cut, DocError, read_check};
 use std::alloc::Global;
 use std::test::Fail;
 
@@ -37,39 +37,53 @@ const TWO_NAMES: &str = r#"{"version":1,"cut":{"folders":[{"folder":"docs","devi
     {"folder":"docs","device":1,
     "record":{"name":"b","type":1,"modified_s":9,"modified_by":1,"version":[[1,1]],"sequence":2}}]}"#;
 
-// The reason that fails at `a`, none where the cut is settled.
-fn reason_at_a(verdict: &Verdict<'_>) -> Option<Reason> {
+// The reason that fails at `a`, on device 2 if it is one on devices, or at another name if nothing is known of it; none
+// where the cut is settled.
+fn reason_of(verdict: &Verdict<'_>) -> Option<Reason> {
     match verdict {
-        Verdict::Not(reason, folder, name, None) => {
-            if folder.as_str() == "docs" && name.as_str() == "a" {
+        Verdict::Not(reason, folder, name, device) => {
+            let on_names = matches!(
+                reason,
+                Reason::CertificateOrder
+                    | Reason::NameMissing
+                    | Reason::NameUnknown
+                    | Reason::NotWinner
+            );
+            let is_there = match device {
+                None => on_names && folder.as_str() == "docs",
+                Some(device) => !on_names && device.number() == 2,
+            };
+            if is_there && (name.as_str() == "a" || *reason == Reason::NameUnknown) {
                 Some(*reason)
             } else {
                 None
             }
         }
-        _ => None,
+        Verdict::Settled => None,
     }
 }
 
-// Whether both checkers tell this of the document.
-fn tells(alloc: Global, text: &str, wanted: Option<Reason>) -> Result<bool, DocError> {
-    let (cut, rows) = read_check(alloc, text.as_bytes())?;
+// Whether both checkers tell the same.
+fn agree(alloc: Global, cut: &Cut, certificate: &Certificate) -> Result<bool, DocError> {
+    match check(alloc, cut, certificate) {
+        Err(_) => Err(DocError::Memory),
+        Ok(verdict) => Ok(verdict == check_plain(cut, certificate)),
+    }
+}
+
+/// Whether both checkers tell this reason of the document, or that it is settled.
+pub(crate) fn tells(alloc: Global, text: &[u8], wanted: Option<Reason>) -> Result<bool, DocError> {
+    let (cut, rows) = read_check(alloc, text)?;
     let certificate = Certificate::of(rows);
     let plain = check_plain(&cut, &certificate);
-    match check(alloc, &cut, &certificate) {
-        Err(_) => Err(DocError::Memory),
-        Ok(verdict) => Ok(
-            verdict == plain
-                && reason_at_a(&plain) == wanted
-                && (wanted.is_some() || plain == Verdict::Settled),
-        ),
-    }
+    let is_wanted = reason_of(&plain) == wanted && (wanted.is_some() || plain == Verdict::Settled);
+    Ok(is_wanted && agree(alloc, &cut, &certificate)?)
 }
 
 #[test]
 fn both_checkers_tell_the_verdict(rt: HostRuntime) -> Result<(), Fail> {
-    assert!(rt; tells(rt.alloc(), WON, None)?);
-    assert!(rt; tells(rt.alloc(), UNRECORDED, Some(Reason::NameMissing))?);
+    assert!(rt; tells(rt.alloc(), WON.as_bytes(), None)?);
+    assert!(rt; tells(rt.alloc(), UNRECORDED.as_bytes(), Some(Reason::NameMissing))?);
     Ok(())
 }
 
@@ -87,11 +101,13 @@ fn fails_on(verdict: &Verdict<'_>, wanted: Reason, name: &str, device: u64) -> b
 fn misses_b(alloc: Global) -> Result<bool, DocError> {
     let (cut, rows) = read_check(alloc, TWO_NAMES.as_bytes())?;
     let certificate = Certificate::of(rows);
-    let plain = check_plain(&cut, &certificate);
-    match check(alloc, &cut, &certificate) {
-        Err(_) => Err(DocError::Memory),
-        Ok(verdict) => Ok(verdict == plain && fails_on(&plain, Reason::RecordMissing, "b", 2)),
-    }
+    let misses = fails_on(
+        &check_plain(&cut, &certificate),
+        Reason::RecordMissing,
+        "b",
+        2,
+    );
+    Ok(misses && agree(alloc, &cut, &certificate)?)
 }
 
 #[test]

@@ -34,6 +34,9 @@ use Rattle.bep_scenario.specs.declared.scenario.Scenario.{Scenario}
 use Rattle.bep_tables.specs.declared.cut.CutParts.{CutParts}
 use Rattle.bep_tables.specs.Cut.{tables_of}
 use Rattle.bep_answer.specs.Answer.{fault_text, outcome_of}
+use Rattle.bep_answer.specs.Certified.{IsCertificate}
+use Rattle.bep_answer.specs.declared.outcome.Certified.{Certified}
+use Rattle.bep_answer.specs.declared.outcome.Certified.TheVariants as certificates
 use Rattle.bep_answer.specs.declared.outcome.Outcome.{Outcome}
 use Rattle.bep_answer.specs.declared.outcome.Outcome.TheVariants as outcomes
 
@@ -110,6 +113,23 @@ pub record IsPlayed (scenario : Scenario) (outcome : Outcome) (text : List ℕ) 
 abbrev pub IsRunOf : Reading Scenario → Outcome → List ℕ → Type 0
 IsRunOf (Read scenario) outcome text = IsPlayed scenario outcome text
 IsRunOf (Refused fault) outcome text = (outcome ≡ outcomes.Refused) × (text ≡ fault_text fault)
+
+-- the steps are made, and the cut to which they lead is written as where its certificate is asked for: as the document of
+-- that cut with the list under which it is audited
+pub record IsPlayedTo (scenario : Scenario) (outcome : Certified) (text : List ℕ) : Type 0 where
+  pub last : Network
+  pub told : List ℕ
+  pub leads : Leads (cluster_of (beginning_of scenario)) scenario.steps (cluster_of last) told
+  pub certificate : IsCertificate (cut_at last.members last.links) outcome text
+
+-- the outcome and the text for what a document says: where its scenario's run ends, or the fault for which it is refused
+abbrev pub IsEndOf : Reading Scenario → Certified → List ℕ → Type 0
+IsEndOf (Read scenario) outcome text = IsPlayedTo scenario outcome text
+IsEndOf (Refused fault) outcome text = (outcome ≡ certificates.Refused) × (text ≡ fault_text fault)
+
+-- the same of the bytes of a document
+abbrev pub IsEndOfBytes : List ℕ → Certified → List ℕ → Type 0
+IsEndOfBytes bytes outcome text = IsEndOf (scenario_of bytes) outcome text
 
 -- ---- what is read and written
 

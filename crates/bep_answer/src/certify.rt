@@ -8,12 +8,11 @@ ghost use Rattle.bep_model.specs.declared.reason.Reason.TheVariants.{NotWinner};
 ghost use Rattle.bep_model.specs.Verdict.{Not};
 ghost use Rattle.bep_tables.specs.document.Written.{check_of, cut_of_document};
 ghost use Rattle.bep_report.specs.Lines.{verdict_line};
-ghost use Rattle.bep_answer.specs.Answer.{fault_text};
 ghost use Rattle.bep_answer.specs.Certified.{IsCertificate, IsCertified, IsCertifiedWhole, IsUncertified, document_text};
 
 use crate::hints::{Hinted, hint_for_cut};
 use crate::outcome::Certified;
-use crate::refusal::push_fault;
+use crate::refusal::fault_line;
 use bep_audit::{Certificate, CertifyError, certify};
 use bep_model::Reason;
 use bep_record::{FolderName, Name};
@@ -63,17 +62,13 @@ fn answer_to(alloc: Global, bytes: &[u8]) -> Result<(Certified, Vec<u8>), AllocE
 {
     match read_cut(alloc, bytes) {
         Ok(cut) => answer_for(alloc, &cut),
-        Err(DocError::Refused(fault)) => {
-            let mut text = Vec::new(alloc);
-            push_fault(&mut text, &fault)?;
-            Ok((Certified::Refused, text))
-        }
+        Err(DocError::Refused(fault)) => Ok((Certified::Refused, fault_line(alloc, &fault)?)),
         Err(DocError::Memory) => Err(AllocError),
     }
 }
 
-// The outcome for a cut, and the text.
-fn answer_for(alloc: Global, cut: &Cut) -> Result<(Certified, Vec<u8>), AllocError>
+/// The outcome for a cut, and the text: its document with its certificate, or the line of a name without a winner.
+pub(crate) fn answer_for(alloc: Global, cut: &Cut) -> Result<(Certified, Vec<u8>), AllocError>
     ensures { IfOk result (λ answer. IsCertificate cut.now answer.0 answer.1.items) }
 {
     match certify(alloc, cut) {

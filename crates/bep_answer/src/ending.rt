@@ -1,4 +1,4 @@
-//! The cut to which a scenario leads, under the list of its winners.
+//! The cut to which a scenario leads, under the list of its winners: its report, or its document.
 ghost use Rattle.std.specs.Prelude.{◌≡◌, ◌++◌, None, IfOk};
 ghost use Rattle.bep_audit.specs.Shown.{verdict_shown};
 ghost use Rattle.bep_cut.specs.Cut.{cut_at};
@@ -8,11 +8,13 @@ ghost use Rattle.bep_model.specs.Verdict.{Not};
 ghost use Rattle.bep_report.specs.Certificate.{certificate_lines};
 ghost use Rattle.bep_report.specs.Report.{report_text};
 ghost use Rattle.bep_tables.specs.Cut.{tables_of};
+ghost use Rattle.bep_answer.specs.Certified.{IsCertificate};
 ghost use Rattle.bep_answer.specs.Played.{IsAudited, IsEnd};
 ghost use Rattle.bep_answer.specs.declared.outcome.Outcome.TheVariants as outcomes;
 
+use crate::certify::answer_for;
 use crate::check::outcome_of;
-use crate::outcome::Outcome;
+use crate::outcome::{Certified, Outcome};
 use bep_audit::{Certificate, CertifyError, Verdict, certify, check};
 use bep_core::Cluster;
 use bep_cut::{clusters_are_parts, cut_of};
@@ -31,10 +33,29 @@ pub(crate) fn report_on_end(
 ) -> Result<(Outcome, Vec<u8>), AllocError>
     ensures { IfOk result (λ answer. IsEnd (cut_at cluster.members cluster.links) told.items answer.0 answer.1.items) }
 {
+    let cut = end_of(alloc, cluster)?;
+    audit(alloc, &cut, told)
+}
+
+/// The outcome for the cluster's cut, and its check document with its certificate, or the line of a name without a winner.
+pub(crate) fn document_of_end(
+    alloc: Global,
+    cluster: Cluster<MemStore>,
+) -> Result<(Certified, Vec<u8>), AllocError>
+    ensures { IfOk result (λ answer. IsCertificate (cut_at cluster.members cluster.links) answer.0 answer.1.items) }
+{
+    let cut = end_of(alloc, cluster)?;
+    answer_for(alloc, &cut)
+}
+
+// The cluster's cut.
+fn end_of(alloc: Global, cluster: Cluster<MemStore>) -> Result<Cut, AllocError>
+    ensures { IfOk result (λ cut. cut ≡ cut_at cluster.members cluster.links) }
+{
     clusters_are_parts();
     let (mut peers, links) = cluster.into_parts();
     match cut_of(alloc, peers.as_mut_slice(), links.as_slice()) {
-        Ok(cut) => audit(alloc, &cut, told),
+        Ok(cut) => Ok(cut),
         // Only memory can be wanting, as a memory store never fails.
         Err(_) => Err(AllocError),
     }

@@ -8,11 +8,13 @@
 //!         Outcome::Refused => ..,
 //!     }
 //!
-//! `checked`, `certified` and `explained` do the same, and say where a refused document is at fault.
+//! `checked`, `certified` and `explained` do the same, and say where a refused document is at fault. `run_text`
+//! and `run_document` answer to a scenario.
 #![tactic(auto)]
 
 mod certify;
 mod check;
+mod document;
 mod ending;
 mod explain;
 mod hints;
@@ -24,6 +26,7 @@ mod run;
 
 pub use certify::{certified, certify_text};
 pub use check::{check_text, checked};
+pub use document::run_document;
 pub use explain::{explain_text, explained};
 pub use hints::Hinted;
 pub use outcome::{Certified, Form, Outcome};

@@ -1,6 +1,5 @@
 //! What is answered to a document that is refused.
 ghost use Rattle.std.specs.Prelude.{◌≡◌, IfOk};
-ghost use Rattle.bep_report.specs.Text.{AppendsWhole};
 ghost use Rattle.bep_answer.specs.Answer.{fault_text};
 ghost use Rattle.bep_answer.specs.Explained.{IsRefusal};
 ghost use Rattle.bep_answer.specs.declared.outcome.Outcome.TheVariants as outcomes;
@@ -15,8 +14,7 @@ use std::alloc::{AllocError, Global};
 pub(crate) fn refusal(alloc: Global, fault: &DocFault) -> Result<(Outcome, Vec<u8>), AllocError>
     ensures { IfOk result (λ answer. (answer.0 ≡ outcomes.Refused) × (answer.1.items ≡ fault_text fault.now)) }
 {
-    let mut text = Vec::new(alloc);
-    push_fault(&mut text, fault)?;
+    let text = fault_line(alloc, fault)?;
     Ok((Outcome::Refused, text))
 }
 
@@ -34,16 +32,18 @@ pub(crate) fn refusal_in(
     }
 }
 
-/// Appends the line of a fault.
-pub(crate) fn push_fault(text: &mut Vec<u8>, fault: &DocFault) -> Result<(), AllocError>
-    ensures { AppendsWhole result text.old.items text.new.items (fault_text fault.now) }
+/// The line of a fault.
+pub(crate) fn fault_line(alloc: Global, fault: &DocFault) -> Result<Vec<u8>, AllocError>
+    ensures { IfOk result (λ text. text.items ≡ fault_text fault.now) }
 {
+    let mut text = Vec::new(alloc);
     push_refused(
-        text,
+        &mut text,
         fault.fault.number(),
         fault.fault.name(),
         fault.folder.as_ref(),
         fault.device,
         fault.name.as_ref(),
-    )
+    )?;
+    Ok(text)
 }

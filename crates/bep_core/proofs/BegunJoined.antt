@@ -28,6 +28,7 @@ use Rattle.bep_peer.specs.Member.{Member, tables_of}
 use Rattle.bep_core.specs.Network.{Network, IsNetwork, IsJoined, AreFew, ShareSome, numbers_of, ends_of, config_of, kind_of}
 use Rattle.bep_core.specs.Begin.{others_that, is_shared, is_linked, linked_with, sharing_with, own_share, begun_share, begun_folders, begun_member, begun}
 use Rattle.bep_core.proofs.Begun.{numbers-begun, ends-begun}
+use Rattle.bep_core.proofs.Lift.{both_true}
 use Rattle.bep_core.proofs.Changed.{tables_at}
 use Rattle.bep_core.proofs.OthersThat.{itself, same_number, another_number, kept_passes}
 use Rattle.bep_core.proofs.Sharing.{has_number, sharing_there}
@@ -55,11 +56,6 @@ kept_was p (y ∷ xs) x stands = cases (kept_was p xs x) (p y) stands
         ⊎_elim (λ same. subst (Contains (y ∷ xs)) same (Contains-first y xs)) (λ more. Contains-more y xs x (rest more)) (Contains-cons_cases y (filter p xs) x kept)
     cases rest false kept = Contains-more y xs x (rest kept)
 
-both_pass : (a b : Bool) → (a && b) ≡ true → (a ≡ true) × (b ≡ true)
-both_pass true true e = (refl, refl)
-both_pass true false e = absurd (cc)
-both_pass false b e = absurd (cc)
-
 one_passes : (a b : Bool) → (a || b) ≡ true → (a ≡ true) ⊎ (b ≡ true)
 one_passes true b e = inl refl
 one_passes false b e = inr e
@@ -68,7 +64,7 @@ one_passes false b e = inr e
 others_are : (test : Device → Bool) (devices : List Device) (device other : Device) → Contains (others_that test devices device) other ↔ (Contains devices other × (other ≢ device) × (test other ≡ true))
 others_are test devices device other = (
   λ kept.
-      let passes = both_pass (not (other == device)) (test other) (kept_passes (λ one. not (one == device) && test one) devices other kept) in
+      let passes = both_true (not (other == device)) (test other) (kept_passes (λ one. not (one == device) && test one) devices other kept) in
       (kept_was (λ one. not (one == device) && test one) devices other kept, apart passes.0, passes.1),
   λ there. kept_there (λ one. not (one == device) && test one) devices other there.0 (passing there.1 there.2),
 )

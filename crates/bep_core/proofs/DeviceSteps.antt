@@ -17,7 +17,7 @@ use Rattle.bep_core.specs.Network.{Network, IsNetwork, is_number, cluster_of, fa
 use Rattle.bep_core.specs.Why.{Gives, answer_of}
 use Rattle.bep_core.proofs.AtLinks.{none_found}
 use Rattle.bep_core.proofs.OneDevice.{Replaces, with_member, network_after, failed_now}
-use Rattle.bep_core.proofs.RowsKeep.{Keeps}
+use Rattle.bep_peer.proofs.RowsKeep.{Keeps}
 use Rattle.bep_core.proofs.Within.{StepOf, absent, carried, replaces, whichever, within, within_keeps}
 
 -- a step of the device in the folder, whose row may name the device and the call of the store that failed

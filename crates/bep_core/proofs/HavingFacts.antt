@@ -1,13 +1,11 @@
 -- A device shares a folder exactly where it is there and has it.
 use Rattle.std.proofs.Common.{◌≡◌, Option, Some, None, IsSome, Contains, option_map, refl, sym, ap, subst, ◌∙◌}
 use Rattle.std.specs.FinMap.{get}
-use Rattle.bep_model.specs.Tables.{Device, Folder}
+use Rattle.bep_model.specs.Tables.{Device}
 use Rattle.bep_machine.specs.Replica.{Replica}
-use Rattle.bep_machine.specs.Steps.{SharesFolder}
 use Rattle.bep_folder.specs.Held.{Held}
-use Rattle.bep_peer.specs.Member.{Member, tables_of}
-use Rattle.bep_core.specs.Network.{IsNetwork, config_of}
-use Rattle.bep_core.specs.Sharing.{FoundByNumber, HasFolder, SharingIsHaving}
+use Rattle.bep_core.specs.Network.{config_of}
+use Rattle.bep_core.specs.Sharing.{FoundByNumber, SharingIsHaving}
 use Rattle.bep_core.proofs.Changed.{tables_at}
 use Rattle.bep_core.proofs.Sharing.{found_by_number, has_number, sharing_there}
 

@@ -2,7 +2,6 @@ mod OthersThat
 mod FoldersAt
 mod Begun
 mod SameFolders
-mod RowsKeep
 mod Sharing
 mod OneDevice
 mod Lift
@@ -10,7 +9,6 @@ mod Changed
 mod AtLinks
 mod Within
 mod DeviceSteps
-mod Keeping
 mod SessionsKeep
 mod SharedBetween
 mod Over

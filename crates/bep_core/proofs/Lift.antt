@@ -13,7 +13,7 @@ use Rattle.bep_links.specs.Link.{LinkBetween}
 use Rattle.bep_core.specs.Network.{Network, IsNetwork, IsJoined, AreFew, ShareSome, is_between as joins, ends_of, between_at, link_of, member_at, peer_of, config_of, sharing_of, numbers_of, cluster_of}
 use Rattle.bep_core.proofs.OthersThat.{itself, same_number}
 
-both_true : (a b : Bool) → (a && b) ≡ true → (a ≡ true) × (b ≡ true)
+pub both_true : (a b : Bool) → (a && b) ≡ true → (a ≡ true) × (b ≡ true)
 both_true true true e = (refl, refl)
 both_true true false e = absurd (cc)
 both_true false b e = absurd (cc)

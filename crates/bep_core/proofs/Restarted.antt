@@ -3,7 +3,7 @@ use Rattle.std.proofs.Common.{◌≡◌, ◌==◌, ◌||◌, ◌&&◌, ℕ, Bool
 use Rattle.std.specs.List.{position}
 use Rattle.std.proofs.Math.Path.{fun_ext}
 use Rattle.std.specs.Cmp.Lexicographic.{nat_list_cmp_total}
-use Rattle.std.specs.FinMap.{get}
+use Rattle.std.specs.FinMap.{get, slice_cmp-IsAntisymmetric, nat_cmp-IsAntisymmetric}
 use Rattle.bep_model.specs.Tables.{Device}
 use Rattle.bep_machine.specs.declared.moved.Moved.TheVariants.{Changed}
 use Rattle.bep_machine.specs.declared.step.Step.TheVariants.{Restart}
@@ -18,10 +18,11 @@ use Rattle.bep_links.specs.Link.{LinkBetween}
 use Rattle.bep_peer.specs.Member.{Member, tables_of}
 use Rattle.bep_core.specs.Network.{Network, IsNetwork, is_between as joins, is_number, cluster_of, ends_of, numbers_of, sharing_of, member_at, between_at, peer_of, link_of}
 use Rattle.bep_core.specs.Restart.{left_by}
-use Rattle.bep_core.proofs.Changed.{get-changed}
+use Rattle.bep_peer.proofs.Mapped.{get-changed}
 use Rattle.bep_core.proofs.Lift.{joins_ends, network_after_links}
 use Rattle.bep_core.proofs.OneDevice.{Replaces, with_member, one_device, network_after}
-use Rattle.bep_core.proofs.SameFolders.{SameFolders, outline}
+use Rattle.bep_peer.proofs.RowsKeep.{outline}
+use Rattle.bep_core.proofs.SameFolders.{SameFolders}
 use Rattle.bep_core.proofs.Sharing.{listed, not_listed}
 use Rattle.bep_core.proofs.Within.{replaces}
 
@@ -29,7 +30,7 @@ use Rattle.bep_core.proofs.Within.{replaces}
 pub restart_keeps : (old new : Peer) → new ≡ restarted old → SameFolders old.replicas new.replicas
 restart_keeps old new is folder =
     ap (λ (p : Peer). option_map outline (get p.replicas folder)) is
-    ∙ ap (option_map outline) (get-changed _ without_pulls nat_list_cmp_total old.replicas folder)
+    ∙ ap (option_map outline) (get-changed nat_list_cmp_total (slice_cmp-IsAntisymmetric nat_cmp-IsAntisymmetric) without_pulls old.replicas folder)
     ∙ outlines (get old.replicas folder)
   where
     outlines : (found : Option Replica) → option_map outline (option_map without_pulls found) ≡ option_map outline found

@@ -11,11 +11,8 @@ use Rattle.bep_machine.specs.Cluster.{Config}
 use Rattle.bep_machine.specs.Replica.{Replica}
 use Rattle.bep_machine.specs.Sound.{FitsFolder}
 use Rattle.bep_machine.specs.Steps.{SharesFolder}
+use Rattle.bep_peer.proofs.RowsKeep.{outline}
 use Rattle.bep_core.specs.Network.{kind_of}
-
--- a replica's kind, and who shares the folder
-abbrev pub outline : Replica → FolderKind × List Device
-outline replica = (replica.kind, replica.others)
 
 -- the same folders, each in the same kind and shared by the same devices
 abbrev pub SameFolders : ByName Replica → ByName Replica → Type 0

@@ -15,8 +15,9 @@ use Rattle.bep_machine.specs.Exchange.{SessionRow, ReplicaRow, BeginRow, LosingR
 use Rattle.bep_machine.specs.Link.{Sight}
 use Rattle.bep_machine.specs.Peer.{Peer, Acted, Session, idle, with_session}
 use Rattle.bep_machine.specs.Replica.{Pull, Replica, pull_at}
-use Rattle.bep_core.proofs.Keeping.{Keeping, becoming, refusing, either}
-use Rattle.bep_core.proofs.SameFolders.{SameFolders, folder_changed, outline}
+use Rattle.bep_peer.proofs.Keeping.{Keeping, becoming, refusing, either}
+use Rattle.bep_peer.proofs.RowsKeep.{outline}
+use Rattle.bep_core.proofs.SameFolders.{SameFolders, folder_changed}
 
 -- the device has the same folders as before
 abbrev pub HasSame : Peer → Acted → Type 0

@@ -24,7 +24,7 @@ use Rattle.bep_core.proofs.AtLinks.{first_found}
 use Rattle.bep_core.proofs.OthersThat.{same_number}
 use Rattle.bep_core.proofs.Changed.{tables_at}
 use Rattle.bep_core.proofs.OneDevice.{Replaces, with_member, one_device, nothing_changed}
-use Rattle.bep_core.proofs.RowsKeep.{Keeps}
+use Rattle.bep_peer.proofs.RowsKeep.{Keeps}
 use Rattle.bep_core.proofs.SameFolders.{SameFolders, equal_folders, folder_changed}
 use Rattle.bep_core.proofs.Sharing.{absent_shares_none, without_shares_none}
 

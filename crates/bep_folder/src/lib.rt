@@ -43,6 +43,8 @@ mod start_pull;
 #[cfg(test)]
 mod tests;
 mod traced;
+#[cfg(test)]
+mod vain_tests;
 mod views;
 mod wanted;
 

@@ -22,7 +22,7 @@ type Left = ([u8; 2], u8, [u64; 2]);
 // The answer to the end of a pull, which call of the store failed in it, whether it wrote a copy, and what it left.
 type Ended = (Result<Moved, FolderError>, (Option<u32>, bool), Left);
 
-fn notes(alloc: Global) -> Option<Name> {
+pub(crate) fn notes(alloc: Global) -> Option<Name> {
     Name::read(alloc, b"notes.txt").ok()
 }
 
@@ -31,7 +31,12 @@ fn copy(alloc: Global) -> Option<Name> {
 }
 
 // The record of the file with these bytes that this device made.
-fn record(alloc: Global, device: u64, version: &[(u64, u64)], bytes: &[u8]) -> Option<Record> {
+pub(crate) fn record(
+    alloc: Global,
+    device: u64,
+    version: &[(u64, u64)],
+    bytes: &[u8],
+) -> Option<Record> {
     let modified_by = DeviceId::read(device)?;
     let version = Vector::read(version)?;
     let name = notes(alloc)?;
@@ -55,7 +60,7 @@ fn record(alloc: Global, device: u64, version: &[(u64, u64)], bytes: &[u8]) -> O
     made.ok()
 }
 
-fn node(alloc: Global, bytes: &[u8]) -> Option<Node> {
+pub(crate) fn node(alloc: Global, bytes: &[u8]) -> Option<Node> {
     let bytes = Vec::from_slice(alloc, bytes).ok()?;
     let made = Node::read(NodeParts {
         kind: Kind::File,
@@ -208,11 +213,18 @@ fn a_losing_file_is_kept(rt: HostRuntime) {
         (None, false),
         ([b'a', b'h'], 0xba, [1, 1]),
     );
-    let fault = (Err(FolderError::StoreFault), (Some(4), true), copied);
+    let fault = Err(FolderError::StoreFault);
+    let before = ([b'a', b'-'], 0xba, [1, 1]);
+    let done = (Ok(Moved::Changed), (None, true), both);
     let again = (Err(FolderError::NotNeeded), (None, false), both);
+    let copy_found = (Ok(Moved::Changed), (None, false), both);
+    // the edit is the first call of the store
     for (call, is_taken, ends) in [
-        (0, false, [(Ok(Moved::Changed), (None, true), both), again]),
-        (5, false, [fault, (Ok(Moved::Changed), (None, false), both)]),
+        (0, false, [done, again]),
+        (2, false, [(fault, (Some(1), false), before), done]),
+        (3, false, [(fault, (Some(2), false), before), done]),
+        (4, false, [(fault, (Some(3), false), before), done]),
+        (5, false, [(fault, (Some(4), true), copied), copy_found]),
         (0, true, [other, other]),
     ] {
         assert_eq!(rt; conflicts(rt.alloc(), call, is_taken), Some(ends));

@@ -36,14 +36,14 @@ fn removed(alloc: Global, replica: &mut Replica<MemStore>) -> Option<Moved> {
     replica.remove(&name).ok()
 }
 
-fn scanned(alloc: Global, replica: &mut Replica<MemStore>) -> Option<Moved> {
+fn scanned<S: Store>(alloc: Global, replica: &mut Replica<S>) -> Option<Moved> {
     let name = Name::read(alloc, b"a").ok()?;
     let node = replica.look(&name).ok()?;
     let scan = ScanResult::plain(alloc, name, node).ok()?;
     replica.commit(scan).ok()
 }
 
-fn own(alloc: Global, replica: &Replica<MemStore>) -> Option<Own> {
+fn own<S: Store>(alloc: Global, replica: &Replica<S>) -> Option<Own> {
     let name = Name::read(alloc, b"a").ok()?;
     let (one, two) = (DeviceId::read(1)?, DeviceId::read(2)?);
     let entry = replica.index().get(&name)?.entry();
@@ -128,24 +128,37 @@ fn an_override_wins(rt: HostRuntime) {
     assert_eq!(rt; overrides(rt.alloc()), Some(wanted));
 }
 
-// What a local change in a receive-only folder is, and what its revert leaves.
-fn reverted(alloc: Global, replica: &mut Replica<MemStore>) -> Option<[Own; 2]> {
+// What a local change in a receive-only folder is, the answer to its revert, and what that leaves.
+fn reverted<S: Store>(
+    alloc: Global,
+    replica: &mut Replica<S>,
+) -> Option<(Own, Result<Moved, FolderError>, Own)> {
     edited(alloc, replica)?;
     scanned(alloc, replica)?;
     let changed = own(alloc, replica)?;
     let name = Name::read(alloc, b"a").ok()?;
-    replica.revert_one(&name).ok()?;
-    Some([changed, own(alloc, replica)?])
+    let answer = replica.revert_one(&name);
+    Some((changed, answer, own(alloc, replica)?))
 }
 
-fn reverts(alloc: Global) -> Option<[Own; 2]> {
-    let mut replica = begun(alloc, FolderKind::ReceiveOnly)?;
+// This call of the store fails, of which the edit is the first.
+fn reverts(alloc: Global, call: u64) -> Option<(Own, Result<Moved, FolderError>, Own)> {
+    let store = FaultStore::new(MemStore::new(alloc), call);
+    let mut replica = folder_over(alloc, FolderKind::ReceiveOnly, store)?;
+    replica.index.put(directory(alloc, b'a', 1)?).ok()?;
     reverted(alloc, &mut replica)
 }
 
-// A local change keeps the old version and is marked; its revert is a deletion under the empty version.
+// A local change keeps the old version and is marked; its revert is a deletion under the empty version. Where the file can't
+// be removed, the record is as before.
 #[test]
 fn a_revert_gives_up_a_local_change(rt: HostRuntime) {
-    let wanted = [(2, 999, [1, 0], false, true), (3, 999, [0, 0], true, false)];
-    assert_eq!(rt; reverts(rt.alloc()), Some(wanted));
+    let changed = (2, 999, [1, 0], false, true);
+    let deleted = (3, 999, [0, 0], true, false);
+    for (call, answer, left) in [
+        (0, Ok(Moved::Changed), deleted),
+        (5, Err(FolderError::StoreFault), changed),
+    ] {
+        assert_eq!(rt; reverts(rt.alloc(), call), Some((changed, answer, left)));
+    }
 }

@@ -30,7 +30,7 @@ IsIndex-after_put index entry is not_full room = record {
   distinct = HaveOwnNumbers-insert index.records index.sequence (numbered entry (index.sequence + 1)) is.numbered is.distinct (omega arith);
 }
 
-given_back-insert : (records : ByName Entry) (name : List ℕ) (entry : Entry) (before : Option Entry) → get records name ≡ before → given_back (insert records name entry) name before ≡ records
+pub given_back-insert : (records : ByName Entry) (name : List ℕ) (entry : Entry) (before : Option Entry) → get records name ≡ before → given_back (insert records name entry) name before ≡ records
 given_back-insert records name entry None was = remove-insert nat_list_cmp_total exact_bytes records name entry was
 given_back-insert records name entry (Some e) was =
     insert-twice nat_list_cmp_total exact_bytes records name entry e ∙ insert-what_is_there nat_list_cmp_total exact_bytes records name e was

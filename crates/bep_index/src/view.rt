@@ -97,7 +97,8 @@ impl View {
         ensures err { OnErr result (self.new ≡ self.old) }
     {
         let sequence = last_sequence_of(0, batch.as_slice());
-        let records = put_all(NameMap::new(self.alloc), self.alloc, batch.into_vec())?;
+        let mut records = NameMap::new(self.alloc);
+        put_all(&mut records, self.alloc, &mut batch.into_vec().into_iter())?;
         self.records = records;
         self.sequence = sequence;
         Ok(())
@@ -126,9 +127,8 @@ impl View {
         if batch.as_slice().is_empty() {
             return Ok(());
         }
-        // A copy is changed and put in place at the end, so that want of memory leaves the view as it is.
-        let records = put_all(self.records.copy(self.alloc)?, self.alloc, batch.into_vec())?;
-        self.records = records;
+        let mut records = batch.into_vec().into_iter();
+        put_all(&mut self.records, self.alloc, &mut records)?;
         self.sequence = sequence;
         Ok(())
     }

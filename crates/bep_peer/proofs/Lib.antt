@@ -1,6 +1,8 @@
 mod BeginFacts
 mod ConfigFacts
-mod Mapped
+pub mod Mapped
+pub mod Keeping
+pub mod RowsKeep
 mod OthersKept
 mod OwnFacts
 mod Cursors

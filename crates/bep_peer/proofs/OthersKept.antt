@@ -1,133 +1,36 @@
--- A step within a folder changes nothing of who shares it.
-use Rattle.std.proofs.Common.{◌≡◌, ℕ, Option, Some, None, Result, Ok, Err, refl, ap, ◌∙◌, ⊎_elim}
-use Rattle.bep_record.specs.declared.entry.Entry.{Entry}
-use Rattle.bep_record.specs.declared.node.NodeParts.{NodeParts}
+-- Who shares a folder stays, whatever a call makes of a row that keeps its outline.
+use Rattle.std.proofs.Common.{◌≡◌, List, Result, Ok, Err, ap, ⊎_elim}
 use Rattle.bep_record.specs.declared.folder_kind.FolderKind.{FolderKind}
-use Rattle.bep_record.specs.declared.folder_kind.FolderKind.TheVariants.{SendReceive, SendOnly, ReceiveOnly}
-use Rattle.bep_model.specs.Tables.{Device, FileName}
+use Rattle.bep_model.specs.Tables.{Device}
 use Rattle.bep_machine.specs.declared.moved.Moved.{Moved}
-use Rattle.bep_machine.specs.declared.moved.Moved.TheVariants.{Changed}
-use Rattle.bep_machine.specs.Answer.{Answer, Done, Row, becomes, when◌then◌else◌, ◌answers◌when◌else◌}
-use Rattle.bep_machine.specs.Local.{EditRow, RemoveRow, PutRow, FoundRow, ScanRow, OverridingRow, OverrideRow, RevertedRow, RevertRow}
-use Rattle.bep_machine.specs.Pull.{StartPullRow, SettlingRow, RoomRow, CopyingRow, EndingRow, FinishRow, IsAdopted}
-use Rattle.bep_machine.specs.Replica.{Pull, Replica, own_at, node_at, with_node, with_record, without_pull}
+use Rattle.bep_machine.specs.Answer.{Row}
+use Rattle.bep_machine.specs.Replica.{Replica}
 use Rattle.bep_folder.specs.declared.error.FolderError.{FolderError}
 use Rattle.bep_folder.specs.declared.error.FolderError.TheVariants as errors
 use Rattle.bep_folder.specs.Held.{Held}
 use Rattle.bep_folder.specs.Makes.{Makes}
+use Rattle.bep_peer.proofs.RowsKeep.{Keeps, outline}
 
--- whatever the row makes is shared with the same devices
-abbrev pub Keeps : Replica → Row Replica → Type 0
-Keeps old row = (new : Replica) (answer : Answer) → row new answer → new.others ≡ old.others
-
-becoming : (old made : Replica) (given : Answer) → made.others ≡ old.others → Keeps old (becomes made given)
-becoming old made given same new answer is = ap (λ (r : Replica). r.others) is.0 ∙ same
-
--- a row that refuses first, of any state of the same folder
-refusing : (old start : Replica) (given : Answer) (condition : Type 0) (rest : Row Replica) → start.others ≡ old.others → Keeps old rest → Keeps old (start answers given when condition else rest)
-refusing old start given condition rest same keeps new answer is =
-    ⊎_elim (λ refused. ap (λ (r : Replica). r.others) refused.1.0 ∙ same) (λ made. keeps new answer made.1) is
-
-either : (old : Replica) (condition : Type 0) (one other : Row Replica) → Keeps old one → Keeps old other → Keeps old (when condition then one else other)
-either old condition one other keeps keeps_too new answer is = ⊎_elim (λ made. keeps new answer made.1) (λ made. keeps_too new answer made.1) is
-
-node_given : (old start : Replica) (name : FileName) (node : Option NodeParts) → start.others ≡ old.others → (with_node start name node).others ≡ old.others
-node_given old start name None same = same
-node_given old start name (Some node) same = same
-
--- ---- a user's changes
-
-pub edit_keeps : (name : FileName) (node : NodeParts) (failed : Option ℕ) (old : Replica) → Keeps old (EditRow name node failed old)
-edit_keeps name node failed old = refusing old old _ _ _ refl (becoming old _ _ refl)
-
-pub remove_keeps : (name : FileName) (failed : Option ℕ) (old : Replica) → Keeps old (RemoveRow name failed old)
-remove_keeps name failed old = refusing old old _ _ _ refl (refusing old old _ _ _ refl (refusing old old _ _ _ refl (becoming old _ _ refl)))
-
--- ---- records of the device's own
-
-put_keeps : (name : FileName) (IsNew : Entry → Type 0) (old : Replica) → Keeps old (PutRow name IsNew old)
-put_keeps name IsNew old = refusing old old _ _ _ refl (refusing old old _ _ _ refl (λ new answer made. becoming old _ _ refl new answer made.2))
-
-found_keeps : (kind : FolderKind) (device : Device) (name : FileName) (old : Replica) → Keeps old (FoundRow kind device name old)
-found_keeps ReceiveOnly device name old = put_keeps name _ old
-found_keeps SendReceive device name old = refusing old old _ _ _ refl (refusing old old _ _ _ refl (put_keeps name _ old))
-found_keeps SendOnly device name old = refusing old old _ _ _ refl (refusing old old _ _ _ refl (put_keeps name _ old))
-
-pub scan_keeps : (device : Device) (name : FileName) (failed : Option ℕ) (old : Replica) → Keeps old (ScanRow device name failed old)
-scan_keeps device name failed old = refusing old old _ _ _ refl (refusing old old _ _ _ refl (found_keeps old.kind device name old))
-
-overriding_keeps : (device : Device) (name : FileName) (chosen : Entry) (old : Replica) → Keeps old (OverridingRow device name chosen old)
-overriding_keeps device name chosen old = refusing old old _ _ _ refl (refusing old old _ _ _ refl (put_keeps name _ old))
-
-pub override_keeps : (device : Device) (name : FileName) (old : Replica) → Keeps old (OverrideRow device name old)
-override_keeps device name old =
-    refusing old old _ _ _ refl (refusing old old _ _ _ refl (λ new answer made. overriding_keeps device name made.0 old new answer made.2))
-
-reverted_keeps : (device : Device) (name : FileName) (failed : Option ℕ) (own : Option Entry) (old : Replica) → Keeps old (RevertedRow device name failed own old)
-reverted_keeps device name failed None old = λ new answer made. absurd made
-reverted_keeps device name failed (Some own) old = refusing old old _ _ _ refl (becoming old _ _ refl)
-
-pub revert_keeps : (device : Device) (name : FileName) (failed : Option ℕ) (old : Replica) → Keeps old (RevertRow device name failed old)
-revert_keeps device name failed old =
-    refusing old old _ _ _ refl (refusing old old _ _ _ refl (refusing old old _ _ _ refl (refusing old old _ _ _ refl (refusing old old _ _ _ refl
-    (reverted_keeps device name failed (own_at old name) old)))))
-
--- ---- pulls
-
-pub start_keeps : (device : Device) (name : FileName) (old : Replica) → Keeps old (StartPullRow device name old)
-start_keeps device name old =
-    refusing old old _ _ _ refl (λ new answer made.
-    refusing old old _ _ _ refl (refusing old old _ _ _ refl (refusing old old _ _ _ refl (becoming old _ _ refl))) new answer made.2)
-
-settling_keeps : (name : FileName) (pull : Pull) (call : ℕ) (failed : Option ℕ) (own : Option Entry) (node : Option NodeParts) (old start : Replica) → start.others ≡ old.others → Keeps old (SettlingRow name pull call failed own node start)
-settling_keeps name pull call failed own held old start same new answer is =
-    ⊎_elim
-    (λ wanting. becoming old start _ same new answer wanting)
-    (λ made. refusing old start _ _ _ same (λ (new : Replica) (answer : Answer) (more : (entry : Entry) × IsAdopted own pull.target entry × becomes (without_pull (with_record (with_node start name made.0) entry) name) (Done Changed) new answer).
-    becoming old _ _ (node_given old start name made.0 same) new answer more.2) new answer made.2)
-    is
-
-room_keeps : (name : FileName) (own : Option Entry) (target : Entry) (old : Replica) (rest : Row Replica) → Keeps old rest → Keeps old (RoomRow name own target old rest)
-room_keeps name own target old rest keeps = refusing old old _ _ _ refl (refusing old old _ _ _ refl (refusing old old _ _ _ refl keeps))
-
-copying_keeps : (name : FileName) (pull : Pull) (failed : Option ℕ) (own : Option Entry) (node : Option NodeParts) (old : Replica) → Keeps old (CopyingRow name pull failed own node old)
-copying_keeps name pull failed own node old =
-    refusing old old _ _ _ refl (refusing old old _ _ _ refl (refusing old old _ _ _ refl (room_keeps name own pull.target old _
-    (either old _ _ _
-    (refusing old old _ _ _ refl (settling_keeps name pull 4 failed own node old _ (node_given old old _ node refl)))
-    (settling_keeps name pull 3 failed own node old old refl)))))
-
-ending_keeps : (name : FileName) (pull : Pull) (failed : Option ℕ) (old : Replica) → Keeps old (EndingRow name pull failed old)
-ending_keeps name pull failed old =
-    refusing old old _ _ _ refl (refusing old old _ _ _ refl (refusing old old _ _ _ refl
-    (either old _ _ _
-    (copying_keeps name pull failed (own_at old name) (node_at old name) old)
-    (room_keeps name (own_at old name) pull.target old _ (settling_keeps name pull 2 failed (own_at old name) (node_at old name) old old refl)))))
-
-pub finish_keeps : (device : Device) (name : FileName) (failed : Option ℕ) (old : Replica) → Keeps old (FinishRow device name failed old)
-finish_keeps device name failed old =
-    refusing old old _ _ _ refl (λ new answer made.
-    either old _ _ _ (ending_keeps name made.0 failed old) (becoming old _ _ refl) new answer made.2)
-
--- ---- what a call makes
+alike : (row : Replica → Row Replica) (old new : Held) (result : Result Moved FolderError) → Keeps old.tables (row old.tables) → Makes row old new result → outline new.tables ≡ outline old.tables
+alike row old new (Ok moved) keeps made = keeps _ _ made
+alike row old new (Err errors.Memory) keeps made = ⊎_elim (λ same. ap outline same) (λ made. keeps _ _ made) made
+alike row old new (Err errors.CounterFull) keeps made = keeps _ _ made
+alike row old new (Err errors.TooManyCounters) keeps made = keeps _ _ made
+alike row old new (Err errors.NameBad) keeps made = keeps _ _ made
+alike row old new (Err errors.SequenceFull) keeps made = keeps _ _ made
+alike row old new (Err errors.IndexFull) keeps made = keeps _ _ made
+alike row old new (Err errors.BatchOld) keeps made = absurd made
+alike row old new (Err errors.StoreFault) keeps made = keeps _ _ made
+alike row old new (Err errors.Unscanned) keeps made = keeps _ _ made
+alike row old new (Err errors.NotNeeded) keeps made = keeps _ _ made
+alike row old new (Err errors.BlocksMissing) keeps made = keeps _ _ made
+alike row old new (Err errors.HashBad) keeps made = absurd made
+alike row old new (Err errors.CopyExists) keeps made = keeps _ _ made
+alike row old new (Err errors.PullsFull) keeps made = keeps _ _ made
+alike row old new (Err errors.KindForbids) keeps made = keeps _ _ made
+alike row old new (Err errors.Stale) keeps made = absurd made
+alike row old new (Err errors.NotShared) keeps made = keeps _ _ made
+alike row old new (Err errors.NothingToDo) keeps made = keeps _ _ made
 
 pub makes_keeps : (row : Replica → Row Replica) (old new : Held) (result : Result Moved FolderError) → Keeps old.tables (row old.tables) → Makes row old new result → new.tables.others ≡ old.tables.others
-makes_keeps row old new (Ok moved) keeps made = keeps _ _ made
-makes_keeps row old new (Err errors.Memory) keeps made = ⊎_elim (λ same. ap (λ (r : Replica). r.others) same) (λ made. keeps _ _ made) made
-makes_keeps row old new (Err errors.CounterFull) keeps made = keeps _ _ made
-makes_keeps row old new (Err errors.TooManyCounters) keeps made = keeps _ _ made
-makes_keeps row old new (Err errors.NameBad) keeps made = keeps _ _ made
-makes_keeps row old new (Err errors.SequenceFull) keeps made = keeps _ _ made
-makes_keeps row old new (Err errors.IndexFull) keeps made = keeps _ _ made
-makes_keeps row old new (Err errors.BatchOld) keeps made = absurd made
-makes_keeps row old new (Err errors.StoreFault) keeps made = keeps _ _ made
-makes_keeps row old new (Err errors.Unscanned) keeps made = keeps _ _ made
-makes_keeps row old new (Err errors.NotNeeded) keeps made = keeps _ _ made
-makes_keeps row old new (Err errors.BlocksMissing) keeps made = keeps _ _ made
-makes_keeps row old new (Err errors.HashBad) keeps made = absurd made
-makes_keeps row old new (Err errors.CopyExists) keeps made = keeps _ _ made
-makes_keeps row old new (Err errors.PullsFull) keeps made = keeps _ _ made
-makes_keeps row old new (Err errors.KindForbids) keeps made = keeps _ _ made
-makes_keeps row old new (Err errors.Stale) keeps made = absurd made
-makes_keeps row old new (Err errors.NotShared) keeps made = keeps _ _ made
-makes_keeps row old new (Err errors.NothingToDo) keeps made = keeps _ _ made
+makes_keeps row old new result keeps made = ap (λ (line : FolderKind × List Device). line.1) (alike row old new result keeps made)

@@ -17,7 +17,8 @@ use Rattle.bep_peer.specs.declared.trace.Trace.{Trace}
 use Rattle.bep_peer.specs.Member.{Member, AreOwn, tables_of, untold}
 use Rattle.bep_peer.specs.PeerError.{Gives}
 use Rattle.bep_peer.specs.Within.{CommitsWithin, FindsWithin, IsStale, StepWithin, answer_of, told_of, with_folder}
-use Rattle.bep_peer.proofs.OthersKept.{makes_keeps, scan_keeps}
+use Rattle.bep_peer.proofs.OthersKept.{makes_keeps}
+use Rattle.bep_peer.proofs.RowsKeep.{scan_keeps}
 use Rattle.bep_peer.proofs.WithinFacts.{its_value, left_with, left_within, made_within, same_tables}
 
 -- ---- a commit

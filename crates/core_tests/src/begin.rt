@@ -1,40 +1,47 @@
 //! A device that begins sessions over a link. What it answers and sends was worked out by hand, by BEP v1, 'Cluster
 //! Config', and by this project's table of steps.
+use crate::made::docs;
 use bep_folder::Replica;
 use bep_index::IndexId;
 use bep_links::{Link, Side};
 use bep_machine::{Message, Moved, Refusal};
 use bep_map::FolderMap;
 use bep_peer::{Peer, PeerError};
-use bep_record::{DeviceId, FolderKind, FolderName};
+use bep_record::{DeviceId, FolderKind};
 use bep_store::MemStore;
 use std::alloc::Global;
+
+fn only(alloc: Global, device: DeviceId) -> Option<Vec<DeviceId>> {
+    Vec::from_slice(alloc, &[device]).ok()
+}
+
+// Device 2's folder `docs`, which device 1 has too.
+fn replica(alloc: Global, number: DeviceId, other: DeviceId) -> Option<Replica<MemStore>> {
+    let (kind, id) = (FolderKind::SendReceive, IndexId::read(12)?);
+    let others = only(alloc, other)?;
+    let docs = docs(alloc)?;
+    Replica::new(alloc, number, docs, kind, id, others, MemStore::new(alloc))
+}
+
+fn folders(
+    alloc: Global,
+    number: DeviceId,
+    other: DeviceId,
+) -> Option<FolderMap<Replica<MemStore>>> {
+    let replica = replica(alloc, number, other)?;
+    let docs = docs(alloc)?;
+    let mut folders = FolderMap::new(alloc);
+    match folders.insert(docs, replica) {
+        Ok(_) => Some(folders),
+        Err(_) => None,
+    }
+}
 
 // Device 2, which shares the folder `docs` with device 1, and has a link with it.
 pub(crate) fn device(alloc: Global) -> Option<Peer<MemStore>> {
     let (number, other) = (DeviceId::read(2)?, DeviceId::read(1)?);
-    let docs = FolderName::read(alloc, b"docs").ok()?;
-    let kind = FolderKind::SendReceive;
-    let others = Vec::from_slice(alloc, &[other]).ok()?;
-    let named = docs.copy(alloc).ok()?;
-    let store = MemStore::new(alloc);
-    let replica = Replica::new(
-        alloc,
-        number,
-        named,
-        kind,
-        IndexId::read(12)?,
-        others,
-        store,
-    )?;
-    let mut folders = FolderMap::new(alloc);
-    folders.insert(docs, replica).ok()?;
-    Peer::new(
-        alloc,
-        number,
-        folders,
-        Vec::from_slice(alloc, &[other]).ok()?,
-    )
+    let linked = only(alloc, other)?;
+    Peer::new(alloc, number, folders(alloc, number, other)?, linked)
 }
 
 pub(crate) fn link_between(alloc: Global, lower: u64, upper: u64) -> Option<Link> {

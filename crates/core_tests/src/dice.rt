@@ -1,9 +1,10 @@
 //! Steps by a fixed generator, on a cluster of three devices. `compare/fixed.py` takes the same steps by the second
 //! reading, and prints the digests of its answers.
+use crate::made::{file, link, named, share};
 use bep_config::Config;
 use bep_core::{Cluster, Why};
 use bep_machine::{Moved, Step};
-use bep_record::{DeviceId, FolderKind, FolderName, Items, Kind, Name, Node, NodeParts, Target};
+use bep_record::{DeviceId, FolderKind, FolderName, Name, Node};
 use bep_store::MemStore;
 use std::alloc::Global;
 
@@ -24,40 +25,23 @@ impl Dice {
     }
 }
 
-fn share(
-    alloc: Global,
-    config: &mut Config<MemStore>,
-    folder: &[u8],
-    device: u64,
-    kind: FolderKind,
-    id: u64,
-) -> Option<()> {
-    let folder = FolderName::read(alloc, folder).ok()?;
-    let store = MemStore::new(alloc);
-    config
-        .add_device(&folder, DeviceId::read(device)?, kind, id, store)
-        .ok()
-}
-
-fn link(config: &mut Config<MemStore>, lower: u64, upper: u64) -> Option<()> {
-    config
-        .add_link(DeviceId::read(lower)?, DeviceId::read(upper)?)
-        .ok()
-}
-
 // Three devices share `docs`, two of them `music`, and all are linked.
-fn cluster(alloc: Global) -> Option<Cluster<MemStore>> {
-    let mut config = Config::empty(alloc);
+fn configured(alloc: Global, config: &mut Config<MemStore>) -> Option<()> {
     config.add_folder(b"docs").ok()?;
     config.add_folder(b"music").ok()?;
-    share(alloc, &mut config, b"docs", 1, FolderKind::SendReceive, 11)?;
-    share(alloc, &mut config, b"docs", 2, FolderKind::SendReceive, 12)?;
-    share(alloc, &mut config, b"docs", 3, FolderKind::ReceiveOnly, 13)?;
-    share(alloc, &mut config, b"music", 1, FolderKind::SendOnly, 21)?;
-    share(alloc, &mut config, b"music", 2, FolderKind::SendReceive, 22)?;
-    link(&mut config, 1, 2)?;
-    link(&mut config, 1, 3)?;
-    link(&mut config, 2, 3)?;
+    share(alloc, config, b"docs", 1, FolderKind::SendReceive, 11)?;
+    share(alloc, config, b"docs", 2, FolderKind::SendReceive, 12)?;
+    share(alloc, config, b"docs", 3, FolderKind::ReceiveOnly, 13)?;
+    share(alloc, config, b"music", 1, FolderKind::SendOnly, 21)?;
+    share(alloc, config, b"music", 2, FolderKind::SendReceive, 22)?;
+    link(config, 1, 2)?;
+    link(config, 1, 3)?;
+    link(config, 2, 3)
+}
+
+fn cluster(alloc: Global) -> Option<Cluster<MemStore>> {
+    let mut config = Config::empty(alloc);
+    configured(alloc, &mut config)?;
     Cluster::new(alloc, config).ok()
 }
 
@@ -67,15 +51,7 @@ fn node(alloc: Global, bit: u64) -> Option<Node> {
         2 | 5 => b"abc",
         _ => b"",
     };
-    let bytes = Vec::from_slice(alloc, text).ok()?;
-    let made = Node::read(NodeParts {
-        kind: Kind::File,
-        bytes: Items::new(bytes),
-        target: Target::empty(alloc),
-        modified_s: i64::try_from(bit).ok()?.checked_add(1000)?,
-        modified_ns: 0,
-    });
-    made.ok()
+    file(alloc, text, i64::try_from(bit).ok()?.checked_add(1000)?)
 }
 
 // What a step is about.
@@ -89,8 +65,13 @@ struct Drawn {
     name: Name,
 }
 
+// The device at this place of the three, counted around.
+fn device_at(place: u64) -> Option<DeviceId> {
+    DeviceId::read(place.checked_rem(3)?.checked_add(1)?)
+}
+
 fn draw(alloc: Global, dice: &mut Dice) -> Option<Drawn> {
-    let (kind, device, shift) = (dice.below(24), dice.below(3), dice.below(2));
+    let (kind, place, shift) = (dice.below(24), dice.below(3), dice.below(2));
     let folder: &[u8] = if dice.below(2) == 0 {
         b"docs"
     } else {
@@ -101,19 +82,17 @@ fn draw(alloc: Global, dice: &mut Dice) -> Option<Drawn> {
         1 => b"b",
         _ => b"c",
     };
+    let bit = dice.below(8);
+    let device = device_at(place)?;
+    let other = device_at(place.checked_add(shift)?.checked_add(1)?)?;
+    let folder = FolderName::read(alloc, folder).ok()?;
     Some(Drawn {
         kind,
-        bit: dice.below(8),
-        device: DeviceId::read(device.checked_add(1)?)?,
-        other: DeviceId::read(
-            device
-                .checked_add(shift)?
-                .checked_add(1)?
-                .checked_rem(3)?
-                .checked_add(1)?,
-        )?,
-        folder: FolderName::read(alloc, folder).ok()?,
-        name: Name::read(alloc, name).ok()?,
+        bit,
+        device,
+        other,
+        folder,
+        name: named(alloc, name)?,
     })
 }
 

@@ -10,6 +10,8 @@ mod dice;
 #[cfg(test)]
 mod local;
 #[cfg(test)]
+mod made;
+#[cfg(test)]
 mod restart;
 #[cfg(test)]
 mod script;

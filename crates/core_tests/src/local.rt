@@ -1,44 +1,35 @@
 //! A device that changes a file of its own, and records it. What it answers was worked out by hand, by this project's
 //! table of steps.
 use crate::begin::device;
+use crate::made::{docs, file, named};
 use bep_folder::ScanResult;
 use bep_machine::Moved;
 use bep_peer::Peer;
-use bep_record::{FolderName, Items, Kind, Name, Node, NodeParts, Target};
+use bep_record::FolderName;
 use bep_store::MemStore;
 use std::alloc::Global;
 
 type Answers = [Option<Moved>; 2];
 
-// A file of one byte.
-fn file(alloc: Global) -> Option<Node> {
-    let bytes = Vec::from_slice(alloc, b"7").ok()?;
-    let made = Node::read(NodeParts {
-        kind: Kind::File,
-        bytes: Items::new(bytes),
-        target: Target::empty(alloc),
-        modified_s: 999,
-        modified_ns: 0,
-    });
-    made.ok()
-}
-
 fn edited(alloc: Global, peer: &mut Peer<MemStore>, docs: &FolderName) -> Option<Moved> {
-    let name = Name::read(alloc, b"a").ok()?;
-    peer.edit(docs, &name, &file(alloc)?).ok()
+    let file = file(alloc, b"7", 999)?;
+    peer.edit(docs, &named(alloc, b"a")?, &file).ok()
 }
 
 fn found(alloc: Global, peer: &mut Peer<MemStore>, docs: &FolderName) -> Option<ScanResult> {
-    let name = Name::read(alloc, b"a").ok()?;
+    let name = named(alloc, b"a")?;
     let node = peer.look(docs, &name).ok()?;
     ScanResult::plain(alloc, name, node).ok()
+}
+
+fn taken_away(alloc: Global, peer: &mut Peer<MemStore>, docs: &FolderName) -> Option<Moved> {
+    peer.remove(docs, &named(alloc, b"a")?).ok()
 }
 
 // What a commit answers before which the file was taken away, by its number.
 fn removed(alloc: Global, peer: &mut Peer<MemStore>, docs: &FolderName) -> Option<u32> {
     let scan = found(alloc, peer, docs)?;
-    let name = Name::read(alloc, b"a").ok()?;
-    peer.remove(docs, &name).ok()?;
+    taken_away(alloc, peer, docs)?;
     peer.scan_commit(docs, scan).err()?.number()
 }
 
@@ -51,7 +42,7 @@ fn recorded(
     alloc: Global,
     peer: &mut Peer<MemStore>,
 ) -> Option<(Option<Moved>, Option<u32>, Answers)> {
-    let docs = FolderName::read(alloc, b"docs").ok()?;
+    let docs = docs(alloc)?;
     edited(alloc, peer, &docs)?;
     let first = scanned(alloc, peer, &docs);
     let stale = removed(alloc, peer, &docs);

@@ -1,9 +1,10 @@
 //! Lists of steps in short words, and what a cluster answers to them.
 use crate::dice::code_of;
+use crate::made::{docs, file, link, named, share};
 use bep_config::Config;
 use bep_core::Cluster;
 use bep_machine::Step;
-use bep_record::{DeviceId, FolderKind, FolderName, Items, Kind, Name, Node, NodeParts, Target};
+use bep_record::{DeviceId, FolderKind, FolderName, Name, Node};
 use bep_store::MemStore;
 use std::alloc::Global;
 
@@ -27,141 +28,142 @@ pub(crate) enum Do<'a> {
     Restart(u64),
 }
 
-pub(crate) fn docs(alloc: Global) -> Option<FolderName> {
-    FolderName::read(alloc, b"docs").ok()
-}
-
-/// The file of these bytes.
-pub(crate) fn file(alloc: Global, bytes: &[u8], modified_s: i64) -> Option<Node> {
-    let bytes = Vec::from_slice(alloc, bytes).ok()?;
-    let made = Node::read(NodeParts {
-        kind: Kind::File,
-        bytes: Items::new(bytes),
-        target: Target::empty(alloc),
-        modified_s,
-        modified_ns: 0,
-    });
-    made.ok()
-}
-
-fn share(
-    alloc: Global,
-    config: &mut Config<MemStore>,
-    device: u64,
-    kind: FolderKind,
-) -> Option<()> {
-    let device_id = DeviceId::read(device)?;
-    let (folder, store) = (docs(alloc)?, MemStore::new(alloc));
-    config
-        .add_device(&folder, device_id, kind, device.checked_add(10)?, store)
-        .ok()
+fn share_both(alloc: Global, config: &mut Config<MemStore>, kinds: [FolderKind; 2]) -> Option<()> {
+    config.add_folder(b"docs").ok()?;
+    share(alloc, config, b"docs", 1, kinds[0], 11)?;
+    share(alloc, config, b"docs", 2, kinds[1], 12)?;
+    link(config, 1, 2)
 }
 
 /// Devices 1 and 2, which share `docs` in these kinds with the index ids 11 and 12, and their link.
 pub(crate) fn pair(alloc: Global, kinds: [FolderKind; 2]) -> Option<Cluster<MemStore>> {
     let mut config = Config::empty(alloc);
-    config.add_folder(b"docs").ok()?;
-    share(alloc, &mut config, 1, kinds[0])?;
-    share(alloc, &mut config, 2, kinds[1])?;
-    config
-        .add_link(DeviceId::read(1)?, DeviceId::read(2)?)
-        .ok()?;
+    share_both(alloc, &mut config, kinds)?;
     Cluster::new(alloc, config).ok()
 }
 
+// A name of a device's folder.
+#[derive(Drop)]
+struct Place {
+    device: DeviceId,
+    folder: FolderName,
+    name: Name,
+}
+
+fn place_of(alloc: Global, device: u64, name: &[u8]) -> Option<Place> {
+    let device = DeviceId::read(device)?;
+    let folder = docs(alloc)?;
+    Some(Place {
+        device,
+        folder,
+        name: named(alloc, name)?,
+    })
+}
+
+fn edit_step(alloc: Global, device: u64, name: &[u8], node: Node) -> Option<Step> {
+    let Place {
+        device,
+        folder,
+        name,
+    } = place_of(alloc, device, name)?;
+    Some(Step::Edit(device, folder, name, node))
+}
+
+fn ask_step(alloc: Global, device: u64, other: u64, name: &[u8]) -> Option<Step> {
+    let other = DeviceId::read(other)?;
+    let Place {
+        device,
+        folder,
+        name,
+    } = place_of(alloc, device, name)?;
+    Some(Step::Ask(device, other, folder, name))
+}
+
 // The step of a device with a name alone.
-fn step_on(alloc: Global, device: u64, name: &[u8]) -> Option<(DeviceId, FolderName, Name)> {
-    Some((
-        DeviceId::read(device)?,
-        docs(alloc)?,
-        Name::read(alloc, name).ok()?,
-    ))
-}
-
-// The two ends of a step.
-fn ends(one: u64, other: u64) -> Option<(DeviceId, DeviceId)> {
-    Some((DeviceId::read(one)?, DeviceId::read(other)?))
-}
-
-fn file_step(alloc: Global, step: Do<'_>) -> Option<Step> {
+fn step_at(step: Do<'_>, place: Place) -> Option<Step> {
+    let Place {
+        device,
+        folder,
+        name,
+    } = place;
     match step {
-        Do::Edit(device, name, bytes, time) => {
-            let (device, folder, name) = step_on(alloc, device, name)?;
-            Some(Step::Edit(device, folder, name, file(alloc, bytes, time)?))
-        }
-        Do::Remove(device, name) => {
-            let (device, folder, name) = step_on(alloc, device, name)?;
-            Some(Step::Remove(device, folder, name))
-        }
-        Do::Scan(device, name) => {
-            let (device, folder, name) = step_on(alloc, device, name)?;
-            Some(Step::Scan(device, folder, name))
-        }
-        Do::Override(device, name) => {
-            let (device, folder, name) = step_on(alloc, device, name)?;
-            Some(Step::Override(device, folder, name))
-        }
-        Do::Revert(device, name) => {
-            let (device, folder, name) = step_on(alloc, device, name)?;
-            Some(Step::Revert(device, folder, name))
-        }
+        Do::Remove(_, _) => Some(Step::Remove(device, folder, name)),
+        Do::Scan(_, _) => Some(Step::Scan(device, folder, name)),
+        Do::Override(_, _) => Some(Step::Override(device, folder, name)),
+        Do::Revert(_, _) => Some(Step::Revert(device, folder, name)),
+        Do::Pull(_, _) => Some(Step::StartPull(device, folder, name)),
+        Do::Finish(_, _) => Some(Step::Finish(device, folder, name)),
         _ => None,
     }
 }
 
-fn pull_step(alloc: Global, step: Do<'_>) -> Option<Step> {
+// The step of two devices alone.
+fn step_between(step: Do<'_>, one: u64, other: u64) -> Option<Step> {
+    let (one, other) = (DeviceId::read(one)?, DeviceId::read(other)?);
     match step {
-        Do::Pull(device, name) => {
-            let (device, folder, name) = step_on(alloc, device, name)?;
-            Some(Step::StartPull(device, folder, name))
-        }
-        Do::Ask(device, other, name) => {
-            let (device, folder, name) = step_on(alloc, device, name)?;
-            Some(Step::Ask(device, DeviceId::read(other)?, folder, name))
-        }
-        Do::Finish(device, name) => {
-            let (device, folder, name) = step_on(alloc, device, name)?;
-            Some(Step::Finish(device, folder, name))
-        }
+        Do::Connect(_, _) => Some(Step::Connect(one, other)),
+        Do::Lose(_, _) => Some(Step::Lose(one, other)),
+        Do::Begin(_, _) => Some(Step::Begin(one, other)),
+        Do::Deliver(_, _) => Some(Step::Deliver(one, other)),
         _ => None,
     }
 }
 
-fn link_step(alloc: Global, step: Do<'_>) -> Option<Step> {
-    match step {
-        Do::Connect(lower, upper) => ends(lower, upper).map(|ends| Step::Connect(ends.0, ends.1)),
-        Do::Lose(lower, upper) => ends(lower, upper).map(|ends| Step::Lose(ends.0, ends.1)),
-        Do::Begin(one, other) => ends(one, other).map(|ends| Step::Begin(ends.0, ends.1)),
-        Do::Deliver(one, other) => ends(one, other).map(|ends| Step::Deliver(ends.0, ends.1)),
-        Do::Announce(one, other) => {
-            let (one, other) = ends(one, other)?;
-            Some(Step::Announce(one, other, docs(alloc)?))
-        }
-        Do::Restart(device) => DeviceId::read(device).map(Step::Restart),
-        _ => None,
-    }
+fn announce_step(alloc: Global, one: u64, other: u64) -> Option<Step> {
+    let (one, other) = (DeviceId::read(one)?, DeviceId::read(other)?);
+    docs(alloc).map(|docs| Step::Announce(one, other, docs))
 }
 
 fn step_of(alloc: Global, step: Do<'_>) -> Option<Step> {
-    file_step(alloc, step)
-        .or_else(|| pull_step(alloc, step))
-        .or_else(|| link_step(alloc, step))
+    match step {
+        Do::Edit(device, name, bytes, time) => {
+            edit_step(alloc, device, name, file(alloc, bytes, time)?)
+        }
+        Do::Remove(device, name)
+        | Do::Scan(device, name)
+        | Do::Override(device, name)
+        | Do::Revert(device, name)
+        | Do::Pull(device, name)
+        | Do::Finish(device, name) => step_at(step, place_of(alloc, device, name)?),
+        Do::Ask(device, other, name) => ask_step(alloc, device, other, name),
+        Do::Connect(one, other)
+        | Do::Lose(one, other)
+        | Do::Begin(one, other)
+        | Do::Deliver(one, other) => step_between(step, one, other),
+        Do::Announce(one, other) => announce_step(alloc, one, other),
+        Do::Restart(device) => DeviceId::read(device).map(Step::Restart),
+    }
 }
 
 /// The answer to one step: the number of a refusal, or 0 to 3 for Changed, Unchanged, Dropped and LinkLost.
 pub(crate) fn answer(alloc: Global, cluster: &mut Cluster<MemStore>, step: Do<'_>) -> Option<u32> {
-    code_of(cluster.apply(step_of(alloc, step)?))
+    let step = step_of(alloc, step)?;
+    code_of(cluster.apply(step))
 }
 
-/// The answers to these steps, one after the other.
-pub(crate) fn answers(
+/// Takes the steps, one after the other, and puts what each answers behind the answers so far.
+pub(crate) fn take(
     alloc: Global,
     cluster: &mut Cluster<MemStore>,
     steps: &[Do<'_>],
-) -> Option<Vec<u32>> {
-    let mut answers = Vec::new(alloc);
+    answers: &mut Vec<u32>,
+) -> Option<()> {
     for step in steps {
         answers.push(answer(alloc, cluster, *step)?).ok()?;
     }
-    Some(answers)
+    Some(())
+}
+
+/// Takes the steps, if each of them changes something.
+pub(crate) fn all_change(
+    alloc: Global,
+    cluster: &mut Cluster<MemStore>,
+    steps: &[Do<'_>],
+) -> Option<()> {
+    for step in steps {
+        if answer(alloc, cluster, *step)? != 0 {
+            return None;
+        }
+    }
+    Some(())
 }

@@ -12,7 +12,7 @@ use Rattle.clap.specs.Walk.{Held, Names, Outcome, Step, Waiting, Walk, after_fla
 use Rattle.clap.specs.Faults.{check_fault, defaults_fault, entered_fault, level_fault, other_fault, settle_fault, turn_fault, walk_fault, word_fault}
 use Rattle.clap.specs.declared.parser.matches.ArgMatches.{ArgMatches}
 use Rattle.clap.specs.declared.parser.matches.ArgMatches.TheViews.{out-ArgMatches}
-use Rattle.syncaudit.specs.Mode.{Asks, form_of, program}
+use Rattle.syncaudit.specs.Mode.{Asks, ending_of, form_of, program}
 use Rattle.syncaudit.specs.declared.mode.Mode.{Mode}
 use Rattle.syncaudit.specs.declared.mode.Mode.TheVariants.{Check, Certify, Explain, Run}
 
@@ -204,7 +204,7 @@ mode_named : (words : List Text) → NamesMode (option_map (λ met. met.0) (subc
 mode_named words (inl is) = (Check, is)
 mode_named words (inr (inl is)) = (Certify, is)
 mode_named words (inr (inr (inl is))) = (Explain (form_of (subcommand_of program words)), (is, refl))
-mode_named words (inr (inr (inr is))) = (Run, is)
+mode_named words (inr (inr (inr is))) = (Run (ending_of (subcommand_of program words)), (is, refl))
 
 -- so they ask for a mode
 pub asked_mode : (words : List Text) → fault_of program words ≡ [] → (mode : Mode) × Asks words mode

@@ -5,6 +5,7 @@ use Rattle.bep_report.specs.declared.error.ReportError.TheVariants.{Memory}
 use Rattle.clap.specs.Words.{Text, fault_of}
 use Rattle.syncaudit.specs.Mode.{program}
 use Rattle.syncaudit.specs.Status.{IsDone, IsFollowed, status_of}
+use Rattle.syncaudit.specs.declared.mode.Ending.TheVariants.{Report, Document}
 use Rattle.syncaudit.specs.declared.mode.Mode.{Mode}
 use Rattle.syncaudit.specs.declared.mode.Mode.TheVariants.{Check, Certify, Explain, Run}
 use Rattle.syncaudit.proofs.ModeFacts.{asked_mode}
@@ -13,7 +14,8 @@ done_without_memory : (mode : Mode) (unread held : Option (List ℕ)) (status : 
 done_without_memory Check unread held status told = record { answer = Err Memory; told = told; done = Keeps-refl held }
 done_without_memory Certify unread held status told = record { answer = Err Memory; told = told; done = Keeps-refl held }
 done_without_memory (Explain form) unread held status told = record { answer = Err Memory; told = told; done = Keeps-refl held }
-done_without_memory Run unread held status told = record { answer = Err Memory; told = told; done = Keeps-refl held }
+done_without_memory (Run Report) unread held status told = record { answer = Err Memory; told = told; done = Keeps-refl held }
+done_without_memory (Run Document) unread held status told = record { answer = Err Memory; told = told; done = Keeps-refl held }
 
 -- words at which nothing is at fault are followed, also where memory ran out first
 pub followed_without_memory : (words : List Text) (unread held : Option (List ℕ)) (status : ℕ) → status ≡ status_of (Err Memory) → fault_of program words ≡ []

@@ -1,10 +1,12 @@
 -- What words ask the program for.
-use Rattle.std.specs.Prelude.{◌≡◌, List, Option, Some, None, true, option_map, codes, if◌then◌else◌}
+use Rattle.std.specs.Prelude.{◌≡◌, Bool, List, Option, Some, None, true, false, option_map, codes, if◌then◌else◌}
 use Rattle.std.specs.Str.{bytes_eq}
 use Rattle.clap.specs.Words.{App, Row, Rule, Text, first_of, new_app, new_rule, with_rule, with_subcommand, subcommand_of}
 use Rattle.clap.specs.declared.builder.action.ArgAction.TheVariants.{SetTrue}
 use Rattle.bep_answer.specs.declared.outcome.Form.{Form}
 use Rattle.bep_answer.specs.declared.outcome.Form.TheVariants as forms
+use Rattle.syncaudit.specs.declared.mode.Ending.{Ending}
+use Rattle.syncaudit.specs.declared.mode.Ending.TheVariants.{Report, Document}
 use Rattle.syncaudit.specs.declared.mode.Mode.{Mode}
 use Rattle.syncaudit.specs.declared.mode.Mode.TheVariants.{Check, Certify, Explain, Run}
 
@@ -14,39 +16,47 @@ top_level =
     let new = new_app (codes "syncaudit") in
     record new { top = record new.top { has_version = true; subcommand_required = true; arg_required_else_help = true } }
 
--- the flag `--json`
-abbrev pub json_flag : Rule
-json_flag = record (new_rule (codes "json")) { long = Some (codes "json"); action = Some SetTrue }
+-- a flag of this name, as `--json`
+abbrev pub flag : Text → Rule
+flag name = record (new_rule name) { long = Some name; action = Some SetTrue }
 
 -- what the command line of the program is
 abbrev pub program : App
 program =
     let check = with_subcommand top_level (new_app (codes "check")).top in
     let certify = with_subcommand check (new_app (codes "certify")).top in
-    let explain = with_subcommand certify (with_rule (new_app (codes "explain")) json_flag).top in
-    with_subcommand explain (new_app (codes "run")).top
+    let explain = with_subcommand certify (with_rule (new_app (codes "explain")) (flag (codes "json"))).top in
+    with_subcommand explain (with_rule (new_app (codes "run")) (flag (codes "document"))).top
 
 -- the name of the subcommand in the words
 abbrev pub named : List Text → Option Text
 named words = option_map (λ met. met.0) (subcommand_of program words)
 
--- the form that a flag's value asks for
-abbrev pub form_for : Option Text → Form
-form_for None = forms.Text
-form_for (Some value) = if bytes_eq value (codes "true") then forms.Json else forms.Text
+-- whether a flag's value says that it is set
+abbrev pub is_true : Option Text → Bool
+is_true None = false
+is_true (Some value) = bytes_eq value (codes "true")
 
--- the form that a subcommand's matches ask for
-abbrev pub form_under : Option (List Row) → Form
-form_under None = forms.Text
-form_under (Some rows) = form_for (first_of (codes "json") rows)
+-- whether the flag is set in a subcommand's matches
+abbrev pub is_set_under : Text → Option (List Row) → Bool
+is_set_under name None = false
+is_set_under name (Some rows) = is_true (first_of name rows)
+
+-- whether the flag is set in the words of the subcommand
+abbrev pub is_set : Text → Option (Text × List Row) → Bool
+is_set name met = is_set_under name (option_map (λ one. one.1) met)
 
 -- the form that the subcommand in the words asks for
 abbrev pub form_of : Option (Text × List Row) → Form
-form_of met = form_under (option_map (λ one. one.1) met)
+form_of met = if is_set (codes "json") met then forms.Json else forms.Text
 
--- the words name the subcommand of this mode, and ask for its form
+-- what of a scenario's end the subcommand in the words asks for
+abbrev pub ending_of : Option (Text × List Row) → Ending
+ending_of met = if is_set (codes "document") met then Document else Report
+
+-- the words name the subcommand of this mode, and ask for what it says
 abbrev pub Asks : List Text → Mode → Type 0
 Asks words Check = named words ≡ Some (codes "check")
 Asks words Certify = named words ≡ Some (codes "certify")
 Asks words (Explain form) = (named words ≡ Some (codes "explain")) × (form ≡ form_of (subcommand_of program words))
-Asks words Run = named words ≡ Some (codes "run")
+Asks words (Run ending) = (named words ≡ Some (codes "run")) × (ending ≡ ending_of (subcommand_of program words))

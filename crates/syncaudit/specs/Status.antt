@@ -3,8 +3,9 @@ use Rattle.std.specs.Prelude.{◌≡◌, ◌⊎◌, ℕ, List, Option, Result, O
 use Rattle.std.specs.Io.KnownBytes.{Keeps}
 use Rattle.bep_answer.specs.Answer.{IsAnswered, IsCutShort}
 use Rattle.bep_answer.specs.Certified.{IsCertifiedWhole, IsUncertified}
+use Rattle.bep_answer.specs.Exchange.{IsEndedEarly, IsWhole}
 use Rattle.bep_answer.specs.Explained.{IsExplainedWhole, IsUnexplained}
-use Rattle.bep_answer.specs.Played.{IsRunWhole, IsUnrun}
+use Rattle.bep_answer.specs.Played.{IsEndOfBytes, IsRunWhole, IsUnrun}
 use Rattle.bep_answer.specs.declared.outcome.Certified.{Certified}
 use Rattle.bep_answer.specs.declared.outcome.Certified.TheVariants as certificates
 use Rattle.bep_answer.specs.declared.outcome.Form.{Form}
@@ -14,6 +15,8 @@ use Rattle.bep_report.specs.declared.error.ReportError.{ReportError}
 use Rattle.bep_report.specs.declared.error.ReportError.TheVariants.{Memory, Read, Write}
 use Rattle.clap.specs.Words.{Text}
 use Rattle.syncaudit.specs.Mode.{Asks}
+use Rattle.syncaudit.specs.declared.mode.Ending.{Ending}
+use Rattle.syncaudit.specs.declared.mode.Ending.TheVariants.{Report, Document}
 use Rattle.syncaudit.specs.declared.mode.Mode.{Mode}
 use Rattle.syncaudit.specs.declared.mode.Mode.TheVariants.{Check, Certify, Explain, Run}
 
@@ -63,12 +66,23 @@ pub record IsRunTold (unread left held now : Option (List ℕ)) (status : ℕ) :
   pub told : status ≡ status_of answer
   pub done : MatchResult answer (IsRunWhole unread left held now) (IsUnrun unread left held now)
 
+-- the document of a scenario's end was written or the scenario refused, or it was cut short, and the status tells which
+pub record IsEndTold (unread left held now : Option (List ℕ)) (status : ℕ) : Type 0 where
+  pub answer : Result Certified ReportError
+  pub told : status ≡ certified_status_of answer
+  pub done : MatchResult answer (IsWhole IsEndOfBytes unread left held now) (IsEndedEarly IsEndOfBytes unread left held now)
+
+-- what came of a scenario for each ending that is asked for
+abbrev pub IsEnding : Ending → Option (List ℕ) → Option (List ℕ) → Option (List ℕ) → Option (List ℕ) → ℕ → Type 0
+IsEnding Report = IsRunTold
+IsEnding Document = IsEndTold
+
 -- what came of the document in each mode
 abbrev pub IsDone : Mode → Option (List ℕ) → Option (List ℕ) → Option (List ℕ) → Option (List ℕ) → ℕ → Type 0
 IsDone Check = IsTold
 IsDone Certify = IsCertificateTold
 IsDone (Explain form) = IsExplanationTold form
-IsDone Run = IsRunTold
+IsDone (Run ending) = IsEnding ending
 
 -- the words ask for a mode, and this came of the document in it
 abbrev pub IsFollowed : List Text → Option (List ℕ) → Option (List ℕ) → Option (List ℕ) → Option (List ℕ) → ℕ → Type 0

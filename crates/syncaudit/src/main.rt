@@ -6,8 +6,10 @@ mod run;
 mod status;
 
 use crate::run::{run, run_without_words, words_of};
-pub use bep_answer::{Certified, Form, Outcome, certify_text, check_text, explain_text, run_text};
-pub use mode::{Mode, mode_of};
+pub use bep_answer::{
+    Certified, Form, Outcome, certify_text, check_text, explain_text, run_document, run_text,
+};
+pub use mode::{Ending, Mode, mode_of};
 pub use status::{certified_status_of, status_of};
 use std::process::ExitCode;
 

@@ -1,7 +1,7 @@
 //! What the words of the command line ask for.
-ghost use Rattle.std.specs.Prelude.{◌≡◌, IfOk, codes, map};
-ghost use Rattle.clap.specs.Words.{FailsBy, app_of, fault_of, first_value, found_of, subcommand_rows_of};
-ghost use Rattle.syncaudit.specs.Mode.{Asks, form_for, form_of, program};
+ghost use Rattle.std.specs.Prelude.{◌≡◌, IfOk, false, map};
+ghost use Rattle.clap.specs.Words.{FailsBy, app_of, fault_of, first_value, found_of, rule_of, subcommand_rows_of};
+ghost use Rattle.syncaudit.specs.Mode.{Asks, ending_of, flag, form_of, is_set, is_true, program};
 
 use bep_answer::Form;
 use clap::{Arg, ArgAction, ArgMatches, Command, Error};
@@ -17,8 +17,17 @@ pub enum Mode {
     Certify,
     /// Tell all that keeps the check document that comes on standard input from being settled, in this form.
     Explain(Form),
-    /// Make the steps of the scenario that comes on standard input, and audit where they lead.
-    Run,
+    /// Make the steps of the scenario that comes on standard input, and write this of where they lead.
+    Run(Ending),
+}
+
+/// What is written of the cut to which a scenario leads.
+#[derive(Clone, Copy, Debug, PartialEq, Eq)]
+pub enum Ending {
+    /// The refused steps, the report and the certificate.
+    Report,
+    /// The check document.
+    Document,
 }
 
 const COMMANDS_HELP: &str =
@@ -47,7 +56,9 @@ const EXPLAIN_HELP: &str =
 
 const RUN_HELP: &str =
     "The document FILE is a scenario, a cluster and its steps: DOCUMENTS.md describes it, and what is written.\n\n\
-     Example: syncaudit run < examples/scenarios/conflict.json\n\n\
+     Example: syncaudit run < examples/scenarios/conflict.json\n\
+     With --document it writes the check document of the end: 'syncaudit check' audits it. Its status 0 says that \
+     it was written, 1 that a name has no winner.\n\n\
      Exit status: 0 settled, 1 not settled, 2 document refused, 3 usage or help, 4 out of memory, \
      5 read or write fault";
 
@@ -63,19 +74,18 @@ fn command<'a>(alloc: Global) -> Result<Command<'a>, AllocError>
         .about("Writes the check document on standard input with the certificate of its cut")
         .override_usage("syncaudit certify < FILE")
         .after_help(CERTIFY_HELP);
-    let json = Arg::new(alloc, "json")
-        .long("json")
-        .action(ArgAction::SetTrue)
-        .help("Writes one JSON document");
+    let json = flag(alloc, "json", "Writes one JSON document");
     let explain = Command::new(alloc, "explain")
         .about("Tells all that keeps the check document on standard input from being settled")
         .override_usage("syncaudit explain [--json] < FILE")
         .after_help(EXPLAIN_HELP)
         .arg(json)?;
+    let document = flag(alloc, "document", "Writes the check document of the end");
     let run = Command::new(alloc, "run")
         .about("Makes the steps of the scenario on standard input, and audits where they lead")
-        .override_usage("syncaudit run < FILE")
-        .after_help(RUN_HELP);
+        .override_usage("syncaudit run [--document] < FILE")
+        .after_help(RUN_HELP)
+        .arg(document)?;
     Command::new(alloc, "syncaudit")
         .bin_name("syncaudit")?
         .version("0.1.0")
@@ -87,6 +97,17 @@ fn command<'a>(alloc: Global) -> Result<Command<'a>, AllocError>
         .subcommand(certify)?
         .subcommand(explain)?
         .subcommand(run)
+}
+
+// A flag of this name.
+fn flag<'a>(alloc: Global, name: &'a str, help: &'a str) -> Arg<'a>
+    ensures rule { rule_of result ≡ flag name.now }
+    ensures local { result.global ≡ false }
+{
+    Arg::new(alloc, name)
+        .long(name)
+        .action(ArgAction::SetTrue)
+        .help(help)
 }
 
 /// What the words ask for, of which the first is the program's name.
@@ -102,7 +123,7 @@ pub fn mode_of<'a, S: AsStr>(alloc: Global, words: &'a [S]) -> Result<Mode, Erro
         Some("check") => Ok(Mode::Check),
         Some("certify") => Ok(Mode::Certify),
         Some("explain") => Ok(Mode::Explain(form_of(&matches))),
-        Some("run") => Ok(Mode::Run),
+        Some("run") => Ok(Mode::Run(ending_of(&matches))),
         _ => unreachable!(),
     }
 }
@@ -111,18 +132,40 @@ pub fn mode_of<'a, S: AsStr>(alloc: Global, words: &'a [S]) -> Result<Mode, Erro
 fn form_of(matches: &ArgMatches<'_>) -> Form
     ensures { result ≡ form_of (subcommand_rows_of matches.now) }
 {
-    match matches.subcommand() {
-        Some((_, given)) => form_given(given),
-        None => Form::Text,
+    if is_set(matches, "json") {
+        Form::Json
+    } else {
+        Form::Text
     }
 }
 
-// The form that the flag asks for.
-fn form_given(given: &ArgMatches<'_>) -> Form
-    ensures { result ≡ form_for (first_value (found_of given.now) (codes "json")) }
+// What of a scenario's end the subcommand's words ask for.
+fn ending_of(matches: &ArgMatches<'_>) -> Ending
+    ensures { result ≡ ending_of (subcommand_rows_of matches.now) }
 {
-    match given.get_str("json") {
-        Some("true") => Form::Json,
-        _ => Form::Text,
+    if is_set(matches, "document") {
+        Ending::Document
+    } else {
+        Ending::Report
+    }
+}
+
+// Whether the subcommand's words set this flag.
+fn is_set(matches: &ArgMatches<'_>, name: &str) -> bool
+    ensures { result ≡ is_set name.now (subcommand_rows_of matches.now) }
+{
+    match matches.subcommand() {
+        Some((_, given)) => is_given(given, name),
+        None => false,
+    }
+}
+
+// Whether these matches set the flag.
+fn is_given(given: &ArgMatches<'_>, name: &str) -> bool
+    ensures { result ≡ is_true (first_value (found_of given.now) name.now) }
+{
+    match given.get_str(name) {
+        Some(value) => value == "true",
+        None => false,
     }
 }

@@ -5,13 +5,14 @@ ghost use Rattle.bep_answer.specs.Answer.{SaysSettled};
 ghost use Rattle.bep_answer.specs.Played.{EndsSettled};
 ghost use Rattle.bep_report.specs.declared.error.ReportError.TheVariants.{Memory};
 ghost use Rattle.syncaudit.specs.Mode.{Asks, program};
-ghost use Rattle.syncaudit.specs.Status.{IsCertificateTold, IsEnd, IsExplanationTold, IsFollowed, IsRunTold, IsTold, usage};
+ghost use Rattle.syncaudit.specs.Status.{IsCertificateTold, IsEnd, IsEndTold, IsEnding, IsExplanationTold, IsFollowed, IsRunTold, IsTold, usage};
 ghost use Rattle.syncaudit.specs.Status as spec;
+ghost use Rattle.syncaudit.specs.declared.mode.Ending.TheVariants.{Report};
 ghost use Rattle.syncaudit.specs.declared.mode.Mode.TheVariants.{Check, Run};
 
-use crate::mode::{Mode, mode_of};
+use crate::mode::{Ending, Mode, mode_of};
 use crate::status::{USAGE, certified_status_of, status_of};
-use bep_answer::{Certified, Form, Outcome, certified, checked, explained, run_text};
+use bep_answer::{Certified, Form, Outcome, certified, checked, explained, run_document, run_text};
 use bep_report::ReportError;
 use clap::error::ErrorKind;
 use std::convert::AsStr;
@@ -34,14 +35,14 @@ pub fn run<P: AllocGlobal + Eprint, R: Read, W: Write, S: AsStr>(
     ensures end { IsEnd (map S.text words.entry.now) (R.remaining reader.old) (R.remaining reader.new) (W.contents writer.old) (W.contents writer.new) result }
     ensures settled { Asks (map S.text words.entry.now) Check
         → result ≡ 0 → SaysSettled (R.remaining reader.old) (R.remaining reader.new) }
-    ensures ends_settled { Asks (map S.text words.entry.now) Run
+    ensures ends_settled { Asks (map S.text words.entry.now) (Run Report)
         → result ≡ 0 → EndsSettled (R.remaining reader.old) (R.remaining reader.new) }
 {
     match mode_of(rt.alloc(), words) {
         Ok(Mode::Check) => check(rt, reader, writer),
         Ok(Mode::Certify) => certify(rt, reader, writer),
         Ok(Mode::Explain(form)) => explain(rt, form, reader, writer),
-        Ok(Mode::Run) => run_scenario(rt, reader, writer),
+        Ok(Mode::Run(ending)) => run_scenario(rt, ending, reader, writer),
         Err(error) if error.kind() == ErrorKind::OutOfMemory => end(rt, Err(ReportError::Memory)),
         Err(error) => refuse(rt, error),
     }
@@ -116,8 +117,24 @@ fn explain<P: AllocGlobal + Eprint, R: Read, W: Write>(
     }
 }
 
-// Makes the steps of a scenario, and audits where they lead.
+// Makes the steps of a scenario, and writes what is asked for of where they lead.
 fn run_scenario<P: AllocGlobal + Eprint, R: Read, W: Write>(
+    rt: &P,
+    ending: Ending,
+    reader: &mut R,
+    writer: &mut W,
+) -> u8
+    ensures told { IsEnding ending (R.remaining reader.old) (R.remaining reader.new) (W.contents writer.old) (W.contents writer.new) result }
+    ensures settled { ending ≡ Report → result ≡ 0 → EndsSettled (R.remaining reader.old) (R.remaining reader.new) }
+{
+    match ending {
+        Ending::Report => report_on_scenario(rt, reader, writer),
+        Ending::Document => document_of_scenario(rt, reader, writer),
+    }
+}
+
+// Makes the steps of a scenario, and audits where they lead.
+fn report_on_scenario<P: AllocGlobal + Eprint, R: Read, W: Write>(
     rt: &P,
     reader: &mut R,
     writer: &mut W,
@@ -126,6 +143,23 @@ fn run_scenario<P: AllocGlobal + Eprint, R: Read, W: Write>(
     ensures settled { result ≡ 0 → EndsSettled (R.remaining reader.old) (R.remaining reader.new) }
 {
     end(rt, run_text(rt.alloc(), reader, writer))
+}
+
+// Makes the steps of a scenario, and writes the document of where they lead; what is refused of them is told.
+fn document_of_scenario<P: AllocGlobal + Eprint, R: Read, W: Write>(
+    rt: &P,
+    reader: &mut R,
+    writer: &mut W,
+) -> u8
+    ensures { IsEndTold (R.remaining reader.old) (R.remaining reader.new) (W.contents writer.old) (W.contents writer.new) result }
+{
+    match run_document(rt.alloc(), reader, writer) {
+        Ok((outcome, told)) => {
+            tell(rt, told);
+            end_certified(rt, Ok(outcome))
+        }
+        Err(error) => end_certified(rt, Err(error)),
+    }
 }
 
 // Tells where a refused document is at fault, as far as there is something to say.

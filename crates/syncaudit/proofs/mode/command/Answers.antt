@@ -1,11 +1,9 @@
-use Rattle.std.proofs.Common.{◌≡◌, ◌||◌, true, false, codes, Some, ap, ap₂, ◌∙◌}
+use Rattle.std.proofs.Common.{◌≡◌, ◌||◌, true, false, codes, ap, ap₂, ◌∙◌}
 use Rattle.std.proofs.lemmas.Result.{IfOk-weaker}
-use Rattle.clap.specs.Words.{App, Rule, app_of, new_app, rule_of, with_rule, with_subcommand}
-use Rattle.clap.specs.declared.builder.action.ArgAction.TheVariants.{SetTrue}
-use Rattle.clap.specs.declared.builder.arg.Arg.{Arg}
+use Rattle.clap.specs.Words.{App, app_of, new_app, with_rule, with_subcommand}
 use Rattle.clap.specs.declared.builder.command.Command.TheViews.{out-Command}
 use Rattle.clap.specs.Simple.{app_of_fields, on_top}
-use Rattle.syncaudit.specs.Mode.{json_flag}
+use Rattle.syncaudit.specs.Mode.{flag}
 use Rattle.syncaudit.proofs.mode.command.Goals as goal
 
 abbrev with_version : App → App
@@ -23,17 +21,16 @@ returns c =
     let check_local : (out-Command c.after_help-check.result).has_globals ≡ false = ap (λ f. f.has_globals) c.after_help-check.ensures ∙ ap (λ f. f.has_globals) c.override_usage.ensures ∙ ap (λ f. f.has_globals) c.about.ensures ∙ c.new.ensures.local in
     let certify : app_of c.after_help-certify.result ≡ new_app (codes "certify") = ap app_of_fields c.after_help-certify.ensures ∙ ap app_of_fields c.override_usage-2.ensures ∙ ap app_of_fields c.about-2.ensures ∙ c.new-2.ensures.app in
     let certify_local : (out-Command c.after_help-certify.result).has_globals ≡ false = ap (λ f. f.has_globals) c.after_help-certify.ensures ∙ ap (λ f. f.has_globals) c.override_usage-2.ensures ∙ ap (λ f. f.has_globals) c.about-2.ensures ∙ c.new-2.ensures.local in
-    let json : rule_of c.help-json.result ≡ json_flag = ap rule_of c.help-json.ensures ∙ ap rule_of c.action.ensures
-    ∙ ap (λ (r : Rule). record r { action = Some SetTrue }) (ap rule_of c.long.ensures ∙ ap (λ (r : Rule). record r { long = Some (codes "json") }) c.new-3.ensures.rule) in
-    let json_local : c.help-json.result.global ≡ false = ap (λ (a : Arg). a.global) c.help-json.ensures ∙ ap (λ (a : Arg). a.global) c.action.ensures ∙ ap (λ (a : Arg). a.global) c.long.ensures ∙ c.new-3.ensures.optional.1 in
-    let plain : app_of c.after_help.result ≡ new_app (codes "explain") = ap app_of_fields c.after_help.ensures ∙ ap app_of_fields c.override_usage-3.ensures ∙ ap app_of_fields c.about-3.ensures ∙ c.new-4.ensures.app in
-    let plain_local : (out-Command c.after_help.result).has_globals ≡ false = ap (λ f. f.has_globals) c.after_help.ensures ∙ ap (λ f. f.has_globals) c.override_usage-3.ensures ∙ ap (λ f. f.has_globals) c.about-3.ensures ∙ c.new-4.ensures.local in
-    let explain : app_of c.in_ok-explain.explain ≡ with_rule (new_app (codes "explain")) json_flag = c.in_ok-explain.ensures.shape json_local ∙ ap₂ with_rule plain json in
-    let explain_local : (out-Command c.in_ok-explain.explain).has_globals ≡ false = c.in_ok-explain.ensures.globals ∙ ap₂ (λ x y. x || y) plain_local json_local in
-    let run : app_of c.after_help-run.result ≡ new_app (codes "run") = ap app_of_fields c.after_help-run.ensures ∙ ap app_of_fields c.override_usage-4.ensures ∙ ap app_of_fields c.about-4.ensures ∙ c.new-5.ensures.app in
-    let run_local : (out-Command c.after_help-run.result).has_globals ≡ false = ap (λ f. f.has_globals) c.after_help-run.ensures ∙ ap (λ f. f.has_globals) c.override_usage-4.ensures ∙ ap (λ f. f.has_globals) c.about-4.ensures ∙ c.new-5.ensures.local in
-    let named : app_of c.in_ok-bin_name.field-0 ≡ new_app (codes "syncaudit") = ap app_of_fields c.in_ok-bin_name.ensures.0 ∙ c.new-6.ensures.app in
-    let versioned : app_of c.after_help-2.result ≡ with_version (new_app (codes "syncaudit")) = ap app_of_fields c.after_help-2.ensures ∙ ap app_of_fields c.about-5.ensures ∙ ap app_of_fields c.version.ensures ∙ ap with_version named in
+    let plain : app_of c.after_help.result ≡ new_app (codes "explain") = ap app_of_fields c.after_help.ensures ∙ ap app_of_fields c.override_usage-3.ensures ∙ ap app_of_fields c.about-3.ensures ∙ c.new-3.ensures.app in
+    let plain_local : (out-Command c.after_help.result).has_globals ≡ false = ap (λ f. f.has_globals) c.after_help.ensures ∙ ap (λ f. f.has_globals) c.override_usage-3.ensures ∙ ap (λ f. f.has_globals) c.about-3.ensures ∙ c.new-3.ensures.local in
+    let explain : app_of c.in_ok-explain.explain ≡ with_rule (new_app (codes "explain")) (flag (codes "json")) = c.in_ok-explain.ensures.shape c.flag-json.ensures.local ∙ ap₂ with_rule plain c.flag-json.ensures.rule in
+    let explain_local : (out-Command c.in_ok-explain.explain).has_globals ≡ false = c.in_ok-explain.ensures.globals ∙ ap₂ (λ x y. x || y) plain_local c.flag-json.ensures.local in
+    let running : app_of c.after_help-2.result ≡ new_app (codes "run") = ap app_of_fields c.after_help-2.ensures ∙ ap app_of_fields c.override_usage-4.ensures ∙ ap app_of_fields c.about-4.ensures ∙ c.new-4.ensures.app in
+    let running_local : (out-Command c.after_help-2.result).has_globals ≡ false = ap (λ f. f.has_globals) c.after_help-2.ensures ∙ ap (λ f. f.has_globals) c.override_usage-4.ensures ∙ ap (λ f. f.has_globals) c.about-4.ensures ∙ c.new-4.ensures.local in
+    let run : app_of c.in_ok-run.run' ≡ with_rule (new_app (codes "run")) (flag (codes "document")) = c.in_ok-run.ensures.shape c.flag-document.ensures.local ∙ ap₂ with_rule running c.flag-document.ensures.rule in
+    let run_local : (out-Command c.in_ok-run.run').has_globals ≡ false = c.in_ok-run.ensures.globals ∙ ap₂ (λ x y. x || y) running_local c.flag-document.ensures.local in
+    let named : app_of c.in_ok-bin_name.field-0 ≡ new_app (codes "syncaudit") = ap app_of_fields c.in_ok-bin_name.ensures.0 ∙ c.new-5.ensures.app in
+    let versioned : app_of c.after_help-3.result ≡ with_version (new_app (codes "syncaudit")) = ap app_of_fields c.after_help-3.ensures ∙ ap app_of_fields c.about-5.ensures ∙ ap app_of_fields c.version.ensures ∙ ap with_version named in
     let required : app_of c.subcommand_required.result ≡ with_required (with_version (new_app (codes "syncaudit"))) = ap app_of_fields c.subcommand_required.ensures ∙ ap with_required versioned in
     let helping = ap app_of_fields c.arg_required_else_help.ensures ∙ ap with_help required in
     let checking = c.in_ok-subcommand.ensures.shape check_local ∙ ap₂ with_subcommand helping (ap (λ (a : App). a.top) check) in

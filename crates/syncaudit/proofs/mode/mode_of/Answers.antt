@@ -1,5 +1,5 @@
 use Rattle.std.proofs.Common.{◌≡◌, inl, inr, Some, option_map, codes, sym, ap, subst, ◌∙◌, rules}
-use Rattle.syncaudit.specs.Mode.{form_of}
+use Rattle.syncaudit.specs.Mode.{ending_of, form_of}
 use Rattle.syncaudit.proofs.ModeFacts.{no_fault, name_told, rows_told, tells_mode, NamesMode, not_named}
 use Rattle.syncaudit.proofs.mode.mode_of.Goals as goal
 use Rattle.syncaudit.proofs.mode.mode_of.Goals.{in_default-via-in-Some+in_default, in_default-via-in_default}
@@ -22,6 +22,14 @@ returns-in-Some-explain-clause-asked g c =
     let named : c.in-Some-explain.field-0.now ≡ codes "explain" = search (rules, c.in-Some-explain.is-explain) in (
       name_told _ _ _ c.in_ok-command.ensures c.in_ok-matches.ensures.matches ∙ sym lent ∙ ap Some named,
       c.form_of.ensures ∙ ap form_of (rows_told _ _ _ c.in_ok-command.ensures c.in_ok-matches.ensures.matches),
+    )
+
+pub returns-in-Some-run-clause-asked : goal.returns-in-Some-run-clause-asked
+returns-in-Some-run-clause-asked g c =
+    let lent = sym (ap (option_map (λ s. s.now)) c.in-Some-run.is) ∙ c.subcommand_name.ensures in
+    let named : c.in-Some-run.field-0.now ≡ codes "run" = search (rules, c.in-Some-run.is-run) in (
+      name_told _ _ _ c.in_ok-command.ensures c.in_ok-matches.ensures.matches ∙ sym lent ∙ ap Some named,
+      c.ending_of.ensures ∙ ap ending_of (rows_told _ _ _ c.in_ok-command.ensures c.in_ok-matches.ensures.matches),
     )
 
 pub unreachable-requires : goal.unreachable-requires

@@ -5,7 +5,7 @@ use Rattle.bep_machine.specs.declared.step.Step.TheVariants.{Edit}
 use Rattle.bep_machine.specs.Steps.{IsStep}
 use Rattle.bep_core.specs.Network.{failed_at}
 use Rattle.bep_core.proofs.DeviceSteps.{none_within, within_made, within_rules}
-use Rattle.bep_core.proofs.RowsKeep.{edit_keeps}
+use Rattle.bep_peer.proofs.RowsKeep.{edit_keeps}
 use Rattle.bep_core.proofs.cluster.Cluster.edit.Goals as goal
 
 pub returns-in_default : goal.returns-in_default

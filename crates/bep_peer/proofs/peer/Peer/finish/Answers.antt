@@ -1,6 +1,7 @@
 use Rattle.std.proofs.Common.{◌∙◌}
 use Rattle.bep_machine.specs.Pull.{FinishRow}
-use Rattle.bep_peer.proofs.OthersKept.{makes_keeps, finish_keeps}
+use Rattle.bep_peer.proofs.OthersKept.{makes_keeps}
+use Rattle.bep_peer.proofs.RowsKeep.{finish_keeps}
 use Rattle.bep_peer.proofs.WithinFacts.{told_by, steps_within, remains_within, only_within, copied_within, kept_within, member_within, tells_within}
 use Rattle.bep_peer.proofs.peer.Peer.finish.Goals as goal
 

@@ -1,6 +1,7 @@
 use Rattle.std.proofs.Common.{◌∙◌}
 use Rattle.bep_machine.specs.Local.{OverrideRow}
-use Rattle.bep_peer.proofs.OthersKept.{makes_keeps, override_keeps}
+use Rattle.bep_peer.proofs.OthersKept.{makes_keeps}
+use Rattle.bep_peer.proofs.RowsKeep.{override_keeps}
 use Rattle.bep_peer.proofs.WithinFacts.{told_by, steps_within, remains_within, only_within, member_within, tells_within}
 use Rattle.bep_peer.proofs.peer.Peer.override_one.Goals as goal
 

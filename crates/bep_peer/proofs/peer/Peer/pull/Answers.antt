@@ -1,6 +1,7 @@
 use Rattle.std.proofs.Common.{◌∙◌}
 use Rattle.bep_machine.specs.Pull.{StartPullRow}
-use Rattle.bep_peer.proofs.OthersKept.{makes_keeps, start_keeps}
+use Rattle.bep_peer.proofs.OthersKept.{makes_keeps}
+use Rattle.bep_peer.proofs.RowsKeep.{start_keeps}
 use Rattle.bep_peer.proofs.WithinFacts.{told_by, steps_within, remains_within, only_within, member_within, tells_within}
 use Rattle.bep_peer.proofs.peer.Peer.pull.Goals as goal
 

@@ -1,6 +1,7 @@
 use Rattle.std.proofs.Common.{◌∙◌}
 use Rattle.bep_machine.specs.Local.{RevertRow}
-use Rattle.bep_peer.proofs.OthersKept.{makes_keeps, revert_keeps}
+use Rattle.bep_peer.proofs.OthersKept.{makes_keeps}
+use Rattle.bep_peer.proofs.RowsKeep.{revert_keeps}
 use Rattle.bep_peer.proofs.WithinFacts.{told_by, steps_within, remains_within, only_within, member_within, tells_within}
 use Rattle.bep_peer.proofs.peer.Peer.revert_one.Goals as goal
 

@@ -1,5 +1,5 @@
 -- A step within a folder changes nothing of its kind, and of who shares it.
-use Rattle.std.proofs.Common.{◌≡◌, ℕ, Option, Some, None, refl, ⊎_elim}
+use Rattle.std.proofs.Common.{◌≡◌, ℕ, List, Option, Some, None, refl, ⊎_elim}
 use Rattle.bep_record.specs.declared.entry.Entry.{Entry}
 use Rattle.bep_record.specs.declared.node.NodeParts.{NodeParts}
 use Rattle.bep_record.specs.declared.folder_kind.FolderKind.{FolderKind}
@@ -10,8 +10,11 @@ use Rattle.bep_machine.specs.Answer.{Answer, Done, Row, becomes}
 use Rattle.bep_machine.specs.Local.{EditRow, RemoveRow, PutRow, FoundRow, ScanRow, OverridingRow, OverrideRow, RevertedRow, RevertRow}
 use Rattle.bep_machine.specs.Pull.{StartPullRow, SettlingRow, RoomRow, CopyingRow, EndingRow, FinishRow, IsAdopted}
 use Rattle.bep_machine.specs.Replica.{Pull, Replica, own_at, node_at, with_node, with_record, without_pull}
-use Rattle.bep_core.proofs.Keeping.{Keeping, becoming, refusing, either}
-use Rattle.bep_core.proofs.SameFolders.{outline}
+use Rattle.bep_peer.proofs.Keeping.{Keeping, becoming, refusing, either}
+
+-- a replica's kind, and who shares the folder
+abbrev pub outline : Replica → FolderKind × List Device
+outline replica = (replica.kind, replica.others)
 
 -- of the same kind, and shared with the same devices
 abbrev pub IsLike : Replica → Replica → Type 0

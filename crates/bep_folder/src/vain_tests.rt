@@ -1,0 +1,145 @@
+//! What comes to nothing: an older record, a pull that own edits overtake, a scan whose node is changed before it is put or
+//! can't be read, and an edit after the last counter. Worked out by hand, by BEP v1, 'Vector', and by this project's profile.
+use crate::pull_tests::{node, notes, record};
+use crate::tests::{folder, folder_over};
+use crate::*;
+use bep_index::Batch;
+use bep_machine::Moved;
+use bep_record::{DeviceId, FolderKind, Record};
+use bep_store::{FaultStore, MemStore, Store};
+use std::alloc::Global;
+
+// The greatest counter of a version.
+const LAST: u64 = 9223372036854775807;
+
+type Answer = Result<Moved, FolderError>;
+
+// Device 2's folder, with this own record of the file, or none.
+fn begun(alloc: Global, own: Option<Record>) -> Option<Replica<MemStore>> {
+    let mut replica = folder(alloc, FolderKind::SendReceive)?;
+    if let Some(own) = own {
+        replica.index.put(own).ok()?;
+    }
+    Some(replica)
+}
+
+// Device 1 sends this record.
+fn heard(alloc: Global, replica: &mut Replica<MemStore>, entry: Record) -> Option<()> {
+    let records = Vec::from_array(alloc, [entry]).ok()?;
+    let batch = Batch::new(records).ok()?;
+    replica.amend_view(DeviceId::read(1)?, batch).ok()
+}
+
+fn edited<S: Store>(alloc: Global, replica: &mut Replica<S>, bytes: &[u8]) -> Option<()> {
+    replica.edit(&notes(alloc)?, &node(alloc, bytes)?).ok()?;
+    Some(())
+}
+
+fn seen<S: Store>(
+    alloc: Global,
+    replica: &mut Replica<S>,
+) -> Option<Result<ScanResult, FolderError>> {
+    let name = notes(alloc)?;
+    match replica.look(&name) {
+        Ok(node) => Some(Ok(ScanResult::plain(alloc, name, node).ok()?)),
+        Err(error) => Some(Err(error)),
+    }
+}
+
+fn scanned<S: Store>(alloc: Global, replica: &mut Replica<S>) -> Option<Answer> {
+    let scan = match seen(alloc, replica)? {
+        Ok(scan) => scan,
+        Err(error) => return Some(Err(error)),
+    };
+    Some(replica.commit(scan))
+}
+
+// The sequence of the own record and its counter of device 2.
+fn own<S: Store>(alloc: Global, replica: &Replica<S>) -> Option<(u64, u64)> {
+    let entry = replica.index().get(&notes(alloc)?)?.entry();
+    Some((entry.sequence, entry.version.get(DeviceId::read(2)?)))
+}
+
+// A pull of a record that is older than the own one.
+fn old_record(alloc: Global) -> Option<Answer> {
+    let mut replica = begun(alloc, record(alloc, 1, &[(1, 2)], b"hello"))?;
+    edited(alloc, &mut replica, b"hello")?;
+    heard(alloc, &mut replica, record(alloc, 1, &[(1, 1)], b"abc")?)?;
+    Some(replica.start_pull(&notes(alloc)?))
+}
+
+#[test]
+fn an_older_record_is_not_pulled(rt: HostRuntime) {
+    assert_eq!(rt; old_record(rt.alloc()), Some(Err(FolderError::NotNeeded)));
+}
+
+// A pull that two own edits overtake, and that is ended twice.
+fn overtaken(alloc: Global) -> Option<[Answer; 3]> {
+    let mut replica = begun(alloc, None)?;
+    heard(alloc, &mut replica, record(alloc, 2, &[(2, 1)], b"hello")?)?;
+    let name = notes(alloc)?;
+    let begun = replica.start_pull(&name);
+    for bytes in [b"abc", b"xyz"] {
+        edited(alloc, &mut replica, bytes)?;
+        scanned(alloc, &mut replica)?.ok()?;
+    }
+    Some([begun, replica.finish(&name), replica.finish(&name)])
+}
+
+#[test]
+fn a_pull_that_is_overtaken_is_dropped(rt: HostRuntime) {
+    let ends = [
+        Ok(Moved::Changed),
+        Ok(Moved::Dropped),
+        Err(FolderError::NotNeeded),
+    ];
+    assert_eq!(rt; overtaken(rt.alloc()), Some(ends));
+}
+
+// A scan whose node is changed before it is put.
+fn outdated(alloc: Global) -> Option<(Answer, Option<(u64, u64)>)> {
+    let mut replica = begun(alloc, None)?;
+    edited(alloc, &mut replica, b"hello")?;
+    let scan = seen(alloc, &mut replica)?.ok()?;
+    edited(alloc, &mut replica, b"abc")?;
+    let answer = replica.commit(scan);
+    Some((answer, own(alloc, &replica)))
+}
+
+#[test]
+fn a_scan_of_an_earlier_node_is_stale(rt: HostRuntime) {
+    assert_eq!(rt; outdated(rt.alloc()), Some((Err(FolderError::Stale), None)));
+}
+
+// Two scans of a new file, each with the own record after it; this call of the store fails, of which the edit is the first.
+fn found(alloc: Global, call: u64) -> Option<[(Answer, Option<(u64, u64)>); 2]> {
+    let store = FaultStore::new(MemStore::new(alloc), call);
+    let mut replica = folder_over(alloc, FolderKind::SendReceive, store)?;
+    edited(alloc, &mut replica, b"hello")?;
+    let first = (scanned(alloc, &mut replica)?, own(alloc, &replica));
+    let second = (scanned(alloc, &mut replica)?, own(alloc, &replica));
+    Some([first, second])
+}
+
+#[test]
+fn a_scan_that_cannot_read_records_nothing(rt: HostRuntime) {
+    let fault = (Err(FolderError::StoreFault), None);
+    let done = (Ok(Moved::Changed), Some((1, 1)));
+    for call in [2, 3] {
+        assert_eq!(rt; found(rt.alloc(), call), Some([fault, done]));
+    }
+}
+
+// Two scans of a changed file whose own record has the last counter.
+fn counted_out(alloc: Global) -> Option<([Answer; 2], (u64, u64))> {
+    let mut replica = begun(alloc, record(alloc, 2, &[(2, LAST)], b"hello"))?;
+    edited(alloc, &mut replica, b"abc")?;
+    let answers = [scanned(alloc, &mut replica)?, scanned(alloc, &mut replica)?];
+    Some((answers, own(alloc, &replica)?))
+}
+
+#[test]
+fn the_last_counter_is_not_passed(rt: HostRuntime) {
+    let full = Err(FolderError::CounterFull);
+    assert_eq!(rt; counted_out(rt.alloc()), Some(([full, full], (1, LAST))));
+}

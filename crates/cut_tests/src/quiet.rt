@@ -1,0 +1,217 @@
+//! A settled cluster of three devices, two hundred steps without local edits, and stores that fail in them.
+use bep_audit::{Certificate, Verdict, certify, check};
+use bep_config::Config;
+use bep_core::Cluster;
+use bep_cut::{Cut, clusters_are_parts, cut_of};
+use bep_machine::Step;
+use bep_record::{DeviceId, FolderKind, FolderName, Items, Kind, Name, Node, NodeParts, Target};
+use bep_store::{FaultStore, MemStore};
+use std::alloc::Global;
+
+// A step's first letter, the device that makes it, and the other one, if there is one.
+type Letter = (u8, u64, u64);
+
+// Device 1 makes a directory, and the others take it over.
+const START: [Letter; 25] = [
+    (b'e', 1, 0),
+    (b's', 1, 0),
+    (b'c', 1, 2),
+    (b'c', 1, 3),
+    (b'c', 2, 3),
+    (b'b', 1, 2),
+    (b'b', 2, 1),
+    (b'b', 1, 3),
+    (b'b', 3, 1),
+    (b'b', 2, 3),
+    (b'b', 3, 2),
+    (b'd', 2, 1),
+    (b'd', 1, 2),
+    (b'd', 3, 1),
+    (b'd', 1, 3),
+    (b'd', 3, 2),
+    (b'd', 2, 3),
+    (b'a', 1, 2),
+    (b'd', 2, 1),
+    (b'a', 1, 3),
+    (b'd', 3, 1),
+    (b'p', 2, 0),
+    (b'f', 2, 0),
+    (b'p', 3, 0),
+    (b'f', 3, 0),
+];
+
+// Scans, announcements, a lost link, a restart and new sessions; no local edit.
+const ROUND: [Letter; 25] = [
+    (b's', 1, 0),
+    (b's', 2, 0),
+    (b's', 3, 0),
+    (b'a', 2, 1),
+    (b'd', 1, 2),
+    (b'a', 3, 1),
+    (b'd', 1, 3),
+    (b'a', 3, 2),
+    (b'd', 2, 3),
+    (b'p', 1, 0),
+    (b'l', 1, 2),
+    (b'c', 1, 2),
+    (b'b', 1, 2),
+    (b'b', 2, 1),
+    (b'd', 1, 2),
+    (b'd', 2, 1),
+    (b'a', 1, 2),
+    (b'd', 2, 1),
+    (b'f', 2, 0),
+    (b'r', 3, 0),
+    (b'c', 1, 3),
+    (b'b', 1, 3),
+    (b'b', 3, 1),
+    (b'd', 1, 3),
+    (b'd', 3, 1),
+];
+
+fn share(
+    alloc: Global,
+    config: &mut Config<FaultStore<MemStore>>,
+    device: u64,
+    call: u64,
+) -> Option<()> {
+    let docs = FolderName::read(alloc, b"docs").ok()?;
+    let store = FaultStore::new(MemStore::new(alloc), call);
+    let id = DeviceId::read(device)?;
+    config
+        .add_device(&docs, id, FolderKind::SendReceive, device, store)
+        .ok()
+}
+
+fn link(config: &mut Config<FaultStore<MemStore>>, lower: u64, upper: u64) -> Option<()> {
+    config
+        .add_link(DeviceId::read(lower)?, DeviceId::read(upper)?)
+        .ok()
+}
+
+// Three devices share `docs`; this call of each store fails.
+fn cluster(alloc: Global, call: u64) -> Option<Cluster<FaultStore<MemStore>>> {
+    let mut config = Config::empty(alloc);
+    config.add_folder(b"docs").ok()?;
+    share(alloc, &mut config, 1, call)?;
+    share(alloc, &mut config, 2, call)?;
+    share(alloc, &mut config, 3, call)?;
+    link(&mut config, 1, 2)?;
+    link(&mut config, 1, 3)?;
+    link(&mut config, 2, 3)?;
+    Cluster::new(alloc, config).ok()
+}
+
+fn directory(alloc: Global) -> Option<Node> {
+    let made = Node::read(NodeParts {
+        kind: Kind::Directory,
+        bytes: Items::new(Vec::new(alloc)),
+        target: Target::empty(alloc),
+        modified_s: 1000,
+        modified_ns: 0,
+    });
+    made.ok()
+}
+
+fn step_of_folder(alloc: Global, letter: u8, device: DeviceId) -> Option<Step> {
+    let docs = FolderName::read(alloc, b"docs").ok()?;
+    let name = Name::read(alloc, b"d").ok()?;
+    Some(match letter {
+        b'e' => Step::Edit(device, docs, name, directory(alloc)?),
+        b's' => Step::Scan(device, docs, name),
+        b'p' => Step::StartPull(device, docs, name),
+        b'f' => Step::Finish(device, docs, name),
+        _ => Step::Restart(device),
+    })
+}
+
+fn step_of_link(alloc: Global, letter: u8, device: DeviceId, other: DeviceId) -> Option<Step> {
+    Some(match letter {
+        b'c' => Step::Connect(device, other),
+        b'l' => Step::Lose(device, other),
+        b'b' => Step::Begin(device, other),
+        b'd' => Step::Deliver(device, other),
+        _ => Step::Announce(device, other, FolderName::read(alloc, b"docs").ok()?),
+    })
+}
+
+fn step_of(alloc: Global, (letter, device, other): Letter) -> Option<Step> {
+    let device = DeviceId::read(device)?;
+    match DeviceId::read(other) {
+        Some(other) => step_of_link(alloc, letter, device, other),
+        None => step_of_folder(alloc, letter, device),
+    }
+}
+
+// How many of these steps were made, and how many a store refused.
+fn made(
+    alloc: Global,
+    cluster: &mut Cluster<FaultStore<MemStore>>,
+    steps: &[Letter],
+) -> Option<(u64, u64)> {
+    let (mut made, mut failed) = (0u64, 0u64);
+    for step in steps {
+        match cluster.apply(step_of(alloc, *step)?) {
+            Ok(_) => made = made.saturating_add(1),
+            Err(why) => {
+                if why.number()? == 131 {
+                    failed = failed.saturating_add(1);
+                }
+            }
+        }
+    }
+    Some((made, failed))
+}
+
+// The counter of device 1 and the time of the one winner.
+fn winner(certificate: &Certificate) -> Option<(u64, i64)> {
+    match certificate.rows() {
+        [row] => {
+            let entry = row.entry.entry();
+            Some((entry.version.get(DeviceId::read(1)?), entry.modified_s))
+        }
+        _ => None,
+    }
+}
+
+// The winner, and whether the cut is settled under it.
+fn audited(alloc: Global, cut: &Cut) -> Option<((u64, i64), bool)> {
+    let certificate = certify(alloc, cut).ok()?;
+    let winner = winner(&certificate)?;
+    match check(alloc, cut, &certificate) {
+        Ok(verdict) => Some((winner, verdict == Verdict::Settled)),
+        Err(_) => None,
+    }
+}
+
+// The same of the cluster's cut.
+fn ended(alloc: Global, cluster: Cluster<FaultStore<MemStore>>) -> Option<((u64, i64), bool)> {
+    clusters_are_parts();
+    let (mut peers, links) = cluster.into_parts();
+    match cut_of(alloc, peers.as_mut_slice(), links.as_slice()) {
+        Ok(cut) => audited(alloc, &cut),
+        Err(_) => None,
+    }
+}
+
+// What was made and what a store refused in eight rounds, and what is said of the end.
+fn story(alloc: Global, call: u64) -> Option<([(u64, u64); 2], ((u64, i64), bool))> {
+    let mut cluster = cluster(alloc, call)?;
+    let start = made(alloc, &mut cluster, &START)?;
+    let mut rounds = (0u64, 0u64);
+    for _round in 0..8 {
+        let (made, failed) = made(alloc, &mut cluster, &ROUND)?;
+        rounds = (
+            rounds.0.saturating_add(made),
+            rounds.1.saturating_add(failed),
+        );
+    }
+    Some(([start, rounds], ended(alloc, cluster)?))
+}
+
+#[test]
+fn quiet_steps_leave_a_settled_cluster_settled(rt: HostRuntime) {
+    let end = ((1, 1000), true);
+    assert_eq!(rt; story(rt.alloc(), 0), Some(([(25, 0), (126, 0)], end)));
+    assert_eq!(rt; story(rt.alloc(), 7), Some(([(25, 0), (123, 3)], end)));
+}

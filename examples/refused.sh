@@ -1,0 +1,74 @@
+#!/usr/bin/env bash
+# refused.sh PROGRAM: refuses the program one call after the other, each growth of its memory, each read and each write of
+# standard output, until a run comes through. Without memory it must end with status 4, after a refused read or write with
+# status 5, and it must have written nothing. The last line is 'N passed, M failed', a run each.
+set -euo pipefail
+program=$(readlink -m "$1")
+cd "$(dirname "$0")"
+passed=0
+failed=0
+work=$(mktemp -d)
+trap 'rm -rf "$work"' EXIT
+
+if ! command -v cc > /dev/null 2>&1; then
+  echo "refused: calls aren't refused; missing: cc"
+  echo "0 passed, 0 failed"
+  exit 0
+fi
+cc -O1 -shared -fPIC -o "$work/refuse.so" refusing/refuse.c -ldl
+
+# run_refused KIND NUMBER DOCUMENT WORDS..: runs the program with that call refused, and keeps its status.
+run_refused() {
+  local kind=$1 number=$2 document=$3
+  shift 3
+  rm -f "$work/refused"
+  status=0
+  env "REFUSE_$kind=$number" "REFUSED=$work/refused" LD_PRELOAD="$work/refuse.so" \
+    "$program" "$@" < "$document" > "$work/out" 2> "$work/err" || status=$?
+}
+
+# refuse KIND STATUS DOCUMENT WORDS..: refuses the first, the second and each further call of the kind.
+refuse() {
+  local kind=$1 wanted=$2 document=$3 number=1
+  shift 3
+  while run_refused "$kind" "$number" "$document" "$@"; [ -e "$work/refused" ]; do
+    if [ "$status" = "$wanted" ] && [ ! -s "$work/out" ]; then
+      passed=$((passed + 1))
+    else
+      failed=$((failed + 1))
+      echo "refused: $* < $document: with $kind $number refused it ended with $status and wrote $(wc -c < "$work/out") bytes"
+    fi
+    number=$((number + 1))
+  done
+}
+
+# cut_off DOCUMENT WORDS..: refuses a writer that takes the first bytes alone, none, one and so on: these stand, and no more.
+cut_off() {
+  local document=$1 whole taken
+  shift
+  whole=$("$program" "$@" < "$document" | wc -c)
+  for ((taken = 0; taken < whole; taken++)); do
+    run_refused ROOM "$((taken + 1))" "$document" "$@"
+    if [ "$status" = 5 ] && cmp -s "$work/out" <("$program" "$@" < "$document" | head -c "$taken"); then
+      passed=$((passed + 1))
+    else
+      failed=$((failed + 1))
+      echo "refused: $* < $document: where $taken bytes are taken it ended with $status and wrote $(wc -c < "$work/out")"
+    fi
+  done
+}
+
+# refuse_all DOCUMENT WORDS..: refuses each call of each kind.
+refuse_all() {
+  refuse GROWTH 4 "$@"
+  refuse READ 5 "$@"
+  refuse WRITE 5 "$@"
+}
+
+refuse_all one-equal-file.json check
+refuse_all cut-alone.json certify
+refuse_all scenarios/conflict.json run
+cut_off one-equal-file.json check
+
+echo "$passed passed, $failed failed"
+[ "$failed" = 0 ] && [ "$passed" -gt 0 ]
