@@ -1,7 +1,8 @@
 #!/usr/bin/env bash
 # refused.sh PROGRAM: refuses the program one call after the other, each growth of its memory, each read and each write of
-# standard output, until a run comes through. Without memory it must end with status 4, after a refused read or write with
-# status 5, and it must have written nothing. The last line is 'N passed, M failed', a run each.
+# standard output, until none is left to refuse. Without memory it must end with status 4, after a refused read or write
+# with status 5, and it must have written nothing; or it made do without the call, and then answers as ever. The last line is
+# 'N passed, M failed', a run each.
 set -euo pipefail
 program=$(readlink -m "$1")
 cd "$(dirname "$0")"
@@ -27,12 +28,22 @@ run_refused() {
     "$program" "$@" < "$document" > "$work/out" 2> "$work/err" || status=$?
 }
 
+# is_as_ever DOCUMENT WORDS..: whether the last run answered as it does where nothing is refused.
+is_as_ever() {
+  local document=$1 ever=0
+  shift
+  "$program" "$@" < "$document" > "$work/ever" 2> /dev/null || ever=$?
+  [ "$status" = "$ever" ] && cmp -s "$work/out" "$work/ever"
+}
+
 # refuse KIND STATUS DOCUMENT WORDS..: refuses the first, the second and each further call of the kind.
 refuse() {
   local kind=$1 wanted=$2 document=$3 number=1
   shift 3
   while run_refused "$kind" "$number" "$document" "$@"; [ -e "$work/refused" ]; do
     if [ "$status" = "$wanted" ] && [ ! -s "$work/out" ]; then
+      passed=$((passed + 1))
+    elif [ "$kind" = GROWTH ] && is_as_ever "$document" "$@"; then
       passed=$((passed + 1))
     else
       failed=$((failed + 1))
