@@ -28,11 +28,16 @@ run_refused() {
     "$program" "$@" < "$document" > "$work/out" 2> "$work/err" || status=$?
 }
 
-# is_as_ever DOCUMENT WORDS..: whether the last run answered as it does where nothing is refused.
-is_as_ever() {
-  local document=$1 ever=0
+# answer DOCUMENT WORDS..: keeps what the program answers where nothing is refused.
+answer() {
+  local document=$1
   shift
+  ever=0
   "$program" "$@" < "$document" > "$work/ever" 2> /dev/null || ever=$?
+}
+
+# Whether the last run answered so too.
+is_as_ever() {
   [ "$status" = "$ever" ] && cmp -s "$work/out" "$work/ever"
 }
 
@@ -43,7 +48,7 @@ refuse() {
   while run_refused "$kind" "$number" "$document" "$@"; [ -e "$work/refused" ]; do
     if [ "$status" = "$wanted" ] && [ ! -s "$work/out" ]; then
       passed=$((passed + 1))
-    elif [ "$kind" = GROWTH ] && is_as_ever "$document" "$@"; then
+    elif [ "$kind" = GROWTH ] && is_as_ever; then
       passed=$((passed + 1))
     else
       failed=$((failed + 1))
@@ -56,11 +61,12 @@ refuse() {
 # cut_off DOCUMENT WORDS..: refuses a writer that takes the first bytes alone, none, one and so on: these stand, and no more.
 cut_off() {
   local document=$1 whole taken
+  answer "$@"
   shift
-  whole=$("$program" "$@" < "$document" | wc -c)
+  whole=$(wc -c < "$work/ever")
   for ((taken = 0; taken < whole; taken++)); do
     run_refused ROOM "$((taken + 1))" "$document" "$@"
-    if [ "$status" = 5 ] && cmp -s "$work/out" <("$program" "$@" < "$document" | head -c "$taken"); then
+    if [ "$status" = 5 ] && cmp -s "$work/out" <(head -c "$taken" "$work/ever"); then
       passed=$((passed + 1))
     else
       failed=$((failed + 1))
@@ -71,6 +77,7 @@ cut_off() {
 
 # refuse_all DOCUMENT WORDS..: refuses each call of each kind.
 refuse_all() {
+  answer "$@"
   refuse GROWTH 4 "$@"
   refuse READ 5 "$@"
   refuse WRITE 5 "$@"
