@@ -103,6 +103,12 @@ kept_named entries es same order =
 pub values-same : (entries : List (List ℕ × Entry)) (es : List Entry) → entries ≡ named es → values_of entries ≡ es
 values-same entries es same = ap values_of same ∙ values-named es
 
+-- what is looked up among entries that are records under their names
+pub looked_up : (entries : List (List ℕ × Entry)) (es : List Entry) (q : List ℕ) → (entries ≡ named (values_of entries)) × AreInOrder (values_of entries) → values_of entries ≡ es
+    → lookup (pointwise nat_eq q) entries ≡ get (with_all empty es) q
+looked_up entries es q kept view =
+    ap (lookup (pointwise nat_eq q)) kept.0 ∙ get-records q (values_of entries) kept.1.names ∙ ap (λ some. get (with_all empty some) q) view
+
 -- ---- a name that has no record
 
 pub nothing : {X : Type 0} (o : Option X) → is_some o ≡ false → o ≡ None

@@ -23,6 +23,7 @@ mod number;
 mod receiver;
 mod records;
 mod send;
+mod slot;
 mod view;
 
 pub use batch::Batch;

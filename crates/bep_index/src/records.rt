@@ -5,16 +5,16 @@ ghost use Rattle.std.specs.FinMap as map;
 ghost use Rattle.bep_index.specs.Batch.{HasNo, with_all};
 ghost use Rattle.bep_index.specs.Order.{AreInOrder, IsAt, IsLater, IsGivenBack, count_up_to, is_up_to, without, put_in, back_in};
 
+use crate::slot::Slot;
 use bep_record::{Name, Record};
 use indexmap::IndexMap;
 use std::alloc::{AllocError, Global};
 use std::marker::Model;
-use std::mem;
 
 /// Records by rising sequence, each of another name, by which it is found.
 #[derive(Drop)]
 pub struct Records {
-    entries: IndexMap<Name, Record>,
+    entries: IndexMap<Name, Slot>,
 }
 
 impl Model for Records {
@@ -54,7 +54,8 @@ impl Records {
     pub(crate) fn get(&self, name: &Name) -> Option<&Record>
         ensures { option_copied result ≡ map.get (with_all map.empty self.now) name.now }
     {
-        self.entries.get(name)
+        let slot = self.entries.get(name)?;
+        Some(slot.record())
     }
 
     // The record at the place, from 0.
@@ -62,8 +63,8 @@ impl Records {
         ensures value { option_copied result ≡ slice_get self.now place }
         ensures in_order { AreInOrder self.now }
     {
-        let (_name, entry) = self.entries.get_index(place)?;
-        Some(entry)
+        let (_name, slot) = self.entries.get_index(place)?;
+        Some(slot.record())
     }
 
     // How many of the records have at most this sequence, found by halving.
@@ -150,7 +151,8 @@ impl Records {
         ensures err { OnErr result (self.new ≡ self.old) }
     {
         let key = entry.entry().name.copy(alloc)?;
-        self.entries.insert(key, entry)?;
+        let slot = Slot::new(alloc, entry)?;
+        self.entries.insert(key, slot)?;
         Ok(())
     }
 
@@ -162,7 +164,7 @@ impl Records {
         ensures old { Some result ≡ slice_get self.old place }
     {
         let last = self.len() - 1;
-        let old = mem::replace(&mut self.entries[place], entry);
+        let old = self.entries[place].replace(entry);
         self.entries.move_index(place, last);
         old
     }
@@ -186,12 +188,12 @@ impl Records {
     {
         let place = self.place_above(old.entry().sequence);
         let last = self.len() - 1;
-        self.entries[last] = old;
+        self.entries[last].replace(old);
         self.entries.move_index(last, place);
     }
 
     // The records, in order.
-    fn as_slice(&self) -> &[Record]
+    fn as_slice(&self) -> &[Slot]
         ensures value { result.now ≡ self.now }
         ensures in_order { AreInOrder self.now }
     {
@@ -204,8 +206,8 @@ impl Records {
     {
         let mut made = Records::new(alloc);
         let records = self.as_slice();
-        for entry in records {
-            made.put(alloc, entry.copy(alloc)?)?;
+        for slot in records {
+            made.put(alloc, slot.record().copy(alloc)?)?;
         }
         Ok(made)
     }

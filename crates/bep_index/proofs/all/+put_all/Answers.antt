@@ -1,7 +1,6 @@
-use Rattle.std.proofs.Common.{ℕ, ◌≡◌, ◌∷◌, List, Option, Some, rules, refl, sym, ap, ◌∙◌, IsSome, subst, length, arith}
+use Rattle.std.proofs.Common.{refl, sym, ap, ◌∙◌, IsSome, subst, length, arith}
 use Rattle.std.specs.Cmp.Lexicographic.{nat_list_cmp_total}
 use Rattle.std.specs.FinMap.{get, insert}
-use Rattle.std.specs.Vec.Iter.{into_iter_items}
 use Rattle.std.proofs.lemmas.Map.Lookups.{exact_bytes}
 use Rattle.bep_facts.specs.Maps.{get-insert_here}
 use Rattle.bep_index.specs.Change.{given_back}

@@ -1,12 +1,14 @@
-use Rattle.std.proofs.Common.{ap, nat_eq, ◌∙◌}
-use Rattle.std.specs.Cmp.Lexicographic.{pointwise}
-use Rattle.std.specs.FinMap as map
-use Rattle.std.specs.Map.{lookup}
-use Rattle.bep_index.specs.Batch.{with_all}
-use Rattle.bep_index.proofs.PlaceFacts.{get-records}
+use Rattle.std.proofs.Common.{◌∙◌, Some, ap}
+use Rattle.std.specs.Option.{option_copied}
+use Rattle.bep_index.proofs.PlaceFacts.{looked_up}
 use Rattle.bep_index.proofs.records.Records.get.Goals as goal
+
+pub returns-in_err-slot : goal.returns-in_err-slot
+returns-in_err-slot c =
+    ap option_copied c.from_residual.ensures ∙ c.in_err-slot.ensures.value
+    ∙ looked_up c.self.inside.entries.entries c.args.self.now c.args.name.now c.self.invariant c.self.view_is
 
 pub returns : goal.returns
 returns c =
-    c.get.ensures.value ∙ ap (lookup (pointwise nat_eq c.args.name.now)) c.self.invariant.0
-    ∙ get-records c.args.name.now _ c.self.invariant.1.names ∙ ap (λ es. map.get (with_all map.empty es) c.args.name.now) c.self.view_is
+    ap Some c.record.ensures ∙ c.in_ok-slot.ensures.value
+    ∙ looked_up c.self.inside.entries.entries c.args.self.now c.args.name.now c.self.invariant c.self.view_is

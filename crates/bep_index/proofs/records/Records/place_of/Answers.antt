@@ -6,14 +6,12 @@ use Rattle.bep_record.specs.declared.entry.Entry.{Entry}
 use Rattle.bep_index.specs.Batch.{HasNo, NamesDiffer, with_all}
 use Rattle.bep_index.specs.Order.{IsAt}
 use Rattle.bep_index.proofs.MadeFacts.{records_are_found}
-use Rattle.bep_index.proofs.PlaceFacts.{get-records, nothing, HasNo-none}
+use Rattle.bep_index.proofs.PlaceFacts.{looked_up, nothing, HasNo-none}
 use Rattle.bep_index.proofs.records.Records.place_of.Goals as goal
 
 -- what is looked up under the name
-looked_up : (c : goal.After-get_index_of) → lookup (pointwise nat_eq c.args.name.now) c.self.inside.entries.entries ≡ get (with_all empty c.args.self.now) c.args.name.now
-looked_up c =
-    ap (lookup (pointwise nat_eq c.args.name.now)) c.self.invariant.0 ∙ get-records c.args.name.now _ c.self.invariant.1.names
-    ∙ ap (λ es. get (with_all empty es) c.args.name.now) c.self.view_is
+under_name : (c : goal.After-get_index_of) → lookup (pointwise nat_eq c.args.name.now) c.self.inside.entries.entries ≡ get (with_all empty c.args.self.now) c.args.name.now
+under_name c = looked_up c.self.inside.entries.entries c.args.self.now c.args.name.now c.self.invariant c.self.view_is
 
 names : (c : goal.After-get_index_of) → NamesDiffer c.args.self.now
 names c = subst NamesDiffer c.self.view_is c.self.invariant.1.names
@@ -32,10 +30,10 @@ module _ (es : List Entry) (differ : NamesDiffer es) (name : List ℕ) where
   there (Some place) e is = at place (get (with_all empty es) name) refl e is
 
 pub returns-clause-none : goal.returns-clause-none
-returns-clause-none c = none c.args.self.now (names c) c.args.name.now c.get_index_of.result (c.get_index_of.ensures.found ∙ ap is_some (looked_up c))
+returns-clause-none c = none c.args.self.now (names c) c.args.name.now c.get_index_of.result (c.get_index_of.ensures.found ∙ ap is_some (under_name c))
 
 pub returns-clause-there : goal.returns-clause-there
 returns-clause-there c =
-    there c.args.self.now (names c) c.args.name.now c.get_index_of.result (c.get_index_of.ensures.found ∙ ap is_some (looked_up c))
+    there c.args.self.now (names c) c.args.name.now c.get_index_of.result (c.get_index_of.ensures.found ∙ ap is_some (under_name c))
     (subst (λ es. IfSome c.get_index_of.result (λ place. slice_get es place ≡ get (with_all empty c.args.self.now) c.args.name.now)) c.self.view_is
-    (subst (λ found. IfSome c.get_index_of.result (λ place. slice_get (values_of c.self.inside.entries.entries) place ≡ found)) (looked_up c) c.get_index_of.ensures.value))
+    (subst (λ found. IfSome c.get_index_of.result (λ place. slice_get (values_of c.self.inside.entries.entries) place ≡ found)) (under_name c) c.get_index_of.ensures.value))
