@@ -1,5 +1,6 @@
 -- What holds of what is read.
 pub mod DevicesFacts
 pub mod Readers
+pub mod RowsFirst
 pub mod RangeFacts
 pub mod DevicesKnown

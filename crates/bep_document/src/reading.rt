@@ -6,7 +6,7 @@ ghost use Rattle.bep_document.specs.Fault.{nowhere};
 ghost use Rattle.bep_document.specs.declared.fault.Fault.TheVariants.{NotJson};
 
 use crate::faults::fault_of;
-use crate::read::{CutLists, has_version};
+use crate::read::{CutLists, has_version, is_check, read_check};
 use crate::{CheckParts, DocError, DocFault, Fault};
 use bep_json::{ReadError, Readable, has_only};
 use bep_record::Items;
@@ -29,7 +29,7 @@ pub fn read_parts(alloc: Global, bytes: &[u8]) -> Result<CheckParts, DocError>
         return Err(refused(Fault::Range));
     }
     match tree_of(alloc, bytes) {
-        Ok(tree) => parts_of(alloc, &tree),
+        Ok(tree) => parts_of(alloc, tree),
         Err(error) => Err(error),
     }
 }
@@ -56,16 +56,16 @@ pub fn tree_of(alloc: Global, bytes: &[u8]) -> Result<Value, DocError>
 
 // What the tree of a document says.
 #[tactic(auto, unfolding(crate::specs::Reading::reading_of_tree))]
-fn parts_of(alloc: Global, tree: &Value) -> Result<CheckParts, DocError>
-    ensures { Answers result (reading_of_tree (view tree.now)) }
+fn parts_of(alloc: Global, tree: Value) -> Result<CheckParts, DocError>
+    ensures { Answers result (reading_of_tree (view tree)) }
 {
-    if !has_version(tree) {
+    if !has_version(&tree) {
         return Err(refused(Fault::VersionBad));
     }
-    if !CheckParts::has_shape(tree) {
+    if !is_check(&tree) {
         return Err(refused(Fault::Shape));
     }
-    match CheckParts::read(alloc, tree) {
+    match read_check(alloc, tree) {
         Ok(parts) => judged(alloc, parts),
         Err(ReadError::Range) => Err(refused(Fault::Range)),
         Err(ReadError::Memory) => Err(DocError::Memory),

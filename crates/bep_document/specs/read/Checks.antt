@@ -13,6 +13,7 @@ use Rattle.bep_document.specs.read.Links.{is_link, read_link}
 use Rattle.bep_record.specs.declared.limits.TheConstants.{MAX_FOLDERS}
 use Rattle.bep_document.specs.declared.parts.FolderParts.{FolderParts}
 use Rattle.bep_document.specs.declared.parts.LinkParts.{LinkParts}
+use Rattle.bep_document.specs.declared.parts.RowParts.{RowParts}
 use Rattle.bep_document.specs.declared.parts.CheckParts.{CheckParts}
 
 -- the members of a cut
@@ -58,9 +59,13 @@ is_check d =
     && (has_member (codes "cut") is_cut d
     && has_member (codes "certificate") (is_list is_row) d))
 
+-- a cut and rows, where each could be read
+abbrev pub with_rows : Option (List FolderParts × List LinkParts) → Option (List RowParts) → Option CheckParts
+with_rows read_cut read_rows = do
+  cut ← read_cut
+  certificate ← read_rows
+  Some (record { folders = cut.0; links = cut.1; certificate = certificate })
+
 -- the folders, the links and the rows
 unfoldable pub read_check : Data → Option CheckParts
-read_check d = do
-  cut ← read_member (codes "cut") read_cut d
-  certificate ← read_member (codes "certificate") (read_list read_row) d
-  Some (record { folders = cut.0; links = cut.1; certificate = certificate })
+read_check d = with_rows (read_member (codes "cut") read_cut d) (read_member (codes "certificate") (read_list read_row) d)

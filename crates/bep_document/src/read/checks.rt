@@ -1,7 +1,9 @@
 //! A cut, and the whole document.
-ghost use Rattle.std.specs.Prelude.{◌≡◌, List};
+ghost use Rattle.std.specs.Prelude.{◌≡◌, List, Some, option_map};
 ghost use Rattle.serde_json.specs.View.{view};
-ghost use Rattle.bep_document.specs.read.Checks.{is_cut, read_cut, is_one, has_version, is_check, read_check};
+ghost use Rattle.serde_json.specs.Find.{get};
+ghost use Rattle.bep_json.specs.Reading.{Gives};
+ghost use Rattle.bep_document.specs.read.Checks.{is_cut, read_cut, is_one, has_version, is_check, with_rows, read_check};
 
 use crate::read::devices::has_few_devices;
 use crate::read::few::Few;
@@ -87,24 +89,46 @@ fn is_one(value: &Value) -> bool
     }
 }
 
-// A check document.
-impl Readable for CheckParts {
-    ghost has_shape = { is_check };
+// Whether the tree has the shape of a check document.
+#[tactic(auto, unfolding(crate::specs::read::Checks::is_check))]
+pub(crate) fn is_check(value: &Value) -> bool
+    ensures { result ≡ is_check (view value.now) }
+{
+    has_only(value, &["version", "cut", "certificate"])
+        && has::<Whole<1, 1>>(value, "version")
+        && has::<CutLists>(value, "cut")
+        && has::<Items<RowParts>>(value, "certificate")
+}
 
-    ghost reads = { read_check };
+// What the tree of a check document says. The tree is given up as it is read, rows first, so that the cut is read in the
+// memory that they took. `Range` where something is out of range; `Memory` may come in place of any answer.
+pub(crate) fn read_check(alloc: Global, tree: Value) -> Result<CheckParts, ReadError>
+    ensures { Gives result (read_check (view tree)) }
+{
+    let rows = match member::<Items<RowParts>>(alloc, &tree, "certificate") {
+        Ok(rows) => rows,
+        Err(error) => return Err(error),
+    };
+    let Some(cut) = member_alone(tree, "cut") else {
+        return Err(ReadError::Range);
+    };
+    read_beside(alloc, &cut, rows)
+}
 
-    #[tactic(auto, unfolding(crate::specs::read::Checks::is_check))]
-    fn has_shape(value: &Value) -> bool {
-        has_only(value, &["version", "cut", "certificate"])
-            && has::<Whole<1, 1>>(value, "version")
-            && has::<CutLists>(value, "cut")
-            && has::<Items<RowParts>>(value, "certificate")
+// What a check document says whose cut has this tree, and whose rows were read.
+fn read_beside(alloc: Global, cut: &Value, rows: Items<RowParts>) -> Result<CheckParts, ReadError>
+    ensures { Gives result (with_rows (read_cut (view cut.now)) (Some rows)) }
+{
+    match CutLists::read(alloc, cut) {
+        Ok(lists) => Ok(lists.with_rows(rows)),
+        Err(error) => Err(error),
     }
+}
 
-    #[tactic(auto, unfolding(crate::specs::read::Checks::read_check))]
-    fn read(alloc: Global, value: &Value) -> Result<Self, ReadError> {
-        let cut = member::<CutLists>(alloc, value, "cut")?;
-        let certificate = member::<Items<RowParts>>(alloc, value, "certificate")?;
-        Ok(cut.with_rows(certificate))
-    }
+// The value at the member of this name, if there is one; the rest of the tree is given up.
+fn member_alone(mut tree: Value, name: &str) -> Option<Value>
+    ensures { option_map view result ≡ get name.now (view tree) }
+{
+    let found = tree.get_mut(name)?;
+    Some(found.take())
 }
