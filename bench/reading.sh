@@ -33,9 +33,9 @@ fn main(rt: HostRuntime) -> io::Result<()> {
     Ok(())
 }
 PROGRAM
+make_document settled
 rt run > "$work/log" 2>&1 || { cat "$work/log"; exit 1; }
 
-make_document settled
 measure parser out/read_speed
 measure reading out/read_speed whole
 grep -qx true "$work/parser.out"
