@@ -1,6 +1,7 @@
 -- What follows where no fault is found.
 pub mod JudgeFacts
 pub mod SeenFacts
+pub mod RisingFacts
 pub mod RecordTests
 pub mod LastFacts
 pub mod NoFault

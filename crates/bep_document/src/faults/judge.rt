@@ -1,10 +1,12 @@
-//! Looking for the first fault in lists that stand in one another, and for what is there already by a set of keys.
-ghost use Rattle.std.specs.Prelude.{◌≡◌, IfOk, Bool, List, Option, []};
+//! Looking for the first fault in lists that stand in one another, and for keys that are there already.
+ghost use Rattle.std.specs.Prelude.{◌≡◌, ◌↔◌, IfOk, IsTrue, Bool, List, Option, [], false, map};
+ghost use Rattle.std.specs.List.Sorted.{IsStrictlySortedBy};
 ghost use Rattle.bep_document.specs.declared.fault.DocFault.{DocFault};
 ghost use Rattle.bep_document.specs.faults.Judge.{first_in, by_key};
 
 use crate::DocFault;
 use std::alloc::{AllocError, Global};
+use std::cmp::Ordering;
 use std::collections::BTreeSet;
 
 /// The first fault, if there is one, or want of memory.
@@ -49,13 +51,54 @@ pub(crate) trait JudgeKeyed<T> {
     fn key_of(&self, alloc: Global, item: &T) -> Result<Self::Key, AllocError>
         ensures { IfOk result (λ key. key ≡ key_of item.now) };
 
+    /// How the keys of two items compare. Takes no memory.
+    fn compare(&self, one: &T, other: &T) -> Ordering
+        ensures { result ≡ Self.Key.cmp (key_of one.now) (key_of other.now) };
+
     /// The first fault at the item, given whether an earlier one has its key, or want of memory.
     fn fault_at(&self, alloc: Global, is_again: bool, item: &T) -> Found
         ensures { IfOk result (λ found. found ≡ fault_at self.now is_again item.now) };
 }
 
-// The first fault among the items, or want of memory.
+// The first fault among the items, or want of memory. Keys that rise are neither copied nor kept.
 pub(crate) fn first_keyed<T, J: JudgeKeyed<T>>(alloc: Global, judge: &J, items: &[T]) -> Found
+    ensures { IfOk result (λ found. found ≡ first_in (by_key J.Key.eq J.key_of (J.fault_at judge.now)) [] items.now) }
+{
+    if keys_rise(judge, items) {
+        return first_of_distinct(alloc, judge, items);
+    }
+    first_by_seen(alloc, judge, items)
+}
+
+// Whether the key of each item is above those before it. Takes no memory.
+fn keys_rise<T, J: JudgeKeyed<T>>(judge: &J, items: &[T]) -> bool
+    ensures { IsTrue result ↔ IsStrictlySortedBy J.Key.cmp (map J.key_of items.now) }
+{
+    for place in 1..items.len() {
+        let order = judge.compare(&items[place - 1], &items[place]);
+        if !order.is_lt() {
+            return false;
+        }
+    }
+    true
+}
+
+// The first fault among items none of which has the key of an earlier one, or want of memory.
+#[tactic(auto, using(crate::proofs::faults::JudgeFacts::first_in_next))]
+fn first_of_distinct<T, J: JudgeKeyed<T>>(alloc: Global, judge: &J, items: &[T]) -> Found
+    ensures { IfOk result (λ found. found ≡ first_in (λ _. J.fault_at judge.now false) [] items.now) }
+{
+    for item in items {
+        match judge.fault_at(alloc, false, item)? {
+            Some(fault) => return Ok(Some(fault)),
+            None => {}
+        }
+    }
+    Ok(None)
+}
+
+// The first fault among the items, by a set of the keys so far, or want of memory.
+fn first_by_seen<T, J: JudgeKeyed<T>>(alloc: Global, judge: &J, items: &[T]) -> Found
     ensures { IfOk result (λ found. found ≡ first_in (by_key J.Key.eq J.key_of (J.fault_at judge.now)) [] items.now) }
 {
     let mut seen = BTreeSet::new(alloc);

@@ -11,6 +11,7 @@ use crate::faults::walks::{JudgeFlights, JudgeShares, first_in_cut};
 use crate::{CheckParts, Fault, FlightParts, FolderParts, LinkParts, ShareParts, ViewParts};
 use bep_record::{DeviceId, Entry};
 use std::alloc::{AllocError, Global};
+use std::cmp::Ordering;
 
 // Sequences of an index, none of which may stand twice.
 #[derive(Clone, Copy)]
@@ -30,6 +31,10 @@ impl<'a> JudgeKeyed<Entry> for Numbered<'a> {
 
     fn key_of(&self, _alloc: Global, item: &Entry) -> Result<u64, AllocError> {
         Ok(item.sequence)
+    }
+
+    fn compare(&self, one: &Entry, other: &Entry) -> Ordering {
+        one.sequence.cmp(&other.sequence)
     }
 
     fn fault_at(&self, alloc: Global, is_again: bool, item: &Entry) -> Found {

@@ -18,6 +18,7 @@ use crate::{
 use bep_json::NamedParts;
 use bep_record::{DeviceId, Entry, FolderName, Name};
 use std::alloc::{AllocError, Global};
+use std::cmp::Ordering;
 
 /// What is told apart by its name.
 pub(crate) trait Named {
@@ -63,6 +64,10 @@ impl<'a, T: Named> JudgeKeyed<T> for NamesOnce<'a> {
         item.name().copy(alloc)
     }
 
+    fn compare(&self, one: &T, other: &T) -> Ordering {
+        one.name().cmp(other.name())
+    }
+
     fn fault_at(&self, alloc: Global, is_again: bool, item: &T) -> Found {
         self.at
             .fault_unless(alloc, !is_again, Fault::Twice, item.name())
@@ -94,6 +99,10 @@ impl<'a> JudgeKeyed<ViewParts> for ViewsOnce<'a> {
 
     fn key_of(&self, _alloc: Global, item: &ViewParts) -> Result<DeviceId, AllocError> {
         Ok(item.of)
+    }
+
+    fn compare(&self, one: &ViewParts, other: &ViewParts) -> Ordering {
+        one.of.cmp(&other.of)
     }
 
     fn fault_at(&self, alloc: Global, is_again: bool, item: &ViewParts) -> Found {
@@ -179,6 +188,10 @@ impl JudgeKeyed<LinkParts> for TwiceInCut {
 
     fn key_of(&self, _alloc: Global, item: &LinkParts) -> Result<(DeviceId, DeviceId), AllocError> {
         Ok((item.a, item.b))
+    }
+
+    fn compare(&self, one: &LinkParts, other: &LinkParts) -> Ordering {
+        (one.a, one.b).cmp(&(other.a, other.b))
     }
 
     fn fault_at(&self, alloc: Global, is_again: bool, item: &LinkParts) -> Found {

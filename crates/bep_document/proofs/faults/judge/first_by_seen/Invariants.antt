@@ -2,7 +2,7 @@ use Rattle.std.proofs.Common.{◌≡◌, [], take, drop}
 use Rattle.std.specs.List.{list_any}
 use Rattle.std.specs.BTreeSet.{contains}
 use Rattle.bep_document.specs.faults.Judge.{first_in, by_key}
-use Rattle.bep_document.proofs.faults.judge.first_keyed.Given as goal
+use Rattle.bep_document.proofs.faults.judge.first_by_seen.Given as goal
 
 -- what is first among all is first among the rest, and the keys so far were seen
 abbrev pub invariant-loop-item : goal.invariant-loop-item
