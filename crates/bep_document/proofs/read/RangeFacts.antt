@@ -15,7 +15,7 @@ use Rattle.bep_document.specs.declared.parts.ViewParts.{ViewParts}
 use Rattle.bep_document.specs.declared.parts.FolderParts.{FolderParts}
 use Rattle.bep_document.specs.declared.parts.FlightParts.{FlightParts}
 use Rattle.bep_document.specs.declared.parts.LinkParts.{LinkParts}
-use Rattle.bep_document.specs.read.Checks.{read_cut, read_check}
+use Rattle.bep_document.specs.read.Checks.{read_folders, read_cut, read_check}
 use Rattle.bep_document.specs.read.Devices.{has_few_devices}
 use Rattle.bep_document.specs.read.Folders.{read_folder, read_row}
 use Rattle.bep_document.specs.read.Links.{read_flight, read_link}
@@ -129,16 +129,22 @@ pub record IsCutInRange (folders : List FolderParts) (links : List LinkParts) : 
   pub shares : AllByRecursion (λ folder. AllByRecursion IsShareInRange folder.devices) folders
   pub links_in_range : AllByRecursion IsLinkInRange links
 
+-- the folders of a cut
+abbrev AreFewAndInRange : List FolderParts → Type 0
+AreFewAndInRange folders =
+    (has_few_devices folders ≡ true) × (length folders ≤ MAX_FOLDERS) × AllByRecursion (λ folder. AllByRecursion IsShareInRange folder.devices) folders
+
+folders_in_range : Reads AreFewAndInRange read_folders
+folders_in_range d =
+    keep (member_read (few_read MAX_FOLDERS folder_in_range) (codes "folders") d) (λ folders in_range.
+    tested AreFewAndInRange (has_few_devices folders) folders (λ few. (few, in_range.0, in_range.1)))
+
 pub cut_in_range : Reads (λ cut. IsCutInRange cut.0 cut.1) read_cut
 unfolding read_cut
 cut_in_range d =
-    keep (member_read (few_read MAX_FOLDERS folder_in_range) (codes "folders") d) (λ folders in_range.
-    keep (tested IsFewAndInRange (has_few_devices folders) folders (λ few. (few, in_range.0, in_range.1))) (λ few range.
+    keep (folders_in_range d) (λ folders range.
     keep (member_or_read (list_read link_in_range) tt (codes "links") d) (λ links within.
-    made (λ cut. IsCutInRange cut.0 cut.1) _ (record { few = range.1; few_devices = range.0; shares = range.2; links_in_range = within })))) where
-      IsFewAndInRange : List FolderParts → Type 0
-      IsFewAndInRange folders =
-          (has_few_devices folders ≡ true) × (length folders ≤ MAX_FOLDERS) × AllByRecursion (λ folder. AllByRecursion IsShareInRange folder.devices) folders
+    made (λ cut. IsCutInRange cut.0 cut.1) _ (record { few = range.1; few_devices = range.0; shares = range.2; links_in_range = within })))
 
 pub check_in_range : Reads (λ parts. IsCutInRange parts.folders parts.links) read_check
 unfolding read_check

@@ -31,13 +31,18 @@ is_cut d =
 abbrev pub if_few_devices : List FolderParts → Option (List FolderParts)
 if_few_devices folders = if has_few_devices folders then Some folders else None
 
+-- the folders of a cut
+abbrev pub read_folders : Data → Option (List FolderParts)
+read_folders d = do
+  folders ← read_member (codes "folders") (read_few MAX_FOLDERS read_folder) d
+  if_few_devices folders
+
 -- the folders and the links of a cut
 unfoldable pub read_cut : Data → Option (List FolderParts × List LinkParts)
 read_cut d = do
-  folders ← read_member (codes "folders") (read_few MAX_FOLDERS read_folder) d
-  few ← if_few_devices folders
+  folders ← read_folders d
   links ← read_member_or (codes "links") (read_list read_link) [] d
-  Some (few, links)
+  Some (folders, links)
 
 -- the whole number 1
 abbrev pub is_one : Data → Bool

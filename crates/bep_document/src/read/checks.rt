@@ -1,9 +1,11 @@
 //! A cut, and the whole document.
 ghost use Rattle.std.specs.Prelude.{◌≡◌, List, Some, option_map};
-ghost use Rattle.serde_json.specs.View.{view};
+ghost use Rattle.serde_json.specs.View.{view, items_view};
 ghost use Rattle.serde_json.specs.Find.{get};
-ghost use Rattle.bep_json.specs.Reading.{Gives};
-ghost use Rattle.bep_document.specs.read.Checks.{is_cut, read_cut, is_one, has_version, is_check, with_rows, read_check};
+ghost use Rattle.bep_json.specs.Reading.{Gives, GivesBy};
+ghost use Rattle.bep_json.specs.Lists.{read_items, read_list};
+ghost use Rattle.bep_document.specs.read.Links.{read_link};
+ghost use Rattle.bep_document.specs.read.Checks.{is_cut, read_folders, read_cut, is_one, has_version, is_check, with_rows, read_check};
 
 use crate::read::devices::has_few_devices;
 use crate::read::few::Few;
@@ -58,12 +60,7 @@ impl Readable for CutLists {
 
     #[tactic(auto, unfolding(crate::specs::read::Checks::read_cut))]
     fn read(alloc: Global, value: &Value) -> Result<Self, ReadError> {
-        let folders = member::<Few<FolderParts, MAX_FOLDERS>>(
-            alloc, value, "folders",
-        )?.into_items();
-        if !has_few_devices(alloc, folders.as_slice())? {
-            return Err(ReadError::Range);
-        }
+        let folders = folders_of(alloc, value)?;
         let none = Items::new(Vec::new(alloc));
         let links = member_or::<Items<LinkParts>>(alloc, value, "links", none)?;
         Ok(CutLists { folders, links })
@@ -112,17 +109,63 @@ pub(crate) fn read_check(alloc: Global, tree: Value) -> Result<CheckParts, ReadE
     let Some(cut) = member_alone(tree, "cut") else {
         return Err(ReadError::Range);
     };
-    read_beside(alloc, &cut, rows)
+    read_beside(alloc, cut, rows)
 }
 
 // What a check document says whose cut has this tree, and whose rows were read.
-fn read_beside(alloc: Global, cut: &Value, rows: Items<RowParts>) -> Result<CheckParts, ReadError>
-    ensures { Gives result (with_rows (read_cut (view cut.now)) (Some rows)) }
+fn read_beside(alloc: Global, cut: Value, rows: Items<RowParts>) -> Result<CheckParts, ReadError>
+    ensures { Gives result (with_rows (read_cut (view cut)) (Some rows)) }
 {
-    match CutLists::read(alloc, cut) {
+    match lists_of(alloc, cut) {
         Ok(lists) => Ok(lists.with_rows(rows)),
         Err(error) => Err(error),
     }
+}
+
+// The folders and the links of a cut, whose tree is given up: its folders once they are read, and then each link.
+#[tactic(auto, unfolding(crate::specs::read::Checks::read_cut))]
+fn lists_of(alloc: Global, cut: Value) -> Result<CutLists, ReadError>
+    ensures { Gives result (read_cut (view cut)) }
+{
+    let folders = folders_of(alloc, &cut)?;
+    let links = match member_alone(cut, "links") {
+        Some(links) => links_of(alloc, links)?,
+        None => Items::new(Vec::new(alloc)),
+    };
+    Ok(CutLists { folders, links })
+}
+
+// The folders of a cut.
+fn folders_of(alloc: Global, cut: &Value) -> Result<Items<FolderParts>, ReadError>
+    ensures { Gives result (read_folders (view cut.now)) }
+{
+    let folders = member::<Few<FolderParts, MAX_FOLDERS>>(alloc, cut, "folders")?.into_items();
+    if !has_few_devices(alloc, folders.as_slice())? {
+        return Err(ReadError::Range);
+    }
+    Ok(folders)
+}
+
+// The links of a list, each of which is given up once it is read.
+fn links_of(alloc: Global, links: Value) -> Result<Items<LinkParts>, ReadError>
+    ensures { Gives result (read_list read_link (view links)) }
+{
+    match links {
+        Value::Array(items) => Ok(Items::new(each_link(alloc, items)?)),
+        _ => Err(ReadError::Range),
+    }
+}
+
+// The link that each item says, in order.
+fn each_link(alloc: Global, items: Vec<Value>) -> Result<Vec<LinkParts>, ReadError>
+    ensures { GivesBy (λ links. links.items) result (read_items read_link (items_view items.items)) }
+{
+    let mut links = Vec::with_capacity(alloc, items.len())?;
+    for item in items {
+        let link = LinkParts::read(alloc, &item)?;
+        links.push(link)?;
+    }
+    Ok(links)
 }
 
 // The value at the member of this name, if there is one; the rest of the tree is given up.
