@@ -45,7 +45,7 @@ lists_say : (cut : CutParts) → IsReadAgain cut → has_few_devices (map folder
 unfolding is_cut read_cut cut_tree
 lists_say cut again few = (
   both_are refl (both_are again.folders.0 again.links.0),
-  then_read _ again.folders.1 (then_read _ (few_read (map folder_parts cut.folders) few) (then_read _ again.links.1 refl)),
+  then_read _ (then_read _ again.folders.1 (few_read (map folder_parts cut.folders) few)) (then_read _ again.links.1 refl),
 )
 
 pub cut_is_told : FaultlessHasFewDevices → (cut : CutParts) → IsCut cut → AllByRecursion IsFolderTold cut.folders → AllByRecursion IsLinkTold cut.links → AllByRecursion IsFolderSound cut.folders → AllByRecursion IsLinkSound cut.links → IsCutTold cut
