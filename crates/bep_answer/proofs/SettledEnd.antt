@@ -6,12 +6,12 @@ use Rattle.bep_document.specs.Reading.{Reading, Read, Refused}
 use Rattle.bep_machine.specs.Laws.{StaysPut, StaysSettled, SettledStaysPut, SettledStaysSettled}
 use Rattle.bep_model.specs.declared.row.Row.{Row}
 use Rattle.bep_model.specs.Settled.{IsSettled}
-use Rattle.bep_scenario.specs.declared.scenario.Scenario.{Scenario}
+use Rattle.bep_scenario.specs.Scenario.{Said}
 use Rattle.bep_tables.specs.declared.cut.CutParts.{CutParts}
 use Rattle.bep_tables.specs.Cut.{tables_of}
 use Rattle.bep_answer.specs.declared.outcome.Outcome.{Outcome}
 use Rattle.bep_answer.specs.declared.outcome.Outcome.TheVariants as outcomes
-use Rattle.bep_answer.specs.Played.{IsEnd, IsRunOf, Leads, beginning_of}
+use Rattle.bep_answer.specs.Played.{IsEnd, IsRunOf, LeadsToSettled}
 use Rattle.bep_answer.proofs.SettledSaid.{settled_verdict}
 
 settled_rows : (cut : CutParts) (told : List ℕ) (outcome : Outcome) (text : List ℕ) → IsEnd cut told outcome text → outcome ≡ outcomes.Settled → (rows : List Row) × IsSettled (tables_of cut) rows
@@ -21,18 +21,7 @@ settled_rows cut told outcome text end is =
     (λ unwon. let other = sym is ∙ unwon.outcome_is in absurd (cc))
     end
 
-pub record SettledRun (reading : Reading Scenario) : Type 0 where
-  pub scenario : Scenario
-  pub says : reading ≡ Read scenario
-  pub last : Network
-  pub told : List ℕ
-  pub leads : Leads (cluster_of (beginning_of scenario)) scenario.steps (cluster_of last) told
-  pub rows : List Row
-  pub settled : IsSettled (tables_of (cut_at last.members last.links)) rows
-  pub stays_put : StaysPut (tables_of (cut_at last.members last.links)) rows
-  pub stays_settled : StaysSettled (tables_of (cut_at last.members last.links)) rows
-
-pub settled_run : SettledStaysPut → SettledStaysSettled → (reading : Reading Scenario) (outcome : Outcome) (text : List ℕ) → IsRunOf reading outcome text → outcome ≡ outcomes.Settled → SettledRun reading
+pub settled_run : SettledStaysPut → SettledStaysSettled → (reading : Reading Said) (outcome : Outcome) (text : List ℕ) → IsRunOf reading outcome text → outcome ≡ outcomes.Settled → LeadsToSettled reading
 settled_run put again (Read scenario) outcome text run is =
     let found = settled_rows (cut_at run.last.members run.last.links) run.told outcome text run.end is in
     record {

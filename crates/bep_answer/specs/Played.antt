@@ -29,8 +29,7 @@ use Rattle.bep_report.specs.Certificate.{certificate_lines, step_line}
 use Rattle.bep_report.specs.Input.{IsRead}
 use Rattle.bep_report.specs.Output.{AppendsBeginning}
 use Rattle.bep_report.specs.Report.{report_text}
-use Rattle.bep_scenario.specs.Scenario.{scenario_of}
-use Rattle.bep_scenario.specs.declared.scenario.Scenario.{Scenario}
+use Rattle.bep_scenario.specs.Scenario.{Said, scenario_of}
 use Rattle.bep_tables.specs.declared.cut.CutParts.{CutParts}
 use Rattle.bep_tables.specs.Cut.{tables_of}
 use Rattle.bep_answer.specs.Answer.{fault_text, outcome_of}
@@ -99,31 +98,31 @@ abbrev pub IsEnd : CutParts → List ℕ → Outcome → List ℕ → Type 0
 IsEnd cut told outcome text = IsAudited cut told outcome text ⊎ IsUnwon cut told outcome text
 
 -- the cluster with which a scenario begins; its stores are in memory, empty, and don't fail
-abbrev pub beginning_of : Scenario → Network
+abbrev pub beginning_of : Said → Network
 beginning_of scenario = begun (λ store. store) (λ _. 0) scenario.config
 
 -- the steps are made, and the cut to which they lead is reported
-pub record IsPlayed (scenario : Scenario) (outcome : Outcome) (text : List ℕ) : Type 0 where
+pub record IsPlayed (scenario : Said) (outcome : Outcome) (text : List ℕ) : Type 0 where
   pub last : Network
   pub told : List ℕ
   pub leads : Leads (cluster_of (beginning_of scenario)) scenario.steps (cluster_of last) told
   pub end : IsEnd (cut_at last.members last.links) told outcome text
 
 -- the outcome and the text for what a document says: its scenario's run, or the fault for which it is refused
-abbrev pub IsRunOf : Reading Scenario → Outcome → List ℕ → Type 0
+abbrev pub IsRunOf : Reading Said → Outcome → List ℕ → Type 0
 IsRunOf (Read scenario) outcome text = IsPlayed scenario outcome text
 IsRunOf (Refused fault) outcome text = (outcome ≡ outcomes.Refused) × (text ≡ fault_text fault)
 
 -- the steps are made, and the cut to which they lead is written as where its certificate is asked for: as the document of
 -- that cut with the list under which it is audited
-pub record IsPlayedTo (scenario : Scenario) (outcome : Certified) (text : List ℕ) : Type 0 where
+pub record IsPlayedTo (scenario : Said) (outcome : Certified) (text : List ℕ) : Type 0 where
   pub last : Network
   pub told : List ℕ
   pub leads : Leads (cluster_of (beginning_of scenario)) scenario.steps (cluster_of last) told
   pub certificate : IsCertificate (cut_at last.members last.links) outcome text
 
 -- the outcome and the text for what a document says: where its scenario's run ends, or the fault for which it is refused
-abbrev pub IsEndOf : Reading Scenario → Certified → List ℕ → Type 0
+abbrev pub IsEndOf : Reading Said → Certified → List ℕ → Type 0
 IsEndOf (Read scenario) outcome text = IsPlayedTo scenario outcome text
 IsEndOf (Refused fault) outcome text = (outcome ≡ certificates.Refused) × (text ≡ fault_text fault)
 
@@ -157,13 +156,11 @@ IsUnrun unread left held now Memory = Keeps held now
 IsUnrun unread left held now faults.Read = Keeps held now
 IsUnrun unread left held now faults.Write = IsRunInPart unread left held now
 
--- the scenario that was read leads to a cut that is settled under its winners: so it stays, after every list of further
--- steps without local edits
-pub record EndsSettled (unread left : Option (List ℕ)) : Type 0 where
-  pub bytes : List ℕ
-  pub read : IsRead unread left bytes
-  pub scenario : Scenario
-  pub says : scenario_of bytes ≡ Read scenario
+-- the scenario leads to a cut that is settled under its winners: so it stays, after every list of further steps without
+-- local edits
+pub record LeadsToSettled (reading : Reading Said) : Type 0 where
+  pub scenario : Said
+  pub says : reading ≡ Read scenario
   pub last : Network
   pub told : List ℕ
   pub leads : Leads (cluster_of (beginning_of scenario)) scenario.steps (cluster_of last) told
@@ -171,3 +168,9 @@ pub record EndsSettled (unread left : Option (List ℕ)) : Type 0 where
   pub settled : IsSettled (tables_of (cut_at last.members last.links)) rows
   pub stays_put : StaysPut (tables_of (cut_at last.members last.links)) rows
   pub stays_settled : StaysSettled (tables_of (cut_at last.members last.links)) rows
+
+-- a document was read, and its scenario leads there
+pub record EndsSettled (unread left : Option (List ℕ)) : Type 0 where
+  pub bytes : List ℕ
+  pub read : IsRead unread left bytes
+  pub end : LeadsToSettled (scenario_of bytes)

@@ -1,6 +1,6 @@
 //! The check document of a scenario's end, from the bytes that come in to the bytes that go out.
 ghost use Rattle.std.specs.Prelude.{IfOk, IfErr};
-ghost use Rattle.bep_scenario.specs.Scenario.{scenario_of};
+ghost use Rattle.bep_scenario.specs.Scenario.{said, scenario_of};
 ghost use Rattle.bep_answer.specs.Exchange.{IsEndedEarly, IsWhole};
 ghost use Rattle.bep_answer.specs.Played.{IsEndOf, IsEndOfBytes, IsPlayedTo};
 
@@ -55,10 +55,10 @@ fn answer_to(alloc: Global, bytes: &[u8]) -> Result<(Certified, Vec<u8>, Vec<u8>
 
 // The outcome of the scenario's run, the text, and the lines of refused steps.
 fn run(alloc: Global, scenario: Scenario) -> Result<(Certified, Vec<u8>, Vec<u8>), AllocError>
-    ensures { IfOk result (λ answer. IsPlayedTo scenario answer.0 answer.1.items) }
+    ensures { IfOk result (λ answer. IsPlayedTo (said scenario) answer.0 answer.1.items) }
 {
     let mut cluster = Cluster::new(alloc, scenario.config)?;
-    let told = play(alloc, &mut cluster, scenario.steps.into_vec())?;
+    let told = play(alloc, &mut cluster, scenario.steps)?;
     let (outcome, text) = document_of_end(alloc, cluster)?;
     Ok((outcome, text, told))
 }

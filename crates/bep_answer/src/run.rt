@@ -1,6 +1,6 @@
 //! A scenario's run, from the bytes that come in to the bytes that go out.
 ghost use Rattle.std.specs.Prelude.{◌≡◌, IfOk, IfErr};
-ghost use Rattle.bep_scenario.specs.Scenario.{scenario_of};
+ghost use Rattle.bep_scenario.specs.Scenario.{said, scenario_of};
 ghost use Rattle.bep_answer.specs.Played.{EndsSettled, IsPlayed, IsRunOf, IsRunWhole, IsUnrun};
 ghost use Rattle.bep_answer.specs.declared.outcome.Outcome.TheVariants as outcomes;
 
@@ -53,9 +53,9 @@ fn answer_to(alloc: Global, bytes: &[u8]) -> Result<(Outcome, Vec<u8>), AllocErr
 
 // The outcome of the scenario's run, and the text.
 fn run(alloc: Global, scenario: Scenario) -> Result<(Outcome, Vec<u8>), AllocError>
-    ensures { IfOk result (λ answer. IsPlayed scenario answer.0 answer.1.items) }
+    ensures { IfOk result (λ answer. IsPlayed (said scenario) answer.0 answer.1.items) }
 {
     let mut cluster = Cluster::new(alloc, scenario.config)?;
-    let told = play(alloc, &mut cluster, scenario.steps.into_vec())?;
+    let told = play(alloc, &mut cluster, scenario.steps)?;
     report_on_end(alloc, cluster, told)
 }

@@ -1,18 +1,27 @@
 -- The scenario that the bytes of a document say (this project's profile).
 use Rattle.std.specs.Prelude.{ℕ, List, map}
+use Rattle.bep_machine.specs.declared.step.Step.{Step}
 use Rattle.bep_document.specs.Reading.{Reading, Read, ◌>>=◌}
 use Rattle.bep_scenario.specs.declared.parts.ScenarioParts.{ScenarioParts}
 use Rattle.bep_scenario.specs.declared.scenario.Scenario.{Scenario}
-use Rattle.bep_scenario.specs.Configured.{start_of}
+use Rattle.bep_scenario.specs.Configured.{Start, start_of}
 use Rattle.bep_scenario.specs.Faultless.{step_of}
 use Rattle.bep_scenario.specs.Reading.{reading_of}
 
+-- what a scenario says: with which configuration it begins, and its steps
+pub record Said : Type 0 where
+  pub config : Start
+  pub steps : List Step
+
+abbrev pub said : Scenario → Said
+said scenario = record { config = scenario.config; steps = scenario.steps.items }
+
 -- the cluster's configuration, its stores empty, and its steps
-abbrev pub made_of : ScenarioParts → Scenario
+abbrev pub made_of : ScenarioParts → Said
 made_of parts = record { config = start_of parts.cluster; steps = map step_of parts.steps }
 
 -- what the bytes of a document say
-abbrev pub scenario_of : List ℕ → Reading Scenario
+abbrev pub scenario_of : List ℕ → Reading Said
 scenario_of bytes = do
   parts ← reading_of bytes
   Read (made_of parts)

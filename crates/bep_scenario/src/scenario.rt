@@ -1,12 +1,11 @@
 //! A scenario: a cluster before its first step, and its steps, from the bytes of a document in one call.
-ghost use Rattle.bep_document.specs.Reading.{Answers};
-ghost use Rattle.bep_scenario.specs.Scenario.{scenario_of};
+ghost use Rattle.bep_document.specs.Reading.{AnswersBy};
+ghost use Rattle.bep_scenario.specs.Scenario.{said, scenario_of};
 
 use crate::{config_of, read_scenario_parts, steps_of};
 use bep_config::{Config, ConfigError};
 use bep_document::DocError;
 use bep_machine::Step;
-use bep_record::Items;
 use bep_store::MemStore;
 use std::alloc::Global;
 
@@ -16,7 +15,7 @@ pub struct Scenario {
     /// Folders, the devices that share them, each with an empty store, and links.
     pub config: Config<MemStore>,
     /// The steps, the first one first.
-    pub steps: Items<Step>,
+    pub steps: Vec<Step>,
 }
 
 /// The scenario that the bytes of a document say, or the fault for which it is refused: the one with the smallest number
@@ -24,7 +23,7 @@ pub struct Scenario {
 ///
 /// This project's profile.
 pub fn read_scenario(alloc: Global, bytes: &[u8]) -> Result<Scenario, DocError>
-    ensures { Answers result (scenario_of bytes.now) }
+    ensures { AnswersBy said result (scenario_of bytes.now) }
 {
     let parts = read_scenario_parts(alloc, bytes)?;
     let config = match config_of(alloc, &parts.cluster) {
@@ -33,8 +32,5 @@ pub fn read_scenario(alloc: Global, bytes: &[u8]) -> Result<Scenario, DocError>
         Err(ConfigError::ConfigBad) => unreachable!(),
     };
     let steps = steps_of(alloc, parts.steps)?;
-    Ok(Scenario {
-        config,
-        steps: Items::new(steps),
-    })
+    Ok(Scenario { config, steps })
 }
