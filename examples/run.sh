@@ -67,16 +67,18 @@ cell_of() {
   lines_of "$2" | grep -E "$1" | sed 's/.*/`&`/' | paste -sd '@' | sed 's/@/<br>/g' || true
 }
 
-# check_document FILE OUTPUT STATUS: the document of a scenario's end has the verdict that its run has in the row; where
-# it has none, the verdict's line stands in its place. The refused steps are told beside it.
+# check_document FILE OUTPUT ERROR STATUS: the document of a scenario's end has the verdict that its run has in the row;
+# where it has none, the verdict's line stands in its place. The refused steps are told beside it, or what is told of a
+# refused scenario.
 check_document() {
-  local words="syncaudit run --document < $1" report='^(settled|not settled|folder )'
+  local words="syncaudit run --document < $1" report='^(settled|not settled|folder )' told
+  told=$(cell_of '^step ' "$2")
   if [[ $2 = *'NotWinner '* || $2 = *'refused: '* ]]; then
     report='^(not settled|refused)'
   else
     words="syncaudit check < <($words)"
   fi
-  check_row "$words" "$(cell_of "$report" "$2")" "$(cell_of '^step ' "$2")" "$3"
+  check_row "$words" "$(cell_of "$report" "$2")" "${told:-$3}" "$4"
 }
 
 # A row of the first table has a file's name, what it shows, what is written, and the status.
@@ -106,7 +108,7 @@ while IFS='|' read -r _ words _ output error status _; do
   check_row "$(lines_of "$words")" "$output" "$error" "$status"
   scenario=$(lines_of "$words" | sed -n 's/^syncaudit run < //p')
   if [ -n "$scenario" ] && [ "${status// /}" -le 2 ]; then
-    check_document "$scenario" "$output" "$status"
+    check_document "$scenario" "$output" "$error" "$status"
   fi
 done < <(grep '^| `' examples/README.md | grep -v '^| `[a-z-]*\.json` |')
 

@@ -10,10 +10,11 @@ ghost use Rattle.bep_tables.specs.document.Written.{check_of, cut_of_document};
 ghost use Rattle.bep_report.specs.Lines.{verdict_line};
 ghost use Rattle.bep_answer.specs.Certified.{IsCertificate, IsCertified, IsCertifiedWhole, IsUncertified, document_text};
 
-use crate::hints::{Hinted, hint_for_cut};
+use crate::hints::{Hinted, hint_for_certified};
 use crate::outcome::Certified;
 use crate::refusal::fault_line;
 use bep_audit::{Certificate, CertifyError, certify};
+use bep_hints::Expected;
 use bep_model::Reason;
 use bep_record::{FolderName, Name};
 use bep_report::{ReportError, push_not_settled, read_document, write_all};
@@ -52,7 +53,7 @@ pub fn certified<R: Read, W: Write>(
     let bytes = read_document(alloc, reader)?;
     let (outcome, text) = answer_to(alloc, bytes.as_slice())?;
     write_all(writer, text.as_slice())?;
-    let hint = hint_for_cut(alloc, outcome, bytes.as_slice());
+    let hint = hint_for_certified(alloc, outcome, Expected::Cut, bytes.as_slice());
     Ok((outcome, hint))
 }
 

@@ -12,6 +12,7 @@ use crate::hints::{Hinted, hint_for};
 use crate::outcome::Outcome;
 use crate::refusal::refusal;
 use bep_audit::{Certificate, Verdict, check};
+use bep_hints::Expected;
 use bep_machine::{settled_stays_put, settled_stays_settled};
 use bep_report::{ReportError, push_report, read_document, write_all};
 use bep_tables::{Cut, DocError, read_check};
@@ -52,7 +53,7 @@ pub fn checked<R: Read, W: Write>(
     let bytes = read_document(alloc, reader)?;
     let (outcome, text) = answer_to(alloc, bytes.as_slice())?;
     write_all(writer, text.as_slice())?;
-    let hint = hint_for(alloc, outcome, bytes.as_slice());
+    let hint = hint_for(alloc, outcome, Expected::Check, bytes.as_slice());
     Ok((outcome, hint))
 }
 

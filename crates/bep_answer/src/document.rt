@@ -5,11 +5,12 @@ ghost use Rattle.bep_answer.specs.Exchange.{IsEndedEarly, IsWhole};
 ghost use Rattle.bep_answer.specs.Played.{IsEndOf, IsEndOfBytes, IsPlayedTo};
 
 use crate::ending::document_of_end;
-use crate::hints::Hinted;
+use crate::hints::{Hinted, hint_for_certified};
 use crate::outcome::Certified;
 use crate::play::play;
 use crate::refusal::fault_line;
 use bep_core::Cluster;
+use bep_hints::Expected;
 use bep_report::{ReportError, read_document, write_all};
 use bep_scenario::{Scenario, read_scenario};
 use bep_tables::DocError;
@@ -20,8 +21,8 @@ use std::io::{Read, Write};
 /// winners, on a line; or the line of the first known name that has none; or that of the fault for which the document is
 /// refused. So an audit of what is written has the verdict of the scenario's run. At most 67108865 bytes are read.
 ///
-/// The lines of the steps that are refused are answered beside the outcome, without the last line's end, if there are any.
-/// No contract speaks of them.
+/// The lines of the steps that are refused are answered beside the outcome, without the last line's end, if there are any;
+/// or a hint on where a refused scenario is at fault. No contract speaks of them.
 ///
 /// `Read` and `Write` are answered where the reader or the writer answers any error, or takes nothing; `Memory` may come
 /// in place of an answer. Only after `Write` a beginning of the text may be written, and else nothing.
@@ -36,7 +37,8 @@ pub fn run_document<R: Read, W: Write>(
     let bytes = read_document(alloc, reader)?;
     let (outcome, text, told) = answer_to(alloc, bytes.as_slice())?;
     write_all(writer, text.as_slice())?;
-    Ok((outcome, lines_of(told)))
+    let hint = hint_for_certified(alloc, outcome, Expected::Scenario, bytes.as_slice());
+    Ok((outcome, hint.or(lines_of(told))))
 }
 
 // The outcome for a document's bytes, the text on standard output, and the lines of refused steps.

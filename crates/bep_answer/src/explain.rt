@@ -13,6 +13,7 @@ use crate::outcome::{Form, Outcome};
 use crate::refusal::refusal_in;
 use bep_audit::Certificate;
 use bep_explain::{Explained, explain, explanation};
+use bep_hints::Expected;
 use bep_report::{ReportError, read_document, write_all};
 use bep_tables::{Cut, DocError, read_check};
 use std::alloc::{AllocError, Global};
@@ -50,7 +51,7 @@ pub fn explained<R: Read, W: Write>(
     let bytes = read_document(alloc, reader)?;
     let (outcome, text) = answer_to(alloc, form, bytes.as_slice())?;
     write_all(writer, text.as_slice())?;
-    let hint = hint_for(alloc, outcome, bytes.as_slice());
+    let hint = hint_for(alloc, outcome, Expected::Check, bytes.as_slice());
     Ok((outcome, hint))
 }
 

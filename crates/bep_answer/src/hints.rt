@@ -7,17 +7,27 @@ use std::alloc::Global;
 pub type Hinted<T> = (T, Option<String>);
 
 // The hint beside an outcome.
-pub(crate) fn hint_for(alloc: Global, outcome: Outcome, bytes: &[u8]) -> Option<String> {
+pub(crate) fn hint_for(
+    alloc: Global,
+    outcome: Outcome,
+    expected: Expected,
+    bytes: &[u8],
+) -> Option<String> {
     match outcome {
-        Outcome::Refused => hint_at(alloc, bytes, Expected::Check),
+        Outcome::Refused => hint_at(alloc, bytes, expected),
         Outcome::Settled | Outcome::NotSettled => None,
     }
 }
 
 // The same where a certificate was asked for.
-pub(crate) fn hint_for_cut(alloc: Global, outcome: Certified, bytes: &[u8]) -> Option<String> {
+pub(crate) fn hint_for_certified(
+    alloc: Global,
+    outcome: Certified,
+    expected: Expected,
+    bytes: &[u8],
+) -> Option<String> {
     match outcome {
-        Certified::Refused => hint_at(alloc, bytes, Expected::Cut),
+        Certified::Refused => hint_at(alloc, bytes, expected),
         Certified::Written | Certified::NoWinner => None,
     }
 }

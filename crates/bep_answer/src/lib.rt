@@ -8,7 +8,7 @@
 //!         Outcome::Refused => ..,
 //!     }
 //!
-//! `checked`, `certified` and `explained` do the same, and say where a refused document is at fault. `run_text`
+//! `checked`, `certified` and `explained` do the same, and say where a refused document is at fault. `run_text`, `ran`
 //! and `run_document` answer to a scenario.
 #![tactic(auto)]
 
@@ -30,4 +30,4 @@ pub use document::run_document;
 pub use explain::{explain_text, explained};
 pub use hints::Hinted;
 pub use outcome::{Certified, Form, Outcome};
-pub use run::run_text;
+pub use run::{ran, run_text};

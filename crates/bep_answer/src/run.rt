@@ -5,10 +5,12 @@ ghost use Rattle.bep_answer.specs.Played.{EndsSettled, IsPlayed, IsRunOf, IsRunW
 ghost use Rattle.bep_answer.specs.declared.outcome.Outcome.TheVariants as outcomes;
 
 use crate::ending::report_on_end;
+use crate::hints::{Hinted, hint_for};
 use crate::outcome::Outcome;
 use crate::play::play;
 use crate::refusal::refusal;
 use bep_core::Cluster;
+use bep_hints::Expected;
 use bep_machine::{settled_stays_put, settled_stays_settled};
 use bep_report::{ReportError, read_document, write_all};
 use bep_scenario::{Scenario, read_scenario};
@@ -32,12 +34,27 @@ pub fn run_text<R: Read, W: Write>(
     ensures err { IfErr result (IsUnrun (R.remaining reader.old) (R.remaining reader.new) (W.contents writer.old) (W.contents writer.new)) }
     ensures settled { IfOk result (λ outcome. outcome ≡ outcomes.Settled → EndsSettled (R.remaining reader.old) (R.remaining reader.new)) }
 {
+    let (outcome, _) = ran(alloc, reader, writer)?;
+    Ok(outcome)
+}
+
+/// The same, with a hint on where a refused scenario is at fault.
+pub fn ran<R: Read, W: Write>(
+    alloc: Global,
+    reader: &mut R,
+    writer: &mut W,
+) -> Result<Hinted<Outcome>, ReportError>
+    ensures ok { IfOk result (λ told. IsRunWhole (R.remaining reader.old) (R.remaining reader.new) (W.contents writer.old) (W.contents writer.new) told.0) }
+    ensures err { IfErr result (IsUnrun (R.remaining reader.old) (R.remaining reader.new) (W.contents writer.old) (W.contents writer.new)) }
+    ensures settled { IfOk result (λ told. told.0 ≡ outcomes.Settled → EndsSettled (R.remaining reader.old) (R.remaining reader.new)) }
+{
     settled_stays_put();
     settled_stays_settled();
     let bytes = read_document(alloc, reader)?;
     let (outcome, text) = answer_to(alloc, bytes.as_slice())?;
     write_all(writer, text.as_slice())?;
-    Ok(outcome)
+    let hint = hint_for(alloc, outcome, Expected::Scenario, bytes.as_slice());
+    Ok((outcome, hint))
 }
 
 // The outcome for a document's bytes, and the text on standard output.

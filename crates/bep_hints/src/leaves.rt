@@ -1,4 +1,4 @@
-//! Values of one piece: whether they are what they should be, and in which words that is told.
+//! Values of one piece: whether they are what they should be. And in which words it is told what a value should be.
 use crate::members::Sort;
 use bep_json::{Nanoseconds, ReadError, Readable, Sequence, Whole};
 use bep_record::{DeviceId, FolderKind, FolderName, Kind, MAX_FILE_SIZE, Name, Target, Vector};
@@ -9,6 +9,8 @@ use std::alloc::Global;
 pub(crate) fn has_shape(sort: Sort, value: &Value) -> bool {
     match sort {
         Sort::Anything => true,
+        // one that begins with a known word isn't of one piece
+        Sort::Step => false,
         Sort::Flag => value.is_boolean(),
         Sort::Version => Vector::has_shape(value),
         Sort::FolderKind
@@ -98,6 +100,15 @@ pub(crate) fn words_of(sort: Sort) -> &'static str {
             "a list of at most 16 pairs: an id from 1, rising, and a value from 1 to 9223372036854775807",
         Sort::Text => "a text of at most 16777216 bytes",
         Sort::Hex => "two hexadecimal digits for each of at most 16777216 bytes",
+        Sort::FreshLink => "a list of two devices",
+        Sort::EditStep => "a list of this word, a device, a folder and a node",
+        Sort::NameStep => "a list of this word, a device, a folder and a name",
+        Sort::PairStep => "a list of this word and two devices",
+        Sort::AnnounceStep => "a list of this word, two devices and a folder",
+        Sort::AskStep => "a list of this word, two devices, a folder and a name",
+        Sort::RestartStep => "a list of this word and a device",
+        Sort::Step =>
+            "a list that begins with edit, remove, scan, override, revert, connect, lose, begin, deliver, announce, pull, ask, finish or restart",
         _ => "an object",
     }
 }

@@ -11,6 +11,7 @@
 
 mod leaves;
 mod members;
+mod scenario;
 mod sentence;
 mod walk;
 

@@ -1,4 +1,5 @@
-//! The members of a check document, in the order in which its description names them.
+//! The members of documents, in the order in which their description names them.
+use crate::scenario::{fresh_folder_members, fresh_share_members, scenario_members};
 use bep_index::{MAX_NAMES, MAX_RECORDS};
 use bep_record::{MAX_FOLDERS, MAX_MESSAGES, MAX_PULLS};
 use std::alloc::{AllocError, Global};
@@ -10,6 +11,8 @@ pub enum Expected {
     Check,
     /// A cut, with any certificate or none.
     Cut,
+    /// A cluster before its first step, and its steps.
+    Scenario,
 }
 
 /// What may stand in a document.
@@ -27,6 +30,19 @@ pub(crate) enum Sort {
     Row,
     Record,
     Node,
+    Scenario,
+    FreshFolder,
+    FreshShare,
+    // lists of which each place has a sort of its own
+    FreshLink,
+    EditStep,
+    NameStep,
+    PairStep,
+    AnnounceStep,
+    AskStep,
+    RestartStep,
+    // one of these steps, by its word; of one piece where there is no such word
+    Step,
     // values of one piece
     Anything,
     One,
@@ -61,8 +77,8 @@ pub(crate) struct Member {
     pub(crate) most: Option<usize>,
 }
 
-// A member that must be there.
-fn due(name: &'static str, sort: Sort) -> Member {
+/// A member that must be there.
+pub(crate) fn due(name: &'static str, sort: Sort) -> Member {
     Member {
         name,
         is_due: true,
@@ -79,16 +95,16 @@ fn may(name: &'static str, sort: Sort) -> Member {
     }
 }
 
-// A list of so many at most.
-fn list(member: Member, most: usize) -> Member {
+/// A list of so many at most.
+pub(crate) fn list(member: Member, most: usize) -> Member {
     Member {
         most: Some(most),
         ..member
     }
 }
 
-// A list of any length.
-fn any_list(member: Member) -> Member {
+/// A list of any length.
+pub(crate) fn any_list(member: Member) -> Member {
     list(member, usize::MAX)
 }
 
@@ -139,6 +155,9 @@ pub(crate) fn members_of(alloc: Global, sort: Sort) -> Result<Vec<Member>, Alloc
         Sort::Message => message_members(alloc),
         Sort::Record => record_members(alloc),
         Sort::Node => node_members(alloc),
+        Sort::Scenario => scenario_members(alloc),
+        Sort::FreshFolder => fresh_folder_members(alloc),
+        Sort::FreshShare => fresh_share_members(alloc),
         _ => Ok(Vec::new(alloc)),
     }
 }

@@ -66,6 +66,7 @@ fn said_of_tree(alloc: Global, tree: &Value, expected: Expected) -> Result<Vec<u
     let sort = match expected {
         Expected::Check => Sort::CheckDocument,
         Expected::Cut => Sort::CutDocument,
+        Expected::Scenario => Sort::Scenario,
     };
     for flaw in [Flaw::Shape, Flaw::Range] {
         let mut way = Vec::new(alloc);
@@ -73,7 +74,10 @@ fn said_of_tree(alloc: Global, tree: &Value, expected: Expected) -> Result<Vec<u
             return said_at(alloc, way.as_slice(), wrong);
         }
     }
-    said_of_devices(alloc, tree)
+    match expected {
+        Expected::Check | Expected::Cut => said_of_devices(alloc, tree.get("cut"), "cut.folders"),
+        Expected::Scenario => said_of_devices(alloc, Some(tree), "folders"),
+    }
 }
 
 // What is wrong at the end of this way.
@@ -125,10 +129,10 @@ fn push_wrong(text: &mut Vec<u8>, wrong: Wrong) -> Result<(), AllocError> {
     }
 }
 
-// That too many devices share the folders, if they do.
-fn said_of_devices(alloc: Global, tree: &Value) -> Result<Vec<u8>, AllocError> {
+// That too many devices share the folders of this value, if they do.
+fn said_of_devices(alloc: Global, value: Option<&Value>, way: &str) -> Result<Vec<u8>, AllocError> {
     let mut known = Vec::new(alloc);
-    for folder in items_in(tree.get("cut"), "folders") {
+    for folder in items_in(value, "folders") {
         for share in items_in(Some(folder), "devices") {
             if let Some(device) = number_in(share, "device") {
                 if !known.as_slice().contains(&device) {
@@ -144,7 +148,8 @@ fn said_of_devices(alloc: Global, tree: &Value) -> Result<Vec<u8>, AllocError> {
     said(
         alloc,
         &[
-            Piece::Text("cut.folders: "),
+            Piece::Text(way),
+            Piece::Text(": "),
             count,
             Piece::Text(" different devices share the folders, at most 16 may"),
         ],

@@ -1,6 +1,7 @@
 //! The search for the first member at fault.
 use crate::leaves::{has_shape, is_in_range, words_of};
 use crate::members::{Member, Sort, members_of};
+use crate::scenario::{places_of, sort_at};
 use serde_json::Value;
 use std::alloc::{AllocError, Global};
 
@@ -54,6 +55,11 @@ pub(crate) fn look<'a>(
     if levels == 0 {
         return Ok(None);
     }
+    let sort = sort_at(sort, value);
+    let places = places_of(alloc, sort)?;
+    if !places.is_empty() {
+        return look_at_places(alloc, flaw, way, value, sort, places.as_slice(), levels - 1);
+    }
     let members = members_of(alloc, sort)?;
     if members.is_empty() {
         return Ok(wrong_leaf(alloc, flaw, value, sort));
@@ -102,6 +108,38 @@ fn look_in<'a>(
     for (place, item) in items.iter().enumerate() {
         step_to_item(way, place)?;
         let wrong = look(alloc, flaw, way, item, member.sort, levels - 1)?;
+        if wrong.is_some() {
+            return Ok(wrong);
+        }
+        way.pop();
+    }
+    Ok(None)
+}
+
+// The same of a list of which each place has a sort of its own.
+#[cycle(walk)]
+fn look_at_places<'a>(
+    alloc: Global,
+    flaw: Flaw,
+    way: &mut Vec<Step<'a>>,
+    value: &'a Value,
+    sort: Sort,
+    places: &[Sort],
+    levels: usize,
+) -> Found {
+    if levels == 0 {
+        return Ok(None);
+    }
+    let expected = Some(Wrong::Expected(words_of(sort)));
+    let Some(items) = value.as_array() else {
+        return Ok(expected);
+    };
+    if items.len() != places.len() {
+        return Ok(expected);
+    }
+    for (place, (item, sort)) in items.iter().zip(places.iter()).enumerate() {
+        step_to_item(way, place)?;
+        let wrong = look(alloc, flaw, way, item, *sort, levels - 1)?;
         if wrong.is_some() {
             return Ok(wrong);
         }

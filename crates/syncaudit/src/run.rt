@@ -12,7 +12,7 @@ ghost use Rattle.syncaudit.specs.declared.mode.Mode.TheVariants.{Check, Run};
 
 use crate::mode::{Ending, Mode, mode_of};
 use crate::status::{USAGE, certified_status_of, status_of};
-use bep_answer::{Certified, Form, Outcome, certified, checked, explained, run_document, run_text};
+use bep_answer::{Certified, Form, Outcome, certified, checked, explained, ran, run_document};
 use bep_report::ReportError;
 use clap::error::ErrorKind;
 use std::convert::AsStr;
@@ -142,10 +142,16 @@ fn report_on_scenario<P: AllocGlobal + Eprint, R: Read, W: Write>(
     ensures told { IsRunTold (R.remaining reader.old) (R.remaining reader.new) (W.contents writer.old) (W.contents writer.new) result }
     ensures settled { result ≡ 0 → EndsSettled (R.remaining reader.old) (R.remaining reader.new) }
 {
-    end(rt, run_text(rt.alloc(), reader, writer))
+    match ran(rt.alloc(), reader, writer) {
+        Ok((outcome, hint)) => {
+            tell(rt, hint);
+            end(rt, Ok(outcome))
+        }
+        Err(error) => end(rt, Err(error)),
+    }
 }
 
-// Makes the steps of a scenario, and writes the document of where they lead; what is refused of them is told.
+// Makes the steps of a scenario, and writes the document of where they lead; what is refused is told.
 fn document_of_scenario<P: AllocGlobal + Eprint, R: Read, W: Write>(
     rt: &P,
     reader: &mut R,
@@ -162,10 +168,10 @@ fn document_of_scenario<P: AllocGlobal + Eprint, R: Read, W: Write>(
     }
 }
 
-// Tells where a refused document is at fault, as far as there is something to say.
-fn tell<P: Eprint>(rt: &P, hint: Option<String>) {
-    if let Some(hint) = hint {
-        let _ = eprintln!(rt; "{hint}");
+// Tells what was answered beside an outcome: where a refused document is at fault, or which steps were refused.
+fn tell<P: Eprint>(rt: &P, told: Option<String>) {
+    if let Some(told) = told {
+        let _ = eprintln!(rt; "{told}");
     }
 }
 

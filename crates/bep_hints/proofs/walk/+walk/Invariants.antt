@@ -6,3 +6,6 @@ decreases-look l = l.levels
 
 abbrev pub decreases-look_in : goal.decreases-look_in
 decreases-look_in l = l.levels
+
+abbrev pub decreases-look_at_places : goal.decreases-look_at_places
+decreases-look_at_places l = l.levels

@@ -1,7 +1,7 @@
 use Rattle.std.proofs.Common.{sym, ap, ◌∙◌}
 use Rattle.bep_scenario.specs.Scenario.{scenario_of}
 use Rattle.bep_answer.proofs.SettledEnd.{settled_run}
-use Rattle.bep_answer.proofs.run.run_text.Goals as goal
+use Rattle.bep_answer.proofs.run.ran.Goals as goal
 
 pub returns-clause-settled : goal.returns-clause-settled
 returns-clause-settled g c = λ is.
