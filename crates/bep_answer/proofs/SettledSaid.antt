@@ -9,21 +9,13 @@ use Rattle.bep_tables.specs.declared.cut.CutParts.{CutParts}
 use Rattle.bep_tables.specs.Cut.{tables_of}
 use Rattle.bep_answer.specs.declared.outcome.Outcome.{Outcome}
 use Rattle.bep_answer.specs.declared.outcome.Outcome.TheVariants as outcomes
-use Rattle.bep_answer.specs.Answer.{IsAnswer, outcome_of}
+use Rattle.bep_answer.specs.Answer.{IsAnswer, TellsSettled, outcome_of}
 
 pub settled_verdict : (cut : CutParts) (rows : List Row) (verdict : verdicts.Verdict) → verdicts.IsVerdict (tables_of cut) rows verdict → outcomes.Settled ≡ outcome_of verdict → IsSettled (tables_of cut) rows
 settled_verdict cut rows verdicts.Settled judged told = judged
 settled_verdict cut rows (verdicts.Not reason folder name device) judged told = absurd (cc)
 
-pub record SettledReading (reading : Reading (CutParts × List Row)) : Type 0 where
-  pub cut : CutParts
-  pub rows : List Row
-  pub says : reading ≡ Read (cut, rows)
-  pub settled : IsSettled (tables_of cut) rows
-  pub stays_put : StaysPut (tables_of cut) rows
-  pub stays_settled : StaysSettled (tables_of cut) rows
-
-pub settled_reading : SettledStaysPut → SettledStaysSettled → (reading : Reading (CutParts × List Row)) (outcome : Outcome) (text : List ℕ) → IsAnswer reading outcome text → outcome ≡ outcomes.Settled → SettledReading reading
+pub settled_reading : SettledStaysPut → SettledStaysSettled → (reading : Reading (CutParts × List Row)) (outcome : Outcome) (text : List ℕ) → IsAnswer reading outcome text → outcome ≡ outcomes.Settled → TellsSettled reading
 settled_reading put again (Read check) outcome text answer is =
     let settled = settled_verdict check.0 check.1 answer.verdict answer.judged (cc) in
     record {

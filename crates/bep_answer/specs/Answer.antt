@@ -42,38 +42,22 @@ abbrev pub IsAnswer : Reading (CutParts × List Row) → Outcome → List ℕ �
 IsAnswer (Read check) outcome text = IsReport check.0 check.1 outcome text
 IsAnswer (Refused fault) outcome text = (outcome ≡ outcomes.Refused) × (text ≡ fault_text fault)
 
--- a document was read, its outcome was told and its text written, and nothing else
-pub record IsAnswered (unread left held now : Option (List ℕ)) (outcome : Outcome) : Type 0 where
-  pub bytes : List ℕ
-  pub read : IsRead unread left bytes
-  pub text : List ℕ
-  pub answer : IsAnswer (check_of bytes) outcome text
-  pub written : Appends held now text
+-- the same of the bytes of a document
+abbrev pub IsAnswerOfBytes : List ℕ → Outcome → List ℕ → Type 0
+IsAnswerOfBytes bytes outcome text = IsAnswer (check_of bytes) outcome text
 
--- a document was read, and a beginning of its text written
-pub record IsBegun (unread left held now : Option (List ℕ)) : Type 0 where
-  pub bytes : List ℕ
-  pub read : IsRead unread left bytes
-  pub outcome : Outcome
-  pub text : List ℕ
-  pub answer : IsAnswer (check_of bytes) outcome text
-  pub written : AppendsBeginning held now text
-
--- what is written where there is no answer: nothing after a read fault or want of memory, a beginning of the text after
--- a write fault
-abbrev pub IsCutShort : Option (List ℕ) → Option (List ℕ) → Option (List ℕ) → Option (List ℕ) → ReportError → Type 0
-IsCutShort unread left held now Memory = Keeps held now
-IsCutShort unread left held now faults.Read = Keeps held now
-IsCutShort unread left held now faults.Write = IsBegun unread left held now
-
--- the bytes that were read say a cut and a certificate, and these are settled: so they stay, after every list of further
--- steps without local edits
-pub record SaysSettled (unread left : Option (List ℕ)) : Type 0 where
-  pub bytes : List ℕ
-  pub read : IsRead unread left bytes
+-- it says a cut and a certificate, and these are settled: so they stay, after every list of further steps without local
+-- edits
+pub record TellsSettled (reading : Reading (CutParts × List Row)) : Type 0 where
   pub cut : CutParts
   pub rows : List Row
-  pub says : check_of bytes ≡ Read (cut, rows)
+  pub says : reading ≡ Read (cut, rows)
   pub settled : IsSettled (tables_of cut) rows
   pub stays_put : StaysPut (tables_of cut) rows
   pub stays_settled : StaysSettled (tables_of cut) rows
+
+-- the bytes that were read say so
+pub record SaysSettled (unread left : Option (List ℕ)) : Type 0 where
+  pub bytes : List ℕ
+  pub read : IsRead unread left bytes
+  pub reading : TellsSettled (check_of bytes)

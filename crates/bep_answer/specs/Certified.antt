@@ -56,26 +56,6 @@ abbrev pub IsCertified : Reading CutParts → Certified → List ℕ → Type 0
 IsCertified (Read cut) outcome text = IsCertificate cut outcome text
 IsCertified (Refused fault) outcome text = (outcome ≡ outcomes.Refused) × (text ≡ fault_text fault)
 
--- a document was read, its outcome was told and its text written, and nothing else
-pub record IsCertifiedWhole (unread left held now : Option (List ℕ)) (outcome : Certified) : Type 0 where
-  pub bytes : List ℕ
-  pub read : IsRead unread left bytes
-  pub text : List ℕ
-  pub certified : IsCertified (cut_of_document bytes) outcome text
-  pub written : Appends held now text
-
--- a document was read, and a beginning of its text written
-pub record IsCertifiedInPart (unread left held now : Option (List ℕ)) : Type 0 where
-  pub bytes : List ℕ
-  pub read : IsRead unread left bytes
-  pub outcome : Certified
-  pub text : List ℕ
-  pub certified : IsCertified (cut_of_document bytes) outcome text
-  pub written : AppendsBeginning held now text
-
--- what is written where there is no answer: nothing after a read fault or want of memory, a beginning of the text after
--- a write fault
-abbrev pub IsUncertified : Option (List ℕ) → Option (List ℕ) → Option (List ℕ) → Option (List ℕ) → ReportError → Type 0
-IsUncertified unread left held now Memory = Keeps held now
-IsUncertified unread left held now faults.Read = Keeps held now
-IsUncertified unread left held now faults.Write = IsCertifiedInPart unread left held now
+-- the same of the bytes of a document
+abbrev pub IsCertifiedOfBytes : List ℕ → Certified → List ℕ → Type 0
+IsCertifiedOfBytes bytes outcome text = IsCertified (cut_of_document bytes) outcome text

@@ -70,26 +70,6 @@ abbrev pub IsExplained : Form → Reading (CutParts × List Row) → Outcome →
 IsExplained form (Read check) outcome text = IsExplanation form check.0 check.1 outcome text
 IsExplained form (Refused fault) outcome text = (outcome ≡ outcomes.Refused) × IsRefusal form fault text
 
--- a document was read, its outcome was told and its text written, and nothing else
-pub record IsExplainedWhole (form : Form) (unread left held now : Option (List ℕ)) (outcome : Outcome) : Type 0 where
-  pub bytes : List ℕ
-  pub read : IsRead unread left bytes
-  pub text : List ℕ
-  pub explained : IsExplained form (check_of bytes) outcome text
-  pub written : Appends held now text
-
--- a document was read, and a beginning of its text written
-pub record IsExplainedInPart (form : Form) (unread left held now : Option (List ℕ)) : Type 0 where
-  pub bytes : List ℕ
-  pub read : IsRead unread left bytes
-  pub outcome : Outcome
-  pub text : List ℕ
-  pub explained : IsExplained form (check_of bytes) outcome text
-  pub written : AppendsBeginning held now text
-
--- what is written where there is no answer: nothing after a read fault or want of memory, a beginning of the text after
--- a write fault
-abbrev pub IsUnexplained : Form → Option (List ℕ) → Option (List ℕ) → Option (List ℕ) → Option (List ℕ) → ReportError → Type 0
-IsUnexplained form unread left held now Memory = Keeps held now
-IsUnexplained form unread left held now faults.Read = Keeps held now
-IsUnexplained form unread left held now faults.Write = IsExplainedInPart form unread left held now
+-- the same of the bytes of a document
+abbrev pub IsExplainedOfBytes : Form → List ℕ → Outcome → List ℕ → Type 0
+IsExplainedOfBytes form bytes outcome text = IsExplained form (check_of bytes) outcome text

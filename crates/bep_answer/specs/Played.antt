@@ -113,6 +113,10 @@ abbrev pub IsRunOf : Reading Said → Outcome → List ℕ → Type 0
 IsRunOf (Read scenario) outcome text = IsPlayed scenario outcome text
 IsRunOf (Refused fault) outcome text = (outcome ≡ outcomes.Refused) × (text ≡ fault_text fault)
 
+-- the same of the bytes of a document
+abbrev pub IsRunOfBytes : List ℕ → Outcome → List ℕ → Type 0
+IsRunOfBytes bytes outcome text = IsRunOf (scenario_of bytes) outcome text
+
 -- the steps are made, and the cut to which they lead is written as where its certificate is asked for: as the document of
 -- that cut with the list under which it is audited
 pub record IsPlayedTo (scenario : Said) (outcome : Certified) (text : List ℕ) : Type 0 where
@@ -130,31 +134,7 @@ IsEndOf (Refused fault) outcome text = (outcome ≡ certificates.Refused) × (te
 abbrev pub IsEndOfBytes : List ℕ → Certified → List ℕ → Type 0
 IsEndOfBytes bytes outcome text = IsEndOf (scenario_of bytes) outcome text
 
--- ---- what is read and written
-
--- a document was read, its outcome was told and its text written, and nothing else
-pub record IsRunWhole (unread left held now : Option (List ℕ)) (outcome : Outcome) : Type 0 where
-  pub bytes : List ℕ
-  pub read : IsRead unread left bytes
-  pub text : List ℕ
-  pub run : IsRunOf (scenario_of bytes) outcome text
-  pub written : Appends held now text
-
--- a document was read, and a beginning of its text written
-pub record IsRunInPart (unread left held now : Option (List ℕ)) : Type 0 where
-  pub bytes : List ℕ
-  pub read : IsRead unread left bytes
-  pub outcome : Outcome
-  pub text : List ℕ
-  pub run : IsRunOf (scenario_of bytes) outcome text
-  pub written : AppendsBeginning held now text
-
--- what is written where there is no answer: nothing after a read fault or want of memory, a beginning of the text after
--- a write fault
-abbrev pub IsUnrun : Option (List ℕ) → Option (List ℕ) → Option (List ℕ) → Option (List ℕ) → ReportError → Type 0
-IsUnrun unread left held now Memory = Keeps held now
-IsUnrun unread left held now faults.Read = Keeps held now
-IsUnrun unread left held now faults.Write = IsRunInPart unread left held now
+-- ---- a settled end
 
 -- the scenario leads to a cut that is settled under its winners: so it stays, after every list of further steps without
 -- local edits

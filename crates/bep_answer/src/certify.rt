@@ -8,7 +8,8 @@ ghost use Rattle.bep_model.specs.declared.reason.Reason.TheVariants.{NotWinner};
 ghost use Rattle.bep_model.specs.Verdict.{Not};
 ghost use Rattle.bep_tables.specs.document.Written.{check_of, cut_of_document};
 ghost use Rattle.bep_report.specs.Lines.{verdict_line};
-ghost use Rattle.bep_answer.specs.Certified.{IsCertificate, IsCertified, IsCertifiedWhole, IsUncertified, document_text};
+ghost use Rattle.bep_answer.specs.Exchange.{IsEndedEarly, IsWhole};
+ghost use Rattle.bep_answer.specs.Certified.{IsCertificate, IsCertified, IsCertifiedOfBytes, document_text};
 
 use crate::hints::{Hinted, hint_for_certified};
 use crate::outcome::Certified;
@@ -34,8 +35,8 @@ pub fn certify_text<R: Read, W: Write>(
     reader: &mut R,
     writer: &mut W,
 ) -> Result<Certified, ReportError>
-    ensures ok { IfOk result (IsCertifiedWhole (R.remaining reader.old) (R.remaining reader.new) (W.contents writer.old) (W.contents writer.new)) }
-    ensures err { IfErr result (IsUncertified (R.remaining reader.old) (R.remaining reader.new) (W.contents writer.old) (W.contents writer.new)) }
+    ensures ok { IfOk result (IsWhole IsCertifiedOfBytes (R.remaining reader.old) (R.remaining reader.new) (W.contents writer.old) (W.contents writer.new)) }
+    ensures err { IfErr result (IsEndedEarly IsCertifiedOfBytes (R.remaining reader.old) (R.remaining reader.new) (W.contents writer.old) (W.contents writer.new)) }
 {
     let (outcome, _) = certified(alloc, reader, writer)?;
     Ok(outcome)
@@ -47,8 +48,8 @@ pub fn certified<R: Read, W: Write>(
     reader: &mut R,
     writer: &mut W,
 ) -> Result<Hinted<Certified>, ReportError>
-    ensures ok { IfOk result (λ told. IsCertifiedWhole (R.remaining reader.old) (R.remaining reader.new) (W.contents writer.old) (W.contents writer.new) told.0) }
-    ensures err { IfErr result (IsUncertified (R.remaining reader.old) (R.remaining reader.new) (W.contents writer.old) (W.contents writer.new)) }
+    ensures ok { IfOk result (λ told. IsWhole IsCertifiedOfBytes (R.remaining reader.old) (R.remaining reader.new) (W.contents writer.old) (W.contents writer.new) told.0) }
+    ensures err { IfErr result (IsEndedEarly IsCertifiedOfBytes (R.remaining reader.old) (R.remaining reader.new) (W.contents writer.old) (W.contents writer.new)) }
 {
     let bytes = read_document(alloc, reader)?;
     let (outcome, text) = answer_to(alloc, bytes.as_slice())?;

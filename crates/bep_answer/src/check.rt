@@ -3,7 +3,8 @@ ghost use Rattle.std.specs.Prelude.{◌≡◌, IfOk, IfErr};
 ghost use Rattle.bep_document.specs.Reading.{Read};
 ghost use Rattle.bep_tables.specs.document.Written.{check_of};
 ghost use Rattle.bep_report.specs.Report.{report_text};
-ghost use Rattle.bep_answer.specs.Answer.{IsAnswer, IsReport, IsAnswered, IsCutShort, SaysSettled};
+ghost use Rattle.bep_answer.specs.Exchange.{IsEndedEarly, IsWhole};
+ghost use Rattle.bep_answer.specs.Answer.{IsAnswer, IsReport, IsAnswerOfBytes, SaysSettled};
 ghost use Rattle.bep_audit.specs.Shown.{verdict_shown};
 ghost use Rattle.bep_answer.specs.Answer as spec;
 ghost use Rattle.bep_answer.specs.declared.outcome.Outcome.TheVariants as outcomes;
@@ -30,8 +31,8 @@ pub fn check_text<R: Read, W: Write>(
     reader: &mut R,
     writer: &mut W,
 ) -> Result<Outcome, ReportError>
-    ensures ok { IfOk result (IsAnswered (R.remaining reader.old) (R.remaining reader.new) (W.contents writer.old) (W.contents writer.new)) }
-    ensures err { IfErr result (IsCutShort (R.remaining reader.old) (R.remaining reader.new) (W.contents writer.old) (W.contents writer.new)) }
+    ensures ok { IfOk result (IsWhole IsAnswerOfBytes (R.remaining reader.old) (R.remaining reader.new) (W.contents writer.old) (W.contents writer.new)) }
+    ensures err { IfErr result (IsEndedEarly IsAnswerOfBytes (R.remaining reader.old) (R.remaining reader.new) (W.contents writer.old) (W.contents writer.new)) }
     ensures settled { IfOk result (λ outcome. outcome ≡ outcomes.Settled → SaysSettled (R.remaining reader.old) (R.remaining reader.new)) }
 {
     let (outcome, _) = checked(alloc, reader, writer)?;
@@ -44,8 +45,8 @@ pub fn checked<R: Read, W: Write>(
     reader: &mut R,
     writer: &mut W,
 ) -> Result<Hinted<Outcome>, ReportError>
-    ensures ok { IfOk result (λ told. IsAnswered (R.remaining reader.old) (R.remaining reader.new) (W.contents writer.old) (W.contents writer.new) told.0) }
-    ensures err { IfErr result (IsCutShort (R.remaining reader.old) (R.remaining reader.new) (W.contents writer.old) (W.contents writer.new)) }
+    ensures ok { IfOk result (λ told. IsWhole IsAnswerOfBytes (R.remaining reader.old) (R.remaining reader.new) (W.contents writer.old) (W.contents writer.new) told.0) }
+    ensures err { IfErr result (IsEndedEarly IsAnswerOfBytes (R.remaining reader.old) (R.remaining reader.new) (W.contents writer.old) (W.contents writer.new)) }
     ensures settled { IfOk result (λ told. told.0 ≡ outcomes.Settled → SaysSettled (R.remaining reader.old) (R.remaining reader.new)) }
 {
     settled_stays_put();

@@ -3,8 +3,9 @@ ghost use Rattle.std.specs.Prelude.{◌≡◌, IfOk, IfErr, map};
 ghost use Rattle.bep_tables.specs.document.Written.{check_of};
 ghost use Rattle.bep_explain.specs.Found.{verdict_of};
 ghost use Rattle.bep_explain.specs.Told.{failures_of, told_of};
+ghost use Rattle.bep_answer.specs.Exchange.{IsEndedEarly, IsWhole};
 ghost use Rattle.bep_answer.specs.Answer.{outcome_of};
-ghost use Rattle.bep_answer.specs.Explained.{IsExplanation, IsExplained, IsExplainedWhole, IsUnexplained};
+ghost use Rattle.bep_answer.specs.Explained.{IsExplanation, IsExplained, IsExplainedOfBytes};
 ghost use Rattle.bep_answer.specs.declared.outcome.Form.TheVariants.{Text};
 
 use crate::hints::{Hinted, hint_for};
@@ -30,8 +31,8 @@ pub fn explain_text<R: Read, W: Write>(
     reader: &mut R,
     writer: &mut W,
 ) -> Result<Outcome, ReportError>
-    ensures ok { IfOk result (IsExplainedWhole Text (R.remaining reader.old) (R.remaining reader.new) (W.contents writer.old) (W.contents writer.new)) }
-    ensures err { IfErr result (IsUnexplained Text (R.remaining reader.old) (R.remaining reader.new) (W.contents writer.old) (W.contents writer.new)) }
+    ensures ok { IfOk result (IsWhole (IsExplainedOfBytes Text) (R.remaining reader.old) (R.remaining reader.new) (W.contents writer.old) (W.contents writer.new)) }
+    ensures err { IfErr result (IsEndedEarly (IsExplainedOfBytes Text) (R.remaining reader.old) (R.remaining reader.new) (W.contents writer.old) (W.contents writer.new)) }
 {
     let (outcome, _) = explained(alloc, Form::Text, reader, writer)?;
     Ok(outcome)
@@ -45,8 +46,8 @@ pub fn explained<R: Read, W: Write>(
     reader: &mut R,
     writer: &mut W,
 ) -> Result<Hinted<Outcome>, ReportError>
-    ensures ok { IfOk result (λ told. IsExplainedWhole form (R.remaining reader.old) (R.remaining reader.new) (W.contents writer.old) (W.contents writer.new) told.0) }
-    ensures err { IfErr result (IsUnexplained form (R.remaining reader.old) (R.remaining reader.new) (W.contents writer.old) (W.contents writer.new)) }
+    ensures ok { IfOk result (λ told. IsWhole (IsExplainedOfBytes form) (R.remaining reader.old) (R.remaining reader.new) (W.contents writer.old) (W.contents writer.new) told.0) }
+    ensures err { IfErr result (IsEndedEarly (IsExplainedOfBytes form) (R.remaining reader.old) (R.remaining reader.new) (W.contents writer.old) (W.contents writer.new)) }
 {
     let bytes = read_document(alloc, reader)?;
     let (outcome, text) = answer_to(alloc, form, bytes.as_slice())?;

@@ -1,7 +1,8 @@
 //! A scenario's run, from the bytes that come in to the bytes that go out.
 ghost use Rattle.std.specs.Prelude.{◌≡◌, IfOk, IfErr};
 ghost use Rattle.bep_scenario.specs.Scenario.{said, scenario_of};
-ghost use Rattle.bep_answer.specs.Played.{EndsSettled, IsPlayed, IsRunOf, IsRunWhole, IsUnrun};
+ghost use Rattle.bep_answer.specs.Exchange.{IsEndedEarly, IsWhole};
+ghost use Rattle.bep_answer.specs.Played.{EndsSettled, IsPlayed, IsRunOf, IsRunOfBytes};
 ghost use Rattle.bep_answer.specs.declared.outcome.Outcome.TheVariants as outcomes;
 
 use crate::ending::report_on_end;
@@ -30,8 +31,8 @@ pub fn run_text<R: Read, W: Write>(
     reader: &mut R,
     writer: &mut W,
 ) -> Result<Outcome, ReportError>
-    ensures ok { IfOk result (IsRunWhole (R.remaining reader.old) (R.remaining reader.new) (W.contents writer.old) (W.contents writer.new)) }
-    ensures err { IfErr result (IsUnrun (R.remaining reader.old) (R.remaining reader.new) (W.contents writer.old) (W.contents writer.new)) }
+    ensures ok { IfOk result (IsWhole IsRunOfBytes (R.remaining reader.old) (R.remaining reader.new) (W.contents writer.old) (W.contents writer.new)) }
+    ensures err { IfErr result (IsEndedEarly IsRunOfBytes (R.remaining reader.old) (R.remaining reader.new) (W.contents writer.old) (W.contents writer.new)) }
     ensures settled { IfOk result (λ outcome. outcome ≡ outcomes.Settled → EndsSettled (R.remaining reader.old) (R.remaining reader.new)) }
 {
     let (outcome, _) = ran(alloc, reader, writer)?;
@@ -44,8 +45,8 @@ pub fn ran<R: Read, W: Write>(
     reader: &mut R,
     writer: &mut W,
 ) -> Result<Hinted<Outcome>, ReportError>
-    ensures ok { IfOk result (λ told. IsRunWhole (R.remaining reader.old) (R.remaining reader.new) (W.contents writer.old) (W.contents writer.new) told.0) }
-    ensures err { IfErr result (IsUnrun (R.remaining reader.old) (R.remaining reader.new) (W.contents writer.old) (W.contents writer.new)) }
+    ensures ok { IfOk result (λ told. IsWhole IsRunOfBytes (R.remaining reader.old) (R.remaining reader.new) (W.contents writer.old) (W.contents writer.new) told.0) }
+    ensures err { IfErr result (IsEndedEarly IsRunOfBytes (R.remaining reader.old) (R.remaining reader.new) (W.contents writer.old) (W.contents writer.new)) }
     ensures settled { IfOk result (λ told. told.0 ≡ outcomes.Settled → EndsSettled (R.remaining reader.old) (R.remaining reader.new)) }
 {
     settled_stays_put();

@@ -1,11 +1,11 @@
 -- The exit statuses of the program (this project's profile).
 use Rattle.std.specs.Prelude.{◌≡◌, ◌⊎◌, ℕ, List, Option, Result, Ok, Err, MatchResult}
 use Rattle.std.specs.Io.KnownBytes.{Keeps}
-use Rattle.bep_answer.specs.Answer.{IsAnswered, IsCutShort}
-use Rattle.bep_answer.specs.Certified.{IsCertifiedWhole, IsUncertified}
+use Rattle.bep_answer.specs.Answer.{IsAnswerOfBytes}
+use Rattle.bep_answer.specs.Certified.{IsCertifiedOfBytes}
 use Rattle.bep_answer.specs.Exchange.{IsEndedEarly, IsWhole}
-use Rattle.bep_answer.specs.Explained.{IsExplainedWhole, IsUnexplained}
-use Rattle.bep_answer.specs.Played.{IsEndOfBytes, IsRunWhole, IsUnrun}
+use Rattle.bep_answer.specs.Explained.{IsExplainedOfBytes}
+use Rattle.bep_answer.specs.Played.{IsEndOfBytes, IsRunOfBytes}
 use Rattle.bep_answer.specs.declared.outcome.Certified.{Certified}
 use Rattle.bep_answer.specs.declared.outcome.Certified.TheVariants as certificates
 use Rattle.bep_answer.specs.declared.outcome.Form.{Form}
@@ -46,25 +46,25 @@ usage = 3
 pub record IsTold (unread left held now : Option (List ℕ)) (status : ℕ) : Type 0 where
   pub answer : Result Outcome ReportError
   pub told : status ≡ status_of answer
-  pub done : MatchResult answer (IsAnswered unread left held now) (IsCutShort unread left held now)
+  pub done : MatchResult answer (IsWhole IsAnswerOfBytes unread left held now) (IsEndedEarly IsAnswerOfBytes unread left held now)
 
 -- a certificate was written or refused, or cut short, and the status tells which
 pub record IsCertificateTold (unread left held now : Option (List ℕ)) (status : ℕ) : Type 0 where
   pub answer : Result Certified ReportError
   pub told : status ≡ certified_status_of answer
-  pub done : MatchResult answer (IsCertifiedWhole unread left held now) (IsUncertified unread left held now)
+  pub done : MatchResult answer (IsWhole IsCertifiedOfBytes unread left held now) (IsEndedEarly IsCertifiedOfBytes unread left held now)
 
 -- all that fails was written, or the document refused, or it was cut short, and the status tells which
 pub record IsExplanationTold (form : Form) (unread left held now : Option (List ℕ)) (status : ℕ) : Type 0 where
   pub answer : Result Outcome ReportError
   pub told : status ≡ status_of answer
-  pub done : MatchResult answer (IsExplainedWhole form unread left held now) (IsUnexplained form unread left held now)
+  pub done : MatchResult answer (IsWhole (IsExplainedOfBytes form) unread left held now) (IsEndedEarly (IsExplainedOfBytes form) unread left held now)
 
 -- a scenario was run or refused, or cut short, and the status tells which
 pub record IsRunTold (unread left held now : Option (List ℕ)) (status : ℕ) : Type 0 where
   pub answer : Result Outcome ReportError
   pub told : status ≡ status_of answer
-  pub done : MatchResult answer (IsRunWhole unread left held now) (IsUnrun unread left held now)
+  pub done : MatchResult answer (IsWhole IsRunOfBytes unread left held now) (IsEndedEarly IsRunOfBytes unread left held now)
 
 -- the document of a scenario's end was written or the scenario refused, or it was cut short, and the status tells which
 pub record IsEndTold (unread left held now : Option (List ℕ)) (status : ℕ) : Type 0 where
