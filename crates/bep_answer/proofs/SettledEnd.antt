@@ -1,9 +1,8 @@
 -- A run that ends settled leads to a cut that is settled under its winners, and so stays.
 use Rattle.std.proofs.Common.{◌≡◌, ℕ, List, refl, ⊎_elim, sym, ◌∙◌}
-use Rattle.bep_core.specs.Network.{Network, cluster_of}
 use Rattle.bep_cut.specs.Cut.{cut_at}
 use Rattle.bep_document.specs.Reading.{Reading, Read, Refused}
-use Rattle.bep_machine.specs.Laws.{StaysPut, StaysSettled, SettledStaysPut, SettledStaysSettled}
+use Rattle.bep_machine.specs.Laws.{SettledStaysPut, SettledStaysSettled}
 use Rattle.bep_model.specs.declared.row.Row.{Row}
 use Rattle.bep_model.specs.Settled.{IsSettled}
 use Rattle.bep_scenario.specs.Scenario.{Said}

@@ -4,7 +4,7 @@ use Rattle.bep_document.specs.Reading.{Reading, Read, Refused}
 use Rattle.bep_model.specs.declared.row.Row.{Row}
 use Rattle.bep_model.specs.Settled.{IsSettled}
 use Rattle.bep_model.specs.Verdict as verdicts
-use Rattle.bep_machine.specs.Laws.{StaysPut, StaysSettled, SettledStaysPut, SettledStaysSettled}
+use Rattle.bep_machine.specs.Laws.{SettledStaysPut, SettledStaysSettled}
 use Rattle.bep_tables.specs.declared.cut.CutParts.{CutParts}
 use Rattle.bep_tables.specs.Cut.{tables_of}
 use Rattle.bep_answer.specs.declared.outcome.Outcome.{Outcome}

@@ -1,6 +1,5 @@
 -- What the program answers to the bytes of a document, and what it has written after it.
 use Rattle.std.specs.Prelude.{◌≡◌, ℕ, List, Option}
-use Rattle.std.specs.Io.KnownBytes.{Appends, Keeps}
 use Rattle.bep_document.specs.declared.fault.DocFault.{DocFault}
 use Rattle.bep_document.specs.Fault.{number_of, name_of}
 use Rattle.bep_document.specs.Reading.{Reading, Read, Refused}
@@ -11,12 +10,8 @@ use Rattle.bep_machine.specs.Laws.{StaysPut, StaysSettled}
 use Rattle.bep_tables.specs.declared.cut.CutParts.{CutParts}
 use Rattle.bep_tables.specs.Cut.{tables_of}
 use Rattle.bep_tables.specs.document.Written.{check_of}
-use Rattle.bep_report.specs.declared.error.ReportError.{ReportError}
-use Rattle.bep_report.specs.declared.error.ReportError.TheVariants.{Memory}
-use Rattle.bep_report.specs.declared.error.ReportError.TheVariants as faults
 use Rattle.bep_report.specs.Input.{IsRead}
 use Rattle.bep_report.specs.Lines.{refused_line}
-use Rattle.bep_report.specs.Output.{AppendsBeginning}
 use Rattle.bep_report.specs.Report.{report_text}
 use Rattle.bep_answer.specs.declared.outcome.Outcome.{Outcome}
 use Rattle.bep_answer.specs.declared.outcome.Outcome.TheVariants as outcomes

@@ -1,6 +1,5 @@
 -- What the program answers where it is asked for a certificate of the cut of a document, and what it has written after it.
-use Rattle.std.specs.Prelude.{◌≡◌, ◌≤◌, ◌++◌, ℕ, List, length, Option, None}
-use Rattle.std.specs.Io.KnownBytes.{Appends, Keeps}
+use Rattle.std.specs.Prelude.{◌≡◌, ◌≤◌, ◌++◌, ℕ, List, length, None}
 use Rattle.bep_audit.specs.Certifier.{IsSettledIfAny, IsNeverSettled}
 use Rattle.bep_document.specs.Reading.{Reading, Read, Refused, most_bytes}
 use Rattle.bep_model.specs.declared.reason.Reason.TheVariants.{NotWinner}
@@ -13,12 +12,7 @@ use Rattle.bep_tables.specs.declared.cut.CutParts.{CutParts}
 use Rattle.bep_tables.specs.Cut.{tables_of}
 use Rattle.bep_tables.specs.document.Trees.{check_text}
 use Rattle.bep_tables.specs.document.Written.{check_of, cut_of_document}
-use Rattle.bep_report.specs.declared.error.ReportError.{ReportError}
-use Rattle.bep_report.specs.declared.error.ReportError.TheVariants.{Memory}
-use Rattle.bep_report.specs.declared.error.ReportError.TheVariants as faults
-use Rattle.bep_report.specs.Input.{IsRead}
 use Rattle.bep_report.specs.Lines.{verdict_line, newline}
-use Rattle.bep_report.specs.Output.{AppendsBeginning}
 use Rattle.bep_answer.specs.Answer.{fault_text}
 use Rattle.bep_answer.specs.declared.outcome.Certified.{Certified}
 use Rattle.bep_answer.specs.declared.outcome.Certified.TheVariants.{Written, NoWinner}

@@ -1,6 +1,5 @@
 -- What the program answers where it is asked for all reasons why a cut isn't settled, and what it has written after it.
 use Rattle.std.specs.Prelude.{◌≡◌, ◌↔◌, ℕ, List, [], Option, Some, None, codes}
-use Rattle.std.specs.Io.KnownBytes.{Appends, Keeps}
 use Rattle.serde_json.specs.Data.{Data, null, string, object, no_members, member}
 use Rattle.bep_json.specs.Written.{whole}
 use Rattle.bep_audit.specs.Walk.{Failure}
@@ -16,11 +15,6 @@ use Rattle.bep_tables.specs.document.Written.{check_of}
 use Rattle.bep_explain.specs.Found.{AreFailures, verdict_of}
 use Rattle.bep_explain.specs.Annotated.{Annotated, IsJsonLine, device_tree, explanation_tree, failures_in}
 use Rattle.bep_explain.specs.Told.{Told, failures_of, explanation_text}
-use Rattle.bep_report.specs.declared.error.ReportError.{ReportError}
-use Rattle.bep_report.specs.declared.error.ReportError.TheVariants.{Memory}
-use Rattle.bep_report.specs.declared.error.ReportError.TheVariants as faults
-use Rattle.bep_report.specs.Input.{IsRead}
-use Rattle.bep_report.specs.Output.{AppendsBeginning}
 use Rattle.bep_answer.specs.Answer.{fault_text, outcome_of}
 use Rattle.bep_answer.specs.declared.outcome.Form.{Form}
 use Rattle.bep_answer.specs.declared.outcome.Form.TheVariants.{Text, Json}

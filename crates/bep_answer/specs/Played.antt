@@ -1,7 +1,6 @@
 -- What the program answers to a scenario: the steps that are refused, then the report on the cut to which they lead, and
 -- the certificate of its winners (this project's profile).
 use Rattle.std.specs.Prelude.{◌≡◌, ◌≢◌, ◌⊎◌, ◌++◌, suc, ℕ, ⊤, List, [], ◌∷◌, map, codes, Option, None, Result, Ok, Err}
-use Rattle.std.specs.Io.KnownBytes.{Appends, Keeps}
 use Rattle.bep_audit.specs.Certifier.{IsNeverSettled}
 use Rattle.bep_core.specs.Begin.{begun}
 use Rattle.bep_core.specs.Network.{Network, cluster_of}
@@ -22,12 +21,8 @@ use Rattle.bep_model.specs.Settled.{IsListOfWinners, IsSettled}
 use Rattle.bep_model.specs.Tables.{Folder, FileName}
 use Rattle.bep_model.specs.Verdict.{Verdict, IsVerdict, Not}
 use Rattle.bep_model.specs.WithoutWinner.{IsFirstWithoutWinner}
-use Rattle.bep_report.specs.declared.error.ReportError.{ReportError}
-use Rattle.bep_report.specs.declared.error.ReportError.TheVariants.{Memory}
-use Rattle.bep_report.specs.declared.error.ReportError.TheVariants as faults
 use Rattle.bep_report.specs.Certificate.{certificate_lines, step_line}
 use Rattle.bep_report.specs.Input.{IsRead}
-use Rattle.bep_report.specs.Output.{AppendsBeginning}
 use Rattle.bep_report.specs.Report.{report_text}
 use Rattle.bep_scenario.specs.Scenario.{Said, scenario_of}
 use Rattle.bep_tables.specs.declared.cut.CutParts.{CutParts}
