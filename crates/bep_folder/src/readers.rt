@@ -1,7 +1,8 @@
 //! What is read of a folder at a device without its store.
-ghost use Rattle.std.specs.Prelude.{◌≡◌};
+ghost use Rattle.std.specs.Prelude.{◌≡◌, None};
 ghost use Rattle.std.specs.Option.{option_copied};
 ghost use Rattle.std.specs.FinMap as map;
+ghost use Rattle.bep_store.specs.Sure.{NeverFails};
 ghost use Rattle.bep_folder.specs.Held.{AreOthers, ArePulls};
 
 use crate::{Pull, Replica};
@@ -70,9 +71,10 @@ impl<S: Store> Replica<S> {
     }
 
     /// Of the last call that may change the folder or look into its store: which of its calls of the store failed,
-    /// counted from 1, and whether it wrote a conflict copy.
+    /// counted from 1, and whether it wrote a conflict copy. None failed where no store of the kind ever fails.
     pub fn trace(&self) -> (Option<u32>, bool)
-        ensures { result ≡ (self.now.trace.failed, self.now.trace.copied) }
+        ensures value { result ≡ (self.now.trace.failed, self.now.trace.copied) }
+        ensures sure { NeverFails S.faults → result.0 ≡ None }
     {
         self.store.trace()
     }

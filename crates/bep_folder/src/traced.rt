@@ -1,7 +1,9 @@
 //! A store whose calls are counted: which one of the current action failed, and whether it wrote a conflict copy.
-ghost use Rattle.std.specs.Prelude.{◌≡◌, true, IfOk, IfErr, OnOk, OnErr};
+ghost use Rattle.std.specs.Prelude.{◌≡◌, true, None, IfOk, IfErr, OnOk, OnErr};
 ghost use Rattle.std.specs.FinMap as map;
 ghost use Rattle.bep_store.specs.Store.{after_set_time};
+ghost use Rattle.bep_store.specs.Sure.{NeverFails};
+ghost use Rattle.bep_store.specs.declared.error.StoreError.TheVariants.{Fault};
 ghost use Rattle.bep_folder.specs.FolderError.{of_store};
 ghost use Rattle.bep_folder.specs.Trace.{begun, no_trace, next_call, noted, CountsCall};
 
@@ -11,7 +13,8 @@ use bep_store::{Store, StoreError};
 use std::alloc::Global;
 use std::marker::Model;
 
-// A store, and what is known of the calls that the current action made of it.
+// A store, and what is known of the calls that the current action made of it. None of these failed where no store of its
+// kind ever fails.
 #[derive(Drop)]
 pub(crate) struct Traced<S: Store> {
     store: S,
@@ -21,7 +24,9 @@ pub(crate) struct Traced<S: Store> {
 }
 
 impl<S: Store> Model for Traced<S> {
+    ghost use Rattle.std.specs.Prelude.{◌≡◌, None};
     ghost use Rattle.bep_record.specs.contracts.node.NodeParts as parts;
+    ghost use Rattle.bep_store.specs.Sure.{NeverFails};
     ghost use Rattle.bep_folder.specs.Trace.{TracedStore, traced_code};
 
     ghost Value = { TracedStore };
@@ -29,6 +34,8 @@ impl<S: Store> Model for Traced<S> {
     ghost coded = { traced_code parts.the_row.coded };
 
     ghost view = { λ t. record { contents = S.contents t.store; faults = S.faults t.store; made = t.made; trace = record { failed = t.failed; copied = t.copied } } };
+
+    ghost invariant = { λ t. NeverFails S.faults → t.failed ≡ None };
 }
 
 impl<S: Store> Traced<S> {
@@ -55,7 +62,8 @@ impl<S: Store> Traced<S> {
 
     // Which call of the current action failed, counted from 1, and whether a conflict copy was written.
     pub(crate) fn trace(&self) -> (Option<u32>, bool)
-        ensures { result ≡ (self.now.trace.failed, self.now.trace.copied) }
+        ensures value { result ≡ (self.now.trace.failed, self.now.trace.copied) }
+        ensures sure { NeverFails S.faults → result.0 ≡ None }
     {
         (self.failed, self.copied)
     }
@@ -69,6 +77,7 @@ impl<S: Store> Traced<S> {
 
     // Notes the error of the last call, and answers it as this crate's.
     fn noted(&mut self, error: StoreError) -> FolderError
+        requires unsure { error ≡ Fault → ¬ NeverFails S.faults }
         ensures value { result ≡ of_store error }
         ensures noted { self.new ≡ noted self.old error }
     {

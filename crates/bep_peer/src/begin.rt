@@ -72,7 +72,7 @@ impl<S: Store> Peer<S> {
         let session = Session::new(self.alloc, link.epoch())?;
         let side = side_of(self.number, other);
         give_and_send(&mut self.sessions, other, session, link, side, message)?;
-        self.trace.tell(told);
+        self.trace.tell_sent(Some(told));
         Ok(())
     }
 }

@@ -53,7 +53,7 @@ impl<S: Store> Peer<S> {
     fn tell_sent(&mut self, put: Option<(Message, Message)>)
         ensures { self.new ≡ record self.old { trace = record self.old.trace { put = put } } }
     {
-        self.trace.put = put;
+        self.trace.tell_sent(put);
     }
 
     // Takes the first message on its way to this end.

@@ -37,6 +37,7 @@ mod take_config;
 mod take_index;
 mod take_request;
 mod take_response;
+mod told;
 mod trace;
 
 pub use announce::{index_message, is_all_sent, next_batch, sent_with};

@@ -54,7 +54,7 @@ impl<S: Store> Peer<S> {
     {
         let told = (message.copy(self.alloc)?, message.copy(self.alloc)?);
         send(link, side_of(self.number, other), message)?;
-        self.trace.tell(told);
+        self.trace.tell_sent(Some(told));
         Ok(())
     }
 }

@@ -1,13 +1,15 @@
 //! A device with its folders, its sessions and the devices with which it has links.
-ghost use Rattle.std.specs.Prelude.{◌≡◌, ◌≢◌, ◌↔◌, ◌⊎◌, Some, IsSome, IfSome, IfNone, IsTrue, option_map};
+ghost use Rattle.std.specs.Prelude.{◌≡◌, ◌≢◌, ◌↔◌, ◌⊎◌, Some, None, IsSome, IfSome, IfNone, IsTrue, option_map};
 ghost use Rattle.std.specs.Option.{option_copied};
 ghost use Rattle.std.specs.FinMap as map;
+ghost use Rattle.bep_store.specs.Sure.{NeverFails};
 ghost use Rattle.bep_folder.specs.Held.{AreOthers};
 ghost use Rattle.bep_peer.specs.Member.{AreOwn, new_member, nothing_told, untold};
 ghost use Rattle.bep_peer.specs.Lent.{Joins};
 ghost use Rattle.bep_machine.specs.Peer.{Session as SessionOf};
 ghost use Rattle.bep_model.specs.Tables.{Device};
 
+use crate::told::Told;
 use crate::{Session, Trace};
 use bep_folder::{Replica, are_others};
 use bep_links::Link;
@@ -16,7 +18,6 @@ use bep_record::{DeviceId, FolderName, Items};
 use bep_store::Store;
 use std::alloc::Global;
 use std::marker::Model;
-use std::mem;
 
 /// A device of a cluster: its folders, its sessions with other devices, and which devices it has links with.
 ///
@@ -27,7 +28,7 @@ pub struct Peer<S: Store> {
     pub(crate) folders: FolderMap<Replica<S>>,
     pub(crate) sessions: DeviceMap<Session>,
     pub(crate) linked: Items<DeviceId>,
-    pub(crate) trace: Trace,
+    pub(crate) trace: Told<S>,
     pub(crate) alloc: Global,
 }
 
@@ -72,7 +73,7 @@ impl<S: Store> Peer<S> {
             folders,
             sessions: DeviceMap::new(alloc),
             linked: Items::new(linked),
-            trace: Trace::nothing(),
+            trace: Told::nothing(),
             alloc,
         })
     }
@@ -125,19 +126,28 @@ impl<S: Store> Peer<S> {
         self.sessions.get(other)
     }
 
+    /// Which call of a folder's store failed in the last action, counted from 1, until that is taken. None did where no
+    /// store of the kind ever fails.
+    pub fn failed(&self) -> Option<u32>
+        ensures value { result ≡ self.now.trace.failed }
+        ensures sure { NeverFails S.faults → result ≡ None }
+    {
+        self.trace.failed()
+    }
+
     /// What the last action did; it is told once.
     pub fn take_trace(&mut self) -> Trace
         ensures value { result ≡ self.old.trace }
         ensures taken { self.new ≡ record self.old { trace = nothing_told } }
     {
-        mem::replace(&mut self.trace, Trace::nothing())
+        self.trace.take()
     }
 
     // An action begins: nothing is told yet.
     pub(crate) fn tell_nothing(&mut self)
         ensures { self.new ≡ untold self.old }
     {
-        self.trace = Trace::nothing();
+        self.trace = Told::nothing();
     }
 
     // The other end of the link, if it is one of the device's.

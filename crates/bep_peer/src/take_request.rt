@@ -1,8 +1,12 @@
 //! Taking a request for a block.
-ghost use Rattle.std.specs.Prelude.{◌≡◌, ◌↔◌, false, Option, Some, None, Contains, IsSome, IsTrue, IfOk, IfErr, OnErr};
+ghost use Rattle.std.specs.Prelude.{◌≡◌, ◌↔◌, ◌⊎◌, false, Option, Some, None, Contains, IsSome, IsTrue, IfOk, IfErr, OnErr};
 ghost use Rattle.std.specs.FinMap as map;
 ghost use Rattle.bep_record.specs.declared.node.NodeParts.{NodeParts};
+ghost use Rattle.bep_store.specs.Sure.{NeverFails};
 ghost use Rattle.bep_folder.specs.Held.{Held};
+ghost use Rattle.bep_folder.specs.Makes.{CountsFaults, Stays};
+ghost use Rattle.bep_folder.specs.declared.error.FolderError.TheVariants.{StoreFault, Memory as OutOfMemory};
+ghost use Rattle.bep_machine.specs.Replica.{node_at};
 ghost use Rattle.bep_machine.specs.Exchange.{Answers, IsNamed, MessageRow};
 ghost use Rattle.bep_machine.specs.Peer.{Session as SessionOf};
 ghost use Rattle.bep_machine.specs.declared.message.Message.TheVariants as messages;
@@ -68,7 +72,7 @@ impl<S: Store> Peer<S> {
         ensures same { tables_of self.new ≡ tables_of self.old }
     {
         let read = read_at(&mut self.folders, folder, name);
-        self.trace.failed = failed_by(&read);
+        self.trace.tell_failed(failed_by(&read));
         read
     }
 }
@@ -80,12 +84,30 @@ fn read_at<S: Store>(
     name: &Name,
 ) -> Result<Option<Node>, FolderError>
     requires { IsSome (map.get folders.old folder.now) }
-    ensures { ReadsFrom folder.now name.now folders.old folders.new result }
+    ensures reads { ReadsFrom folder.now name.now folders.old folders.new result }
+    ensures sure { NeverFails S.faults → failed_by result ≡ None }
 {
     match folders.get_mut(folder) {
-        Some(replica) => replica.look(name),
+        Some(replica) => look_at(replica, name),
         None => unreachable!(),
     }
+}
+
+// The folder's node at the name, a copy of its own; a store that never fails gives it, or wants memory.
+fn look_at<S: Store>(
+    replica: &mut Replica<S>,
+    name: &Name,
+) -> Result<Option<Node>, FolderError>
+    ensures node { IfOk result (λ node. node ≡ node_at replica.old.tables name.now) }
+    ensures same { replica.new.tables ≡ replica.old.tables }
+    ensures only { IfErr result (λ e. (e ≡ StoreFault) ⊎ (e ≡ OutOfMemory)) }
+    ensures stays { Stays replica.old replica.new }
+    ensures counted { CountsFaults replica.old replica.new result }
+    ensures sure { NeverFails S.faults → failed_by result ≡ None }
+{
+    let found = replica.look(name);
+    let _told = replica.trace();
+    found
 }
 
 // Which call of a store failed, counted from 1, where one read was all.

@@ -1,5 +1,5 @@
 //! What an action of a device did besides its effect.
-ghost use Rattle.std.specs.Prelude.{◌≡◌, Some};
+ghost use Rattle.std.specs.Prelude.{◌≡◌};
 ghost use Rattle.bep_peer.specs.Member.{nothing_told};
 ghost use Rattle.bep_peer.specs.Within.{told_of};
 
@@ -36,12 +36,5 @@ impl Trace {
         self.failed = failed;
         self.copied = copied;
         self.put = None;
-    }
-
-    // A message was sent, of which these are two copies.
-    pub(crate) fn tell(&mut self, put: (Message, Message))
-        ensures { self.new ≡ record self.old { put = Some put } }
-    {
-        self.put = Some(put);
     }
 }

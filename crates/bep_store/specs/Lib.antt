@@ -1,3 +1,4 @@
 pub mod FaultStore
 pub mod Store
 pub mod StoreError
+pub mod Sure
