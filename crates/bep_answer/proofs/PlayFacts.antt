@@ -1,5 +1,5 @@
 -- Steps that are made one after another, and what is told of them.
-use Rattle.std.proofs.Common.{suc, ◌≡◌, ◌≢◌, ◌+◌, ◌++◌, ℕ, List, [], ◌∷◌, map, length, Option, Result, Ok, Err, refl, sym, ap, subst, ◌∙◌, arith}
+use Rattle.std.proofs.Common.{suc, ◌≡◌, ◌≢◌, ◌+◌, ◌++◌, ℕ, List, [], ◌∷◌, map, length, Option, None, Result, Ok, Err, refl, sym, ap, subst, ◌∙◌, arith}
 use Rattle.std.proofs.lemmas.List.{append_assoc, append-nil}
 use Rattle.bep_machine.specs.declared.moved.Moved.{Moved}
 use Rattle.bep_machine.specs.declared.step.Step.{Step}
@@ -9,7 +9,7 @@ use Rattle.bep_machine.specs.Steps.{Event, IsRun, IsStep}
 use Rattle.bep_core.specs.declared.why.Why.{Why}
 use Rattle.bep_core.specs.declared.why.Why.TheVariants as whys
 use Rattle.bep_core.specs.Why.{Gives}
-use Rattle.bep_answer.specs.Played.{AreMade, IsTold, Leads, answer_line, refused_lines}
+use Rattle.bep_answer.specs.Played.{AreMade, AreSure, IsTold, Leads, answer_line, refused_lines}
 
 -- one step more
 run_on : (old : Cluster) (events : List Event) (now new : Cluster) (event : Event) → IsRun old events now → IsStep event.step event.failed now new event.answer → IsRun old (events ++ event ∷ []) new
@@ -19,6 +19,10 @@ run_on old (first ∷ more) now new event run step = (run.0, run.1, run_on run.0
 made_on : (events : List Event) (event : Event) → AreMade events → event.answer ≢ OutOfMemory → AreMade (events ++ event ∷ [])
 made_on [] event made is = (is, tt)
 made_on (first ∷ more) event made is = (made.0, made_on more event made.1 is)
+
+sure_on : (events : List Event) (event : Event) → AreSure events → event.failed ≡ None → AreSure (events ++ event ∷ [])
+sure_on [] event sure is = (is, tt)
+sure_on (first ∷ more) event sure is = (sure.0, sure_on more event sure.1 is)
 
 steps_on : (events : List Event) (event : Event) → map (λ (e : Event). e.step) (events ++ event ∷ []) ≡ map (λ (e : Event). e.step) events ++ event.step ∷ []
 steps_on [] event = refl
@@ -48,12 +52,13 @@ pub record LeadsSoFar (old : Cluster) (steps : List Step) (now : Cluster) (left 
   pub all : map (λ (event : Event). event.step) events ++ left ≡ steps
   pub run : IsRun old events now
   pub made : AreMade events
+  pub sure : AreSure events
   pub tells : told ≡ refused_lines 1 events
   pub place_is : place ≡ length events
 
 -- none yet
 pub at_first : (old : Cluster) (steps : List Step) → LeadsSoFar old steps old steps [] 0
-at_first old steps = record { events = []; all = refl; run = refl; made = tt; tells = refl; place_is = refl }
+at_first old steps = record { events = []; all = refl; run = refl; made = tt; sure = tt; tells = refl; place_is = refl }
 
 -- none is left
 pub at_last : (old : Cluster) (steps : List Step) (now : Cluster) (told : List ℕ) (place : ℕ) → LeadsSoFar old steps now [] told place → Leads old steps now told
@@ -62,10 +67,11 @@ at_last old steps now told place so_far = record {
   all = sym (append-nil (map (λ (event : Event). event.step) so_far.events)) ∙ so_far.all;
   run = so_far.run;
   made = so_far.made;
+  sure = so_far.sure;
   tells = so_far.tells;
 }
 
-module _ (old : Cluster) (steps : List Step) (now : Cluster) (step : Step) (left : List Step) (told : List ℕ) (place : ℕ) (so_far : LeadsSoFar old steps now (step ∷ left) told place) (failed : Option ℕ) (new : Cluster) where
+module _ (old : Cluster) (steps : List Step) (now : Cluster) (step : Step) (left : List Step) (told : List ℕ) (place : ℕ) (so_far : LeadsSoFar old steps now (step ∷ left) told place) (failed : Option ℕ) (sure : failed ≡ None) (new : Cluster) where
   one_more : (answer : Answer) (later : List ℕ) → answer ≢ OutOfMemory → IsStep step failed now new answer → later ≡ told ++ answer_line (suc place) answer → LeadsSoFar old steps new left later (suc place)
   one_more answer later made is tells =
       let event : Event = record { step = step; failed = failed; answer = answer } in
@@ -77,6 +83,7 @@ module _ (old : Cluster) (steps : List Step) (now : Cluster) (step : Step) (left
             ∙ so_far.all;
         run = run_on old so_far.events now new event so_far.run is;
         made = made_on so_far.events event so_far.made made;
+        sure = sure_on so_far.events event so_far.sure sure;
         tells =
             tells
             ∙ ap (λ (before : List ℕ). before ++ answer_line (suc place) answer) so_far.tells

@@ -52,13 +52,19 @@ abbrev pub AreMade : List Event → Type 0
 AreMade [] = ⊤
 AreMade (event ∷ more) = (event.answer ≢ OutOfMemory) × AreMade more
 
+-- no call of a store failed in any
+abbrev pub AreSure : List Event → Type 0
+AreSure [] = ⊤
+AreSure (event ∷ more) = (event.failed ≡ None) × AreSure more
+
 -- The steps, made one after another as the definitions have each, lead from the one cluster to the other, and this is
--- told of them. Which calls of a store fail is left open; a memory store's never do.
+-- told of them. The stores are in memory, so that none of their calls fails.
 pub record Leads (old : Cluster) (steps : List Step) (new : Cluster) (told : List ℕ) : Type 0 where
   pub events : List Event
   pub all : map (λ (event : Event). event.step) events ≡ steps
   pub run : IsRun old events new
   pub made : AreMade events
+  pub sure : AreSure events
   pub tells : told ≡ refused_lines 1 events
 
 -- what the answer of a step adds to what is told

@@ -1,9 +1,10 @@
 //! The steps of a cluster, one after the other.
-ghost use Rattle.std.specs.Prelude.{◌≡◌, ◌≢◌, OnErr, Err};
+ghost use Rattle.std.specs.Prelude.{◌≡◌, ◌≢◌, None, OnErr, Err};
+ghost use Rattle.bep_store.specs.Sure.{NeverFails};
 ghost use Rattle.bep_machine.specs.Laws.{IsSoundStep};
 ghost use Rattle.bep_machine.specs.Steps.{IsStep};
 ghost use Rattle.bep_machine.specs.Undone.{LeavesAll};
-ghost use Rattle.bep_core.specs.Applying.{failed_by};
+ghost use Rattle.bep_core.specs.Applying.{failed_by, failed_in, maker_of};
 ghost use Rattle.bep_core.specs.Network.{cluster_of};
 ghost use Rattle.bep_core.specs.Reached.{IsReached};
 ghost use Rattle.bep_core.specs.Why.{Gives};
@@ -11,24 +12,37 @@ ghost use Rattle.bep_core.specs.declared.why.Why.TheVariants.{ConfigBad};
 
 use crate::{Cluster, Why};
 use bep_machine::{Moved, Step, undone_steps_leave_all};
+use bep_record::DeviceId;
 use bep_store::Store;
 
 impl<S: Store> Cluster<S> {
     /// Makes the step, and answers what it did. Refuses `NotShared` where something that the step names isn't there, and
     /// then what the table of steps has for it; else only for want of memory. After an error all is as before, save that
-    /// the end of a pull may have kept a conflict copy.
+    /// the end of a pull may have kept a conflict copy. Where no store of the kind ever fails, no call of one failed.
     ///
     /// BEP v1; the steps are this project's profile.
     pub fn apply(&mut self, step: Step) -> Result<Moved, Why>
         ensures step { Gives (IsStep step (failed_by step self.new.members) (cluster_of self.old)) (cluster_of self.new) result }
         ensures err { OnErr result (LeavesAll step (cluster_of self.old) (cluster_of self.new)) }
         ensures only { result ≢ Err ConfigBad }
+        ensures sure { NeverFails S.faults → failed_by step self.new.members ≡ None }
 
         ensures reached { IsReached (cluster_of self.old) → IsReached (cluster_of self.new) }
     {
         undone_steps_leave_all();
         puts_a_node(&step);
-        self.make(step)
+        let maker = maker_of(&step);
+        let made = self.make(step);
+        let _failed = self.failed_in(maker);
+        made
+    }
+
+    // Which call of its store failed in the last action of this device.
+    fn failed_in(&self, maker: Option<DeviceId>) -> Option<u32>
+        ensures value { result ≡ failed_in maker self.now.members }
+        ensures sure { NeverFails S.faults → result ≡ None }
+    {
+        self.peer(maker?)?.failed()
     }
 
     // Makes the step.
@@ -51,6 +65,27 @@ impl<S: Store> Cluster<S> {
             Step::Finish(device, folder, name) => self.finish(device, &folder, &name),
             Step::Restart(device) => self.restart(device),
         }
+    }
+}
+
+// The device that makes the step, if one does.
+fn maker_of(step: &Step) -> Option<DeviceId>
+    ensures { result ≡ maker_of step.now }
+{
+    match step {
+        Step::Edit(device, _, _, _)
+        | Step::Remove(device, _, _)
+        | Step::Scan(device, _, _)
+        | Step::Override(device, _, _)
+        | Step::Revert(device, _, _)
+        | Step::Begin(device, _)
+        | Step::Deliver(device, _)
+        | Step::Announce(device, _, _)
+        | Step::StartPull(device, _, _)
+        | Step::Ask(device, _, _, _)
+        | Step::Finish(device, _, _)
+        | Step::Restart(device) => Some(*device),
+        Step::Connect(_, _) | Step::Lose(_, _) => None,
     }
 }
 
