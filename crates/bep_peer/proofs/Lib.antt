@@ -14,6 +14,7 @@ mod AnnounceFacts
 mod AskFacts
 mod SessionFacts
 mod WithinFacts
+mod Steady
 mod ScanFacts
 mod ContentsFacts
 mod RestartFacts

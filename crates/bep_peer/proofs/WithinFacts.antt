@@ -1,5 +1,5 @@
 -- What a device does with one of its folders is the step of the folder's replica, and leaves all else.
-use Rattle.std.proofs.Common.{◌≡◌, ◌↔◌, ◌<◌, ℕ, List, Bool, true, false, cond, Option, Some, None, IsSome, Contains, Result, Ok, Err, IsErr, option_map, refl, sym, ap, subst, ◌∙◌, arith, inl, inr, ⊎_elim}
+use Rattle.std.proofs.Common.{◌≡◌, ◌↔◌, ◌<◌, ℕ, List, Bool, true, false, cond, Option, Some, None, IsSome, Contains, Result, Ok, Err, IsErr, Bor, option_map, refl, sym, ap, subst, ◌∙◌, arith, inl, inr, ⊎_elim}
 use Rattle.std.specs.Ordering.{nat_cmp, eq_by_cmp}
 use Rattle.std.specs.Cmp.Lexicographic.{slice_cmp, nat_list_cmp_total}
 use Rattle.std.specs.FinMap.{get, insert, get-insert}
@@ -8,6 +8,7 @@ use Rattle.bep_facts.specs.Maps.{found_after_insert, get-insert_here, insert-wha
 use Rattle.bep_map.specs.NameMap.{ByName}
 use Rattle.bep_model.specs.Tables.{Device, Folder, FileName}
 use Rattle.bep_machine.specs.declared.moved.Moved.{Moved}
+use Rattle.bep_machine.specs.declared.refusal.Refusal.TheVariants.{NotShared}
 use Rattle.bep_machine.specs.Answer.{Answer, Done, OutOfMemory, Row}
 use Rattle.bep_machine.specs.Peer.{Session, with_replica}
 use Rattle.bep_machine.specs.Replica.{ByDevice, Replica}
@@ -18,10 +19,14 @@ use Rattle.bep_folder.specs.Held.{Held}
 use Rattle.bep_folder.specs.Makes.{Makes, Stays, CountsFaults}
 use Rattle.bep_folder.specs.Trace.{Trace as HeldTrace}
 use Rattle.bep_peer.specs.declared.error.PeerError.{PeerError}
+use Rattle.bep_peer.specs.declared.error.PeerError.TheVariants.{Refused}
+use Rattle.bep_peer.specs.declared.local.Step.{Step}
+use Rattle.bep_peer.specs.declared.local.Step.TheVariants.{Finish}
 use Rattle.bep_peer.specs.declared.trace.Trace.{Trace}
+use Rattle.bep_peer.specs.Call.{AnswersAt, IsCalled, IsSteady, IsStepped, row_of}
 use Rattle.bep_peer.specs.Member.{Member, AreOwn, IsMember, HasFailed, Remains, tables_of, untold}
 use Rattle.bep_peer.specs.PeerError.{Gives}
-use Rattle.bep_peer.specs.Within.{StepWithin, GainsCopyIn, OnlyFolder, TellsFault, told_of, with_folder, answer_of}
+use Rattle.bep_peer.specs.Within.{GainsCopyIn, OnlyFolder, StepWithin, TellsFault, told_of, with_folder, answer_of}
 use Rattle.bep_peer.proofs.Mapped.{get-changed, insert-changed}
 
 -- ---- the tables
@@ -92,21 +97,21 @@ pub left_within : (old begun : Member) (folder : Folder) (after : Held) (trace :
 left_within old begun folder after trace same told =
     ap (left_with begun folder after) told ∙ ap (λ (m : Member). left_with m folder after (told_of after.trace)) same
 
--- the step of the device whose folder it is, from where nothing is told yet
-pub steps_within : (old begun : Member) (folder : Folder) (before after : Held) (trace : Trace) (row : Device → Option ℕ → Replica → Row Replica) (answer : Result Moved FolderError) (said : Result Moved PeerError) →
-    begun ≡ untold old → Some before ≡ get begun.folders folder → AreOwn begun.number begun.folders → Makes (row before.device after.trace.failed) before after answer → trace ≡ told_of after.trace → said ≡ answer_of answer →
-    Gives (StepWithin folder (row old.number trace.failed) old) (left_with begun folder after trace) said
-steps_within old begun folder before after trace row answer said same is own made told says =
-    subst (λ (one : Result Moved PeerError). Gives (StepWithin folder (row old.number trace.failed) old) (left_with begun folder after trace) one) (sym says)
-    (subst (λ (failed : Option ℕ). Gives (StepWithin folder (row old.number failed) old) (left_with begun folder after trace) (answer_of answer)) (sym (ap (λ (t : Trace). t.failed) told))
-    (subst (λ (m : Member). Gives (StepWithin folder (row old.number after.trace.failed) old) m (answer_of answer)) (sym (left_within old begun folder after trace same told))
-    (subst (λ (number : Device). Gives (StepWithin folder (row number after.trace.failed) old) (with_folder old folder after) (answer_of answer)) ((own folder before (sym is)).0 ∙ ap (λ (m : Member). m.number) same)
-    (made_within old folder before after (row before.device after.trace.failed) answer (ap (λ (m : Member). get m.folders folder) (sym same) ∙ sym is) made))))
-
-pub only_within : (old begun : Member) (folder : Folder) (before after : Held) (trace : Trace) → begun ≡ untold old → Some before ≡ get begun.folders folder → trace ≡ told_of after.trace → OnlyFolder folder old (left_with begun folder after trace)
-only_within old begun folder before after trace same is told =
-    let has : IsSome (get old.folders folder) = subst (λ (found : Option Held). IsSome found) (is ∙ ap (λ (m : Member). get m.folders folder) same) refl in
-    inr (after, has, left_within old begun folder after trace same told)
+-- the folder was called, from where nothing is told yet
+pub called_as : {A : Type 0} (does : Held → Held → Result A FolderError → Type 0) (old begun : Member) (folder : Folder) (before after : Held) (trace : Trace) (answer : Result A FolderError) (said : Result A PeerError) →
+    begun ≡ untold old → Some before ≡ get begun.folders folder → AreOwn begun.number begun.folders → does before after answer → IsSteady before after answer → trace ≡ told_of after.trace → said ≡ answer_of answer →
+    IsCalled does folder old (left_with begun folder after trace) said
+called_as does old begun folder before after trace answer said same is own done steady told says = record {
+  before = before;
+  after = after;
+  answer = answer;
+  there = ap (λ (m : Member). get m.folders folder) (sym same) ∙ sym is;
+  own = (own folder before (sym is)).0 ∙ ap (λ (m : Member). m.number) same;
+  done = done;
+  steady = steady;
+  now = left_within old begun folder after trace same told;
+  says = says;
+}
 
 -- ---- what stays
 
@@ -157,20 +162,15 @@ its_store old folder before after is failed = cases (eq_by_cmp (slice_cmp nat_cm
         let rose : failed.now.faults < failed.now.faults = subst (λ (h : Held). h.faults < failed.now.faults) one failed.rose in
         absurd (omega arith)
 
-pub remains_within : {A : Type 0} (old begun : Member) (folder : Folder) (before after : Held) (trace : Trace) (result : Result A FolderError) →
-    begun ≡ untold old → Some before ≡ get begun.folders folder → CountsFaults before after result → trace ≡ told_of after.trace → Remains old (left_with begun folder after trace)
-remains_within old begun folder before after trace result same is counted told =
-    subst (Remains old) (sym (left_within old begun folder after trace same told)) (record {
-      number = refl;
-      linked = refl;
-      failed = (
-        λ told. record { folder = folder; was = before; now = after; before = there; after = get-insert_here nat_list_cmp_total exact_bytes old.folders folder after; rose = (counts before after result counted).0 told },
-        λ failed. (counts before after result counted).1 (its_store old folder before after there failed),
-      );
-    })
-  where
-    there : get old.folders folder ≡ Some before
-    there = ap (λ (m : Member). get m.folders folder) (sym same) ∙ sym is
+remains_at : {A : Type 0} (old : Member) (folder : Folder) (before after : Held) (answer : Result A FolderError) → get old.folders folder ≡ Some before → CountsFaults before after answer → Remains old (with_folder old folder after)
+remains_at old folder before after answer there counted = record {
+  number = refl;
+  linked = refl;
+  failed = (
+    λ told. record { folder = folder; was = before; now = after; before = there; after = get-insert_here nat_list_cmp_total exact_bytes old.folders folder after; rose = (counts before after answer counted).0 told },
+    λ failed. (counts before after answer counted).1 (its_store old folder before after there failed),
+  );
+}
 
 -- what holds of every member
 pub member_within : (number : Device) (folders : ByName Held) (sessions : ByDevice Session) (linked : List Device) (folder : Folder) (before after : Held) →
@@ -225,42 +225,73 @@ tells_of_it old folder before after (Err errors.Stale) same = same.1
 tells_of_it old folder before after (Err errors.NotShared) same = same.1
 tells_of_it old folder before after (Err errors.NothingToDo) same = same.1
 
-pub tells_within : {A : Type 0} (old begun : Member) (folder : Folder) (before after : Held) (trace : Trace) (answer : Result A FolderError) (said : Result A PeerError) →
-    begun ≡ untold old → trace ≡ told_of after.trace → said ≡ answer_of answer → CountsFaults before after answer → TellsFault (left_with begun folder after trace) said
-tells_within {A} old begun folder before after trace answer said same told says counted =
-    subst (λ (one : Result A PeerError). TellsFault (left_with begun folder after trace) one) (sym says)
-    (subst (λ (m : Member). TellsFault m (answer_of answer)) (sym (left_within old begun folder after trace same told)) (tells_of_it old folder before after answer counted))
+-- ---- what every call of a folder does
+
+module _ {A : Type 0} {does : Held → Held → Result A FolderError → Type 0} {folder : Folder} {old new : Member} {result : Result A PeerError} where
+  pub only_within : IsCalled does folder old new result → OnlyFolder folder old new
+  only_within call =
+      let has : IsSome (get old.folders folder) = subst (λ (found : Option Held). IsSome found) (sym call.there) refl in
+      inr (call.after, has, call.now)
+
+  pub remains_within : IsCalled does folder old new result → Remains old new
+  remains_within call = subst (Remains old) (sym call.now) (remains_at old folder call.before call.after call.answer call.there call.steady.counted)
+
+  pub tells_within : IsCalled does folder old new result → TellsFault new result
+  tells_within call =
+      subst (λ (m : Member). TellsFault m result) (sym call.now)
+      (subst (λ (one : Result A PeerError). TellsFault (with_folder old folder call.after) one) (sym call.says)
+      (tells_of_it old folder call.before call.after call.answer call.steady.counted))
+
+  -- what holds where the device doesn't have the folder, and where the folder was called
+  pub either_way : (P : Member → Result A PeerError → Type 0) → (get old.folders folder ≡ None → P (untold old) (Err (Refused NotShared))) →
+      ((call : IsCalled does folder old new result) → P (with_folder old folder call.after) (answer_of call.answer)) → AnswersAt does folder old new result → P new result
+  either_way P absent called (inl none) = subst (λ (m : Member). P m result) (sym none.1) (subst (λ (one : Result A PeerError). P (untold old) one) (sym none.2) (absent none.0))
+  either_way P absent called (inr call) =
+      subst (λ (m : Member). P m result) (sym call.now) (subst (λ (one : Result A PeerError). P (with_folder old folder call.after) one) (sym call.says) (called call))
 
 -- ---- a conflict copy
 
 pub its_value : (one other : Held) (found : Option Held) → found ≡ Some one → found ≡ Some other → one ≡ other
 its_value one other found is also = let same = sym is ∙ also in cc
 
-pub copied_within : (old begun : Member) (folder : Folder) (name : FileName) (before after : Held) (trace : Trace) → begun ≡ untold old → Some before ≡ get begun.folders folder → trace ≡ told_of after.trace →
-    (after.trace.copied ≡ true) ↔ GainsCopy name before.tables after.tables → (trace.copied ≡ true) ↔ GainsCopyIn folder name old (left_with begun folder after trace)
-copied_within old begun folder name before after trace same is told gains = (
-  λ copied. (before, after, there, here, gains.0 (sym (ap (λ (t : Trace). t.copied) told) ∙ copied)),
+gains_at : (old : Member) (folder : Folder) (name : FileName) (before after : Held) → get old.folders folder ≡ Some before → (after.trace.copied ≡ true) ↔ GainsCopy name before.tables after.tables →
+    (after.trace.copied ≡ true) ↔ GainsCopyIn folder name old (with_folder old folder after)
+gains_at old folder name before after there gains = (
+  λ copied. (before, after, there, here, gains.0 copied),
   λ gained.
       let was = its_value gained.0 before (get old.folders folder) gained.2 there in
-      let now = its_value gained.1 after (get (insert begun.folders folder after) folder) gained.3 here in
-      ap (λ (t : Trace). t.copied) told
-      ∙ gains.1 (subst (λ (h : Held). GainsCopy name h.tables after.tables) was (subst (λ (h : Held). GainsCopy name gained.0.tables h.tables) now gained.4)),
+      let now = its_value gained.1 after (get (insert old.folders folder after) folder) gained.3 here in
+      gains.1 (subst (λ (h : Held). GainsCopy name h.tables after.tables) was (subst (λ (h : Held). GainsCopy name gained.0.tables h.tables) now gained.4)),
 )
   where
-    there : get old.folders folder ≡ Some before
-    there = ap (λ (m : Member). get m.folders folder) (sym same) ∙ sym is
+    here : get (insert old.folders folder after) folder ≡ Some after
+    here = get-insert_here nat_list_cmp_total exact_bytes old.folders folder after
 
-    here : get (insert begun.folders folder after) folder ≡ Some after
-    here = get-insert_here nat_list_cmp_total exact_bytes begun.folders folder after
+no_gain : (old : Member) (folder : Folder) (name : FileName) → get old.folders folder ≡ None → (false ≡ true) ↔ GainsCopyIn folder name old (untold old)
+no_gain old folder name none = (λ copied. absurd (cc), λ gained. let there = sym gained.2 ∙ none in absurd (cc))
 
 is_error : {A : Type 0} (answer : Result A FolderError) → IsErr (answer_of answer) → IsErr answer
 is_error (Ok done) is = is
 is_error (Err error) is = is
 
-pub kept_within : (old begun : Member) (folder : Folder) (before after : Held) (trace : Trace) (answer : Result Moved FolderError) (said : Result Moved PeerError) →
-    begun ≡ untold old → Some before ≡ get begun.folders folder → trace ≡ told_of after.trace → said ≡ answer_of answer →
-    (IsErr answer → after.trace.copied ≡ false → after.tables ≡ before.tables) → IsErr said → trace.copied ≡ false → tables_of (left_with begun folder after trace) ≡ tables_of old
-kept_within old begun folder before after trace answer said same is told says kept error uncopied =
-    ap tables_of (left_within old begun folder after trace same told)
-    ∙ same_tables old folder before after (ap (λ (m : Member). get m.folders folder) (sym same) ∙ sym is)
-    (kept (is_error answer (subst (λ (one : Result Moved PeerError). IsErr one) says error)) (sym (ap (λ (t : Trace). t.copied) told) ∙ uncopied))
+-- ---- a step
+
+module _ {step : Step} {folder : Folder} {old new : Member} {result : Result Moved PeerError} where
+  -- it is one of the device whose folder it is
+  pub stepped_within : AnswersAt (IsStepped step) folder old new result → Gives (StepWithin folder (row_of step old.number new.trace.failed) old) new result
+  stepped_within = either_way (λ m one. Gives (StepWithin folder (row_of step old.number m.trace.failed) old) m one)
+      (λ none. inr (inl (none, (refl, refl))))
+      (λ call.
+      subst (λ (number : Device). Gives (StepWithin folder (row_of step number call.after.trace.failed) old) (with_folder old folder call.after) (answer_of call.answer)) call.own
+      (made_within old folder call.before call.after (row_of step call.before.device call.after.trace.failed) call.answer call.there call.done.made))
+
+module _ {name : Bor FileName} {folder : Folder} {old new : Member} {result : Result Moved PeerError} where
+  pub copied_within : AnswersAt (IsStepped (Finish name)) folder old new result → (new.trace.copied ≡ true) ↔ GainsCopyIn folder name.now old new
+  copied_within = either_way (λ m one. (m.trace.copied ≡ true) ↔ GainsCopyIn folder name.now old m)
+      (λ none. no_gain old folder name.now none)
+      (λ call. gains_at old folder name.now call.before call.after call.there call.done.told.copied)
+
+  pub kept_within : AnswersAt (IsStepped (Finish name)) folder old new result → IsErr result → new.trace.copied ≡ false → tables_of new ≡ tables_of old
+  kept_within = either_way (λ m one. IsErr one → m.trace.copied ≡ false → tables_of m ≡ tables_of old)
+      (λ none error uncopied. refl)
+      (λ call error uncopied. same_tables old folder call.before call.after call.there (call.done.told.kept (is_error call.answer error) uncopied))
