@@ -13,6 +13,7 @@ mod SharingFacts
 mod AnnounceFacts
 mod AskFacts
 mod SessionFacts
+mod Refusals
 mod WithinFacts
 mod Steady
 mod ScanFacts

@@ -18,6 +18,7 @@ use Rattle.bep_peer.specs.Member.{Member, tables_of}
 use Rattle.bep_peer.specs.PeerError.{Gives}
 use Rattle.bep_peer.specs.Within.{CommitsWithin, FindsWithin, IsStale, StepWithin, answer_of, with_folder}
 use Rattle.bep_peer.proofs.OthersKept.{makes_keeps}
+use Rattle.bep_peer.proofs.Refusals.{scanned_or_same}
 use Rattle.bep_peer.proofs.RowsKeep.{scan_keeps}
 use Rattle.bep_peer.proofs.WithinFacts.{either_way, its_value, made_within, same_tables}
 
@@ -25,31 +26,11 @@ use Rattle.bep_peer.proofs.WithinFacts.{either_way, its_value, made_within, same
 
 -- the commit keeps who shares the folder
 pub commit_keeps : (scan : Scanned) (before after : Held) (answer : Result Moved FolderError) → Commits scan before after answer → after.tables.others ≡ before.tables.others
-commit_keeps scan before after answer commits = cases answer commits
-  where
-    kept : (answer : Result Moved FolderError) → Makes (ScanRow before.device scan.name after.trace.failed) before after answer → after.tables.others ≡ before.tables.others
-    kept answer made = makes_keeps (ScanRow before.device scan.name after.trace.failed) before after answer (scan_keeps before.device scan.name after.trace.failed before.tables) made
-
-    cases : (answer : Result Moved FolderError) → Commits scan before after answer → after.tables.others ≡ before.tables.others
-    cases (Ok moved) made = kept (Ok moved) made.1
-    cases (Err errors.Stale) stale = ap (λ (r : Replica). r.others) stale.1
-    cases (Err errors.StoreFault) made = kept (Err errors.StoreFault) made
-    cases (Err errors.Memory) made = kept (Err errors.Memory) made
-    cases (Err errors.CounterFull) made = kept (Err errors.CounterFull) made.1
-    cases (Err errors.TooManyCounters) made = kept (Err errors.TooManyCounters) made.1
-    cases (Err errors.NameBad) made = kept (Err errors.NameBad) made.1
-    cases (Err errors.SequenceFull) made = kept (Err errors.SequenceFull) made.1
-    cases (Err errors.IndexFull) made = kept (Err errors.IndexFull) made.1
-    cases (Err errors.BatchOld) made = kept (Err errors.BatchOld) made.1
-    cases (Err errors.Unscanned) made = kept (Err errors.Unscanned) made.1
-    cases (Err errors.NotNeeded) made = kept (Err errors.NotNeeded) made.1
-    cases (Err errors.BlocksMissing) made = kept (Err errors.BlocksMissing) made.1
-    cases (Err errors.HashBad) made = kept (Err errors.HashBad) made.1
-    cases (Err errors.CopyExists) made = kept (Err errors.CopyExists) made.1
-    cases (Err errors.PullsFull) made = kept (Err errors.PullsFull) made.1
-    cases (Err errors.KindForbids) made = kept (Err errors.KindForbids) made.1
-    cases (Err errors.NotShared) made = kept (Err errors.NotShared) made.1
-    cases (Err errors.NothingToDo) made = kept (Err errors.NothingToDo) made.1
+commit_keeps scan before after answer commits =
+    ⊎_elim
+    (λ made. makes_keeps (ScanRow before.device scan.name after.trace.failed) before after answer (scan_keeps before.device scan.name after.trace.failed before.tables) made)
+    (λ same. ap (λ (r : Replica). r.others) same)
+    (scanned_or_same scan before after answer commits)
 
 commits_at : (old : Member) (folder : Folder) (scan : Scanned) (before after : Held) (answer : Result Moved FolderError) → get old.folders folder ≡ Some before → before.device ≡ old.number → Commits scan before after answer → CommitsWithin folder scan old (with_folder old folder after) (answer_of answer)
 commits_at old folder scan before after answer is device commits = cases answer commits

@@ -1,5 +1,5 @@
 -- What a device does with one of its folders is the step of the folder's replica, and leaves all else.
-use Rattle.std.proofs.Common.{◌≡◌, ◌↔◌, ◌<◌, ℕ, List, Bool, true, false, cond, Option, Some, None, IsSome, Contains, Result, Ok, Err, IsErr, Bor, option_map, refl, sym, ap, subst, ◌∙◌, arith, inl, inr, ⊎_elim}
+use Rattle.std.proofs.Common.{rules, ◌≡◌, ◌↔◌, ◌<◌, ℕ, List, Bool, true, false, cond, Option, Some, None, IsSome, Contains, Result, Ok, Err, IsErr, Bor, option_map, refl, sym, ap, subst, ◌∙◌, arith, inl, inr, ⊎_elim}
 use Rattle.std.specs.Ordering.{nat_cmp, eq_by_cmp}
 use Rattle.std.specs.Cmp.Lexicographic.{slice_cmp, nat_list_cmp_total}
 use Rattle.std.specs.FinMap.{get, insert, get-insert}
@@ -13,7 +13,6 @@ use Rattle.bep_machine.specs.Answer.{Answer, Done, OutOfMemory, Row}
 use Rattle.bep_machine.specs.Peer.{Session, with_replica}
 use Rattle.bep_machine.specs.Replica.{ByDevice, Replica}
 use Rattle.bep_folder.specs.declared.error.FolderError.{FolderError}
-use Rattle.bep_folder.specs.declared.error.FolderError.TheVariants as errors
 use Rattle.bep_folder.specs.Finish.{GainsCopy}
 use Rattle.bep_folder.specs.Held.{Held}
 use Rattle.bep_folder.specs.Makes.{Makes, Stays, CountsFaults}
@@ -26,7 +25,8 @@ use Rattle.bep_peer.specs.declared.trace.Trace.{Trace}
 use Rattle.bep_peer.specs.Call.{AnswersAt, IsCalled, IsSteady, IsStepped, row_of}
 use Rattle.bep_peer.specs.Member.{Member, AreOwn, IsMember, HasFailed, Remains, tables_of, untold}
 use Rattle.bep_peer.specs.PeerError.{Gives}
-use Rattle.bep_peer.specs.Within.{GainsCopyIn, OnlyFolder, StepWithin, TellsFault, told_of, with_folder, answer_of}
+use Rattle.bep_peer.specs.Within.{GainsCopyIn, OnlyFolder, StepWithin, TellsFault, told_of, with_folder, answer_of, error_of}
+use Rattle.bep_peer.proofs.Refusals.{failed_or_not, wanting_or_refused}
 use Rattle.bep_peer.proofs.Mapped.{get-changed, insert-changed}
 
 -- ---- the tables
@@ -63,25 +63,15 @@ unmade old folder before after row is same = inl (same_tables old folder before 
 
 pub made_within : (old : Member) (folder : Folder) (before after : Held) (row : Replica → Row Replica) (answer : Result Moved FolderError) → get old.folders folder ≡ Some before → Makes row before after answer → Gives (StepWithin folder row old) (with_folder old folder after) (answer_of answer)
 made_within old folder before after row (Ok moved) is made = at_folder old folder before after row (Done moved) is made
-made_within old folder before after row (Err errors.Memory) is made =
-    ⊎_elim (λ same. unmade old folder before after row is same) (λ made. at_folder old folder before after row OutOfMemory is made) made
-made_within old folder before after row (Err errors.CounterFull) is made = at_folder old folder before after row _ is made
-made_within old folder before after row (Err errors.TooManyCounters) is made = at_folder old folder before after row _ is made
-made_within old folder before after row (Err errors.NameBad) is made = at_folder old folder before after row _ is made
-made_within old folder before after row (Err errors.SequenceFull) is made = at_folder old folder before after row _ is made
-made_within old folder before after row (Err errors.IndexFull) is made = at_folder old folder before after row _ is made
-made_within old folder before after row (Err errors.BatchOld) is made = absurd made
-made_within old folder before after row (Err errors.StoreFault) is made = at_folder old folder before after row _ is made
-made_within old folder before after row (Err errors.Unscanned) is made = at_folder old folder before after row _ is made
-made_within old folder before after row (Err errors.NotNeeded) is made = at_folder old folder before after row _ is made
-made_within old folder before after row (Err errors.BlocksMissing) is made = at_folder old folder before after row _ is made
-made_within old folder before after row (Err errors.HashBad) is made = absurd made
-made_within old folder before after row (Err errors.CopyExists) is made = at_folder old folder before after row _ is made
-made_within old folder before after row (Err errors.PullsFull) is made = at_folder old folder before after row _ is made
-made_within old folder before after row (Err errors.KindForbids) is made = at_folder old folder before after row _ is made
-made_within old folder before after row (Err errors.Stale) is made = absurd made
-made_within old folder before after row (Err errors.NotShared) is made = at_folder old folder before after row _ is made
-made_within old folder before after row (Err errors.NothingToDo) is made = at_folder old folder before after row _ is made
+made_within old folder before after row (Err error) is made =
+    ⊎_elim
+    (λ wanting.
+    subst (λ (e : FolderError). Gives (StepWithin folder row old) (with_folder old folder after) (Err (error_of e))) (sym wanting.0)
+    (⊎_elim (λ same. unmade old folder before after row is same) (λ made. at_folder old folder before after row OutOfMemory is made) wanting.1))
+    (λ refused.
+    subst (λ (e : PeerError). Gives (StepWithin folder row old) (with_folder old folder after) (Err e)) (sym refused.1)
+    (at_folder old folder before after row _ is refused.2))
+    (wanting_or_refused row before after error made)
 
 -- ---- as a call leaves it
 
@@ -117,33 +107,14 @@ called_as does old begun folder before after trace answer said same is own done 
 
 -- a call failed exactly where the count rose
 counts : {A : Type 0} (before after : Held) (result : Result A FolderError) → CountsFaults before after result → IsSome after.trace.failed ↔ (before.faults < after.faults)
-counts {A} before after result counted = cases result counted where
-  quiet : (after.faults ≡ before.faults) × (after.trace.failed ≡ None) → IsSome after.trace.failed ↔ (before.faults < after.faults)
-  quiet same = (
-    λ some. let none = same.1 in absurd (cc),
-    λ rose. let held = same.0 in absurd (omega arith),
-  )
-
-  cases : (result : Result A FolderError) → CountsFaults before after result → IsSome after.trace.failed ↔ (before.faults < after.faults)
-  cases (Ok done) same = quiet same
-  cases (Err errors.StoreFault) rose = (λ _. rose.0, λ _. rose.1)
-  cases (Err errors.Memory) same = quiet same
-  cases (Err errors.CounterFull) same = quiet same
-  cases (Err errors.TooManyCounters) same = quiet same
-  cases (Err errors.NameBad) same = quiet same
-  cases (Err errors.SequenceFull) same = quiet same
-  cases (Err errors.IndexFull) same = quiet same
-  cases (Err errors.BatchOld) same = quiet same
-  cases (Err errors.Unscanned) same = quiet same
-  cases (Err errors.NotNeeded) same = quiet same
-  cases (Err errors.BlocksMissing) same = quiet same
-  cases (Err errors.HashBad) same = quiet same
-  cases (Err errors.CopyExists) same = quiet same
-  cases (Err errors.PullsFull) same = quiet same
-  cases (Err errors.KindForbids) same = quiet same
-  cases (Err errors.Stale) same = quiet same
-  cases (Err errors.NotShared) same = quiet same
-  cases (Err errors.NothingToDo) same = quiet same
+counts before after result counted =
+    ⊎_elim
+    (λ rose. (λ _. rose.0, λ _. rose.1))
+    (λ same. (
+      λ some. let none = same.1 in absurd (cc),
+      λ rose. let held = same.0 in absurd (omega arith),
+    ))
+    (failed_or_not before after result counted)
 
 -- the store that failed more often is the folder's
 its_store : (old : Member) (folder : Folder) (before after : Held) → get old.folders folder ≡ Some before → HasFailed old (with_folder old folder after) → before.faults < after.faults
@@ -205,25 +176,7 @@ member_within number folders sessions linked folder before after member there st
 -- ---- what is told of a fault
 
 tells_of_it : {A : Type 0} (old : Member) (folder : Folder) (before after : Held) (answer : Result A FolderError) → CountsFaults before after answer → TellsFault (with_folder old folder after) (answer_of answer)
-tells_of_it old folder before after (Ok done) same = same.1
-tells_of_it old folder before after (Err errors.StoreFault) rose = rose.1
-tells_of_it old folder before after (Err errors.Memory) same = same.1
-tells_of_it old folder before after (Err errors.CounterFull) same = same.1
-tells_of_it old folder before after (Err errors.TooManyCounters) same = same.1
-tells_of_it old folder before after (Err errors.NameBad) same = same.1
-tells_of_it old folder before after (Err errors.SequenceFull) same = same.1
-tells_of_it old folder before after (Err errors.IndexFull) same = same.1
-tells_of_it old folder before after (Err errors.BatchOld) same = same.1
-tells_of_it old folder before after (Err errors.Unscanned) same = same.1
-tells_of_it old folder before after (Err errors.NotNeeded) same = same.1
-tells_of_it old folder before after (Err errors.BlocksMissing) same = same.1
-tells_of_it old folder before after (Err errors.HashBad) same = same.1
-tells_of_it old folder before after (Err errors.CopyExists) same = same.1
-tells_of_it old folder before after (Err errors.PullsFull) same = same.1
-tells_of_it old folder before after (Err errors.KindForbids) same = same.1
-tells_of_it old folder before after (Err errors.Stale) same = same.1
-tells_of_it old folder before after (Err errors.NotShared) same = same.1
-tells_of_it old folder before after (Err errors.NothingToDo) same = same.1
+tells_of_it old folder before after answer counted = search rules
 
 -- ---- what every call of a folder does
 
