@@ -13,7 +13,9 @@ mod SharingFacts
 mod AnnounceFacts
 mod AskFacts
 mod SessionFacts
+mod Refusals
 mod WithinFacts
+mod Steady
 mod ScanFacts
 mod ContentsFacts
 mod RestartFacts

@@ -1,5 +1,5 @@
 -- What a device does with one of its folders is the step of the folder's replica, and leaves all else.
-use Rattle.std.proofs.Common.{◌≡◌, ◌↔◌, ◌<◌, ℕ, List, Bool, true, false, cond, Option, Some, None, IsSome, Contains, Result, Ok, Err, IsErr, option_map, refl, sym, ap, subst, ◌∙◌, arith, inl, inr, ⊎_elim}
+use Rattle.std.proofs.Common.{rules, ◌≡◌, ◌↔◌, ◌<◌, ℕ, List, Bool, true, false, cond, Option, Some, None, IsSome, Contains, Result, Ok, Err, IsErr, Bor, option_map, refl, sym, ap, subst, ◌∙◌, arith, inl, inr, ⊎_elim}
 use Rattle.std.specs.Ordering.{nat_cmp, eq_by_cmp}
 use Rattle.std.specs.Cmp.Lexicographic.{slice_cmp, nat_list_cmp_total}
 use Rattle.std.specs.FinMap.{get, insert, get-insert}
@@ -8,20 +8,25 @@ use Rattle.bep_facts.specs.Maps.{found_after_insert, get-insert_here, insert-wha
 use Rattle.bep_map.specs.NameMap.{ByName}
 use Rattle.bep_model.specs.Tables.{Device, Folder, FileName}
 use Rattle.bep_machine.specs.declared.moved.Moved.{Moved}
+use Rattle.bep_machine.specs.declared.refusal.Refusal.TheVariants.{NotShared}
 use Rattle.bep_machine.specs.Answer.{Answer, Done, OutOfMemory, Row}
 use Rattle.bep_machine.specs.Peer.{Session, with_replica}
 use Rattle.bep_machine.specs.Replica.{ByDevice, Replica}
 use Rattle.bep_folder.specs.declared.error.FolderError.{FolderError}
-use Rattle.bep_folder.specs.declared.error.FolderError.TheVariants as errors
 use Rattle.bep_folder.specs.Finish.{GainsCopy}
 use Rattle.bep_folder.specs.Held.{Held}
 use Rattle.bep_folder.specs.Makes.{Makes, Stays, CountsFaults}
 use Rattle.bep_folder.specs.Trace.{Trace as HeldTrace}
 use Rattle.bep_peer.specs.declared.error.PeerError.{PeerError}
+use Rattle.bep_peer.specs.declared.error.PeerError.TheVariants.{Refused}
+use Rattle.bep_peer.specs.declared.local.Step.{Step}
+use Rattle.bep_peer.specs.declared.local.Step.TheVariants.{Finish}
 use Rattle.bep_peer.specs.declared.trace.Trace.{Trace}
+use Rattle.bep_peer.specs.Call.{AnswersAt, IsCalled, IsSteady, IsStepped, row_of}
 use Rattle.bep_peer.specs.Member.{Member, AreOwn, IsMember, HasFailed, Remains, tables_of, untold}
 use Rattle.bep_peer.specs.PeerError.{Gives}
-use Rattle.bep_peer.specs.Within.{StepWithin, GainsCopyIn, OnlyFolder, TellsFault, told_of, with_folder, answer_of}
+use Rattle.bep_peer.specs.Within.{GainsCopyIn, OnlyFolder, StepWithin, TellsFault, told_of, with_folder, answer_of, error_of}
+use Rattle.bep_peer.proofs.Refusals.{failed_or_not, wanting_or_refused}
 use Rattle.bep_peer.proofs.Mapped.{get-changed, insert-changed}
 
 -- ---- the tables
@@ -58,25 +63,15 @@ unmade old folder before after row is same = inl (same_tables old folder before 
 
 pub made_within : (old : Member) (folder : Folder) (before after : Held) (row : Replica → Row Replica) (answer : Result Moved FolderError) → get old.folders folder ≡ Some before → Makes row before after answer → Gives (StepWithin folder row old) (with_folder old folder after) (answer_of answer)
 made_within old folder before after row (Ok moved) is made = at_folder old folder before after row (Done moved) is made
-made_within old folder before after row (Err errors.Memory) is made =
-    ⊎_elim (λ same. unmade old folder before after row is same) (λ made. at_folder old folder before after row OutOfMemory is made) made
-made_within old folder before after row (Err errors.CounterFull) is made = at_folder old folder before after row _ is made
-made_within old folder before after row (Err errors.TooManyCounters) is made = at_folder old folder before after row _ is made
-made_within old folder before after row (Err errors.NameBad) is made = at_folder old folder before after row _ is made
-made_within old folder before after row (Err errors.SequenceFull) is made = at_folder old folder before after row _ is made
-made_within old folder before after row (Err errors.IndexFull) is made = at_folder old folder before after row _ is made
-made_within old folder before after row (Err errors.BatchOld) is made = absurd made
-made_within old folder before after row (Err errors.StoreFault) is made = at_folder old folder before after row _ is made
-made_within old folder before after row (Err errors.Unscanned) is made = at_folder old folder before after row _ is made
-made_within old folder before after row (Err errors.NotNeeded) is made = at_folder old folder before after row _ is made
-made_within old folder before after row (Err errors.BlocksMissing) is made = at_folder old folder before after row _ is made
-made_within old folder before after row (Err errors.HashBad) is made = absurd made
-made_within old folder before after row (Err errors.CopyExists) is made = at_folder old folder before after row _ is made
-made_within old folder before after row (Err errors.PullsFull) is made = at_folder old folder before after row _ is made
-made_within old folder before after row (Err errors.KindForbids) is made = at_folder old folder before after row _ is made
-made_within old folder before after row (Err errors.Stale) is made = absurd made
-made_within old folder before after row (Err errors.NotShared) is made = at_folder old folder before after row _ is made
-made_within old folder before after row (Err errors.NothingToDo) is made = at_folder old folder before after row _ is made
+made_within old folder before after row (Err error) is made =
+    ⊎_elim
+    (λ wanting.
+    subst (λ (e : FolderError). Gives (StepWithin folder row old) (with_folder old folder after) (Err (error_of e))) (sym wanting.0)
+    (⊎_elim (λ same. unmade old folder before after row is same) (λ made. at_folder old folder before after row OutOfMemory is made) wanting.1))
+    (λ refused.
+    subst (λ (e : PeerError). Gives (StepWithin folder row old) (with_folder old folder after) (Err e)) (sym refused.1)
+    (at_folder old folder before after row _ is refused.2))
+    (wanting_or_refused row before after error made)
 
 -- ---- as a call leaves it
 
@@ -92,53 +87,34 @@ pub left_within : (old begun : Member) (folder : Folder) (after : Held) (trace :
 left_within old begun folder after trace same told =
     ap (left_with begun folder after) told ∙ ap (λ (m : Member). left_with m folder after (told_of after.trace)) same
 
--- the step of the device whose folder it is, from where nothing is told yet
-pub steps_within : (old begun : Member) (folder : Folder) (before after : Held) (trace : Trace) (row : Device → Option ℕ → Replica → Row Replica) (answer : Result Moved FolderError) (said : Result Moved PeerError) →
-    begun ≡ untold old → Some before ≡ get begun.folders folder → AreOwn begun.number begun.folders → Makes (row before.device after.trace.failed) before after answer → trace ≡ told_of after.trace → said ≡ answer_of answer →
-    Gives (StepWithin folder (row old.number trace.failed) old) (left_with begun folder after trace) said
-steps_within old begun folder before after trace row answer said same is own made told says =
-    subst (λ (one : Result Moved PeerError). Gives (StepWithin folder (row old.number trace.failed) old) (left_with begun folder after trace) one) (sym says)
-    (subst (λ (failed : Option ℕ). Gives (StepWithin folder (row old.number failed) old) (left_with begun folder after trace) (answer_of answer)) (sym (ap (λ (t : Trace). t.failed) told))
-    (subst (λ (m : Member). Gives (StepWithin folder (row old.number after.trace.failed) old) m (answer_of answer)) (sym (left_within old begun folder after trace same told))
-    (subst (λ (number : Device). Gives (StepWithin folder (row number after.trace.failed) old) (with_folder old folder after) (answer_of answer)) ((own folder before (sym is)).0 ∙ ap (λ (m : Member). m.number) same)
-    (made_within old folder before after (row before.device after.trace.failed) answer (ap (λ (m : Member). get m.folders folder) (sym same) ∙ sym is) made))))
-
-pub only_within : (old begun : Member) (folder : Folder) (before after : Held) (trace : Trace) → begun ≡ untold old → Some before ≡ get begun.folders folder → trace ≡ told_of after.trace → OnlyFolder folder old (left_with begun folder after trace)
-only_within old begun folder before after trace same is told =
-    let has : IsSome (get old.folders folder) = subst (λ (found : Option Held). IsSome found) (is ∙ ap (λ (m : Member). get m.folders folder) same) refl in
-    inr (after, has, left_within old begun folder after trace same told)
+-- the folder was called, from where nothing is told yet
+pub called_as : {A : Type 0} (does : Held → Held → Result A FolderError → Type 0) (old begun : Member) (folder : Folder) (before after : Held) (trace : Trace) (answer : Result A FolderError) (said : Result A PeerError) →
+    begun ≡ untold old → Some before ≡ get begun.folders folder → AreOwn begun.number begun.folders → does before after answer → IsSteady before after answer → trace ≡ told_of after.trace → said ≡ answer_of answer →
+    IsCalled does folder old (left_with begun folder after trace) said
+called_as does old begun folder before after trace answer said same is own done steady told says = record {
+  before = before;
+  after = after;
+  answer = answer;
+  there = ap (λ (m : Member). get m.folders folder) (sym same) ∙ sym is;
+  own = (own folder before (sym is)).0 ∙ ap (λ (m : Member). m.number) same;
+  done = done;
+  steady = steady;
+  now = left_within old begun folder after trace same told;
+  says = says;
+}
 
 -- ---- what stays
 
 -- a call failed exactly where the count rose
 counts : {A : Type 0} (before after : Held) (result : Result A FolderError) → CountsFaults before after result → IsSome after.trace.failed ↔ (before.faults < after.faults)
-counts {A} before after result counted = cases result counted where
-  quiet : (after.faults ≡ before.faults) × (after.trace.failed ≡ None) → IsSome after.trace.failed ↔ (before.faults < after.faults)
-  quiet same = (
-    λ some. let none = same.1 in absurd (cc),
-    λ rose. let held = same.0 in absurd (omega arith),
-  )
-
-  cases : (result : Result A FolderError) → CountsFaults before after result → IsSome after.trace.failed ↔ (before.faults < after.faults)
-  cases (Ok done) same = quiet same
-  cases (Err errors.StoreFault) rose = (λ _. rose.0, λ _. rose.1)
-  cases (Err errors.Memory) same = quiet same
-  cases (Err errors.CounterFull) same = quiet same
-  cases (Err errors.TooManyCounters) same = quiet same
-  cases (Err errors.NameBad) same = quiet same
-  cases (Err errors.SequenceFull) same = quiet same
-  cases (Err errors.IndexFull) same = quiet same
-  cases (Err errors.BatchOld) same = quiet same
-  cases (Err errors.Unscanned) same = quiet same
-  cases (Err errors.NotNeeded) same = quiet same
-  cases (Err errors.BlocksMissing) same = quiet same
-  cases (Err errors.HashBad) same = quiet same
-  cases (Err errors.CopyExists) same = quiet same
-  cases (Err errors.PullsFull) same = quiet same
-  cases (Err errors.KindForbids) same = quiet same
-  cases (Err errors.Stale) same = quiet same
-  cases (Err errors.NotShared) same = quiet same
-  cases (Err errors.NothingToDo) same = quiet same
+counts before after result counted =
+    ⊎_elim
+    (λ rose. (λ _. rose.0, λ _. rose.1))
+    (λ same. (
+      λ some. let none = same.1 in absurd (cc),
+      λ rose. let held = same.0 in absurd (omega arith),
+    ))
+    (failed_or_not before after result counted)
 
 -- the store that failed more often is the folder's
 its_store : (old : Member) (folder : Folder) (before after : Held) → get old.folders folder ≡ Some before → HasFailed old (with_folder old folder after) → before.faults < after.faults
@@ -157,20 +133,15 @@ its_store old folder before after is failed = cases (eq_by_cmp (slice_cmp nat_cm
         let rose : failed.now.faults < failed.now.faults = subst (λ (h : Held). h.faults < failed.now.faults) one failed.rose in
         absurd (omega arith)
 
-pub remains_within : {A : Type 0} (old begun : Member) (folder : Folder) (before after : Held) (trace : Trace) (result : Result A FolderError) →
-    begun ≡ untold old → Some before ≡ get begun.folders folder → CountsFaults before after result → trace ≡ told_of after.trace → Remains old (left_with begun folder after trace)
-remains_within old begun folder before after trace result same is counted told =
-    subst (Remains old) (sym (left_within old begun folder after trace same told)) (record {
-      number = refl;
-      linked = refl;
-      failed = (
-        λ told. record { folder = folder; was = before; now = after; before = there; after = get-insert_here nat_list_cmp_total exact_bytes old.folders folder after; rose = (counts before after result counted).0 told },
-        λ failed. (counts before after result counted).1 (its_store old folder before after there failed),
-      );
-    })
-  where
-    there : get old.folders folder ≡ Some before
-    there = ap (λ (m : Member). get m.folders folder) (sym same) ∙ sym is
+remains_at : {A : Type 0} (old : Member) (folder : Folder) (before after : Held) (answer : Result A FolderError) → get old.folders folder ≡ Some before → CountsFaults before after answer → Remains old (with_folder old folder after)
+remains_at old folder before after answer there counted = record {
+  number = refl;
+  linked = refl;
+  failed = (
+    λ told. record { folder = folder; was = before; now = after; before = there; after = get-insert_here nat_list_cmp_total exact_bytes old.folders folder after; rose = (counts before after answer counted).0 told },
+    λ failed. (counts before after answer counted).1 (its_store old folder before after there failed),
+  );
+}
 
 -- what holds of every member
 pub member_within : (number : Device) (folders : ByName Held) (sessions : ByDevice Session) (linked : List Device) (folder : Folder) (before after : Held) →
@@ -205,62 +176,75 @@ member_within number folders sessions linked folder before after member there st
 -- ---- what is told of a fault
 
 tells_of_it : {A : Type 0} (old : Member) (folder : Folder) (before after : Held) (answer : Result A FolderError) → CountsFaults before after answer → TellsFault (with_folder old folder after) (answer_of answer)
-tells_of_it old folder before after (Ok done) same = same.1
-tells_of_it old folder before after (Err errors.StoreFault) rose = rose.1
-tells_of_it old folder before after (Err errors.Memory) same = same.1
-tells_of_it old folder before after (Err errors.CounterFull) same = same.1
-tells_of_it old folder before after (Err errors.TooManyCounters) same = same.1
-tells_of_it old folder before after (Err errors.NameBad) same = same.1
-tells_of_it old folder before after (Err errors.SequenceFull) same = same.1
-tells_of_it old folder before after (Err errors.IndexFull) same = same.1
-tells_of_it old folder before after (Err errors.BatchOld) same = same.1
-tells_of_it old folder before after (Err errors.Unscanned) same = same.1
-tells_of_it old folder before after (Err errors.NotNeeded) same = same.1
-tells_of_it old folder before after (Err errors.BlocksMissing) same = same.1
-tells_of_it old folder before after (Err errors.HashBad) same = same.1
-tells_of_it old folder before after (Err errors.CopyExists) same = same.1
-tells_of_it old folder before after (Err errors.PullsFull) same = same.1
-tells_of_it old folder before after (Err errors.KindForbids) same = same.1
-tells_of_it old folder before after (Err errors.Stale) same = same.1
-tells_of_it old folder before after (Err errors.NotShared) same = same.1
-tells_of_it old folder before after (Err errors.NothingToDo) same = same.1
+tells_of_it old folder before after answer counted = search rules
 
-pub tells_within : {A : Type 0} (old begun : Member) (folder : Folder) (before after : Held) (trace : Trace) (answer : Result A FolderError) (said : Result A PeerError) →
-    begun ≡ untold old → trace ≡ told_of after.trace → said ≡ answer_of answer → CountsFaults before after answer → TellsFault (left_with begun folder after trace) said
-tells_within {A} old begun folder before after trace answer said same told says counted =
-    subst (λ (one : Result A PeerError). TellsFault (left_with begun folder after trace) one) (sym says)
-    (subst (λ (m : Member). TellsFault m (answer_of answer)) (sym (left_within old begun folder after trace same told)) (tells_of_it old folder before after answer counted))
+-- ---- what every call of a folder does
+
+module _ {A : Type 0} {does : Held → Held → Result A FolderError → Type 0} {folder : Folder} {old new : Member} {result : Result A PeerError} where
+  pub only_within : IsCalled does folder old new result → OnlyFolder folder old new
+  only_within call =
+      let has : IsSome (get old.folders folder) = subst (λ (found : Option Held). IsSome found) (sym call.there) refl in
+      inr (call.after, has, call.now)
+
+  pub remains_within : IsCalled does folder old new result → Remains old new
+  remains_within call = subst (Remains old) (sym call.now) (remains_at old folder call.before call.after call.answer call.there call.steady.counted)
+
+  pub tells_within : IsCalled does folder old new result → TellsFault new result
+  tells_within call =
+      subst (λ (m : Member). TellsFault m result) (sym call.now)
+      (subst (λ (one : Result A PeerError). TellsFault (with_folder old folder call.after) one) (sym call.says)
+      (tells_of_it old folder call.before call.after call.answer call.steady.counted))
+
+  -- what holds where the device doesn't have the folder, and where the folder was called
+  pub either_way : (P : Member → Result A PeerError → Type 0) → (get old.folders folder ≡ None → P (untold old) (Err (Refused NotShared))) →
+      ((call : IsCalled does folder old new result) → P (with_folder old folder call.after) (answer_of call.answer)) → AnswersAt does folder old new result → P new result
+  either_way P absent called (inl none) = subst (λ (m : Member). P m result) (sym none.1) (subst (λ (one : Result A PeerError). P (untold old) one) (sym none.2) (absent none.0))
+  either_way P absent called (inr call) =
+      subst (λ (m : Member). P m result) (sym call.now) (subst (λ (one : Result A PeerError). P (with_folder old folder call.after) one) (sym call.says) (called call))
 
 -- ---- a conflict copy
 
 pub its_value : (one other : Held) (found : Option Held) → found ≡ Some one → found ≡ Some other → one ≡ other
 its_value one other found is also = let same = sym is ∙ also in cc
 
-pub copied_within : (old begun : Member) (folder : Folder) (name : FileName) (before after : Held) (trace : Trace) → begun ≡ untold old → Some before ≡ get begun.folders folder → trace ≡ told_of after.trace →
-    (after.trace.copied ≡ true) ↔ GainsCopy name before.tables after.tables → (trace.copied ≡ true) ↔ GainsCopyIn folder name old (left_with begun folder after trace)
-copied_within old begun folder name before after trace same is told gains = (
-  λ copied. (before, after, there, here, gains.0 (sym (ap (λ (t : Trace). t.copied) told) ∙ copied)),
+gains_at : (old : Member) (folder : Folder) (name : FileName) (before after : Held) → get old.folders folder ≡ Some before → (after.trace.copied ≡ true) ↔ GainsCopy name before.tables after.tables →
+    (after.trace.copied ≡ true) ↔ GainsCopyIn folder name old (with_folder old folder after)
+gains_at old folder name before after there gains = (
+  λ copied. (before, after, there, here, gains.0 copied),
   λ gained.
       let was = its_value gained.0 before (get old.folders folder) gained.2 there in
-      let now = its_value gained.1 after (get (insert begun.folders folder after) folder) gained.3 here in
-      ap (λ (t : Trace). t.copied) told
-      ∙ gains.1 (subst (λ (h : Held). GainsCopy name h.tables after.tables) was (subst (λ (h : Held). GainsCopy name gained.0.tables h.tables) now gained.4)),
+      let now = its_value gained.1 after (get (insert old.folders folder after) folder) gained.3 here in
+      gains.1 (subst (λ (h : Held). GainsCopy name h.tables after.tables) was (subst (λ (h : Held). GainsCopy name gained.0.tables h.tables) now gained.4)),
 )
   where
-    there : get old.folders folder ≡ Some before
-    there = ap (λ (m : Member). get m.folders folder) (sym same) ∙ sym is
+    here : get (insert old.folders folder after) folder ≡ Some after
+    here = get-insert_here nat_list_cmp_total exact_bytes old.folders folder after
 
-    here : get (insert begun.folders folder after) folder ≡ Some after
-    here = get-insert_here nat_list_cmp_total exact_bytes begun.folders folder after
+no_gain : (old : Member) (folder : Folder) (name : FileName) → get old.folders folder ≡ None → (false ≡ true) ↔ GainsCopyIn folder name old (untold old)
+no_gain old folder name none = (λ copied. absurd (cc), λ gained. let there = sym gained.2 ∙ none in absurd (cc))
 
 is_error : {A : Type 0} (answer : Result A FolderError) → IsErr (answer_of answer) → IsErr answer
 is_error (Ok done) is = is
 is_error (Err error) is = is
 
-pub kept_within : (old begun : Member) (folder : Folder) (before after : Held) (trace : Trace) (answer : Result Moved FolderError) (said : Result Moved PeerError) →
-    begun ≡ untold old → Some before ≡ get begun.folders folder → trace ≡ told_of after.trace → said ≡ answer_of answer →
-    (IsErr answer → after.trace.copied ≡ false → after.tables ≡ before.tables) → IsErr said → trace.copied ≡ false → tables_of (left_with begun folder after trace) ≡ tables_of old
-kept_within old begun folder before after trace answer said same is told says kept error uncopied =
-    ap tables_of (left_within old begun folder after trace same told)
-    ∙ same_tables old folder before after (ap (λ (m : Member). get m.folders folder) (sym same) ∙ sym is)
-    (kept (is_error answer (subst (λ (one : Result Moved PeerError). IsErr one) says error)) (sym (ap (λ (t : Trace). t.copied) told) ∙ uncopied))
+-- ---- a step
+
+module _ {step : Step} {folder : Folder} {old new : Member} {result : Result Moved PeerError} where
+  -- it is one of the device whose folder it is
+  pub stepped_within : AnswersAt (IsStepped step) folder old new result → Gives (StepWithin folder (row_of step old.number new.trace.failed) old) new result
+  stepped_within = either_way (λ m one. Gives (StepWithin folder (row_of step old.number m.trace.failed) old) m one)
+      (λ none. inr (inl (none, (refl, refl))))
+      (λ call.
+      subst (λ (number : Device). Gives (StepWithin folder (row_of step number call.after.trace.failed) old) (with_folder old folder call.after) (answer_of call.answer)) call.own
+      (made_within old folder call.before call.after (row_of step call.before.device call.after.trace.failed) call.answer call.there call.done.made))
+
+module _ {name : Bor FileName} {folder : Folder} {old new : Member} {result : Result Moved PeerError} where
+  pub copied_within : AnswersAt (IsStepped (Finish name)) folder old new result → (new.trace.copied ≡ true) ↔ GainsCopyIn folder name.now old new
+  copied_within = either_way (λ m one. (m.trace.copied ≡ true) ↔ GainsCopyIn folder name.now old m)
+      (λ none. no_gain old folder name.now none)
+      (λ call. gains_at old folder name.now call.before call.after call.there call.done.told.copied)
+
+  pub kept_within : AnswersAt (IsStepped (Finish name)) folder old new result → IsErr result → new.trace.copied ≡ false → tables_of new ≡ tables_of old
+  kept_within = either_way (λ m one. IsErr one → m.trace.copied ≡ false → tables_of m ≡ tables_of old)
+      (λ none error uncopied. refl)
+      (λ call error uncopied. same_tables old folder call.before call.after call.there (call.done.told.kept (is_error call.answer error) uncopied))

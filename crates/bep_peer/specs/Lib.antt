@@ -1,3 +1,4 @@
+pub mod Call
 pub mod Config
 pub mod Contents
 pub mod Delivered

@@ -1,10 +1,11 @@
 -- What a device does with one of its folders: the folder's replica makes a row, and all else stays (this project's profile).
-use Rattle.std.specs.Prelude.{◌≡◌, ◌⊎◌, ⊤, Option, Some, None, IsSome, Result, Ok, Err}
+use Rattle.std.specs.Prelude.{◌≡◌, ◌⊎◌, ⊤, Option, Some, None, IsSome, option_map, Result, Ok, Err}
+use Rattle.std.specs.Option.{unwrap_or}
 use Rattle.std.specs.FinMap.{get, insert}
 use Rattle.bep_record.specs.declared.node.NodeParts.{NodeParts}
 use Rattle.bep_model.specs.Tables.{Folder, FileName}
 use Rattle.bep_machine.specs.declared.moved.Moved.{Moved}
-use Rattle.bep_machine.specs.declared.refusal.Refusal.TheVariants.{CounterFull, TooManyCounters, NameBad, SequenceFull, IndexFull, StoreFault, Unscanned, NotNeeded, BlocksMissing, CopyExists, PullsFull, KindForbids, NotShared, NothingToDo}
+use Rattle.bep_machine.specs.declared.refusal.Refusal.TheVariants.{StoreFault, NotShared}
 use Rattle.bep_machine.specs.Answer.{Refused, OutOfMemory, Row, ◌answers◌when◌else◌}
 use Rattle.bep_machine.specs.Local.{ScanRow}
 use Rattle.bep_machine.specs.Replica.{Replica, node_at}
@@ -12,6 +13,7 @@ use Rattle.bep_machine.specs.Peer.{Peer, with_replica}
 use Rattle.bep_folder.specs.Commit.{IsFresh}
 use Rattle.bep_folder.specs.Finish.{GainsCopy}
 use Rattle.bep_folder.specs.Held.{Held}
+use Rattle.bep_folder.specs.Makes.{refusal_of}
 use Rattle.bep_folder.specs.ScanResult.{Scanned}
 use Rattle.bep_folder.specs.Trace.{Trace as HeldTrace}
 use Rattle.bep_folder.specs.declared.error.FolderError.{FolderError}
@@ -77,26 +79,10 @@ CommitsWithin folder scan old new result =
 
 -- ---- what a replica answers
 
--- as this crate's answer; no step gives the first two
+-- as this crate's answer: the step's refusal, or `Stale` where it is none
 abbrev pub error_of : FolderError → PeerError
-error_of errors.BatchOld = Stale
-error_of errors.HashBad = Stale
-error_of errors.CounterFull = Of CounterFull
-error_of errors.TooManyCounters = Of TooManyCounters
-error_of errors.NameBad = Of NameBad
-error_of errors.SequenceFull = Of SequenceFull
-error_of errors.IndexFull = Of IndexFull
-error_of errors.StoreFault = Of StoreFault
-error_of errors.Unscanned = Of Unscanned
-error_of errors.NotNeeded = Of NotNeeded
-error_of errors.BlocksMissing = Of BlocksMissing
-error_of errors.CopyExists = Of CopyExists
-error_of errors.PullsFull = Of PullsFull
-error_of errors.KindForbids = Of KindForbids
-error_of errors.Stale = Stale
-error_of errors.NotShared = Of NotShared
-error_of errors.NothingToDo = Of NothingToDo
 error_of errors.Memory = Memory
+error_of error = unwrap_or (option_map Of (refusal_of error)) Stale
 
 -- a call of a replica that is a step or a commit answers it
 abbrev pub IsOfStep : FolderError → Type 0

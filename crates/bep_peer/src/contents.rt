@@ -1,12 +1,13 @@
 //! What the stores of a device hold, read out.
 ghost use Rattle.std.specs.Prelude.{◌≡◌, false};
+ghost use Rattle.bep_peer.specs.Call.{IsReadOut};
 ghost use Rattle.bep_peer.specs.Contents.{ReadsOutIn};
 ghost use Rattle.bep_peer.specs.Member.{Remains, tables_of};
 ghost use Rattle.bep_peer.specs.Within.{TellsFault};
 
-use crate::error::answered;
+use crate::call::Call;
 use crate::{Peer, PeerError};
-use bep_machine::Refusal;
+use bep_folder::{FolderError, Replica};
 use bep_map::NameMap;
 use bep_record::{FolderName, Node};
 use bep_store::Store;
@@ -21,12 +22,18 @@ impl<S: Store> Peer<S> {
         ensures fault { TellsFault self.new result }
         ensures uncopied { self.new.trace.copied ≡ false }
     {
-        self.tell_nothing();
-        let Some(replica) = self.folders.get_mut(folder) else {
-            return Err(PeerError::Refused(Refusal::NotShared));
-        };
-        let answer = replica.contents();
-        self.trace.tell_of(replica.trace());
-        answered(answer)
+        self.call(folder, Contents)
+    }
+}
+
+// All that the store holds.
+#[derive(Drop)]
+struct Contents;
+
+impl<S: Store> Call<S, NameMap<Node>> for Contents {
+    ghost does = { λ _. IsReadOut };
+
+    fn make(self, replica: &mut Replica<S>) -> Result<NameMap<Node>, FolderError> {
+        replica.contents()
     }
 }

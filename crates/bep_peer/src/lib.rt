@@ -16,6 +16,7 @@ mod announcing;
 mod answer;
 mod asking;
 mod begin;
+mod call;
 mod config;
 mod contents;
 mod deliver;

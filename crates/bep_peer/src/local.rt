@@ -2,13 +2,15 @@
 ghost use Rattle.std.specs.Prelude.{◌≡◌, ◌↔◌, true, false, IsErr};
 ghost use Rattle.bep_machine.specs.Local.{EditRow, OverrideRow, RemoveRow, RevertRow};
 ghost use Rattle.bep_machine.specs.Pull.{FinishRow, StartPullRow};
+ghost use Rattle.bep_peer.specs.Call.{IsStepped};
 ghost use Rattle.bep_peer.specs.Member.{Remains, tables_of};
 ghost use Rattle.bep_peer.specs.PeerError.{Gives};
 ghost use Rattle.bep_peer.specs.Within.{GainsCopyIn, OnlyFolder, StepWithin, TellsFault};
 
-use crate::error::answered;
+use crate::call::Call;
 use crate::{Peer, PeerError};
-use bep_machine::{Moved, Refusal};
+use bep_folder::{FolderError, Replica};
+use bep_machine::Moved;
 use bep_record::{FolderName, Name, Node};
 use bep_store::Store;
 
@@ -27,13 +29,7 @@ impl<S: Store> Peer<S> {
         ensures fault { TellsFault self.new result }
         ensures uncopied { self.new.trace.copied ≡ false }
     {
-        self.tell_nothing();
-        let Some(replica) = self.folders.get_mut(folder) else {
-            return Err(PeerError::Refused(Refusal::NotShared));
-        };
-        let answer = replica.edit(name, node);
-        self.trace.tell_of(replica.trace());
-        answered(answer)
+        self.call(folder, Step::Edit(name, node))
     }
 
     /// Takes the name's node away in the folder, as a user does; no record changes before a scan. Refuses `NotShared` where
@@ -46,13 +42,7 @@ impl<S: Store> Peer<S> {
         ensures fault { TellsFault self.new result }
         ensures uncopied { self.new.trace.copied ≡ false }
     {
-        self.tell_nothing();
-        let Some(replica) = self.folders.get_mut(folder) else {
-            return Err(PeerError::Refused(Refusal::NotShared));
-        };
-        let answer = replica.remove(name);
-        self.trace.tell_of(replica.trace());
-        answered(answer)
+        self.call(folder, Step::Remove(name))
     }
 
     /// Begins a pull of the record that the device wants of the name. Refuses `NotShared` where the device doesn't share the
@@ -65,13 +55,7 @@ impl<S: Store> Peer<S> {
         ensures fault { TellsFault self.new result }
         ensures uncopied { self.new.trace.copied ≡ false }
     {
-        self.tell_nothing();
-        let Some(replica) = self.folders.get_mut(folder) else {
-            return Err(PeerError::Refused(Refusal::NotShared));
-        };
-        let answer = replica.start_pull(name);
-        self.trace.tell_of(replica.trace());
-        answered(answer)
+        self.call(folder, Step::Pull(name))
     }
 
     /// Ends the name's pull, and gives the name its file; a file of the device's own that loses is first kept under its
@@ -86,13 +70,7 @@ impl<S: Store> Peer<S> {
         ensures copied { (self.new.trace.copied ≡ true) ↔ GainsCopyIn folder.now name.now self.old self.new }
         ensures kept { IsErr result → self.new.trace.copied ≡ false → tables_of self.new ≡ tables_of self.old }
     {
-        self.tell_nothing();
-        let Some(replica) = self.folders.get_mut(folder) else {
-            return Err(PeerError::Refused(Refusal::NotShared));
-        };
-        let answer = replica.finish(name);
-        self.trace.tell_of(replica.trace());
-        answered(answer)
+        self.call(folder, Step::Finish(name))
     }
 
     /// Lets the own record win over the one that is chosen for the name, as a user of a send-only folder does. Refuses
@@ -106,13 +84,7 @@ impl<S: Store> Peer<S> {
         ensures fault { TellsFault self.new result }
         ensures uncopied { self.new.trace.copied ≡ false }
     {
-        self.tell_nothing();
-        let Some(replica) = self.folders.get_mut(folder) else {
-            return Err(PeerError::Refused(Refusal::NotShared));
-        };
-        let answer = replica.override_one(name);
-        self.trace.tell_of(replica.trace());
-        answered(answer)
+        self.call(folder, Step::Override(name))
     }
 
     /// Gives up the device's own change of the name, as a user of a receive-only folder does. Refuses `NotShared` where the
@@ -126,12 +98,32 @@ impl<S: Store> Peer<S> {
         ensures fault { TellsFault self.new result }
         ensures uncopied { self.new.trace.copied ≡ false }
     {
-        self.tell_nothing();
-        let Some(replica) = self.folders.get_mut(folder) else {
-            return Err(PeerError::Refused(Refusal::NotShared));
-        };
-        let answer = replica.revert_one(name);
-        self.trace.tell_of(replica.trace());
-        answered(answer)
+        self.call(folder, Step::Revert(name))
+    }
+}
+
+// The calls of a folder that are steps.
+#[derive(Drop)]
+enum Step<'a> {
+    Edit(&'a Name, &'a Node),
+    Remove(&'a Name),
+    Pull(&'a Name),
+    Finish(&'a Name),
+    Override(&'a Name),
+    Revert(&'a Name),
+}
+
+impl<S: Store> Call<S, Moved> for Step<'_> {
+    ghost does = { IsStepped };
+
+    fn make(self, replica: &mut Replica<S>) -> Result<Moved, FolderError> {
+        match self {
+            Step::Edit(name, node) => replica.edit(name, node),
+            Step::Remove(name) => replica.remove(name),
+            Step::Pull(name) => replica.start_pull(name),
+            Step::Finish(name) => replica.finish(name),
+            Step::Override(name) => replica.override_one(name),
+            Step::Revert(name) => replica.revert_one(name),
+        }
     }
 }

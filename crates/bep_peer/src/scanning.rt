@@ -1,12 +1,13 @@
 //! What a device finds in the files of one of its folders, and records of them.
 ghost use Rattle.std.specs.Prelude.{◌≡◌, false};
+ghost use Rattle.bep_peer.specs.Call.{IsCommitted, IsLooked};
 ghost use Rattle.bep_peer.specs.Member.{Remains, tables_of};
 ghost use Rattle.bep_peer.specs.Within.{CommitsWithin, FindsWithin, OnlyFolder, TellsFault};
 
-use crate::error::answered;
+use crate::call::Call;
 use crate::{Peer, PeerError};
-use bep_folder::ScanResult;
-use bep_machine::{Moved, Refusal};
+use bep_folder::{FolderError, Replica, ScanResult};
+use bep_machine::Moved;
 use bep_record::{FolderName, Name, Node};
 use bep_store::Store;
 
@@ -21,13 +22,7 @@ impl<S: Store> Peer<S> {
         ensures fault { TellsFault self.new result }
         ensures uncopied { self.new.trace.copied ≡ false }
     {
-        self.tell_nothing();
-        let Some(replica) = self.folders.get_mut(folder) else {
-            return Err(PeerError::Refused(Refusal::NotShared));
-        };
-        let answer = replica.look(name);
-        self.trace.tell_of(replica.trace());
-        answered(answer)
+        self.call(folder, Look { name })
     }
 
     /// Records what a scan found in the folder, as a scan of the name would now: Unchanged where the own record is clean
@@ -41,12 +36,34 @@ impl<S: Store> Peer<S> {
         ensures fault { TellsFault self.new result }
         ensures uncopied { self.new.trace.copied ≡ false }
     {
-        self.tell_nothing();
-        let Some(replica) = self.folders.get_mut(folder) else {
-            return Err(PeerError::Refused(Refusal::NotShared));
-        };
-        let answer = replica.commit(scan);
-        self.trace.tell_of(replica.trace());
-        answered(answer)
+        self.call(folder, Commit { scan })
+    }
+}
+
+// The node at the name.
+#[derive(Drop)]
+struct Look<'a> {
+    name: &'a Name,
+}
+
+impl<S: Store> Call<S, Option<Node>> for Look<'_> {
+    ghost does = { λ look. IsLooked look.name.now };
+
+    fn make(self, replica: &mut Replica<S>) -> Result<Option<Node>, FolderError> {
+        replica.look(self.name)
+    }
+}
+
+// The record of what was found.
+#[derive(Drop)]
+struct Commit {
+    scan: ScanResult,
+}
+
+impl<S: Store> Call<S, Moved> for Commit {
+    ghost does = { λ commit. IsCommitted commit.scan };
+
+    fn make(self, replica: &mut Replica<S>) -> Result<Moved, FolderError> {
+        replica.commit(self.scan)
     }
 }

@@ -1,16 +1,19 @@
 use Rattle.std.proofs.lemmas.Result.{err_from_is_err_and}
-use Rattle.bep_peer.proofs.BeginFacts.{not_shared_at, refused_as, opened_as}
+use Rattle.bep_machine.specs.Exchange.{BeginRow}
+use Rattle.bep_peer.specs.Lent.{NamesNone}
+use Rattle.bep_peer.proofs.BeginFacts.{refused_first, opened_as}
+use Rattle.bep_peer.proofs.StepFacts.{refused_as_not_shared}
 use Rattle.bep_peer.proofs.peer.Peer.begin.Goals as goal
 
 pub returns-in_default-clause-step : goal.returns-in_default-clause-step
 returns-in_default-clause-step g c =
-    not_shared_at (record { member = c.args.self.now; link = c.args.link.now }) c.tell_nothing.new.self c.tell_nothing.ensures c.in_default.ensures.none
+    refused_as_not_shared BeginRow NamesNone (record { member = c.args.self.now; link = c.args.link.now }) c.tell_nothing.new.self c.tell_nothing.ensures (λ there. c.in_default.ensures.none there.0 there.1)
 
 pub returns-in_err-may_begin-clause-step : goal.returns-in_err-may_begin-clause-step
 returns-in_err-may_begin-clause-step g c =
     let error = err_from_is_err_and c.from_residual.result c.from_residual.ensures.1 in
     rw (error.1, error.2)
-    (refused_as (record { member = c.args.self.now; link = c.args.link.now }) c.tell_nothing.new.self c.in-Some.other c.in_err-may_begin.field-0.0 c.tell_nothing.ensures c.in-Some.ensures.some c.in_err-may_begin.ensures.refused)
+    (refused_first (record { member = c.args.self.now; link = c.args.link.now }) c.tell_nothing.new.self c.in-Some.other c.in_err-may_begin.field-0.0 c.tell_nothing.ensures c.in-Some.ensures.some c.in_err-may_begin.ensures.refused)
 
 pub returns-clause-step : goal.returns-clause-step
 returns-clause-step g c =

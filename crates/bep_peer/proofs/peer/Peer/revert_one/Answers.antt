@@ -1,32 +1,5 @@
-use Rattle.std.proofs.Common.{◌∙◌}
-use Rattle.bep_machine.specs.Local.{RevertRow}
-use Rattle.bep_peer.proofs.OthersKept.{makes_keeps}
-use Rattle.bep_peer.proofs.RowsKeep.{revert_keeps}
-use Rattle.bep_peer.proofs.WithinFacts.{told_by, steps_within, remains_within, only_within, member_within, tells_within}
+use Rattle.bep_peer.proofs.WithinFacts.{stepped_within}
 use Rattle.bep_peer.proofs.peer.Peer.revert_one.Goals as goal
 
-pub invariant_of-self-2 : goal.invariant_of-self-2
-invariant_of-self-2 g c =
-    member_within c.self.inside.number c.self.inside.folders c.self.inside.sessions c.self.inside.linked c.args.folder.now c.in-Some.replica.now c.revert_one-answer.new.self
-    c.self.invariant c.in-Some.ensures.value c.revert_one-answer.ensures.stays
-    (makes_keeps (RevertRow c.in-Some.replica.now.device c.args.name.now c.revert_one-answer.new.self.trace.failed) c.in-Some.replica.now c.revert_one-answer.new.self c.revert_one-answer.result (revert_keeps c.in-Some.replica.now.device c.args.name.now c.revert_one-answer.new.self.trace.failed c.in-Some.replica.now.tables) c.revert_one-answer.ensures.reverted)
-
 pub returns-clause-step : goal.returns-clause-step
-returns-clause-step g c =
-    steps_within c.args.self.now _ c.args.folder.now c.in-Some.replica.now c.revert_one-answer.new.self c.tell_of.new.self (λ device failed. RevertRow device c.args.name.now failed) c.revert_one-answer.result c.answered.result
-    (c.self.view_is ∙ c.tell_nothing.ensures) c.in-Some.ensures.value c.self.invariant.own c.revert_one-answer.ensures.reverted (told_by _ _ _ c.tell_of.ensures c.trace.ensures) c.answered.ensures
-
-pub returns-clause-rest : goal.returns-clause-rest
-returns-clause-rest g c =
-    remains_within c.args.self.now _ c.args.folder.now c.in-Some.replica.now c.revert_one-answer.new.self c.tell_of.new.self c.revert_one-answer.result
-    (c.self.view_is ∙ c.tell_nothing.ensures) c.in-Some.ensures.value c.revert_one-answer.ensures.counted (told_by _ _ _ c.tell_of.ensures c.trace.ensures)
-
-pub returns-clause-only : goal.returns-clause-only
-returns-clause-only g c =
-    only_within c.args.self.now _ c.args.folder.now c.in-Some.replica.now c.revert_one-answer.new.self c.tell_of.new.self
-    (c.self.view_is ∙ c.tell_nothing.ensures) c.in-Some.ensures.value (told_by _ _ _ c.tell_of.ensures c.trace.ensures)
-
-pub returns-clause-fault : goal.returns-clause-fault
-returns-clause-fault g c =
-    tells_within c.args.self.now _ c.args.folder.now c.in-Some.replica.now c.revert_one-answer.new.self c.tell_of.new.self c.revert_one-answer.result c.answered.result
-    (c.self.view_is ∙ c.tell_nothing.ensures) (told_by _ _ _ c.tell_of.ensures c.trace.ensures) c.answered.ensures c.revert_one-answer.ensures.counted
+returns-clause-step g c = stepped_within c.call.ensures.answers
