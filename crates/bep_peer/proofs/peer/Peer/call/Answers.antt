@@ -10,14 +10,14 @@ invariant_of-self-2 g c =
 pub returns-clause-answers : goal.returns-clause-answers
 returns-clause-answers g c =
     inr (called_as (g.C.Call.does c.args.call) c.args.self.now _ c.args.folder.now c.in-Some.replica.now c.make-answer.new.replica c.tell_of.new.self c.make-answer.result c.answered.result
-    (c.self.view_is ∙ c.tell_nothing.ensures) c.in-Some.ensures.value c.self.invariant.own c.make-answer.ensures.does c.make-answer.ensures.steady (told_by _ _ _ c.tell_of.ensures c.trace.ensures) c.answered.ensures)
+    (c.self.view_is ∙ c.tell_nothing.ensures) c.in-Some.ensures.value c.self.invariant.own c.make-answer.ensures.does c.make-answer.ensures.steady (told_by _ _ _ c.tell_of.ensures c.trace.ensures.value) c.answered.ensures)
 
 pub returns-clause-rest : goal.returns-clause-rest
 returns-clause-rest g c =
     remains_within (called_as (g.C.Call.does c.args.call) c.args.self.now _ c.args.folder.now c.in-Some.replica.now c.make-answer.new.replica c.tell_of.new.self c.make-answer.result c.answered.result
-    (c.self.view_is ∙ c.tell_nothing.ensures) c.in-Some.ensures.value c.self.invariant.own c.make-answer.ensures.does c.make-answer.ensures.steady (told_by _ _ _ c.tell_of.ensures c.trace.ensures) c.answered.ensures)
+    (c.self.view_is ∙ c.tell_nothing.ensures) c.in-Some.ensures.value c.self.invariant.own c.make-answer.ensures.does c.make-answer.ensures.steady (told_by _ _ _ c.tell_of.ensures c.trace.ensures.value) c.answered.ensures)
 
 pub returns-clause-only : goal.returns-clause-only
 returns-clause-only g c =
     only_within (called_as (g.C.Call.does c.args.call) c.args.self.now _ c.args.folder.now c.in-Some.replica.now c.make-answer.new.replica c.tell_of.new.self c.make-answer.result c.answered.result
-    (c.self.view_is ∙ c.tell_nothing.ensures) c.in-Some.ensures.value c.self.invariant.own c.make-answer.ensures.does c.make-answer.ensures.steady (told_by _ _ _ c.tell_of.ensures c.trace.ensures) c.answered.ensures)
+    (c.self.view_is ∙ c.tell_nothing.ensures) c.in-Some.ensures.value c.self.invariant.own c.make-answer.ensures.does c.make-answer.ensures.steady (told_by _ _ _ c.tell_of.ensures c.trace.ensures.value) c.answered.ensures)
