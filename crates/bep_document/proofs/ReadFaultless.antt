@@ -6,7 +6,7 @@ use Rattle.serde_json.specs.Find.{get}
 use Rattle.bep_index.specs.Batch.{NamesDiffer}
 use Rattle.bep_record.specs.Entry.{IsWellFormed}
 use Rattle.bep_record.specs.declared.entry.Entry.{Entry}
-use Rattle.bep_document.specs.declared.fault.Fault.TheVariants.{NotJson, VersionBad, Shape, Range}
+use Rattle.bep_document.specs.declared.fault.Fault.TheVariants.{VersionBad, Shape, Range}
 use Rattle.bep_record.specs.declared.limits.TheConstants.{MAX_DEVICES}
 use Rattle.bep_document.specs.declared.parts.ShareParts.{ShareParts}
 use Rattle.bep_document.specs.declared.parts.FolderParts.{FolderParts}
@@ -16,7 +16,7 @@ use Rattle.bep_document.specs.declared.parts.CheckParts.{CheckParts}
 use Rattle.bep_json.specs.Tree.{has_only}
 use Rattle.bep_document.specs.read.Checks.{is_cut, read_cut, has_version, check_members, is_check, read_check}
 use Rattle.bep_document.specs.read.Devices.{is_one_of, with_devices}
-use Rattle.bep_document.specs.Reading.{Read, is_short, tree_of, first_fault, reading_of_tree, reading_of, without_rows, reading_of_cut, reading_of_cut_in, reading_of_cut_document}
+use Rattle.bep_document.specs.Reading.{Read, first_fault, reading_of_tree, reading_of, without_rows, reading_of_cut, reading_of_cut_in, reading_of_cut_document}
 use Rattle.bep_document.specs.Faultless.{IsFaultlessIndex, IsFaultlessShare, IsFaultlessFolder, IsFaultlessFlight, IsFaultlessLink, IsFaultless}
 use Rattle.bep_document.proofs.read.DevicesKnown.{devices_known, known_are_of, no_more}
 use Rattle.bep_document.proofs.FaultlessFacts.{HasNoFault, has_no_fault}
@@ -28,7 +28,7 @@ use Rattle.bep_document.proofs.faults.SequencesFacts.{AreNumbered, IsNumberedAt,
 use Rattle.bep_document.proofs.faults.TwiceFacts.{IsOnceAt, IsOnceIn}
 use Rattle.bep_document.proofs.read.RangeFacts.{IsIndexInRange, IsShareInRange, IsFlightInRange, IsLinkInRange, IsCutInRange, cut_in_range, check_in_range}
 use Rattle.bep_document.proofs.faults.UnsharedFacts.{AreOfOthers, IsOfBoth}
-use Rattle.bep_document.proofs.Steps.{passed_and, given_and, no_fault_and}
+use Rattle.bep_document.proofs.Steps.{passed_and, given_and, no_fault_and, of_bytes_and, of_shape_and}
 
 -- ---- folders
 index_faultless : (greatest : ℕ) (entries : List Entry) → IsIndexInRange greatest entries → NamesDiffer entries → AllByRecursion IsWellFormed entries → AreNumbered greatest entries → IsFaultlessIndex greatest entries
@@ -122,17 +122,12 @@ tree_faultless : (tree : Data) (parts : CheckParts) → reading_of_tree tree ≡
 unfolding reading_of_tree
 tree_faultless tree parts e =
     let unshaped = passed_and VersionBad has_version tree _ e in
-    let shaped = passed_and Shape is_check tree _ unshaped in
-    let found = given_and Range (read_check tree) _ shaped in
-    let clean = no_fault_and (first_fault found.0) found.2 in
-    subst IsFaultless clean.1 (faultless found.0 (check_in_range tree found.0 found.1) (has_no_fault found.0 clean.0))
+    let found = of_shape_and is_check read_check first_fault tree unshaped in
+    faultless parts (check_in_range tree parts found.0) (has_no_fault parts found.1)
 
 pub reading_faultless : (bytes : List ℕ) (parts : CheckParts) → reading_of bytes ≡ Read parts → IsFaultless parts
 unfolding reading_of
-reading_faultless bytes parts e =
-    let short = passed_and Range is_short bytes _ e in
-    let tree = given_and NotJson (tree_of bytes) _ short in
-    tree_faultless tree.0 parts tree.2
+reading_faultless bytes parts e = let tree = of_bytes_and reading_of_tree bytes e in tree_faultless tree.0 parts tree.1
 
 pub cut_faultless : (tree : Data) (parts : CheckParts) → reading_of_cut tree ≡ Read parts → IsFaultless parts
 unfolding reading_of_cut
@@ -152,7 +147,4 @@ cut_in_faultless tree parts e =
 
 pub cut_document_faultless : (bytes : List ℕ) (parts : CheckParts) → reading_of_cut_document bytes ≡ Read parts → IsFaultless parts
 unfolding reading_of_cut_document
-cut_document_faultless bytes parts e =
-    let short = passed_and Range is_short bytes _ e in
-    let tree = given_and NotJson (tree_of bytes) _ short in
-    cut_in_faultless tree.0 parts tree.2
+cut_document_faultless bytes parts e = let tree = of_bytes_and reading_of_cut_in bytes e in cut_in_faultless tree.0 parts tree.1

@@ -1,10 +1,12 @@
 -- What each step of a reading gave, where the whole gave a thing.
-use Rattle.std.proofs.Common.{◌≡◌, Option, Some, None, Bool, true, false, if◌then◌else◌, refl, subst}
+use Rattle.std.proofs.Common.{◌≡◌, ℕ, List, Option, Some, None, Bool, true, false, if◌then◌else◌, refl, subst, ap, ◌∙◌}
+use Rattle.serde_json.specs.Data.{Data}
 use Rattle.bep_json.specs.Reading as json
 use Rattle.bep_document.specs.declared.fault.DocFault.{DocFault}
 use Rattle.bep_document.specs.declared.fault.Fault.{Fault}
+use Rattle.bep_document.specs.declared.fault.Fault.TheVariants.{NotJson, Shape, Range}
 use Rattle.bep_document.specs.Fault.{nowhere}
-use Rattle.bep_document.specs.Reading.{Reading, Read, Refused, ◌>>=◌, given, passed, unless}
+use Rattle.bep_document.specs.Reading.{Reading, Read, Refused, ◌>>=◌, given, passed, unless, is_short, tree_of, of_bytes, of_shape}
 
 -- the thing is such, if there is one
 abbrev pub Gives : {T : Type 0} → (T → Type 0) → Option T → Type 0
@@ -56,3 +58,18 @@ no_fault_and None e = (refl, cc)
 no_fault_and (Some fault) {y = y} e = absurd (different e) where
   different : Refused fault ≡ Read y → ⊥
   different d = cc
+
+-- of bytes, that their tree says the same
+pub of_bytes_and : {T : Type 0} (of_tree : Data → Reading T) (bytes : List ℕ) {y : T} → of_bytes of_tree bytes ≡ Read y → (tree : Data) × (of_tree tree ≡ Read y)
+of_bytes_and of_tree bytes e =
+    let short = passed_and Range is_short bytes _ e in
+    let tree = given_and NotJson (tree_of bytes) _ short in
+    (tree.0, tree.2)
+
+-- of a tree that has a shape, that the thing stands there, and has no fault
+pub of_shape_and : {T : Type 0} (has_shape : Data → Bool) (reads : Data → Option T) (fault_of : T → Option DocFault) (tree : Data) {y : T} → of_shape has_shape reads fault_of tree ≡ Read y → (reads tree ≡ Some y) × (fault_of y ≡ None)
+of_shape_and has_shape reads fault_of tree {y} e =
+    let shaped = passed_and Shape has_shape tree _ e in
+    let found = given_and Range (reads tree) _ shaped in
+    let clean = no_fault_and (fault_of found.0) found.2 in
+    (found.1 ∙ ap Some clean.1, subst (λ x. fault_of x ≡ None) clean.1 clean.0)

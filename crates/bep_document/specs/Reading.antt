@@ -75,6 +75,20 @@ is_short bytes = nat_le (length bytes) most_bytes
 abbrev pub tree_of : List ℕ → Option Data
 tree_of bytes = if is_utf8 bytes then json.read bytes else None
 
+-- what bytes say, by what their tree says
+abbrev pub of_bytes : {T : Type 0} → (Data → Reading T) → List ℕ → Reading T
+of_bytes of_tree bytes = do
+  short ← passed Range is_short bytes
+  tree ← given NotJson (tree_of short)
+  of_tree tree
+
+-- what a tree of this shape says, where there is no fault
+abbrev pub of_shape : {T : Type 0} → (Data → Bool) → (Data → Option T) → (T → Option DocFault) → Data → Reading T
+of_shape has_shape reads fault_of tree = do
+  shaped ← passed Shape has_shape tree
+  found ← given Range (reads shaped)
+  unless (fault_of found) found
+
 -- the first fault that has a place: what stands twice, then what isn't shared, then what isn't well formed, then a
 -- sequence, then a link
 unfoldable pub first_fault : CheckParts → Option DocFault
@@ -87,18 +101,11 @@ first_fault parts =
 
 -- what the tree of a document says
 unfoldable pub reading_of_tree : Data → Reading CheckParts
-reading_of_tree tree = do
-  known ← passed VersionBad has_version tree
-  shaped ← passed Shape is_check known
-  parts ← given Range (read_check shaped)
-  unless (first_fault parts) parts
+reading_of_tree tree = passed VersionBad has_version tree >>= of_shape is_check read_check first_fault
 
 -- what the bytes of a document say
 unfoldable pub reading_of : List ℕ → Reading CheckParts
-reading_of bytes = do
-  short ← passed Range is_short bytes
-  tree ← given NotJson (tree_of short)
-  reading_of_tree tree
+reading_of bytes = of_bytes reading_of_tree bytes
 
 -- a cut alone: its folders and links, and no rows
 abbrev pub without_rows : List FolderParts × List LinkParts → CheckParts
@@ -121,7 +128,4 @@ reading_of_cut_in tree = do
 
 -- what the bytes of a check document say of its cut
 unfoldable pub reading_of_cut_document : List ℕ → Reading CheckParts
-reading_of_cut_document bytes = do
-  short ← passed Range is_short bytes
-  tree ← given NotJson (tree_of short)
-  reading_of_cut_in tree
+reading_of_cut_document bytes = of_bytes reading_of_cut_in bytes

@@ -1,3 +1,2 @@
-pub mod NameMapFacts
-pub mod DeviceMapFacts
+pub mod MapFacts
 pub mod Lent

@@ -1,17 +1,17 @@
 -- What is read has no fault.
-use Rattle.std.proofs.Common.{◌≡◌, ℕ, List, [], length, None, leb-true, subst}
+use Rattle.std.proofs.Common.{◌≡◌, ℕ, List, [], length, None, leb-true}
 use Rattle.serde_json.specs.Data.{Data}
-use Rattle.bep_document.specs.declared.fault.Fault.TheVariants.{NotJson, VersionBad, Shape, Range, RecordBad}
+use Rattle.bep_document.specs.declared.fault.Fault.TheVariants.{VersionBad, RecordBad}
 use Rattle.bep_document.specs.Fault.{at_name}
 use Rattle.bep_document.specs.faults.Judge.{first_in}
 use Rattle.bep_document.specs.faults.Twice.{first_twice}
 use Rattle.bep_document.specs.faults.Links.{first_bad_link}
 use Rattle.bep_document.specs.read.Checks.{has_version}
-use Rattle.bep_document.specs.Reading.{Read, is_short, tree_of}
+use Rattle.bep_document.specs.Reading.{Read}
 use Rattle.bep_record.specs.declared.limits.TheConstants.{MAX_DEVICES}
 use Rattle.bep_document.specs.read.Devices.{with_devices}
 use Rattle.bep_document.proofs.Given.{devices_known, known_are_of, all_map}
-use Rattle.bep_document.proofs.Steps.{passed_and, given_and, no_fault_and}
+use Rattle.bep_document.proofs.Steps.{passed_and, of_bytes_and, of_shape_and}
 use Rattle.bep_document.proofs.CleanFacts.{neither_fault, each_without_fault, node_without_fault, folders_differ, devices_differ, links_differ, links_join}
 use Rattle.bep_scenario.specs.declared.parts.StepParts.{StepParts}
 use Rattle.bep_scenario.specs.declared.parts.StepParts.TheVariants.{Edit, Other}
@@ -48,14 +48,9 @@ tree_faultless : (tree : Data) (parts : ScenarioParts) → reading_of_tree tree 
 unfolding reading_of_tree
 tree_faultless tree parts e =
     let unshaped = passed_and VersionBad has_version tree _ e in
-    let shaped = passed_and Shape is_scenario tree _ unshaped in
-    let found = given_and Range (read_scenario tree) _ shaped in
-    let clean = no_fault_and (first_fault found.0) found.2 in
-    subst IsFaultless clean.1 (faultless found.0 (scenario_in_range tree found.0 found.1) clean.0)
+    let found = of_shape_and is_scenario read_scenario first_fault tree unshaped in
+    faultless parts (scenario_in_range tree parts found.0) found.1
 
 pub scenario_faultless : (bytes : List ℕ) (parts : ScenarioParts) → reading_of bytes ≡ Read parts → IsFaultless parts
 unfolding reading_of
-scenario_faultless bytes parts e =
-    let short = passed_and Range is_short bytes _ e in
-    let tree = given_and NotJson (tree_of bytes) _ short in
-    tree_faultless tree.0 parts tree.2
+scenario_faultless bytes parts e = let tree = of_bytes_and reading_of_tree bytes e in tree_faultless tree.0 parts tree.1

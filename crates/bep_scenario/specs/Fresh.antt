@@ -5,8 +5,9 @@ use Rattle.serde_json.specs.Data.{Data}
 use Rattle.bep_json.specs.Tree.{has_only, has_member}
 use Rattle.bep_json.specs.Reading.{◌>>=◌, read_member}
 use Rattle.bep_json.specs.Numbers.{is_whole, read_number, greatest_id}
-use Rattle.bep_json.specs.Texts.{is_text, read_folder_kind, read_folder_name}
-use Rattle.bep_json.specs.Lists.{is_list, read_list, read_pair}
+use Rattle.bep_json.specs.Texts.{is_text, read_folder_kind}
+use Rattle.bep_json.specs.Lists.{read_pair}
+use Rattle.bep_document.specs.read.Folders.{is_folder_of, read_folder_of}
 use Rattle.bep_document.specs.declared.parts.ShareParts.{ShareParts}
 use Rattle.bep_document.specs.declared.parts.FolderParts.{FolderParts}
 use Rattle.bep_document.specs.declared.parts.LinkParts.{LinkParts}
@@ -40,23 +41,13 @@ read_fresh_share d = do
     pulls = [];
   })
 
--- the members of a folder
-abbrev pub folder_members : List (List ℕ)
-folder_members = codes "folder" ∷ codes "devices" ∷ []
-
--- a folder: each member of its kind, and no others
+-- a folder
 unfoldable pub is_fresh_folder : Data → Bool
-is_fresh_folder d =
-    has_only folder_members d
-    && (has_member (codes "folder") is_text d
-    && has_member (codes "devices") (is_list is_fresh_share) d)
+is_fresh_folder d = is_folder_of is_fresh_share d
 
 -- the folder, with the devices that share it
 unfoldable pub read_fresh_folder : Data → Option FolderParts
-read_fresh_folder d = do
-  folder ← read_member (codes "folder") read_folder_name d
-  devices ← read_member (codes "devices") (read_list read_fresh_share) d
-  Some (record { folder = folder; devices = devices })
+read_fresh_folder d = read_folder_of read_fresh_share d
 
 -- a link that never was up
 abbrev pub fresh_link : ℕ × ℕ → LinkParts

@@ -8,10 +8,10 @@ use Rattle.bep_json.specs.Reading as json
 use Rattle.bep_json.specs.Reading.{read_member}
 use Rattle.bep_json.specs.Numbers.{is_whole}
 use Rattle.bep_json.specs.Lists.{is_list, read_list, is_pair}
-use Rattle.bep_document.specs.declared.fault.Fault.TheVariants.{NotJson, VersionBad, Shape, Range}
+use Rattle.bep_document.specs.declared.fault.Fault.TheVariants.{VersionBad}
 use Rattle.bep_document.specs.read.Few.{read_few}
 use Rattle.bep_document.specs.read.Checks.{if_few_devices, has_version}
-use Rattle.bep_document.specs.Reading.{Reading, ◌>>=◌, given, passed, unless, is_short, tree_of, without_rows}
+use Rattle.bep_document.specs.Reading.{Reading, ◌>>=◌, passed, of_bytes, of_shape, without_rows}
 use Rattle.bep_scenario.specs.declared.parts.ScenarioParts.{ScenarioParts}
 use Rattle.bep_scenario.specs.Steps.{is_step, read_step}
 use Rattle.bep_scenario.specs.Fresh.{is_fresh_folder, read_fresh_folder, read_fresh_link}
@@ -41,15 +41,8 @@ read_scenario d =
 
 -- what the tree of a document says
 unfoldable pub reading_of_tree : Data → Reading ScenarioParts
-reading_of_tree tree = do
-  known ← passed VersionBad has_version tree
-  shaped ← passed Shape is_scenario known
-  parts ← given Range (read_scenario shaped)
-  unless (first_fault parts) parts
+reading_of_tree tree = passed VersionBad has_version tree >>= of_shape is_scenario read_scenario first_fault
 
 -- what the bytes of a document say
 unfoldable pub reading_of : List ℕ → Reading ScenarioParts
-reading_of bytes = do
-  short ← passed Range is_short bytes
-  tree ← given NotJson (tree_of short)
-  reading_of_tree tree
+reading_of bytes = of_bytes reading_of_tree bytes

@@ -1,5 +1,5 @@
 -- The words by which scenarios name steps (this project's profile).
-use Rattle.std.specs.Prelude.{ℕ, nat_eq, List, Option, Some, None, option_map, if◌then◌else◌, codes}
+use Rattle.std.specs.Prelude.{ℕ, nat_eq, List, [], ◌∷◌, Option, Some, None, option_map, if◌then◌else◌, codes}
 use Rattle.std.specs.Cmp.Lexicographic.{pointwise}
 use Rattle.serde_json.specs.Data.{Data}
 use Rattle.serde_json.specs.Find.{as_str}
@@ -11,31 +11,26 @@ use Rattle.bep_scenario.specs.declared.words.PairWord.TheVariants.{Connect, Lose
 use Rattle.bep_scenario.specs.declared.words.Word.{Word}
 use Rattle.bep_scenario.specs.declared.words.Word.TheVariants.{Edit, OfName, OfPair, Announce, Ask, Restart}
 
+-- the word whose text this is, in a table
+abbrev pub word_in : {A : Type 0} → List (List ℕ × A) → List ℕ → Option A
+word_in [] text = None
+word_in (entry ∷ more) text = if pointwise nat_eq text entry.0 then Some entry.1 else word_in more text
+
 -- the steps of a device at a name
 abbrev pub name_word : List ℕ → Option NameWord
-name_word text =
-    if pointwise nat_eq text (codes "remove") then Some Remove
-    else (if pointwise nat_eq text (codes "scan") then Some Scan
-    else (if pointwise nat_eq text (codes "override") then Some Override
-    else (if pointwise nat_eq text (codes "revert") then Some Revert
-    else (if pointwise nat_eq text (codes "pull") then Some Pull
-    else (if pointwise nat_eq text (codes "finish") then Some Finish else None)))))
+name_word =
+    word_in
+    ((codes "remove", Remove) ∷ (codes "scan", Scan) ∷ (codes "override", Override) ∷ (codes "revert", Revert) ∷
+    (codes "pull", Pull) ∷ (codes "finish", Finish) ∷ [])
 
 -- the steps of two devices
 abbrev pub pair_word : List ℕ → Option PairWord
-pair_word text =
-    if pointwise nat_eq text (codes "connect") then Some Connect
-    else (if pointwise nat_eq text (codes "lose") then Some Lose
-    else (if pointwise nat_eq text (codes "begin") then Some Begin
-    else (if pointwise nat_eq text (codes "deliver") then Some Deliver else None)))
+pair_word =
+    word_in ((codes "connect", Connect) ∷ (codes "lose", Lose) ∷ (codes "begin", Begin) ∷ (codes "deliver", Deliver) ∷ [])
 
 -- the steps of another form each
 abbrev pub other_word : List ℕ → Option Word
-other_word text =
-    if pointwise nat_eq text (codes "edit") then Some Edit
-    else (if pointwise nat_eq text (codes "announce") then Some Announce
-    else (if pointwise nat_eq text (codes "ask") then Some Ask
-    else (if pointwise nat_eq text (codes "restart") then Some Restart else None)))
+other_word = word_in ((codes "edit", Edit) ∷ (codes "announce", Announce) ∷ (codes "ask", Ask) ∷ (codes "restart", Restart) ∷ [])
 
 -- the first that is there
 infixr 10 ◌or_else◌

@@ -15,24 +15,36 @@ use std::marker::Model;
 // The number of an index's id.
 type IndexNumber = Whole<1, 18446744073709551615>;
 
-// A device that shares a folder.
+// A part of a cut in which nothing is recorded, kept, known or on its way, as a scenario writes it.
 #[derive(Drop)]
-struct FreshShare {
-    parts: ShareParts,
+pub(crate) struct Fresh<P> {
+    part: P,
 }
 
-impl Model for FreshShare {
-    ghost use Rattle.bep_document.specs.declared.parts.ShareParts.{ShareParts};
-    ghost use Rattle.bep_document.specs.contracts.parts.ShareParts as share;
+impl<P> Model for Fresh<P> {
+    ghost Value = { P };
 
-    ghost Value = { ShareParts };
+    ghost coded = { P.code };
 
-    ghost coded = { share.the_row.coded };
-
-    ghost view = { λ fresh. fresh.parts };
+    ghost view = { λ fresh. fresh.part };
 }
 
-impl Readable for FreshShare {
+// The parts, in order.
+pub(crate) fn into_parts<P: Drop>(
+    alloc: Global,
+    fresh: Items<Fresh<P>>,
+) -> Result<Items<P>, AllocError>
+    ensures { IfOk result (λ parts. parts ≡ fresh) }
+{
+    let mut parts = Vec::with_capacity(alloc, fresh.as_slice().len())?;
+    for one in fresh.into_vec() {
+        parts.push(one.part)?;
+    }
+    Ok(Items::new(parts))
+}
+
+// A device that shares a folder.
+impl Readable for Fresh<ShareParts> {
     ghost has_shape = { is_fresh_share };
 
     ghost reads = { read_fresh_share };
@@ -53,7 +65,7 @@ impl Readable for FreshShare {
         let Some(index_id) = IndexId::read(index_id.number()) else {
             return Err(ReadError::Range);
         };
-        let parts = ShareParts {
+        let part = ShareParts {
             device,
             kind,
             index_id,
@@ -63,28 +75,12 @@ impl Readable for FreshShare {
             views: Items::new(Vec::new(alloc)),
             pulls: Items::new(Vec::new(alloc)),
         };
-        Ok(FreshShare { parts })
+        Ok(Fresh { part })
     }
 }
 
 // A folder.
-#[derive(Drop)]
-pub(crate) struct FreshFolder {
-    parts: FolderParts,
-}
-
-impl Model for FreshFolder {
-    ghost use Rattle.bep_document.specs.declared.parts.FolderParts.{FolderParts};
-    ghost use Rattle.bep_document.specs.contracts.parts.FolderParts as folder;
-
-    ghost Value = { FolderParts };
-
-    ghost coded = { folder.the_row.coded };
-
-    ghost view = { λ fresh. fresh.parts };
-}
-
-impl Readable for FreshFolder {
+impl Readable for Fresh<FolderParts> {
     ghost has_shape = { is_fresh_folder };
 
     ghost reads = { read_fresh_folder };
@@ -93,63 +89,21 @@ impl Readable for FreshFolder {
     fn has_shape(value: &Value) -> bool {
         has_only(value, &["folder", "devices"])
             && has::<FolderName>(value, "folder")
-            && has::<Items<FreshShare>>(value, "devices")
+            && has::<Items<Fresh<ShareParts>>>(value, "devices")
     }
 
     #[tactic(auto, unfolding(crate::specs::Fresh::read_fresh_folder))]
     fn read(alloc: Global, value: &Value) -> Result<Self, ReadError> {
         let folder = member::<FolderName>(alloc, value, "folder")?;
-        let shares = member::<Items<FreshShare>>(alloc, value, "devices")?;
-        let devices = shares_of(alloc, shares)?;
-        Ok(FreshFolder {
-            parts: FolderParts { folder, devices },
-        })
+        let fresh = member::<Items<Fresh<ShareParts>>>(alloc, value, "devices")?;
+        let devices = into_parts(alloc, fresh)?;
+        let part = FolderParts { folder, devices };
+        Ok(Fresh { part })
     }
-}
-
-// The devices, as parts.
-fn shares_of(alloc: Global, shares: Items<FreshShare>) -> Result<Items<ShareParts>, AllocError>
-    ensures { IfOk result (λ parts. parts ≡ shares) }
-{
-    let mut parts = Vec::with_capacity(alloc, shares.as_slice().len())?;
-    for share in shares.into_vec() {
-        parts.push(share.parts)?;
-    }
-    Ok(Items::new(parts))
-}
-
-// The folders, as parts.
-pub(crate) fn folders_of(
-    alloc: Global,
-    folders: Items<FreshFolder>,
-) -> Result<Items<FolderParts>, AllocError>
-    ensures { IfOk result (λ parts. parts ≡ folders) }
-{
-    let mut parts = Vec::with_capacity(alloc, folders.as_slice().len())?;
-    for folder in folders.into_vec() {
-        parts.push(folder.parts)?;
-    }
-    Ok(Items::new(parts))
 }
 
 // A link.
-#[derive(Drop)]
-pub(crate) struct FreshLink {
-    parts: LinkParts,
-}
-
-impl Model for FreshLink {
-    ghost use Rattle.bep_document.specs.declared.parts.LinkParts.{LinkParts};
-    ghost use Rattle.bep_document.specs.contracts.parts.LinkParts as link;
-
-    ghost Value = { LinkParts };
-
-    ghost coded = { link.the_row.coded };
-
-    ghost view = { λ fresh. fresh.parts };
-}
-
-impl Readable for FreshLink {
+impl Readable for Fresh<LinkParts> {
     ghost has_shape = { is_pair };
 
     ghost reads = { read_fresh_link };
@@ -164,7 +118,7 @@ impl Readable for FreshLink {
         let (Some(a), Some(b)) = (DeviceId::read(first), DeviceId::read(second)) else {
             return Err(ReadError::Range);
         };
-        let parts = LinkParts {
+        let part = LinkParts {
             a,
             b,
             up: false,
@@ -172,20 +126,6 @@ impl Readable for FreshLink {
             to_a: Items::new(Vec::new(alloc)),
             to_b: Items::new(Vec::new(alloc)),
         };
-        Ok(FreshLink { parts })
+        Ok(Fresh { part })
     }
-}
-
-// The links, as parts.
-pub(crate) fn links_of(
-    alloc: Global,
-    links: Items<FreshLink>,
-) -> Result<Items<LinkParts>, AllocError>
-    ensures { IfOk result (λ parts. parts ≡ links) }
-{
-    let mut parts = Vec::with_capacity(alloc, links.as_slice().len())?;
-    for link in links.into_vec() {
-        parts.push(link.parts)?;
-    }
-    Ok(Items::new(parts))
 }

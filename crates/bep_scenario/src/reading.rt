@@ -6,15 +6,20 @@ ghost use Rattle.bep_scenario.specs.Faults.{first_fault};
 ghost use Rattle.bep_scenario.specs.Reading.{is_scenario, read_scenario, reading_of_tree, reading_of};
 
 use crate::faults::fault_of;
-use crate::fresh::{FreshFolder, FreshLink, folders_of, links_of};
+use crate::fresh::{Fresh, into_parts};
 use crate::{ScenarioParts, StepParts};
 use bep_document::{
-    CheckParts, DocError, Fault, Few, MAX_BYTES, has_few_devices, has_version, refused, tree_of,
+    CheckParts, DocError, Fault, Few, FolderParts, LinkParts, MAX_BYTES, has_few_devices,
+    has_version, refused, tree_of,
 };
 use bep_json::{ReadError, Readable, Whole, has, has_only, member};
 use bep_record::{Items, MAX_FOLDERS};
 use serde_json::Value;
 use std::alloc::Global;
+
+type FreshFolders = Few<Fresh<FolderParts>, MAX_FOLDERS>;
+
+type FreshLinks = Items<Fresh<LinkParts>>;
 
 impl Readable for ScenarioParts {
     ghost has_shape = { is_scenario };
@@ -25,20 +30,20 @@ impl Readable for ScenarioParts {
     fn has_shape(value: &Value) -> bool {
         has_only(value, &["version", "folders", "links", "steps"])
             && has::<Whole<1, 1>>(value, "version")
-            && has::<Items<FreshFolder>>(value, "folders")
-            && has::<Items<FreshLink>>(value, "links")
+            && has::<FreshFolders>(value, "folders")
+            && has::<FreshLinks>(value, "links")
             && has::<Items<StepParts>>(value, "steps")
     }
 
     #[tactic(auto, unfolding(crate::specs::Reading::read_scenario))]
     fn read(alloc: Global, value: &Value) -> Result<Self, ReadError> {
-        let fresh = member::<Few<FreshFolder, MAX_FOLDERS>>(alloc, value, "folders")?.into_items();
-        let folders = folders_of(alloc, fresh)?;
+        let fresh = member::<FreshFolders>(alloc, value, "folders")?.into_items();
+        let folders = into_parts(alloc, fresh)?;
         if !has_few_devices(alloc, folders.as_slice())? {
             return Err(ReadError::Range);
         }
-        let fresh = member::<Items<FreshLink>>(alloc, value, "links")?;
-        let links = links_of(alloc, fresh)?;
+        let fresh = member::<FreshLinks>(alloc, value, "links")?;
+        let links = into_parts(alloc, fresh)?;
         let steps = member::<Items<StepParts>>(alloc, value, "steps")?;
         let certificate = Items::new(Vec::new(alloc));
         let cluster = CheckParts {

@@ -9,7 +9,6 @@ use Rattle.bep_json.specs.Lists.{read_list}
 use Rattle.bep_document.specs.declared.parts.FolderParts.{FolderParts}
 use Rattle.bep_document.specs.declared.parts.LinkParts.{LinkParts}
 use Rattle.bep_document.specs.declared.parts.RowParts.{RowParts}
-use Rattle.bep_document.specs.declared.parts.CheckParts.{CheckParts}
 use Rattle.bep_document.specs.read.Checks.{read_cut, with_rows, read_check}
 use Rattle.bep_document.specs.read.Folders.{read_row}
 

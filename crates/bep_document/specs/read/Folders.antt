@@ -8,6 +8,7 @@ use Rattle.bep_json.specs.Texts.{is_text, read_folder_name}
 use Rattle.bep_json.specs.Lists.{is_list, read_list}
 use Rattle.bep_json.specs.Records.{is_record, read_record}
 use Rattle.bep_document.specs.read.Shares.{is_share, read_share}
+use Rattle.bep_document.specs.declared.parts.ShareParts.{ShareParts}
 use Rattle.bep_document.specs.declared.parts.FolderParts.{FolderParts}
 use Rattle.bep_document.specs.declared.parts.RowParts.{RowParts}
 
@@ -15,19 +16,27 @@ use Rattle.bep_document.specs.declared.parts.RowParts.{RowParts}
 abbrev pub folder_members : List (List ℕ)
 folder_members = codes "folder" ∷ codes "devices" ∷ []
 
--- a folder: each member of its kind, and no others
-unfoldable pub is_folder : Data → Bool
-is_folder d =
+-- a folder, each device of which has this shape: each member of its kind, and no others
+abbrev pub is_folder_of : (Data → Bool) → Data → Bool
+is_folder_of is_device d =
     has_only folder_members d
     && (has_member (codes "folder") is_text d
-    && has_member (codes "devices") (is_list is_share) d)
+    && has_member (codes "devices") (is_list is_device) d)
 
--- the folder, with the devices that share it
-unfoldable pub read_folder : Data → Option FolderParts
-read_folder d = do
+-- the folder, with the devices that share it, each read so
+abbrev pub read_folder_of : (Data → Option ShareParts) → Data → Option FolderParts
+read_folder_of read_device d = do
   folder ← read_member (codes "folder") read_folder_name d
-  devices ← read_member (codes "devices") (read_list read_share) d
+  devices ← read_member (codes "devices") (read_list read_device) d
   Some (record { folder = folder; devices = devices })
+
+-- a folder of a cut
+unfoldable pub is_folder : Data → Bool
+is_folder d = is_folder_of is_share d
+
+-- the folder of a cut
+unfoldable pub read_folder : Data → Option FolderParts
+read_folder d = read_folder_of read_share d
 
 -- the members of a row
 abbrev pub row_members : List (List ℕ)

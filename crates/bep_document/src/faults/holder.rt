@@ -3,7 +3,8 @@ ghost use Rattle.std.specs.Prelude.{◌≡◌, IfOk, Some, None, if◌then◌els
 ghost use Rattle.bep_document.specs.Fault.{at_device, at_name};
 
 use crate::faults::judge::Found;
-use crate::{DocFault, Fault, FlightParts, FolderParts, ShareParts};
+use crate::faults::walks::{FlightAt, ShareAt};
+use crate::{DocFault, Fault};
 use bep_record::{DeviceId, FolderName, Name};
 use std::alloc::{AllocError, Global};
 
@@ -18,24 +19,24 @@ pub(crate) struct Holder<'a> {
 
 impl<'a> Holder<'a> {
     // A device that shares a folder.
-    pub(crate) fn of_share(folder: &'a FolderParts, share: &ShareParts) -> Self
-        ensures folder { result.folder.now ≡ folder.now.folder }
-        ensures device { result.device ≡ share.now.device }
+    pub(crate) fn of_share(place: &ShareAt<'a>) -> Self
+        ensures folder { result.folder.now ≡ place.now.folder.now.folder }
+        ensures device { result.device ≡ place.now.share.now.device }
     {
         Holder {
-            folder: &folder.folder,
-            device: share.device,
+            folder: &place.folder.folder,
+            device: place.share.device,
         }
     }
 
     // A device to which a message is on its way.
-    pub(crate) fn of_flight(flight: &'a FlightParts, receiver: DeviceId) -> Self
-        ensures folder { result.folder.now ≡ flight.now.folder }
-        ensures device { result.device ≡ receiver }
+    pub(crate) fn of_flight(place: &FlightAt<'a>) -> Self
+        ensures folder { result.folder.now ≡ place.now.flight.now.folder }
+        ensures device { result.device ≡ place.now.receiver }
     {
         Holder {
-            folder: &flight.folder,
-            device: receiver,
+            folder: &place.flight.folder,
+            device: place.receiver,
         }
     }
 

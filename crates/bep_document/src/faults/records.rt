@@ -4,12 +4,10 @@ ghost use Rattle.bep_document.specs.faults.Records.{is_well_formed, is_node, bad
 
 use crate::faults::holder::Holder;
 use crate::faults::judge::{Found, Judge, first_fault};
-use crate::faults::walks::{JudgeFlights, JudgeShares, first_in_cut};
-use crate::{
-    CheckParts, Fault, FlightParts, FolderParts, LinkParts, RowParts, ShareParts, ViewParts,
-};
+use crate::faults::walks::{FlightAt, JudgeFlights, JudgeShares, ShareAt, first_in_cut};
+use crate::{CheckParts, Fault, RowParts, ViewParts};
 use bep_json::NamedParts;
-use bep_record::{DeviceId, Entry, NodeParts};
+use bep_record::{Entry, NodeParts};
 use std::alloc::Global;
 
 // What is bad at a device: a record, a node, or a record in a view.
@@ -70,14 +68,9 @@ impl JudgeShares for BadInDocument {
     ghost fault_at_share = { λ _ folder. bad_at_share folder.folder };
 
     #[tactic(auto, unfolding(crate::specs::faults::Records::bad_at_share))]
-    fn fault_at_share(
-        &self,
-        alloc: Global,
-        folder: &FolderParts,
-        _earlier: &[ShareParts],
-        share: &ShareParts,
-    ) -> Found {
-        let at = &Holder::of_share(folder, share);
+    fn fault_at_share(&self, alloc: Global, place: &ShareAt<'_>) -> Found {
+        let share = place.share;
+        let at = &Holder::of_share(place);
         let judge = BadAtDevice { at };
         match first_fault(alloc, &judge, share.own.as_slice())? {
             Some(fault) => return Ok(Some(fault)),
@@ -97,16 +90,9 @@ impl JudgeShares for BadInDocument {
 impl JudgeFlights for BadInDocument {
     ghost fault_in_flight = { λ _ _. bad_in_flight };
 
-    fn fault_in_flight(
-        &self,
-        alloc: Global,
-        _link: &LinkParts,
-        receiver: DeviceId,
-        _earlier: &[FlightParts],
-        flight: &FlightParts,
-    ) -> Found {
-        let at = &Holder::of_flight(flight, receiver);
-        first_fault(alloc, &BadAtDevice { at }, flight.records.as_slice())
+    fn fault_in_flight(&self, alloc: Global, place: &FlightAt<'_>) -> Found {
+        let at = &Holder::of_flight(place);
+        first_fault(alloc, &BadAtDevice { at }, place.flight.records.as_slice())
     }
 }
 

@@ -7,9 +7,9 @@ ghost use Rattle.bep_document.specs.faults.Sequences.{sequence_in, sequence_in_v
 
 use crate::faults::holder::Holder;
 use crate::faults::judge::{Found, Judge, JudgeKeyed, first_fault, first_keyed};
-use crate::faults::walks::{JudgeFlights, JudgeShares, first_in_cut};
-use crate::{CheckParts, Fault, FlightParts, FolderParts, LinkParts, ShareParts, ViewParts};
-use bep_record::{DeviceId, Entry};
+use crate::faults::walks::{FlightAt, JudgeFlights, JudgeShares, ShareAt, first_in_cut};
+use crate::{CheckParts, Fault, ViewParts};
+use bep_record::Entry;
 use std::alloc::{AllocError, Global};
 use std::cmp::Ordering;
 
@@ -107,14 +107,9 @@ impl JudgeShares for SequencesInCut {
     ghost fault_at_share = { λ _ folder. sequence_at_share folder.folder };
 
     #[tactic(auto, unfolding(crate::specs::faults::Sequences::sequence_at_share))]
-    fn fault_at_share(
-        &self,
-        alloc: Global,
-        folder: &FolderParts,
-        _earlier: &[ShareParts],
-        share: &ShareParts,
-    ) -> Found {
-        let at = &Holder::of_share(folder, share);
+    fn fault_at_share(&self, alloc: Global, place: &ShareAt<'_>) -> Found {
+        let share = place.share;
+        let at = &Holder::of_share(place);
         match first_unnumbered(alloc, at, share.max, share.own.as_slice())? {
             Some(fault) => Ok(Some(fault)),
             None => first_fault(alloc, &SequencesAtViews { at }, share.views.as_slice()),
@@ -125,16 +120,9 @@ impl JudgeShares for SequencesInCut {
 impl JudgeFlights for SequencesInCut {
     ghost fault_in_flight = { λ _ _. sequence_in_flight };
 
-    fn fault_in_flight(
-        &self,
-        alloc: Global,
-        _link: &LinkParts,
-        receiver: DeviceId,
-        _earlier: &[FlightParts],
-        flight: &FlightParts,
-    ) -> Found {
-        let at = &Holder::of_flight(flight, receiver);
-        first_fault(alloc, &Rising { at }, flight.records.as_slice())
+    fn fault_in_flight(&self, alloc: Global, place: &FlightAt<'_>) -> Found {
+        let at = &Holder::of_flight(place);
+        first_fault(alloc, &Rising { at }, place.flight.records.as_slice())
     }
 }
 

@@ -11,10 +11,10 @@ ghost use Rattle.bep_document.specs.faults.Twice.{name_again, twice_in_records, 
 use crate::faults::holder::Holder;
 use crate::faults::judge::{Found, Judge, JudgeKeyed, first_fault, first_keyed};
 use crate::faults::unshared::has_device;
-use crate::faults::walks::{JudgeFlights, JudgeShares, first_at_shares, first_on_link};
-use crate::{
-    CheckParts, DocFault, Fault, FlightParts, FolderParts, LinkParts, ShareParts, ViewParts,
+use crate::faults::walks::{
+    FlightAt, JudgeFlights, JudgeShares, ShareAt, first_at_shares, first_on_link,
 };
+use crate::{CheckParts, DocFault, Fault, FolderParts, LinkParts, ViewParts};
 use bep_json::NamedParts;
 use bep_record::{DeviceId, Entry, FolderName, Name};
 use std::alloc::{AllocError, Global};
@@ -122,15 +122,10 @@ impl JudgeShares for TwiceInCut {
     ghost fault_at_share = { λ _ folder. twice_at_share folder.folder };
 
     #[tactic(auto, unfolding(crate::specs::faults::Twice::twice_at_share, crate::specs::faults::Twice::twice_at_view))]
-    fn fault_at_share(
-        &self,
-        alloc: Global,
-        folder: &FolderParts,
-        earlier: &[ShareParts],
-        share: &ShareParts,
-    ) -> Found {
-        let at = &Holder::of_share(folder, share);
-        if has_device(earlier, share.device) {
+    fn fault_at_share(&self, alloc: Global, place: &ShareAt<'_>) -> Found {
+        let share = place.share;
+        let at = &Holder::of_share(place);
+        if has_device(place.earlier, share.device) {
             let fault = at.fault(alloc, Fault::Twice)?;
             return Ok(Some(fault));
         }
@@ -165,16 +160,9 @@ impl Judge<FolderParts> for TwiceInCut {
 impl JudgeFlights for TwiceInCut {
     ghost fault_in_flight = { λ _ _. twice_in_flight };
 
-    fn fault_in_flight(
-        &self,
-        alloc: Global,
-        _link: &LinkParts,
-        receiver: DeviceId,
-        _earlier: &[FlightParts],
-        flight: &FlightParts,
-    ) -> Found {
-        let at = &Holder::of_flight(flight, receiver);
-        first_again(alloc, at, flight.records.as_slice())
+    fn fault_in_flight(&self, alloc: Global, place: &FlightAt<'_>) -> Found {
+        let at = &Holder::of_flight(place);
+        first_again(alloc, at, place.flight.records.as_slice())
     }
 }
 

@@ -5,10 +5,8 @@ ghost use Rattle.bep_document.specs.faults.Unshared.{has_device, shares, bad_vie
 
 use crate::faults::holder::Holder;
 use crate::faults::judge::{Found, Judge, first_fault};
-use crate::faults::walks::{JudgeFlights, JudgeShares, first_in_cut};
-use crate::{
-    CheckParts, DocFault, Fault, FlightParts, FolderParts, LinkParts, ShareParts, ViewParts,
-};
+use crate::faults::walks::{FlightAt, JudgeFlights, JudgeShares, ShareAt, first_in_cut};
+use crate::{CheckParts, DocFault, Fault, FolderParts, ShareParts, ViewParts};
 use bep_record::{DeviceId, FolderName};
 use std::alloc::Global;
 
@@ -41,38 +39,25 @@ impl<'a> JudgeShares for UnsharedInCut<'a> {
     ghost fault_at_share = { λ _ folder. unshared_at_share folder.folder folder.devices };
 
     #[tactic(auto, unfolding(crate::specs::faults::Unshared::unshared_at_share))]
-    fn fault_at_share(
-        &self,
-        alloc: Global,
-        folder: &FolderParts,
-        _earlier: &[ShareParts],
-        share: &ShareParts,
-    ) -> Found {
-        let at = &Holder::of_share(folder, share);
+    fn fault_at_share(&self, alloc: Global, place: &ShareAt<'_>) -> Found {
         let judge = UnsharedViews {
-            at,
-            devices: folder.devices.as_slice(),
+            at: &Holder::of_share(place),
+            devices: place.folder.devices.as_slice(),
         };
-        first_fault(alloc, &judge, share.views.as_slice())
+        first_fault(alloc, &judge, place.share.views.as_slice())
     }
 }
 
 impl<'a> JudgeFlights for UnsharedInCut<'a> {
     ghost fault_in_flight = { λ judge. bad_flight judge.folders.now };
 
-    fn fault_in_flight(
-        &self,
-        alloc: Global,
-        link: &LinkParts,
-        receiver: DeviceId,
-        _earlier: &[FlightParts],
-        flight: &FlightParts,
-    ) -> Found {
-        let folder = &flight.folder;
+    fn fault_in_flight(&self, alloc: Global, place: &FlightAt<'_>) -> Found {
+        let link = place.link;
+        let folder = &place.flight.folder;
         if shares(self.folders, folder, link.a) && shares(self.folders, folder, link.b) {
             return Ok(None);
         }
-        let fault = DocFault::at_device(alloc, Fault::Unshared, folder, receiver)?;
+        let fault = DocFault::at_device(alloc, Fault::Unshared, folder, place.receiver)?;
         Ok(Some(fault))
     }
 }

@@ -13,20 +13,38 @@ use crate::{CheckParts, FlightParts, FolderParts, LinkParts, ShareParts};
 use bep_record::DeviceId;
 use std::alloc::Global;
 
+/// A device of a folder, with the devices before it.
+#[derive(Clone, Copy)]
+pub(crate) struct ShareAt<'a> {
+    /// The folder.
+    pub(crate) folder: &'a FolderParts,
+    /// The devices before it.
+    pub(crate) earlier: &'a [ShareParts],
+    /// The device.
+    pub(crate) share: &'a ShareParts,
+}
+
 /// A judge of the devices of a folder, which looks for one kind of fault.
 pub(crate) trait JudgeShares {
     /// The first fault at a device of the folder, given the devices before it.
     ghost fault_at_share: { Self → FolderParts → List ShareParts → ShareParts → Option DocFault };
 
-    /// The first fault at a device of the folder, given the devices before it, or want of memory.
-    fn fault_at_share(
-        &self,
-        alloc: Global,
-        folder: &FolderParts,
-        earlier: &[ShareParts],
-        share: &ShareParts,
-    ) -> Found
-        ensures { IfOk result (λ found. found ≡ fault_at_share self.now folder.now earlier.now share.now) };
+    /// The first fault at the device, or want of memory.
+    fn fault_at_share(&self, alloc: Global, place: &ShareAt<'_>) -> Found
+        ensures { IfOk result (λ found. found ≡ fault_at_share self.now place.now.folder.now place.now.earlier.now place.now.share.now) };
+}
+
+/// A message that is on its way over a link, with those that arrive before it.
+#[derive(Clone, Copy)]
+pub(crate) struct FlightAt<'a> {
+    /// The link.
+    pub(crate) link: &'a LinkParts,
+    /// The device to which it is on its way.
+    pub(crate) receiver: DeviceId,
+    /// The messages that arrive before it.
+    pub(crate) earlier: &'a [FlightParts],
+    /// The message.
+    pub(crate) flight: &'a FlightParts,
 }
 
 /// A judge of the messages that are on their way over a link, which looks for one kind of fault.
@@ -34,16 +52,9 @@ pub(crate) trait JudgeFlights {
     /// The first fault in a message to the device, given those that arrive before it.
     ghost fault_in_flight: { Self → LinkParts → ℕ → List FlightParts → FlightParts → Option DocFault };
 
-    /// The first fault in a message to the device, given those that arrive before it, or want of memory.
-    fn fault_in_flight(
-        &self,
-        alloc: Global,
-        link: &LinkParts,
-        receiver: DeviceId,
-        earlier: &[FlightParts],
-        flight: &FlightParts,
-    ) -> Found
-        ensures { IfOk result (λ found. found ≡ fault_in_flight self.now link.now receiver earlier.now flight.now) };
+    /// The first fault in the message, or want of memory.
+    fn fault_in_flight(&self, alloc: Global, place: &FlightAt<'_>) -> Found
+        ensures { IfOk result (λ found. found ≡ fault_in_flight self.now place.now.link.now place.now.receiver place.now.earlier.now place.now.flight.now) };
 }
 
 // The devices of a folder, before a judge.
@@ -57,7 +68,12 @@ impl<'a, J: JudgeShares> Judge<ShareParts> for SharesOf<'a, J> {
     ghost fault_at = { λ shares. J.fault_at_share shares.judge.now shares.folder.now };
 
     fn fault_at(&self, alloc: Global, earlier: &[ShareParts], item: &ShareParts) -> Found {
-        self.judge.fault_at_share(alloc, self.folder, earlier, item)
+        let place = &ShareAt {
+            folder: self.folder,
+            earlier,
+            share: item,
+        };
+        self.judge.fault_at_share(alloc, place)
     }
 }
 
@@ -88,8 +104,13 @@ impl<'a, J: JudgeFlights> Judge<FlightParts> for FlightsTo<'a, J> {
     ghost fault_at = { λ flights. J.fault_in_flight flights.judge.now flights.link.now flights.receiver };
 
     fn fault_at(&self, alloc: Global, earlier: &[FlightParts], item: &FlightParts) -> Found {
-        self.judge
-            .fault_in_flight(alloc, self.link, self.receiver, earlier, item)
+        let place = &FlightAt {
+            link: self.link,
+            receiver: self.receiver,
+            earlier,
+            flight: item,
+        };
+        self.judge.fault_in_flight(alloc, place)
     }
 }
 

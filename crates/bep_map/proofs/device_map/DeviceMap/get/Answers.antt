@@ -1,9 +1,7 @@
-use Rattle.std.proofs.Common.{ap, sym, ◌∙◌}
-use Rattle.std.specs.FinMap as map
-use Rattle.bep_map.proofs.DeviceMapFacts.{get-device}
+use Rattle.std.proofs.Common.{◌∙◌}
+use Rattle.std.specs.Cmp.{nat_cmp_total}
+use Rattle.bep_map.proofs.MapFacts.{found}
 use Rattle.bep_map.proofs.device_map.DeviceMap.get.Goals as goal
 
 pub returns : goal.returns
-returns g c =
-    c.get.ensures.value ∙ sym (get-device c.self.inside.entries.entries c.args.device)
-    ∙ ap (λ m. map.get m c.args.device) c.self.view_is
+returns g c = c.get.ensures.value ∙ found nat_cmp_total c.self.inside.entries.entries _ c.args.device c.self.view_is

@@ -1,9 +1,7 @@
-use Rattle.std.proofs.Common.{ap, sym, ◌∙◌, is_some}
-use Rattle.std.specs.FinMap as map
-use Rattle.bep_map.proofs.NameMapFacts.{get-named}
+use Rattle.std.proofs.Common.{ap, ◌∙◌, is_some}
+use Rattle.std.specs.Cmp.Lexicographic.{nat_list_cmp_total}
+use Rattle.bep_map.proofs.MapFacts.{found}
 use Rattle.bep_map.proofs.name_map.NameMap.contains.Goals as goal
 
 pub returns : goal.returns
-returns g c =
-    c.contains_key.ensures ∙ ap is_some (sym (get-named c.self.inside.entries.entries c.args.name.now))
-    ∙ ap (λ m. map.contains_key m c.args.name.now) c.self.view_is
+returns g c = c.contains_key.ensures ∙ ap is_some (found nat_list_cmp_total c.self.inside.entries.entries _ c.args.name.now c.self.view_is)

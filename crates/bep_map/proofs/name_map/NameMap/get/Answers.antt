@@ -1,9 +1,7 @@
-use Rattle.std.proofs.Common.{ap, sym, ◌∙◌}
-use Rattle.std.specs.FinMap as map
-use Rattle.bep_map.proofs.NameMapFacts.{get-named}
+use Rattle.std.proofs.Common.{◌∙◌}
+use Rattle.std.specs.Cmp.Lexicographic.{nat_list_cmp_total}
+use Rattle.bep_map.proofs.MapFacts.{found}
 use Rattle.bep_map.proofs.name_map.NameMap.get.Goals as goal
 
 pub returns : goal.returns
-returns g c =
-    c.get.ensures.value ∙ sym (get-named c.self.inside.entries.entries c.args.name.now)
-    ∙ ap (λ m. map.get m c.args.name.now) c.self.view_is
+returns g c = c.get.ensures.value ∙ found nat_list_cmp_total c.self.inside.entries.entries _ c.args.name.now c.self.view_is

@@ -1,9 +1,11 @@
-use Rattle.std.proofs.Common.{ap, sym, ◌∙◌}
+use Rattle.std.proofs.Common.{length, ap, sym, ◌∙◌}
+use Rattle.std.specs.Cmp.Lexicographic.{nat_list_cmp_total}
 use Rattle.std.specs.FinMap as map
-use Rattle.bep_map.proofs.NameMapFacts.{len-from_entries}
+use Rattle.std.proofs.lemmas.Map.Lookups.{exact_bytes}
+use Rattle.bep_map.proofs.MapFacts.{in_order}
 use Rattle.bep_map.proofs.name_map.NameMap.len.Goals as goal
 
 pub returns : goal.returns
 returns g c =
-    c.len.ensures.len ∙ sym (len-from_entries c.self.inside.entries.entries c.len.ensures.ordered)
+    c.len.ensures.len ∙ sym (map.len-entries _ ∙ ap length (in_order nat_list_cmp_total exact_bytes c.self.inside.entries.entries c.len.ensures.ordered))
     ∙ ap map.len c.self.view_is

@@ -1,6 +1,0 @@
-use Rattle.std.proofs.Common.{◌≡◌, ◌++◌}
-use Rattle.bep_scenario.proofs.fresh.links_of.Given as goal
-
--- the parts so far with those that are left are all of them
-abbrev pub invariant-loop-link : goal.invariant-loop-link
-invariant-loop-link l = l.parts.items ++ l.link-iterator.rest.items ≡ l.fn.links
