@@ -169,43 +169,38 @@ module _ (name copy : FileName) (old mid new : Held) (beside : Beside name copy 
   steady : ¬ Fails 2 new.trace.failed
   steady = beside.later 2 (omega (arith, beside.two))
 
-  -- nothing stood there, and the copy is written
-  pub ends_with_copy : (result : Result Moved FolderError) → node_at old.tables copy ≡ None →
-      Makes (λ t. PulledRow name (λ pull. RoomyRow name pull (Some copy) (mid.made + 1) new.trace.failed t) t) mid new result →
+  -- whether the copy is written or is there
+  ends_beside : (result : Result Moved FolderError) (written : Option FileName) →
+      ¬ ((node_at old.tables copy ≢ None) × (¬ IsCopy (node_at old.tables copy) (node_at old.tables name))) →
+      ((pull : Pull) (answer : Answer) → WritingRow name pull written 3 new.trace.failed old.tables new.tables answer → CopyRest copy name pull new.trace.failed old.tables new.tables answer) →
+      Makes (λ t. PulledRow name (λ pull. RoomyRow name pull written (mid.made + 1) new.trace.failed t) t) mid new result →
       Makes (λ t. PulledRow name (λ pull. CopyingRow name pull new.trace.failed (own_at t name) (node_at t name) t) t) old new result
-  ends_with_copy result free made =
-      pulled_makes name (λ t pull. RoomyRow name pull (Some copy) (mid.made + 1) new.trace.failed t)
+  ends_beside result written free rests made =
+      pulled_makes name (λ t pull. RoomyRow name pull written (mid.made + 1) new.trace.failed t)
       (λ t pull. CopyingRow name pull new.trace.failed (own_at t name) (node_at t name) t) old mid new result beside.same
       (λ answer pull is row. copying_row pull answer (inr (
         beside.short,
         inr (
           steady,
           inr (
-            (λ stands. stands.0 free),
-            room_more name (own_at old.tables name) pull.target old.tables (WritingRow name pull (Some copy) 3 new.trace.failed old.tables) (CopyRest copy name pull new.trace.failed old.tables) new.tables answer (λ rest. inl (free, rest))
-                (subst (λ call. RoomyRow name pull (Some copy) call new.trace.failed old.tables new.tables answer) (ap (λ n. n + 1) beside.two) row),
+            free,
+            room_more name (own_at old.tables name) pull.target old.tables (WritingRow name pull written 3 new.trace.failed old.tables) (CopyRest copy name pull new.trace.failed old.tables) new.tables answer (rests pull answer)
+                (subst (λ call. RoomyRow name pull written call new.trace.failed old.tables new.tables answer) (ap (λ n. n + 1) beside.two) row),
           ),
         ),
       ))) made
+
+  -- nothing stood there, and the copy is written
+  pub ends_with_copy : (result : Result Moved FolderError) → node_at old.tables copy ≡ None →
+      Makes (λ t. PulledRow name (λ pull. RoomyRow name pull (Some copy) (mid.made + 1) new.trace.failed t) t) mid new result →
+      Makes (λ t. PulledRow name (λ pull. CopyingRow name pull new.trace.failed (own_at t name) (node_at t name) t) t) old new result
+  ends_with_copy result free made = ends_beside result (Some copy) (λ stands. stands.0 free) (λ pull answer rest. inl (free, rest)) made
 
   -- its copy is there
   pub ends_without : (result : Result Moved FolderError) → node_at old.tables copy ≢ None → IsCopy (node_at old.tables copy) (node_at old.tables name) →
       Makes (λ t. PulledRow name (λ pull. RoomyRow name pull None (mid.made + 1) new.trace.failed t) t) mid new result →
       Makes (λ t. PulledRow name (λ pull. CopyingRow name pull new.trace.failed (own_at t name) (node_at t name) t) t) old new result
-  ends_without result there same made =
-      pulled_makes name (λ t pull. RoomyRow name pull None (mid.made + 1) new.trace.failed t)
-      (λ t pull. CopyingRow name pull new.trace.failed (own_at t name) (node_at t name) t) old mid new result beside.same
-      (λ answer pull is row. copying_row pull answer (inr (
-        beside.short,
-        inr (
-          steady,
-          inr (
-            (λ other. other.1 same),
-            room_more name (own_at old.tables name) pull.target old.tables (WritingRow name pull None 3 new.trace.failed old.tables) (CopyRest copy name pull new.trace.failed old.tables) new.tables answer (λ rest. inr (there, rest))
-                (subst (λ call. RoomyRow name pull None call new.trace.failed old.tables new.tables answer) (ap (λ n. n + 1) beside.two) row),
-          ),
-        ),
-      ))) made
+  ends_without result there same made = ends_beside result None (λ other. other.1 same) (λ pull answer rest. inr (there, rest)) made
 
 -- ---- the whole
 

@@ -1,4 +1,4 @@
--- What holds of a folder that begins.
+-- What is held, and what holds of it when a folder begins and when its views and pulls change.
 use Rattle.std.proofs.Common.{◌≡◌, ℕ, ◌≤◌, ◌+◌, ◌-◌, List, Bool, true, false, cond, Option, Some, None, arith, ap, sym, ◌∙◌, subst, ⊎_elim, Contains, Result, Ok, Err, OnOk, OnErr}
 use Rattle.std.specs.Ordering.{nat_cmp, eq_by_cmp}
 use Rattle.std.specs.Cmp.Lexicographic.{slice_cmp, nat_list_cmp_total}
@@ -8,12 +8,25 @@ use Rattle.std.proofs.lemmas.Map.Lookups.{exact_bytes}
 use Rattle.bep_index.specs.Listing.{Listing}
 use Rattle.bep_facts.specs.Maps.{nothing_in_empty, found_after_insert, insert-what_is_there, len-insert_le}
 use Rattle.bep_record.specs.declared.limits.TheConstants.{MAX_PULLS}
-use Rattle.bep_model.specs.Tables.{Device, FileName}
+use Rattle.bep_record.specs.declared.folder_kind.FolderKind.{FolderKind}
+use Rattle.bep_model.specs.Tables.{Device, Folder, FileName}
 use Rattle.bep_machine.specs.Replica.{ByDevice, Pull}
 use Rattle.bep_map.specs.NameMap.{ByName}
 use Rattle.bep_folder.specs.Pull.{with_bytes}
 use Rattle.bep_folder.specs.Received.{AddsTo}
-use Rattle.bep_folder.specs.Held.{AreOthers, IsHeld, AreOfOthers}
+use Rattle.bep_folder.specs.Trace.{TracedStore}
+use Rattle.bep_folder.specs.Held.{AreOthers, Held, IsHeld, AreOfOthers}
+
+-- what is held, part by part
+abbrev pub held_of : Device → Folder → FolderKind → List Device → Listing → ByDevice Listing → ByName Pull → TracedStore → Held
+held_of device folder kind others index views pulls store = record {
+  device = device;
+  folder = folder;
+  tables = record { kind = kind; others = others; index = index; views = views; pulls = pulls; store = store.contents };
+  faults = store.faults;
+  made = store.made;
+  trace = store.trace;
+}
 
 -- nothing is known and nothing is pulled
 pub IsHeld-begun : (device : Device) (others : List Device) (views : ByDevice Listing) (pulls : ByName Pull) → AreOthers device others → views ≡ empty → pulls ≡ empty → IsHeld device others views pulls

@@ -29,22 +29,14 @@ mod found;
 mod names;
 mod overriding;
 mod pull;
-#[cfg(test)]
-mod pull_tests;
 mod pulled;
 mod readers;
 mod replica;
 mod reverting;
 mod scan_result;
-#[cfg(test)]
-mod scan_tests;
 mod settle;
 mod start_pull;
-#[cfg(test)]
-mod tests;
 mod traced;
-#[cfg(test)]
-mod vain_tests;
 mod views;
 mod wanted;
 

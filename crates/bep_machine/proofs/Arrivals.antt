@@ -82,27 +82,30 @@ module _ (among : AmongIsContained) (cluster : Cluster) (sound : IsSound cluster
       let both : both_share cluster.config other device folder ≡ true = both_true _ _ (shares_test cluster.config other folder shares.0) (shares_test cluster.config device folder shares.1) in
       subst (λ b. Contains (flight_when b folder full batch) (record { folder = folder; full = full; records = batch })) (sym both) (Contains-first _ [])
 
+  -- the records of a batch on its way fly
+  flown : (folder : Folder) (full : Bool) (batch : List Entry) → SharesFolder cluster.config other folder → Contains (on_its_way cluster other device) (record { folder = folder; full = full; records = batch }) →
+      (name : FileName) (entry : Entry) → IsAmong entry batch → entry.name ≡ name → IsFlying (tables_of_cluster cluster) device folder name entry
+  flown folder full batch shares sent name entry in_batch same = record {
+    sender = other;
+    shares = shares;
+    flight = record { folder = folder; full = full; records = batch };
+    sent = sent;
+    same_folder = refl;
+    carried = (among entry batch).0 in_batch;
+    same_name = same;
+  }
+
   pub records_fly : (session : Session) (message : Message) (folder : Folder) (batch : List Entry) → get (cluster.peer device).sessions other ≡ Some session → (sight_of (end_of device other) (link_between cluster device other)).waiting ≡ Some message → IsNamed session folder → (message ≡ messages.Index folder batch) ⊎ (message ≡ messages.IndexUpdate folder batch) → (name : FileName) (entry : Entry) → IsAmong entry batch → entry.name ≡ name → IsFlying (tables_of_cluster cluster) device folder name entry
   records_fly session message folder batch is waiting named kind name entry in_batch same =
       let shares = both_shares folder (shares_with session folder is named) in
       let waits = waiting_is_there cluster device other message waiting in
       ⊎_elim
-      (λ full. record {
-        sender = other;
-        shares = shares.0;
-        flight = record { folder = folder; full = true; records = batch };
-        sent = flies (messages.Index folder batch) _ (subst (λ one. Contains (queue_between cluster.link other device) one) full waits) (carried_when_shared folder true batch shares);
-        same_folder = refl;
-        carried = (among entry batch).0 in_batch;
-        same_name = same;
-      })
-      (λ update. record {
-        sender = other;
-        shares = shares.0;
-        flight = record { folder = folder; full = false; records = batch };
-        sent = flies (messages.IndexUpdate folder batch) _ (subst (λ one. Contains (queue_between cluster.link other device) one) update waits) (carried_when_shared folder false batch shares);
-        same_folder = refl;
-        carried = (among entry batch).0 in_batch;
-        same_name = same;
-      })
+      (λ full.
+      flown folder true batch shares.0
+      (flies (messages.Index folder batch) _ (subst (λ one. Contains (queue_between cluster.link other device) one) full waits) (carried_when_shared folder true batch shares))
+      name entry in_batch same)
+      (λ update.
+      flown folder false batch shares.0
+      (flies (messages.IndexUpdate folder batch) _ (subst (λ one. Contains (queue_between cluster.link other device) one) update waits) (carried_when_shared folder false batch shares))
+      name entry in_batch same)
       kind

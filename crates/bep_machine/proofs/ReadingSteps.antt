@@ -110,19 +110,20 @@ restart_reads old new device answer made = at_becomes (IsReadingStep old) made (
 
 -- ---- steps over a link
 
-config_stays : (cluster : Cluster) (device other : Device) (link : Link) → (with_link_between cluster device other link).config ≡ cluster.config
-config_stays cluster device other link = cases (nat_lt device other)
+-- what a cluster has beside its links stays
+stays : {A : Type 0} (part : Cluster → A) → ((cluster : Cluster) (lower upper : Device) (link : Link) → part (with_link cluster lower upper link) ≡ part cluster) →
+    (cluster : Cluster) (device other : Device) (link : Link) → part (with_link_between cluster device other link) ≡ part cluster
+stays part same cluster device other link = cases (nat_lt device other)
   where
-    cases : (b : Bool) → (if b then with_link cluster device other link else with_link cluster other device link).config ≡ cluster.config
-    cases true = refl
-    cases false = refl
+    cases : (b : Bool) → part (if b then with_link cluster device other link else with_link cluster other device link) ≡ part cluster
+    cases true = same cluster device other link
+    cases false = same cluster other device link
+
+config_stays : (cluster : Cluster) (device other : Device) (link : Link) → (with_link_between cluster device other link).config ≡ cluster.config
+config_stays = stays (λ cluster. cluster.config) (λ _ _ _ _. refl)
 
 peers_stay : (cluster : Cluster) (device other : Device) (link : Link) → (with_link_between cluster device other link).peer ≡ cluster.peer
-peers_stay cluster device other link = cases (nat_lt device other)
-  where
-    cases : (b : Bool) → (if b then with_link cluster device other link else with_link cluster other device link).peer ≡ cluster.peer
-    cases true = refl
-    cases false = refl
+peers_stay = stays (λ cluster. cluster.peer) (λ _ _ _ _. refl)
 
 module _ (old : Cluster) (sound : IsSound old) (device other : Device) (linked : AreLinked old.config device other) where
   acted_reads : (acted : Acted) → IsLinkStep (IsFlying (tables_of_cluster old) device) (old.peer device) acted → IsReadingStep old (with_link_between (with_peer old device acted.peer) device other (after_deed (end_of device other) acted.deed (link_between old device other)))

@@ -1,7 +1,7 @@
 -- The changes of a replica that keep it sound: a node, a record or a pull at a name.
 use Rattle.std.proofs.Common.{◌≡◌, ◌≤◌, ◌+◌, false, length, List, [], ◌∷◌, map, Option, Some, None, refl, subst, arith}
 use Rattle.std.specs.Cmp.Lexicographic.{nat_list_cmp_total}
-use Rattle.std.specs.FinMap.{get, len}
+use Rattle.std.specs.FinMap.{get, insert, len, remove}
 use Rattle.bep_facts.specs.Maps.{len-insert_le}
 use Rattle.bep_record.specs.declared.block.Block.{Block}
 use Rattle.bep_record.specs.declared.entry.Entry.{Entry}
@@ -9,6 +9,7 @@ use Rattle.bep_record.specs.declared.node.NodeParts.{NodeParts}
 use Rattle.bep_record.specs.declared.limits.TheConstants.{MAX_PULLS}
 use Rattle.bep_record.specs.Node.{IsNode}
 use Rattle.bep_record.specs.Vector.{IsVersion, most_counters}
+use Rattle.bep_map.specs.NameMap.{ByName}
 use Rattle.bep_index.specs.Listing.{Listing}
 use Rattle.bep_index.specs.Index.{IsSequenceFull, IsIndexFull, numbered}
 use Rattle.bep_index.specs.Laws.{PutsKeepAnIndex}
@@ -47,34 +48,29 @@ version_is_few name (Some own) good = good.good.few
 
 -- ---- changes
 
+-- other nodes in the store
+store_is_sound : {device : Device} {old : Replica} (store : ByName NodeParts) → IsSoundReplica device old → ((name : FileName) (node : NodeParts) → get store name ≡ Some node → IsNode node) →
+    SoundChange device old (record old { store = store })
+store_is_sound store sound nodes = record {
+  sound = record {
+    index = sound.index;
+    id = sound.id;
+    own = sound.own;
+    views = sound.views;
+    pulls = sound.pulls;
+    few_pulls = sound.few_pulls;
+    store = nodes;
+  };
+  kind = refl;
+  others = refl;
+}
+
 pub node_is_sound : {device : Device} {old : Replica} (name : FileName) (node : Option NodeParts) → IsSoundReplica device old → IfAny IsNode node →
     SoundChange device old (with_node old name node)
-node_is_sound {device} {old} name None sound is = record {
-  sound = record {
-    index = sound.index;
-    id = sound.id;
-    own = sound.own;
-    views = sound.views;
-    pulls = sound.pulls;
-    few_pulls = sound.few_pulls;
-    store = each_after_remove (λ there node. IsNode node) old.store name sound.store;
-  };
-  kind = refl;
-  others = refl;
-}
-node_is_sound {device} {old} name (Some node) sound is = record {
-  sound = record {
-    index = sound.index;
-    id = sound.id;
-    own = sound.own;
-    views = sound.views;
-    pulls = sound.pulls;
-    few_pulls = sound.few_pulls;
-    store = each_after_insert (λ there node. IsNode node) old.store name sound.store node is;
-  };
-  kind = refl;
-  others = refl;
-}
+node_is_sound {device} {old} name None sound is =
+    store_is_sound (remove old.store name) sound (each_after_remove (λ there node. IsNode node) old.store name sound.store)
+node_is_sound {device} {old} name (Some node) sound is =
+    store_is_sound (insert old.store name node) sound (each_after_insert (λ there node. IsNode node) old.store name sound.store node is)
 
 -- the index stays then
 pub index_with_node : (replica : Replica) (name : FileName) (node : Option NodeParts) → (with_node replica name node).index ≡ replica.index

@@ -1,12 +1,11 @@
 -- What a device writes when it ends a pull is clean against the target: the bytes that were received are as many as the
 -- record says.
-use Rattle.std.proofs.Common.{◌≡◌, ◌∙◌, ◌+◌, ◌-◌, ◌*◌, ℕ, zero, suc, min, Bool, true, false, cond, List, [], ◌∷◌, length, length-append, map, Contains, Option, Some, None, unwrap_or, refl, ap, arith}
-use Rattle.std.specs.List.{concat, range_with_len}
+use Rattle.std.proofs.Common.{◌≡◌, ◌∙◌, ◌+◌, ◌-◌, ◌*◌, ℕ, zero, suc, min, Bool, true, false, cond, List, [], ◌∷◌, length, length-append, map, Contains, Option, Some, None, refl, ap, arith}
+use Rattle.std.specs.List.{range_with_len}
 use Rattle.bep_facts.specs.Members.{Contains-first, Contains-more}
 use Rattle.bep_record.specs.declared.block.Block.{Block}
 use Rattle.bep_record.specs.declared.kind.Kind.{Kind}
 use Rattle.bep_record.specs.declared.kind.Kind.TheVariants as kinds
-use Rattle.bep_record.specs.declared.node.NodeParts.{NodeParts}
 use Rattle.bep_record.specs.Block.{base_block_size, block_count, cut_at, CutWhole}
 use Rattle.bep_record.specs.Node.{IsClean, LooksSame}
 use Rattle.bep_model.specs.Tables.{FileName}
@@ -14,15 +13,7 @@ use Rattle.bep_machine.specs.Replica.{Pull}
 use Rattle.bep_machine.specs.Pull.{IsFile, IsMissingBlocks, written}
 use Rattle.bep_machine.specs.Sound.{IsSoundPull, AreReceived}
 use Rattle.bep_machine.proofs.ContentFacts.{has_blocks}
-
--- the sizes of cuts, one after the other
-sizes : List (ℕ × ℕ) → ℕ
-sizes [] = 0
-sizes (cut ∷ cuts) = cut.1 + sizes cuts
-
--- the bytes that were received
-abbrev bytes_of : List (Option (List ℕ)) → List ℕ
-bytes_of received = concat (map (λ bytes. unwrap_or bytes []) received)
+use Rattle.bep_machine.proofs.WrittenNode.{sizes, bytes_of, node_of}
 
 -- so many cuts from place k on cover so many whole blocks, or all that is left of the file there
 cuts_cover : (size len k n : ℕ) → sizes (map (λ j. cut_at size len j) (range_with_len k n)) ≡ min (n * size) (len - k * size)
@@ -55,16 +46,6 @@ received_whole (block ∷ blocks) (Some bytes ∷ received) are none_missing =
 file_whole : (len : ℕ) (blocks : List Block) (received : List (Option (List ℕ))) → CutWhole base_block_size len blocks → AreReceived blocks received → ¬ Contains received None →
     length (bytes_of received) ≡ len
 file_whole len blocks received whole are none_missing = received_whole blocks received are none_missing ∙ ap sizes whole ∙ cuts_are_whole len
-
--- the node that is written of a target that isn't deleted
-abbrev node_of : Pull → NodeParts
-node_of pull = record {
-  kind = pull.target.kind;
-  bytes = bytes_of pull.received;
-  target = pull.target.target;
-  modified_s = pull.target.modified_s;
-  modified_ns = pull.target.modified_ns;
-}
 
 looks_written : (kind : Kind) (pull : Pull) → (kind ≡ kinds.File → length (bytes_of pull.received) ≡ pull.target.size) → LooksSame kind (node_of pull) pull.target
 looks_written kinds.File pull whole = (whole refl, refl, refl)

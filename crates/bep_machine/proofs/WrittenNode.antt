@@ -18,12 +18,12 @@ use Rattle.bep_machine.specs.Sound.{IsGood, AreReceived, IsSoundPull}
 use Rattle.bep_machine.proofs.SoundMaps.{IfAny}
 
 -- the sizes of cuts, one after the other
-sizes : List (ℕ × ℕ) → ℕ
+unfoldable pub sizes : List (ℕ × ℕ) → ℕ
 sizes [] = 0
 sizes (cut ∷ cuts) = cut.1 + sizes cuts
 
 -- the bytes that were received
-abbrev bytes_of : List (Option (List ℕ)) → List ℕ
+abbrev pub bytes_of : List (Option (List ℕ)) → List ℕ
 bytes_of received = concat (map (λ bytes. unwrap_or bytes []) received)
 
 -- cuts from place k on cover no more than what is left of the file there
@@ -61,7 +61,7 @@ nothing_received [] (one ∷ more) none are = absurd are
 nothing_received (block ∷ blocks) received none are = absurd (cc)
 
 -- the node that is written of a target that isn't deleted
-abbrev node_of : Pull → NodeParts
+abbrev pub node_of : Pull → NodeParts
 node_of pull = record {
   kind = pull.target.kind;
   bytes = bytes_of pull.received;

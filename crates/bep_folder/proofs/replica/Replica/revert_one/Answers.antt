@@ -3,8 +3,8 @@ use Rattle.std.specs.Option.{option_copied}
 use Rattle.std.proofs.lemmas.Result.{err_from_is_err_and}
 use Rattle.bep_record.specs.declared.entry.Entry.{Entry}
 use Rattle.bep_machine.specs.Local.{deletion_of}
-use Rattle.bep_folder.specs.Held.{Held}
 use Rattle.bep_folder.specs.Revert.{PutsAndRemoves}
+use Rattle.bep_folder.proofs.HeldFacts.{held_of}
 use Rattle.bep_folder.proofs.RevertFacts.{Reverting, revert_done, revert_refused}
 use Rattle.bep_folder.proofs.replica.Replica.revert_one.Goals as goal
 
@@ -48,14 +48,7 @@ returns-in_err-put_and_remove-clause-reverted g c =
       trace = search rules;
     } in
     let now = c.put_and_remove.new.store in
-    let new : Held = record {
-      device = c.self.inside.device;
-      folder = c.self.inside.folder;
-      tables = record { kind = c.self.inside.kind; others = c.self.inside.others; index = c.put_and_remove.new.index; views = c.self.inside.views; pulls = c.self.inside.pulls; store = now.contents };
-      faults = now.faults;
-      made = now.made;
-      trace = now.trace;
-    } in
+    let new = held_of c.self.inside.device c.self.inside.folder c.self.inside.kind c.self.inside.others c.put_and_remove.new.index c.self.inside.views c.self.inside.pulls now in
     let gone : c.deletion-gone.result ≡ deletion_of old.device name own [] = search rules in
     let same : c.self.inside.index ≡ old.tables.index = search rules in
     let e = c.in_err-put_and_remove.field-0.0 in

@@ -1,14 +1,9 @@
 //! A file that another device changed, as it is pulled: without an own file, over one that changed too, and into a store
 //! that fails. What each end leaves was worked out by hand, by BEP v1, 'Vector', and by this project's profile.
-use crate::tests::folder_over;
-use crate::*;
-use bep_blocks::blocks;
-use bep_index::Batch;
+use crate::made::{file, folder, folder_over, notes, pulled, record, sent};
+use bep_folder::{FolderError, Pull, Replica};
 use bep_machine::Moved;
-use bep_record::{
-    BASE_BLOCK_SIZE, BlockSize, DeviceId, Entry, FolderKind, Items, Kind, Name, Node, NodeParts,
-    Record, Target, Vector,
-};
+use bep_record::{DeviceId, FolderKind, Name};
 use bep_store::{FaultStore, MemStore, Store};
 use std::alloc::Global;
 
@@ -22,61 +17,8 @@ type Left = ([u8; 2], u8, [u64; 2]);
 // The answer to the end of a pull, which call of the store failed in it, whether it wrote a copy, and what it left.
 type Ended = (Result<Moved, FolderError>, (Option<u32>, bool), Left);
 
-pub(crate) fn notes(alloc: Global) -> Option<Name> {
-    Name::read(alloc, b"notes.txt").ok()
-}
-
 fn copy(alloc: Global) -> Option<Name> {
     Name::read(alloc, b"notes.sync-conflict-2000-0000000000000002.txt").ok()
-}
-
-// The record of the file with these bytes that this device made.
-pub(crate) fn record(
-    alloc: Global,
-    device: u64,
-    version: &[(u64, u64)],
-    bytes: &[u8],
-) -> Option<Record> {
-    let modified_by = DeviceId::read(device)?;
-    let version = Vector::read(version)?;
-    let name = notes(alloc)?;
-    let blocks = blocks(alloc, bytes, BlockSize::base()).ok()?;
-    let made = Record::read(Entry {
-        name,
-        kind: Kind::File,
-        size: bytes.len() as u64,
-        modified_s: 2000,
-        modified_ns: 0,
-        modified_by,
-        deleted: false,
-        invalid: false,
-        no_permissions: true,
-        version,
-        sequence: 1,
-        block_size: BASE_BLOCK_SIZE,
-        blocks,
-        target: Target::empty(alloc),
-    });
-    made.ok()
-}
-
-pub(crate) fn node(alloc: Global, bytes: &[u8]) -> Option<Node> {
-    let bytes = Vec::from_slice(alloc, bytes).ok()?;
-    let made = Node::read(NodeParts {
-        kind: Kind::File,
-        bytes: Items::new(bytes),
-        target: Target::empty(alloc),
-        modified_s: 2000,
-        modified_ns: 0,
-    });
-    made.ok()
-}
-
-// Device 1 sends its record of `hello`.
-fn sent<S: Store>(alloc: Global, replica: &mut Replica<S>) -> Option<()> {
-    let records = Vec::from_array(alloc, [record(alloc, 1, &[(1, 2)], b"hello")?]).ok()?;
-    let batch = Batch::new(records).ok()?;
-    replica.replace_view(DeviceId::read(1)?, batch).ok()
 }
 
 fn received<S: Store>(
@@ -89,7 +31,7 @@ fn received<S: Store>(
 }
 
 fn begun<S: Store>(alloc: Global, replica: &mut Replica<S>) -> Option<Begun> {
-    sent(alloc, replica)?;
+    sent(alloc, replica, record(alloc, 1, &[(1, 2)], b"hello")?)?;
     let name = notes(alloc)?;
     let answer = replica.start_pull(&name);
     let blocks = [
@@ -101,7 +43,7 @@ fn begun<S: Store>(alloc: Global, replica: &mut Replica<S>) -> Option<Begun> {
 }
 
 // The first byte of the name's file; a line, where there is none.
-fn file<S: Store>(replica: &mut Replica<S>, name: &Name) -> Option<u8> {
+fn first_byte<S: Store>(replica: &mut Replica<S>, name: &Name) -> Option<u8> {
     match replica.look(name).ok()? {
         Some(node) => node.parts().bytes.as_slice().first().copied(),
         None => Some(b'-'),
@@ -109,8 +51,8 @@ fn file<S: Store>(replica: &mut Replica<S>, name: &Name) -> Option<u8> {
 }
 
 fn files<S: Store>(alloc: Global, replica: &mut Replica<S>) -> Option<[u8; 2]> {
-    let first = file(replica, &notes(alloc)?)?;
-    let second = file(replica, &copy(alloc)?)?;
+    let first = first_byte(replica, &notes(alloc)?)?;
+    let second = first_byte(replica, &copy(alloc)?)?;
     Some([first, second])
 }
 
@@ -136,17 +78,28 @@ fn ended<S: Store>(alloc: Global, replica: &mut Replica<S>) -> Option<Ended> {
     Some((answer, trace, left(alloc, replica)?))
 }
 
-// A pull that is ended twice.
-fn pulled<S: Store>(alloc: Global, replica: &mut Replica<S>) -> Option<(Begun, [Ended; 2])> {
-    let begun = begun(alloc, replica)?;
-    Some((begun, [ended(alloc, replica)?, ended(alloc, replica)?]))
+// A pull of device 1's record of `hello` that is ended twice.
+fn pulled_twice<S: Store>(alloc: Global, replica: &mut Replica<S>) -> Option<[Ended; 2]> {
+    let _begun = begun(alloc, replica)?;
+    Some([ended(alloc, replica)?, ended(alloc, replica)?])
 }
 
-// The pull at a device that has no such file; this call of its store fails.
-fn pulls(alloc: Global, call: u64) -> Option<(Begun, [Ended; 2])> {
+// Device 2's folder, without such a file; this call of its store fails.
+fn empty(alloc: Global, call: u64) -> Option<Replica<FaultStore<MemStore>>> {
     let store = FaultStore::new(MemStore::new(alloc), call);
-    let mut replica = folder_over(alloc, FolderKind::SendReceive, store)?;
-    pulled(alloc, &mut replica)
+    folder_over(alloc, FolderKind::SendReceive, store)
+}
+
+// The beginning of the pull there.
+fn begins(alloc: Global, call: u64) -> Option<Begun> {
+    let mut replica = empty(alloc, call)?;
+    begun(alloc, &mut replica)
+}
+
+// Its ends.
+fn pulls(alloc: Global, call: u64) -> Option<[Ended; 2]> {
+    let mut replica = empty(alloc, call)?;
+    pulled_twice(alloc, &mut replica)
 }
 
 #[test]
@@ -165,23 +118,21 @@ fn a_file_is_pulled(rt: HostRuntime) {
         (1, [(fault, (Some(1), false), none), done]),
         (2, [(fault, (Some(2), false), none), done]),
     ] {
-        assert_eq!(rt; pulls(rt.alloc(), call), Some((begun, ends)));
+        assert_eq!(rt; begins(rt.alloc(), call), Some(begun));
+        assert_eq!(rt; pulls(rt.alloc(), call), Some(ends));
     }
 }
 
-// The own file `abc`, which was changed beside device 1's.
+// The own file `abc`, which was changed beside device 1's; device 2 has it back from there.
 fn changed<S: Store>(alloc: Global, replica: &mut Replica<S>) -> Option<()> {
-    let own = record(alloc, 2, &[(1, 1), (2, 1)], b"abc")?;
-    replica.index.put(own).ok()?;
-    let name = notes(alloc)?;
-    replica.edit(&name, &node(alloc, b"abc")?).ok()?;
-    Some(())
+    sent(alloc, replica, record(alloc, 2, &[(1, 1), (2, 1)], b"abc")?)?;
+    pulled(replica, &notes(alloc)?, b"abc")
 }
 
 // Another file under the conflict name.
 fn taken<S: Store>(alloc: Global, replica: &mut Replica<S>) -> Option<()> {
     let name = copy(alloc)?;
-    replica.edit(&name, &node(alloc, b"hello")?).ok()?;
+    replica.edit(&name, &file(alloc, b"hello", 2000)?).ok()?;
     Some(())
 }
 
@@ -194,13 +145,12 @@ fn conflicted<S: Store>(
     if is_taken {
         taken(alloc, replica)?;
     }
-    Some(pulled(alloc, replica)?.1)
+    pulled_twice(alloc, replica)
 }
 
 // The pull at a device whose own file was changed too, and whose conflict name may be taken.
 fn conflicts(alloc: Global, call: u64, is_taken: bool) -> Option<[Ended; 2]> {
-    let store = FaultStore::new(MemStore::new(alloc), call);
-    let mut replica = folder_over(alloc, FolderKind::SendReceive, store)?;
+    let mut replica = empty(alloc, call)?;
     conflicted(alloc, &mut replica, is_taken)
 }
 
@@ -218,15 +168,55 @@ fn a_losing_file_is_kept(rt: HostRuntime) {
     let done = (Ok(Moved::Changed), (None, true), both);
     let again = (Err(FolderError::NotNeeded), (None, false), both);
     let copy_found = (Ok(Moved::Changed), (None, false), both);
-    // the edit is the first call of the store
+    // the own file takes the first two calls of the store
     for (call, is_taken, ends) in [
         (0, false, [done, again]),
-        (2, false, [(fault, (Some(1), false), before), done]),
-        (3, false, [(fault, (Some(2), false), before), done]),
-        (4, false, [(fault, (Some(3), false), before), done]),
-        (5, false, [(fault, (Some(4), true), copied), copy_found]),
+        (3, false, [(fault, (Some(1), false), before), done]),
+        (4, false, [(fault, (Some(2), false), before), done]),
+        (5, false, [(fault, (Some(3), false), before), done]),
+        (6, false, [(fault, (Some(4), true), copied), copy_found]),
         (0, true, [other, other]),
     ] {
         assert_eq!(rt; conflicts(rt.alloc(), call, is_taken), Some(ends));
     }
+}
+
+// Whether a block is missing, and the first byte of the file.
+fn told(pull: &Pull) -> Option<(bool, u8)> {
+    let bytes = pull.node()?.parts().bytes.as_slice();
+    Some((pull.is_missing_blocks(), *bytes.first()?))
+}
+
+// The same of a copy of the name's pull.
+fn copied(alloc: Global, replica: &Replica<MemStore>) -> Option<(bool, u8)> {
+    let name = notes(alloc)?;
+    let copy = replica.pull(&name)?.copy(alloc).ok()?;
+    told(&copy)
+}
+
+fn started(alloc: Global, replica: &mut Replica<MemStore>) -> Option<Moved> {
+    sent(alloc, replica, record(alloc, 1, &[], b"7")?)?;
+    replica.start_pull(&notes(alloc)?).ok()
+}
+
+// The answers to another byte than the file's and to its own, and a copy of the pull then.
+fn received_and_copied(
+    alloc: Global,
+    replica: &mut Replica<MemStore>,
+) -> Option<([Result<(), FolderError>; 2], (bool, u8))> {
+    let _begun = started(alloc, replica)?;
+    let wrong = received(alloc, replica, b"8")?;
+    let right = received(alloc, replica, b"7")?;
+    Some(([wrong, right], copied(alloc, replica)?))
+}
+
+fn copies(alloc: Global) -> Option<([Result<(), FolderError>; 2], (bool, u8))> {
+    let mut replica = folder(alloc, FolderKind::SendReceive)?;
+    received_and_copied(alloc, &mut replica)
+}
+
+#[test]
+fn a_copy_has_what_was_received(rt: HostRuntime) {
+    let wanted = ([Err(FolderError::HashBad), Ok(())], (false, b'7'));
+    assert_eq!(rt; copies(rt.alloc()), Some(wanted));
 }

@@ -1,50 +1,41 @@
 //! A name that a user changes, and what a scan, an override and a revert record of it: worked out by hand, by BEP v1,
 //! 'Vector', and by this project's profile.
-use crate::tests::{batch, directory, folder, folder_over};
-use crate::*;
+use crate::made::{batch, directory, file, folder, folder_over, lettered, pulled, sent};
+use bep_folder::{FolderError, Replica, ScanResult};
 use bep_machine::Moved;
-use bep_record::{DeviceId, FolderKind, Items, Kind, Name, Node, NodeParts, Target};
+use bep_record::{DeviceId, FolderKind};
 use bep_store::{FaultStore, MemStore, Store};
 use std::alloc::Global;
 
 // The own record's sequence, its time, its counters of devices 1 and 2, and whether it is deleted or marked local-only.
 type Own = (u64, i64, [u64; 2], bool, bool);
 
-// Device 2's folder, whose own record of `a` is device 1's first one.
-fn begun(alloc: Global, kind: FolderKind) -> Option<Replica<MemStore>> {
-    let mut replica = folder(alloc, kind)?;
-    replica.index.put(directory(alloc, b'a', 1)?).ok()?;
-    Some(replica)
+// The own record of `a` becomes device 1's first one.
+fn begun<S: Store>(alloc: Global, replica: &mut Replica<S>) -> Option<()> {
+    sent(alloc, replica, directory(alloc, b'a', 1)?)?;
+    pulled(replica, &lettered(alloc, b'a')?, b"")
 }
 
 // Gives `a` a file of one byte, as a user does.
 fn edited<S: Store>(alloc: Global, replica: &mut Replica<S>) -> Option<Moved> {
-    let name = Name::read(alloc, b"a").ok()?;
-    let bytes = Vec::from_slice(alloc, b"7").ok()?;
-    let made = Node::read(NodeParts {
-        kind: Kind::File,
-        bytes: Items::new(bytes),
-        target: Target::empty(alloc),
-        modified_s: 999,
-        modified_ns: 0,
-    });
-    replica.edit(&name, &made.ok()?).ok()
+    let name = lettered(alloc, b'a')?;
+    replica.edit(&name, &file(alloc, b"7", 999)?).ok()
 }
 
 fn removed(alloc: Global, replica: &mut Replica<MemStore>) -> Option<Moved> {
-    let name = Name::read(alloc, b"a").ok()?;
+    let name = lettered(alloc, b'a')?;
     replica.remove(&name).ok()
 }
 
 fn scanned<S: Store>(alloc: Global, replica: &mut Replica<S>) -> Option<Moved> {
-    let name = Name::read(alloc, b"a").ok()?;
+    let name = lettered(alloc, b'a')?;
     let node = replica.look(&name).ok()?;
     let scan = ScanResult::plain(alloc, name, node).ok()?;
     replica.commit(scan).ok()
 }
 
 fn own<S: Store>(alloc: Global, replica: &Replica<S>) -> Option<Own> {
-    let name = Name::read(alloc, b"a").ok()?;
+    let name = lettered(alloc, b'a')?;
     let (one, two) = (DeviceId::read(1)?, DeviceId::read(2)?);
     let entry = replica.index().get(&name)?.entry();
     let counters = [entry.version.get(one), entry.version.get(two)];
@@ -67,7 +58,8 @@ fn recorded(alloc: Global, replica: &mut Replica<MemStore>) -> Option<[(Moved, O
 }
 
 fn scans(alloc: Global) -> Option<[(Moved, Own); 2]> {
-    let mut replica = begun(alloc, FolderKind::SendReceive)?;
+    let mut replica = folder(alloc, FolderKind::SendReceive)?;
+    begun(alloc, &mut replica)?;
     recorded(alloc, &mut replica)
 }
 
@@ -105,20 +97,25 @@ fn contents_are_all_or_a_fault(rt: HostRuntime) {
     }
 }
 
+fn overridden(alloc: Global, replica: &mut Replica<MemStore>) -> Option<Moved> {
+    let name = lettered(alloc, b'a')?;
+    replica.override_one(&name).ok()
+}
+
 // What an override puts over device 1's record of `a`, which is later than the own one.
-fn overridden(alloc: Global, replica: &mut Replica<MemStore>) -> Option<(Moved, Own)> {
+fn overriding(alloc: Global, replica: &mut Replica<MemStore>) -> Option<(Moved, Own)> {
     edited(alloc, replica)?;
     scanned(alloc, replica)?;
-    let name = Name::read(alloc, b"a").ok()?;
-    let answer = replica.override_one(&name).ok()?;
+    let answer = overridden(alloc, replica)?;
     Some((answer, own(alloc, replica)?))
 }
 
 fn overrides(alloc: Global) -> Option<(Moved, Own)> {
     let mut replica = folder(alloc, FolderKind::SendOnly)?;
     let one = DeviceId::read(1)?;
-    replica.amend_view(one, batch(alloc, b'a', 7)?).ok()?;
-    overridden(alloc, &mut replica)
+    let later = batch(alloc, directory(alloc, b'a', 7)?)?;
+    replica.amend_view(one, later).ok()?;
+    overriding(alloc, &mut replica)
 }
 
 // Both versions merged, and the own counter raised once more.
@@ -136,16 +133,16 @@ fn reverted<S: Store>(
     edited(alloc, replica)?;
     scanned(alloc, replica)?;
     let changed = own(alloc, replica)?;
-    let name = Name::read(alloc, b"a").ok()?;
+    let name = lettered(alloc, b'a')?;
     let answer = replica.revert_one(&name);
     Some((changed, answer, own(alloc, replica)?))
 }
 
-// This call of the store fails, of which the edit is the first.
+// This call of the store fails, of which the edit is the third.
 fn reverts(alloc: Global, call: u64) -> Option<(Own, Result<Moved, FolderError>, Own)> {
     let store = FaultStore::new(MemStore::new(alloc), call);
     let mut replica = folder_over(alloc, FolderKind::ReceiveOnly, store)?;
-    replica.index.put(directory(alloc, b'a', 1)?).ok()?;
+    begun(alloc, &mut replica)?;
     reverted(alloc, &mut replica)
 }
 
@@ -157,7 +154,7 @@ fn a_revert_gives_up_a_local_change(rt: HostRuntime) {
     let deleted = (3, 999, [0, 0], true, false);
     for (call, answer, left) in [
         (0, Ok(Moved::Changed), deleted),
-        (5, Err(FolderError::StoreFault), changed),
+        (7, Err(FolderError::StoreFault), changed),
     ] {
         assert_eq!(rt; reverts(rt.alloc(), call), Some((changed, answer, left)));
     }

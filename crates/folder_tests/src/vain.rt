@@ -1,11 +1,9 @@
 //! What comes to nothing: an older record, a pull that own edits overtake, a scan whose node is changed before it is put or
 //! can't be read, and an edit after the last counter. Worked out by hand, by BEP v1, 'Vector', and by this project's profile.
-use crate::pull_tests::{node, notes, record};
-use crate::tests::{folder, folder_over};
-use crate::*;
-use bep_index::Batch;
+use crate::made::{file, folder, folder_over, notes, pulled, record, sent};
+use bep_folder::{FolderError, Replica, ScanResult};
 use bep_machine::Moved;
-use bep_record::{DeviceId, FolderKind, Record};
+use bep_record::{DeviceId, FolderKind, Name, Record};
 use bep_store::{FaultStore, MemStore, Store};
 use std::alloc::Global;
 
@@ -14,24 +12,15 @@ const LAST: u64 = 9223372036854775807;
 
 type Answer = Result<Moved, FolderError>;
 
-// Device 2's folder, with this own record of the file, or none.
-fn begun(alloc: Global, own: Option<Record>) -> Option<Replica<MemStore>> {
-    let mut replica = folder(alloc, FolderKind::SendReceive)?;
-    if let Some(own) = own {
-        replica.index.put(own).ok()?;
-    }
-    Some(replica)
-}
-
-// Device 1 sends this record.
-fn heard(alloc: Global, replica: &mut Replica<MemStore>, entry: Record) -> Option<()> {
-    let records = Vec::from_array(alloc, [entry]).ok()?;
-    let batch = Batch::new(records).ok()?;
-    replica.amend_view(DeviceId::read(1)?, batch).ok()
+// Device 2 takes over this record of the file `hello`.
+fn begun(alloc: Global, replica: &mut Replica<MemStore>, own: Record) -> Option<()> {
+    sent(alloc, replica, own)?;
+    pulled(replica, &notes(alloc)?, b"hello")
 }
 
 fn edited<S: Store>(alloc: Global, replica: &mut Replica<S>, bytes: &[u8]) -> Option<()> {
-    replica.edit(&notes(alloc)?, &node(alloc, bytes)?).ok()?;
+    let name = notes(alloc)?;
+    replica.edit(&name, &file(alloc, bytes, 2000)?).ok()?;
     Some(())
 }
 
@@ -61,11 +50,15 @@ fn own<S: Store>(alloc: Global, replica: &Replica<S>) -> Option<(u64, u64)> {
 }
 
 // A pull of a record that is older than the own one.
-fn old_record(alloc: Global) -> Option<Answer> {
-    let mut replica = begun(alloc, record(alloc, 1, &[(1, 2)], b"hello"))?;
-    edited(alloc, &mut replica, b"hello")?;
-    heard(alloc, &mut replica, record(alloc, 1, &[(1, 1)], b"abc")?)?;
+fn older(alloc: Global, replica: &mut Replica<MemStore>) -> Option<Answer> {
+    begun(alloc, replica, record(alloc, 1, &[(1, 2)], b"hello")?)?;
+    sent(alloc, replica, record(alloc, 1, &[(1, 1)], b"abc")?)?;
     Some(replica.start_pull(&notes(alloc)?))
+}
+
+fn old_record(alloc: Global) -> Option<Answer> {
+    let mut replica = folder(alloc, FolderKind::SendReceive)?;
+    older(alloc, &mut replica)
 }
 
 #[test]
@@ -74,16 +67,23 @@ fn an_older_record_is_not_pulled(rt: HostRuntime) {
 }
 
 // A pull that two own edits overtake, and that is ended twice.
-fn overtaken(alloc: Global) -> Option<[Answer; 3]> {
-    let mut replica = begun(alloc, None)?;
-    heard(alloc, &mut replica, record(alloc, 2, &[(2, 1)], b"hello")?)?;
-    let name = notes(alloc)?;
-    let begun = replica.start_pull(&name);
+fn overtaken(alloc: Global, replica: &mut Replica<MemStore>, name: &Name) -> Option<[Answer; 3]> {
+    let begun = replica.start_pull(name);
     for bytes in [b"abc", b"xyz"] {
-        edited(alloc, &mut replica, bytes)?;
-        scanned(alloc, &mut replica)?.ok()?;
+        edited(alloc, replica, bytes)?;
+        scanned(alloc, replica)?.ok()?;
     }
-    Some([begun, replica.finish(&name), replica.finish(&name)])
+    Some([begun, replica.finish(name), replica.finish(name)])
+}
+
+fn overtakes(alloc: Global, replica: &mut Replica<MemStore>) -> Option<[Answer; 3]> {
+    sent(alloc, replica, record(alloc, 2, &[(2, 1)], b"hello")?)?;
+    overtaken(alloc, replica, &notes(alloc)?)
+}
+
+fn late(alloc: Global) -> Option<[Answer; 3]> {
+    let mut replica = folder(alloc, FolderKind::SendReceive)?;
+    overtakes(alloc, &mut replica)
 }
 
 #[test]
@@ -93,22 +93,27 @@ fn a_pull_that_is_overtaken_is_dropped(rt: HostRuntime) {
         Ok(Moved::Dropped),
         Err(FolderError::NotNeeded),
     ];
-    assert_eq!(rt; overtaken(rt.alloc()), Some(ends));
+    assert_eq!(rt; late(rt.alloc()), Some(ends));
 }
 
 // A scan whose node is changed before it is put.
-fn outdated(alloc: Global) -> Option<(Answer, Option<(u64, u64)>)> {
-    let mut replica = begun(alloc, None)?;
-    edited(alloc, &mut replica, b"hello")?;
-    let scan = seen(alloc, &mut replica)?.ok()?;
-    edited(alloc, &mut replica, b"abc")?;
-    let answer = replica.commit(scan);
+fn outdated(alloc: Global, replica: &mut Replica<MemStore>) -> Option<Answer> {
+    edited(alloc, replica, b"hello")?;
+    let scan = seen(alloc, replica)?.ok()?;
+    edited(alloc, replica, b"abc")?;
+    Some(replica.commit(scan))
+}
+
+// The answer to it, and what is recorded then.
+fn stale(alloc: Global) -> Option<(Answer, Option<(u64, u64)>)> {
+    let mut replica = folder(alloc, FolderKind::SendReceive)?;
+    let answer = outdated(alloc, &mut replica)?;
     Some((answer, own(alloc, &replica)))
 }
 
 #[test]
 fn a_scan_of_an_earlier_node_is_stale(rt: HostRuntime) {
-    assert_eq!(rt; outdated(rt.alloc()), Some((Err(FolderError::Stale), None)));
+    assert_eq!(rt; stale(rt.alloc()), Some((Err(FolderError::Stale), None)));
 }
 
 // Two scans of a new file, each with the own record after it; this call of the store fails, of which the edit is the first.
@@ -131,15 +136,23 @@ fn a_scan_that_cannot_read_records_nothing(rt: HostRuntime) {
 }
 
 // Two scans of a changed file whose own record has the last counter.
-fn counted_out(alloc: Global) -> Option<([Answer; 2], (u64, u64))> {
-    let mut replica = begun(alloc, record(alloc, 2, &[(2, LAST)], b"hello"))?;
-    edited(alloc, &mut replica, b"abc")?;
-    let answers = [scanned(alloc, &mut replica)?, scanned(alloc, &mut replica)?];
-    Some((answers, own(alloc, &replica)?))
+fn counted_out(
+    alloc: Global,
+    replica: &mut Replica<MemStore>,
+) -> Option<([Answer; 2], (u64, u64))> {
+    begun(alloc, replica, record(alloc, 2, &[(2, LAST)], b"hello")?)?;
+    edited(alloc, replica, b"abc")?;
+    let answers = [scanned(alloc, replica)?, scanned(alloc, replica)?];
+    Some((answers, own(alloc, replica)?))
+}
+
+fn counts(alloc: Global) -> Option<([Answer; 2], (u64, u64))> {
+    let mut replica = folder(alloc, FolderKind::SendReceive)?;
+    counted_out(alloc, &mut replica)
 }
 
 #[test]
 fn the_last_counter_is_not_passed(rt: HostRuntime) {
     let full = Err(FolderError::CounterFull);
-    assert_eq!(rt; counted_out(rt.alloc()), Some(([full, full], (1, LAST))));
+    assert_eq!(rt; counts(rt.alloc()), Some(([full, full], (1, LAST))));
 }
