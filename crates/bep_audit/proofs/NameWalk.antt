@@ -154,13 +154,6 @@ rows_split key (row ∷ more) rise above = cases (is_eq (key_cmp (key_of row) ke
             (Contains-cons_cases row more x member);
       }
 
-pub few_about : (key : Key) (rows : List Row) → length (take (rows_about key rows) rows) ≤ 1
-few_about key [] = omega arith
-few_about key (row ∷ more) = cases (is_eq (key_cmp (key_of row) key)) where
-  cases : (b : Bool) → length (take (cond b 1 0) (row ∷ more)) ≤ 1
-  cases true = omega arith
-  cases false = omega arith
-
 pub rise_rest : (key : Key) (rows : List Row) → Rise rows → Rise (drop (rows_about key rows) rows)
 rise_rest key [] rise = rise
 rise_rest key (row ∷ more) rise = cases (is_eq (key_cmp (key_of row) key)) where
@@ -307,10 +300,3 @@ count_within key (entry ∷ more) = cases (is_eq (key_cmp (entry_key entry) key)
   cases : (b : Bool) → count_at key more ≤ length more → cond b (1 + count_at key more) 0 ≤ length (entry ∷ more)
   cases true rest = omega (arith, rest)
   cases false rest = omega arith
-
-pub about_within : (key : Key) (rows : List Row) → rows_about key rows ≤ length rows
-about_within key [] = omega arith
-about_within key (row ∷ more) = cases (is_eq (key_cmp (key_of row) key)) where
-  cases : (b : Bool) → cond b 1 0 ≤ length (row ∷ more)
-  cases true = omega arith
-  cases false = omega arith
