@@ -12,22 +12,10 @@ use Rattle.bep_tables.specs.declared.share.Share.{Share}
 use Rattle.bep_tables.specs.declared.link.LinkState.{LinkState}
 use Rattle.bep_tables.specs.declared.cut.CutParts.{CutParts}
 use Rattle.bep_tables.specs.Cut.{IsCut, ArePulls, devices_of, shares_of, tables_of}
-use Rattle.bep_tables.specs.Laws.{FolderIsFound, ShareHasFolder, SharingIsSaid, OwnIsSaid, NodeIsSaid, ViewedIsSaid, TargetIsSaid, FlyingIsSaid, ReceiverShares, Carries, HasRecord}
+use Rattle.bep_tables.specs.Laws.{CutSays, Carries, HasRecord}
 use Rattle.bep_audit.specs.Known.{HasName, Brings, IsBroughtBy, IsOver, IsOnItsWay, IsKnownFrom}
 use Rattle.bep_audit.proofs.MapFacts.{there_is}
 use Rattle.bep_audit.proofs.WinnerSaid.{are_shares, few_rise}
-
--- the law of bep_tables
-pub record CutSays : Type 0 where
-  pub found : FolderIsFound
-  pub has_folder : ShareHasFolder
-  pub sharing : SharingIsSaid
-  pub own : OwnIsSaid
-  pub node : NodeIsSaid
-  pub viewed : ViewedIsSaid
-  pub target : TargetIsSaid
-  pub flying : FlyingIsSaid
-  pub receiver : ReceiverShares
 
 module _ (said : CutSays) (cut : CutParts) (is_cut : IsCut cut) where
   -- a device that shares the folder has a share of it
