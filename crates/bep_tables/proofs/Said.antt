@@ -1,6 +1,5 @@
 -- The entries of a cut are what its tables say.
-use Rattle.std.proofs.Common.{◌≡◌, ◌↔◌, ◌++◌, List, map, flat_map, Option, Some, None, Contains, option_and_then, refl, sym, ap, subst, ◌∙◌, inl, inr, ⊎_elim}
-use Rattle.std.specs.Ordering.{nat_cmp}
+use Rattle.std.proofs.Common.{◌≡◌, ◌++◌, ℕ, List, map, flat_map, Option, Some, None, Contains, option_and_then, refl, sym, ap, subst, ◌∙◌, inl, inr, ⊎_elim}
 use Rattle.std.specs.Cmp.{Equal-is}
 use Rattle.std.specs.FinMap.{get, entries, nat_cmp-IsAntisymmetric}
 use Rattle.std.proofs.lemmas.List.Elements.{Contains-append_left, Contains-append_right, Contains-append_cases}
@@ -19,10 +18,9 @@ use Rattle.bep_tables.specs.declared.share.PeerView.{PeerView}
 use Rattle.bep_tables.specs.declared.share.SharedFolder.{SharedFolder}
 use Rattle.bep_tables.specs.declared.link.LinkState.{LinkState}
 use Rattle.bep_tables.specs.declared.cut.CutParts.{CutParts}
-use Rattle.bep_tables.specs.declared.table.entry.Source.{Source}
 use Rattle.bep_tables.specs.declared.table.entry.Source.TheVariants as from
 use Rattle.bep_tables.specs.Cut.{IsCut, is_device, shares_of, share_of, view_of, tables_of}
-use Rattle.bep_tables.specs.Laws.{Carries, HasRecord}
+use Rattle.bep_tables.specs.Laws.{Carries}
 use Rattle.bep_tables.specs.Listed.{Holding, Record, Node, Listed, recorded, stored, flying, records_listed, nodes_listed, views_listed, share_listed, folder_listed, flight_listed, link_listed, cut_listed}
 use Rattle.bep_tables.specs.Said.{Holds, EntriesAreHeld, HoldersShare}
 use Rattle.bep_tables.proofs.Found.{find_gives}
@@ -56,27 +54,29 @@ module _ (cut : CutParts) (is_cut : IsCut cut) where
   shares_it : (folder : Folder) (share : Share) → Contains (SharesOf folder) share → Shares (tables_of cut) share.device folder
   shares_it folder share h = (share.kind, (sharing_is_said cut folder share.device share.kind).1 (share, h, refl, refl))
 
+  held_entry : {V : Type 0} (show : List ℕ × V → Listed) (held : ByName V) (one : Listed) → ((name : FileName) (v : V) → get held name ≡ Some v → IsHeldThere (show (name, v))) → Contains (map show (entries held)) one → IsHeldThere one
+  held_entry show held one says there =
+      let found = Contains-from_image show (entries held) one there in
+      subst IsHeldThere found.2 (says found.0.0 found.0.1 ((entry_stands nat_list_cmp_total exact_bytes held found.0.0 found.0.1).1 found.1))
+
   held_own : (folder : Folder) (share : Share) (one : Listed) → Contains (SharesOf folder) share → Contains (records_listed folder share.device from.Own share.own) one → IsHeldThere one
-  held_own folder share one h there =
-      let found = Contains-from_image (recorded folder share.device from.Own) (entries share.own) one there in
-      subst IsHeldThere found.2 (own_is_said cut folder found.0.0 share is_cut h ∙ (entry_stands nat_list_cmp_total exact_bytes share.own found.0.0 found.0.1).1 found.1, shares_it folder share h)
+  held_own folder share one h =
+      held_entry (recorded folder share.device from.Own) share.own one (λ name entry has. (own_is_said cut folder name share is_cut h ∙ has, shares_it folder share h))
 
   held_node : (folder : Folder) (share : Share) (one : Listed) → Contains (SharesOf folder) share → Contains (nodes_listed folder share.device share.store) one → IsHeldThere one
-  held_node folder share one h there =
-      let found = Contains-from_image (stored folder share.device) (entries share.store) one there in
-      subst IsHeldThere found.2 (node_is_said cut folder found.0.0 share is_cut h ∙ (entry_stands nat_list_cmp_total exact_bytes share.store found.0.0 found.0.1).1 found.1, shares_it folder share h)
+  held_node folder share one h =
+      held_entry (stored folder share.device) share.store one (λ name node has. (node_is_said cut folder name share is_cut h ∙ has, shares_it folder share h))
 
   held_pull : (folder : Folder) (share : Share) (one : Listed) → Contains (SharesOf folder) share → Contains (records_listed folder share.device from.Pull share.pulls) one → IsHeldThere one
-  held_pull folder share one h there =
-      let found = Contains-from_image (recorded folder share.device from.Pull) (entries share.pulls) one there in
-      subst IsHeldThere found.2 (target_is_said cut folder found.0.0 share is_cut h ∙ (entry_stands nat_list_cmp_total exact_bytes share.pulls found.0.0 found.0.1).1 found.1, shares_it folder share h)
+  held_pull folder share one h =
+      held_entry (recorded folder share.device from.Pull) share.pulls one (λ name entry has. (target_is_said cut folder name share is_cut h ∙ has, shares_it folder share h))
 
   held_view : (folder : Folder) (share : Share) (one : Listed) → Contains (SharesOf folder) share → Contains (views_listed folder share.device share.views) one → IsHeldThere one
   held_view folder share one h there =
       let view = Contains-from_flat_map (λ (view : PeerView). records_listed folder share.device from.View view.records) share.views one there in
-      let found = Contains-from_image (recorded folder share.device from.View) (entries view.0.records) one view.2 in
-      let has = (entry_stands nat_list_cmp_total exact_bytes view.0.records found.0.0 found.0.1).1 found.1 in
-      subst IsHeldThere found.2 ((viewed_is_said cut folder found.0.0 found.0.1 share is_cut h).1 (view.0, view.1, has), shares_it folder share h)
+      held_entry (recorded folder share.device from.View) view.0.records one
+      (λ name entry has. ((viewed_is_said cut folder name entry share is_cut h).1 (view.0, view.1, has), shares_it folder share h))
+      view.2
 
   held_share : (folder : Folder) (share : Share) (one : Listed) → Contains (SharesOf folder) share → Contains (share_listed folder share) one → IsHeldThere one
   unfolding share_listed

@@ -1,9 +1,7 @@
 -- The entries of a cut, one after the other, and a cut grouped by folder and name (this project's profile).
 use Rattle.std.specs.Prelude.{◌≡◌, ◌≢◌, ◌++◌, Bool, List, [], ◌∷◌, ⊤, map, Contains}
-use Rattle.std.specs.Ordering.{nat_cmp, is_eq, on, then_cmp}
-use Rattle.std.specs.declared.cmp.Ordering.{Ordering}
+use Rattle.std.specs.Ordering.{is_eq}
 use Rattle.std.specs.declared.cmp.Ordering.TheVariants.{Greater}
-use Rattle.std.specs.Cmp.Lexicographic.{slice_cmp}
 use Rattle.std.specs.List.{filter, flat_map}
 use Rattle.std.specs.FinMap.{entries}
 use Rattle.bep_record.specs.declared.entry.Entry.{Entry}
