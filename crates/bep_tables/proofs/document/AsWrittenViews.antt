@@ -18,7 +18,7 @@ use Rattle.bep_tables.specs.Cut.{view_of}
 use Rattle.bep_tables.specs.document.Written.{by_viewed, has_point, view_written, share_written, cut_written}
 use Rattle.bep_tables.proofs.Found.{found_itself, find_gives}
 use Rattle.bep_tables.proofs.Tables.{are_views, viewed_by_share}
-use Rattle.bep_tables.proofs.document.Kept.{kept}
+use Rattle.bep_tables.specs.Kept.{kept}
 use Rattle.bep_tables.proofs.document.WrittenFacts.{part_there, view_part}
 use Rattle.bep_tables.proofs.document.CutWritten.{CutIsWritten}
 use Rattle.bep_tables.proofs.document.AsWrittenFacts.{faultless_share, found_as_listed, share_there}
