@@ -165,29 +165,29 @@ module _ (cut : CutParts) (is_cut : IsCut cut) where
       (Contains-image (recorded folder share.device from.Pull) (entries share.pulls) (name, entry) ((entry_stands nat_list_cmp_total exact_bytes share.pulls name entry).0 has))
 
   -- what is looked up of a device is of its share
-  found_in_share : {A : Type 0} (look : Share → Option A) (device : Device) (folder : Folder) (value : A) → option_and_then look (share_of device (SharesOf folder)) ≡ Some value → (share : Share) × Contains (SharesOf folder) share × (share.device ≡ device)
+  found_in_share : {A : Type 0} (look : Share → Option A) (device : Device) (folder : Folder) (value : A) → option_and_then look (share_of device (SharesOf folder)) ≡ Some value → (share : Share) × Contains (SharesOf folder) share × (share.device ≡ device) × (look share ≡ Some value)
   found_in_share {A} look device folder value e = cases (share_of device (SharesOf folder)) refl e where
-    cases : (found : Option Share) → share_of device (SharesOf folder) ≡ found → option_and_then look found ≡ Some value → (share : Share) × Contains (SharesOf folder) share × (share.device ≡ device)
+    cases : (found : Option Share) → share_of device (SharesOf folder) ≡ found → option_and_then look found ≡ Some value → (share : Share) × Contains (SharesOf folder) share × (share.device ≡ device) × (look share ≡ Some value)
     cases None e none = absurd (cc)
     cases (Some share) e some =
         let gives = find_gives (is_device device) (SharesOf folder) share e in
-        (share, gives.0, nat_cmp-IsAntisymmetric share.device device ((Equal-is _).0 gives.1))
+        (share, gives.0, nat_cmp-IsAntisymmetric share.device device ((Equal-is _).0 gives.1), some)
+
+  -- so it is listed, where it is of each share
+  of_share : {A : Type 0} (look : Share → Option A) (device : Device) (folder : Folder) (value : A) (one : Device → Listed) → ((share : Share) → Contains (SharesOf folder) share → look share ≡ Some value → Contains (share_listed folder share) (one share.device)) → option_and_then look (share_of device (SharesOf folder)) ≡ Some value → Contains (cut_listed cut) (one device)
+  of_share look device folder value one listed has =
+      let found = found_in_share look device folder value has in
+      subst (λ d. Contains (cut_listed cut) (one d)) found.2 (listed_in_share folder found.0 _ found.1 (listed found.0 found.1 found.3))
 
   of_own : (device : Device) (folder : Folder) (name : FileName) (entry : Entry) → (tables_of cut).own device folder name ≡ Some entry → Contains (cut_listed cut) (recorded folder device from.Own (name, entry))
   unfolding tables_of
-  of_own device folder name entry has =
-      let found = found_in_share (λ share. get share.own name) device folder entry has in
-      let here = subst (λ d. (tables_of cut).own d folder name ≡ Some entry) (sym found.2) has in
-      subst (λ d. Contains (cut_listed cut) (recorded folder d from.Own (name, entry))) found.2
-      (listed_in_share folder found.0 _ found.1 (listed_own folder name found.0 entry found.1 (sym (own_is_said cut folder name found.0 is_cut found.1) ∙ here)))
+  of_own device folder name entry =
+      of_share (λ share. get share.own name) device folder entry (λ d. recorded folder d from.Own (name, entry)) (λ share. listed_own folder name share entry)
 
   of_node : (device : Device) (folder : Folder) (name : FileName) (node : NodeParts) → (tables_of cut).node device folder name ≡ Some node → Contains (cut_listed cut) (stored folder device (name, node))
   unfolding tables_of
-  of_node device folder name node has =
-      let found = found_in_share (λ share. get share.store name) device folder node has in
-      let here = subst (λ d. (tables_of cut).node d folder name ≡ Some node) (sym found.2) has in
-      subst (λ d. Contains (cut_listed cut) (stored folder d (name, node))) found.2
-      (listed_in_share folder found.0 _ found.1 (listed_node folder name found.0 node found.1 (sym (node_is_said cut folder name found.0 is_cut found.1) ∙ here)))
+  of_node device folder name node =
+      of_share (λ share. get share.store name) device folder node (λ d. stored folder d (name, node)) (λ share. listed_node folder name share node)
 
   of_view : (device : Device) (folder : Folder) (name : FileName) (entry : Entry) → IsViewed (tables_of cut) device folder name entry → Contains (cut_listed cut) (recorded folder device from.View (name, entry))
   unfolding tables_of
@@ -200,11 +200,8 @@ module _ (cut : CutParts) (is_cut : IsCut cut) where
 
   of_pull : (device : Device) (folder : Folder) (name : FileName) (entry : Entry) → (tables_of cut).target device folder name ≡ Some entry → Contains (cut_listed cut) (recorded folder device from.Pull (name, entry))
   unfolding tables_of
-  of_pull device folder name entry has =
-      let found = found_in_share (λ share. get share.pulls name) device folder entry has in
-      let here = subst (λ d. (tables_of cut).target d folder name ≡ Some entry) (sym found.2) has in
-      subst (λ d. Contains (cut_listed cut) (recorded folder d from.Pull (name, entry))) found.2
-      (listed_in_share folder found.0 _ found.1 (listed_pull folder name found.0 entry found.1 (sym (target_is_said cut folder name found.0 is_cut found.1) ∙ here)))
+  of_pull device folder name entry =
+      of_share (λ share. get share.pulls name) device folder entry (λ d. recorded folder d from.Pull (name, entry)) (λ share. listed_pull folder name share entry)
 
   listed_in_link : (link : LinkState) (device : Device) (flight : Flight) (entry : Entry) → Carries link device flight → Contains flight.records entry → Contains (link_listed link) (flying flight.folder device entry)
   unfolding link_listed
