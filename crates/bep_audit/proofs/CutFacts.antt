@@ -12,22 +12,10 @@ use Rattle.bep_tables.specs.declared.share.Share.{Share}
 use Rattle.bep_tables.specs.declared.link.LinkState.{LinkState}
 use Rattle.bep_tables.specs.declared.cut.CutParts.{CutParts}
 use Rattle.bep_tables.specs.Cut.{IsCut, ArePulls, devices_of, shares_of, tables_of}
-use Rattle.bep_tables.specs.Laws.{FolderIsFound, ShareHasFolder, SharingIsSaid, OwnIsSaid, NodeIsSaid, ViewedIsSaid, TargetIsSaid, FlyingIsSaid, ReceiverShares, Carries, HasRecord}
+use Rattle.bep_tables.specs.Laws.{CutSays, Carries, HasRecord}
 use Rattle.bep_audit.specs.Known.{HasName, Brings, IsBroughtBy, IsOver, IsOnItsWay, IsKnownFrom}
 use Rattle.bep_audit.proofs.MapFacts.{there_is}
-use Rattle.bep_audit.proofs.WinnerSaid.{are_shares}
-
--- the law of bep_tables
-pub record CutSays : Type 0 where
-  pub found : FolderIsFound
-  pub has_folder : ShareHasFolder
-  pub sharing : SharingIsSaid
-  pub own : OwnIsSaid
-  pub node : NodeIsSaid
-  pub viewed : ViewedIsSaid
-  pub target : TargetIsSaid
-  pub flying : FlyingIsSaid
-  pub receiver : ReceiverShares
+use Rattle.bep_audit.proofs.WinnerSaid.{are_shares, few_rise}
 
 module _ (said : CutSays) (cut : CutParts) (is_cut : IsCut cut) where
   -- a device that shares the folder has a share of it
@@ -39,8 +27,7 @@ module _ (said : CutSays) (cut : CutParts) (is_cut : IsCut cut) where
 
   -- the devices that share a folder rise
   pub devices_rise : (folder : Folder) (shares : List Share) → shares ≡ shares_of folder cut.folders → IsStrictlyIncreasing (devices_of shares)
-  devices_rise folder shares is =
-      subst (λ all. IsStrictlyIncreasing (devices_of all)) (sym is) (are_shares said.found said.has_folder cut is_cut folder).rise
+  devices_rise folder shares is = (few_rise said.found said.has_folder cut is_cut folder shares is).1
 
   -- what a device pulls isn't invalid
   pull_is_valid : (folder : Folder) (name : FileName) (entry : Entry) (share : Share) → Contains (shares_of folder cut.folders) share → get share.pulls name ≡ Some entry → entry.invalid ≡ false

@@ -21,7 +21,8 @@ use Rattle.bep_audit.specs.Held.{AsksOf, AsksAmong}
 use Rattle.bep_audit.specs.Search.{FindsFirst, FindsFailing}
 use Rattle.bep_audit.specs.Shown.{part_of}
 use Rattle.bep_audit.proofs.AskedAtRow.{IsOfDevices}
-use Rattle.bep_audit.proofs.CutFacts.{CutSays, share_of_device, device_of_share}
+use Rattle.bep_tables.specs.Laws.{CutSays}
+use Rattle.bep_audit.proofs.CutFacts.{share_of_device, device_of_share}
 use Rattle.bep_audit.proofs.ForeignFacts.{views_asked, flights_asked, pulls_asked}
 use Rattle.bep_tables.specs.declared.table.entry.Source.TheVariants.{View, Flight, Pull}
 use Rattle.bep_tables.specs.Listed.{Listed}

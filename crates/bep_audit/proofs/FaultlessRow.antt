@@ -20,7 +20,7 @@ use Rattle.bep_audit.specs.Group.{IsGroupOf, AsksElsewhere}
 use Rattle.bep_audit.specs.Share.{AsksHere, ShareIsAsked}
 use Rattle.bep_audit.specs.Walk.{FindsHere, FindsLeast}
 use Rattle.bep_audit.proofs.AskedAtRow.{IsOfDevices}
-use Rattle.bep_audit.proofs.CutFacts.{CutSays}
+use Rattle.bep_tables.specs.Laws.{CutSays}
 use Rattle.bep_audit.proofs.FailingDevice.{finds_by_group}
 use Rattle.bep_audit.proofs.FailingRow.{finds_unknown, finds_loser}
 use Rattle.bep_audit.proofs.GroupRow.{finds_here, order_holds, missing_holds}

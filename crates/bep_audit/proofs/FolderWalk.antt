@@ -23,7 +23,8 @@ use Rattle.bep_audit.specs.Missing.{FindsMissing}
 use Rattle.bep_audit.specs.Search.{FindsFirst, FindsFailing}
 use Rattle.bep_audit.proofs.SearchFacts.{AllSay, finds_as}
 use Rattle.bep_audit.proofs.WalkFacts.{IsBefore, AreInOrder, in_order_by_key}
-use Rattle.bep_audit.proofs.CutFacts.{CutSays, share_of_device, known_exactly}
+use Rattle.bep_tables.specs.Laws.{CutSays}
+use Rattle.bep_audit.proofs.CutFacts.{share_of_device, known_exactly}
 
 -- the folder decides, and then the name
 not_greater : (by_folder rest : Ordering) → ordering_then by_folder rest ≡ Less → by_folder ≡ Greater → ⊥

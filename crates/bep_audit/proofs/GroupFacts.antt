@@ -21,7 +21,7 @@ use Rattle.bep_audit.specs.Foreign.{Passes}
 use Rattle.bep_audit.specs.Group.{IsGroupOf, counts, IsCountedIn, GroupPasses}
 use Rattle.bep_audit.proofs.ListFacts.{SomeSuch, EachSuch}
 use Rattle.bep_audit.proofs.MapFacts.{there_is}
-use Rattle.bep_audit.proofs.CutFacts.{CutSays}
+use Rattle.bep_tables.specs.Laws.{CutSays}
 use Rattle.bep_audit.proofs.ForeignFacts.{by_tables, by_share}
 
 -- ---- lent entries

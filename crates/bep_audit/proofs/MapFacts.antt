@@ -1,15 +1,13 @@
 -- Where a name stands in a map.
-use Rattle.std.proofs.Common.{◌≡◌, ◌↔◌, List, Contains, Option, Some, None, IsTrue, IsSome, refl, sym, ◌∙◌}
+use Rattle.std.proofs.Common.{◌≡◌, ◌↔◌, List, Contains, Option, Some, None, IsSome, refl}
 use Rattle.std.proofs.Math.Dec.{T}
 use Rattle.std.specs.declared.cmp.Ordering.{Ordering}
 use Rattle.std.specs.declared.cmp.Ordering.TheVariants.{Less}
 use Rattle.std.specs.Ordering.{nat_cmp}
-use Rattle.std.specs.Cmp.{eq_by_cmp_equiv, Equal-is}
 use Rattle.std.specs.Cmp.Lexicographic.{slice_cmp, nat_list_cmp_total}
 use Rattle.std.specs.FinMap.Entries.{below_all}
-use Rattle.std.specs.FinMap.{get, contains_key, contains_key-keys, entries, keys}
+use Rattle.std.specs.FinMap.{get, entries}
 use Rattle.std.proofs.lemmas.Map.Lookups.{exact_bytes}
-use Rattle.std.proofs.lemmas.Map.Views.{list_any-from_Contains, Contains-from_any}
 use Rattle.bep_facts.specs.Entries as facts
 use Rattle.bep_map.specs.NameMap.{ByName}
 use Rattle.bep_model.specs.Tables.{FileName}
@@ -17,13 +15,6 @@ use Rattle.bep_model.specs.Tables.{FileName}
 -- names are compared by their bytes
 abbrev pub by_name : FileName → FileName → Ordering
 by_name = slice_cmp nat_cmp
-
--- a name is in the map exactly where it stands among its names
-pub key_stands : {V : Type 0} (held : ByName V) (name : FileName) → IsTrue (contains_key held name) ↔ Contains (keys held) name
-key_stands held name = (
-  λ has. Contains-from_any (λ x y e. exact_bytes x y ((Equal-is _).0 e)) name (keys held) (sym (contains_key-keys held name) ∙ has),
-  λ stands. contains_key-keys held name ∙ list_any-from_Contains (eq_by_cmp_equiv nat_list_cmp_total) name (keys held) stands,
-)
 
 -- what is there
 pub there_is : {X : Type 0} (found : Option X) → IsSome found → (x : X) × (found ≡ Some x)

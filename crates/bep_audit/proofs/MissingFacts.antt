@@ -16,9 +16,8 @@ use Rattle.bep_model.specs.Tables.{Folder, FileName}
 use Rattle.bep_model.specs.Settled.{HasRow}
 use Rattle.bep_model.specs.declared.flight.Flight.{Flight}
 use Rattle.bep_audit.specs.Known.{HasValid, IsValidOf, HasValidOf, Brings}
-use Rattle.bep_audit.specs.Missing.{FindsMissing}
+use Rattle.bep_audit.specs.Missing.{FindsMissing, OneHas}
 use Rattle.bep_audit.specs.Search.{FindsFirst, lesser}
-use Rattle.bep_audit.proofs.ListFacts.{SomeSuch}
 use Rattle.bep_facts.specs.Entries.{both_hold}
 use Rattle.bep_audit.proofs.MapFacts.{by_name, there_is, later_is_above, entry_stands}
 use Rattle.bep_audit.proofs.SearchFacts.{AllSay, finds_as, goes_on, fails_here, ends, lesser_finds}
@@ -139,16 +138,12 @@ module _ (rows : List Row) (folder : Folder) where
   -- ---- over a list of things that have names
 
   module _ {Y : Type 0} (Names : Y → FileName → Type 0) where
-    -- one of them has the name
-    abbrev pub OneHas : List Y → FileName → Type 0
-    OneHas ys name = SomeSuch (λ y. Names y name) ys
-
-    pub least_of_none : FindsMissing rows folder (OneHas []) None
+    pub least_of_none : FindsMissing rows folder (OneHas Names []) None
     least_of_none name some = absurd (not_in_none some.0 some.1)
 
-    one_more : (done : List Y) (y : Y) (found : Option FileName) → FindsMissing rows folder (λ name. OneHas done name ⊎ Names y name) found → FindsMissing rows folder (OneHas (done ++ y ∷ [])) found
+    one_more : (done : List Y) (y : Y) (found : Option FileName) → FindsMissing rows folder (λ name. OneHas Names done name ⊎ Names y name) found → FindsMissing rows folder (OneHas Names (done ++ y ∷ [])) found
     one_more done y =
-        finds_as by_name (λ name. OneHas done name ⊎ Names y name → HasRow rows folder name) (λ name. OneHas (done ++ y ∷ []) name → HasRow rows folder name)
+        finds_as by_name (λ name. OneHas Names done name ⊎ Names y name → HasRow rows folder name) (λ name. OneHas Names (done ++ y ∷ []) name → HasRow rows folder name)
         (λ name has_row some.
         ⊎_elim
         (λ before. has_row (inl (some.0, before, some.2)))
@@ -158,10 +153,10 @@ module _ (rows : List Row) (folder : Folder) where
         (λ some. has_row (some.0, Contains-append_left done (y ∷ []) some.0 some.1, some.2))
         (λ here. has_row (y, Contains-push done y, here)))
 
-    pub least_goes_on : (ys : List Y) (place : ℕ) (y : Y) → place < length ys → y ≡ get_or ys place y → (so_far more found : Option FileName) → FindsMissing rows folder (OneHas (take place ys)) so_far → FindsMissing rows folder (Names y) more → found ≡ lesser by_name so_far more → FindsMissing rows folder (OneHas (take (place + 1) ys)) found
+    pub least_goes_on : (ys : List Y) (place : ℕ) (y : Y) → place < length ys → y ≡ get_or ys place y → (so_far more found : Option FileName) → FindsMissing rows folder (OneHas Names (take place ys)) so_far → FindsMissing rows folder (Names y) more → found ≡ lesser by_name so_far more → FindsMissing rows folder (OneHas Names (take (place + 1) ys)) found
     least_goes_on ys place y below stands so_far more found first second is =
-        subst (λ done. FindsMissing rows folder (OneHas done) found) (sym (done_with ys place y below stands))
-        (one_more (take place ys) y found (least_of_two (OneHas (take place ys)) (Names y) so_far more found first second is))
+        subst (λ done. FindsMissing rows folder (OneHas Names done) found) (sym (done_with ys place y below stands))
+        (one_more (take place ys) y found (least_of_two (OneHas Names (take place ys)) (Names y) so_far more found first second is))
 
-    pub least_of_all : (ys : List Y) (place : ℕ) → length ys ≤ place → (found : Option FileName) → FindsMissing rows folder (OneHas (take place ys)) found → FindsMissing rows folder (OneHas ys) found
-    least_of_all ys place past found least = subst (λ all. FindsMissing rows folder (OneHas all) found) (take_all place ys past) least
+    pub least_of_all : (ys : List Y) (place : ℕ) → length ys ≤ place → (found : Option FileName) → FindsMissing rows folder (OneHas Names (take place ys)) found → FindsMissing rows folder (OneHas Names ys) found
+    least_of_all ys place past found least = subst (λ all. FindsMissing rows folder (OneHas Names all) found) (take_all place ys past) least

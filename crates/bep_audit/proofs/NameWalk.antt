@@ -154,13 +154,6 @@ rows_split key (row ∷ more) rise above = cases (is_eq (key_cmp (key_of row) ke
             (Contains-cons_cases row more x member);
       }
 
-pub few_about : (key : Key) (rows : List Row) → length (take (rows_about key rows) rows) ≤ 1
-few_about key [] = omega arith
-few_about key (row ∷ more) = cases (is_eq (key_cmp (key_of row) key)) where
-  cases : (b : Bool) → length (take (cond b 1 0) (row ∷ more)) ≤ 1
-  cases true = omega arith
-  cases false = omega arith
-
 pub rise_rest : (key : Key) (rows : List Row) → Rise rows → Rise (drop (rows_about key rows) rows)
 rise_rest key [] rise = rise
 rise_rest key (row ∷ more) rise = cases (is_eq (key_cmp (key_of row) key)) where
@@ -278,25 +271,23 @@ module _ (entries : List TableEntry) (rows : List Row) (key : Key) (order : AreI
       (λ rest. inl (inr (row.0, rest, row.2)))
       (in_either rows (rows_about key rows) row.0 row.1)
 
-  -- the walk gets shorter
+  -- the walk gets shorter where something is taken
+  fewer : 0 < length (take (count_at key entries) entries) + length (take (rows_about key rows) rows) → length (drop (count_at key entries) entries) + length (drop (rows_about key rows) rows) < length entries + length rows
+  fewer some =
+      let one = parts_length entries (count_at key entries) in
+      let other = parts_length rows (rows_about key rows) in
+      omega (arith, some, one, other)
+
   shorter_at : Remains entries rows key → length (drop (count_at key entries) entries) + length (drop (rows_about key rows) rows) < length entries + length rows
   shorter_at (inl entry) =
       ⊎_elim
-      (λ front.
-      let some = front.1 in
-      let one = parts_length entries (count_at key entries) in
-      let other = parts_length rows (rows_about key rows) in
-      omega (arith, some, one, other))
-      (λ rest. absurd (under_itself key (subst (IsUnder key) entry.2 (entries_part.later entry.0 rest))))
+      (λ front. let some = front.1 in fewer (omega (arith, some)))
+      (λ rest. absurd (not_left (inl (entry.0, rest, entry.2))))
       (in_either entries (count_at key entries) entry.0 entry.1)
   shorter_at (inr row) =
       ⊎_elim
-      (λ front.
-      let some = front.1 in
-      let one = parts_length entries (count_at key entries) in
-      let other = parts_length rows (rows_about key rows) in
-      omega (arith, some, one, other))
-      (λ rest. absurd (under_itself key (subst (IsUnder key) row.2 (rows_part.later row.0 rest))))
+      (λ front. let some = front.1 in fewer (omega (arith, some)))
+      (λ rest. absurd (not_left (inr (row.0, rest, row.2))))
       (in_either rows (rows_about key rows) row.0 row.1)
 
   pub shorter : length (drop (count_at key entries) entries) + length (drop (rows_about key rows) rows) < length entries + length rows
@@ -309,10 +300,3 @@ count_within key (entry ∷ more) = cases (is_eq (key_cmp (entry_key entry) key)
   cases : (b : Bool) → count_at key more ≤ length more → cond b (1 + count_at key more) 0 ≤ length (entry ∷ more)
   cases true rest = omega (arith, rest)
   cases false rest = omega arith
-
-pub about_within : (key : Key) (rows : List Row) → rows_about key rows ≤ length rows
-about_within key [] = omega arith
-about_within key (row ∷ more) = cases (is_eq (key_cmp (key_of row) key)) where
-  cases : (b : Bool) → cond b 1 0 ≤ length (row ∷ more)
-  cases true = omega arith
-  cases false = omega arith

@@ -88,11 +88,12 @@ module _ (t : Tables) (rows : List Row) where
   not_both : (verdict : program.Verdict) (reason : Reason) (spot : Place) → verdict_shown verdict ≡ Not reason spot.folder spot.name spot.device → verdict ≡ lends.Settled → ⊥
   not_both verdict reason spot is settled = let e : Settled ≡ Not reason spot.folder spot.name spot.device = sym (ap verdict_shown settled) ∙ is in cc
 
-  pub failing_is_not_settled : SettledIsFaultless → (verdict : program.Verdict) (reason : Reason) (spot : Place) → verdict_shown verdict ≡ Not reason spot.folder spot.name spot.device → IsFirstFault t rows reason spot → (verdict ≡ lends.Settled) ↔ IsSettled t rows
-  failing_is_not_settled faultless verdict reason spot is failing = (
-    λ settled. absurd (not_both verdict reason spot is settled),
-    λ settled. absurd (failing.fails ((faultless t rows).0 settled reason spot)),
-  )
+  pub failing_is_not_settled : SettledIsFaultless → (verdict : program.Verdict) (reason : Reason) (spot : Place) → verdict_shown verdict ≡ Not reason spot.folder spot.name spot.device → IsVerdict t rows (verdict_shown verdict) → (verdict ≡ lends.Settled) ↔ IsSettled t rows
+  failing_is_not_settled faultless verdict reason spot is said =
+      let failing : IsFirstFault t rows reason spot = subst (IsVerdict t rows) is said in (
+        λ settled. absurd (not_both verdict reason spot is settled),
+        λ settled. absurd (failing.fails ((faultless t rows).0 settled reason spot)),
+      )
 
   pub calm_of_none : {A : Type 0} (verdict : program.Verdict) (reason : Reason) (spot : Place) → verdict_shown verdict ≡ Not reason spot.folder spot.name spot.device → verdict ≡ lends.Settled → A
   calm_of_none verdict reason spot is settled = absurd (not_both verdict reason spot is settled)

@@ -2,6 +2,7 @@
 use Rattle.std.proofs.Common.{◌≡◌, ◌≤◌, ℕ, List, [], ◌∷◌, ◌++◌, Contains, length, refl, sym, ap, subst, ◌∙◌, arith}
 use Rattle.std.specs.Prelude.{map}
 use Rattle.std.specs.FinMap.{get}
+use Rattle.std.specs.List.Sorted.{IsStrictlyIncreasing}
 use Rattle.std.proofs.lemmas.List.{length-map}
 use Rattle.std.proofs.lemmas.List.Elements.{All-contains, All-contains_itself}
 use Rattle.bep_facts.specs.Members.{Contains-first, Contains-from_image, Contains-more}
@@ -53,12 +54,17 @@ module _ (found : FolderIsFound) (has_folder : ShareHasFolder) (cut : CutParts) 
       let held = held_with folder share.0 share.1 in
       (held.0, held.1, subst (λ (shares : List Share). Contains (devices_of shares) device) held.2 member)
 
-  pub few_shares : (folder : Folder) → length (shares_of folder cut.folders) ≤ MAX_DEVICES
+  few_shares : (folder : Folder) → length (shares_of folder cut.folders) ≤ MAX_DEVICES
   few_shares folder =
       let shares = shares_of folder cut.folders in
       let devices = devices_of shares in
       let few = is_cut.few_devices devices (are_shares folder).rise (λ k default within. has_device folder _ (All-contains_itself devices k default within)) in
       omega (arith, few, length-map shares (λ (one : Share). one.device))
+
+  -- they are few, and their devices rise
+  pub few_rise : (folder : Folder) (shares : List Share) → shares ≡ shares_of folder cut.folders → (length shares ≤ MAX_DEVICES) × IsStrictlyIncreasing (devices_of shares)
+  few_rise folder shares is =
+      subst (λ all. (length all ≤ MAX_DEVICES) × IsStrictlyIncreasing (devices_of all)) (sym is) (few_shares folder, (are_shares folder).rise)
 
 -- ---- their own records
 

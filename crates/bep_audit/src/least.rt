@@ -1,14 +1,43 @@
-//! What the searches for the least name without a row share.
+//! The least name without a row, of those that something has.
 ghost use Rattle.std.specs.Prelude.{◌≡◌, ◌↔◌, IsTrue, false};
 ghost use Rattle.std.specs.Option.{option_copied};
 ghost use Rattle.std.specs.Ordering.{nat_cmp};
 ghost use Rattle.std.specs.Cmp.Lexicographic.{slice_cmp};
 ghost use Rattle.bep_model.specs.Settled.{Rise, HasRow};
+ghost use Rattle.bep_model.specs.Tables.{Folder, FileName};
+ghost use Rattle.bep_audit.specs.Missing.{FindsMissing, OneHas};
 ghost use Rattle.bep_audit.specs.Search.{lesser};
 
 use crate::find_row;
 use bep_model::Row;
 use bep_record::{FolderName, Name, Record};
+
+/// What has names in folders.
+pub(crate) trait HasNames {
+    /// The names that it has in a folder.
+    ghost names: { Self → Folder → FileName → Type 0 };
+
+    /// The least of these without a row.
+    fn least_missing<'a>(&'a self, rows: &[Row], folder: &FolderName) -> Option<&'a Name>
+        requires { Rise rows.now }
+        ensures { FindsMissing rows.now folder.now (names self.now folder.now) (option_copied result) };
+}
+
+/// The least name without a row, of those that one of these has.
+pub(crate) fn least_of<'a, T: HasNames>(
+    rows: &[Row],
+    folder: &FolderName,
+    items: &'a [T],
+) -> Option<&'a Name>
+    requires { Rise rows.now }
+    ensures { FindsMissing rows.now folder.now (OneHas (λ one. T.names one folder.now) items.now) (option_copied result) }
+{
+    let mut least = None;
+    for one in items {
+        least = lesser(least, one.least_missing(rows, folder));
+    }
+    least
+}
 
 /// Whether the name has a row, or the record is invalid.
 pub(crate) fn has_row_if_valid(

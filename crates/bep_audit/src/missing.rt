@@ -9,9 +9,7 @@ ghost use Rattle.bep_audit.specs.Missing.{FindsMissing};
 ghost use Rattle.bep_audit.specs.Search.{FindsFailing};
 ghost use Rattle.bep_audit.specs.Shown.{place_shown};
 
-use crate::least::lesser;
-use crate::missing_held::least_of_devices;
-use crate::missing_on_its_way::least_on_its_way;
+use crate::least::{least_of, lesser};
 use crate::spot::Spot;
 use bep_model::Row;
 use bep_record::Name;
@@ -40,7 +38,7 @@ fn least_of_folder<'a>(
     requires { Rise rows.now }
     ensures { FindsMissing rows.now held.now.folder (IsKnownFrom held.now.folder held.now.shares links.now) (option_copied result) }
 {
-    let there = least_of_devices(rows, &held.folder, held.shares.as_slice());
-    let coming = least_on_its_way(rows, &held.folder, links);
+    let there = least_of(rows, &held.folder, held.shares.as_slice());
+    let coming = least_of(rows, &held.folder, links);
     lesser(there, coming)
 }

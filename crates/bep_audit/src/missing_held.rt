@@ -3,50 +3,35 @@ ghost use Rattle.std.specs.Prelude.{IsTrue};
 ghost use Rattle.std.specs.Option.{option_copied};
 ghost use Rattle.std.specs.FinMap.{contains_key};
 ghost use Rattle.bep_model.specs.Settled.{Rise};
-ghost use Rattle.bep_audit.specs.Known.{HasValid, IsViewedIn, HasForeign, HasName, IsHeldIn};
+ghost use Rattle.bep_audit.specs.Known.{HasValid, HasForeign, HasName};
 ghost use Rattle.bep_audit.specs.Missing.{FindsMissing};
 
 use crate::find_row;
-use crate::least::{has_row_if_valid, lesser};
+use crate::least::{HasNames, has_row_if_valid, least_of, lesser};
 use bep_map::NameMap;
 use bep_model::Row;
 use bep_record::{FolderName, Name, Record};
 use bep_tables::{PeerView, Share};
 
-/// The least name without a row, of those that one of the devices has.
-pub(crate) fn least_of_devices<'a>(
-    rows: &[Row],
-    folder: &FolderName,
-    shares: &'a [Share],
-) -> Option<&'a Name>
-    requires { Rise rows.now }
-    ensures { FindsMissing rows.now folder.now (IsHeldIn shares.now) (option_copied result) }
-{
-    let mut least = None;
-    for share in shares {
-        least = lesser(least, least_of_device(rows, folder, share));
+// Those that the device has.
+impl HasNames for Share {
+    ghost names = { λ share folder. HasName share };
+
+    fn least_missing<'a>(&'a self, rows: &[Row], folder: &FolderName) -> Option<&'a Name> {
+        let recorded = first_without_row(rows, folder, &self.own);
+        let stored = first_without_row(rows, folder, &self.store);
+        let elsewhere = least_of_foreign(rows, folder, self);
+        lesser(recorded, lesser(stored, elsewhere))
     }
-    least
 }
 
-// Of those that the device has.
-fn least_of_device<'a>(rows: &[Row], folder: &FolderName, share: &'a Share) -> Option<&'a Name>
-    requires { Rise rows.now }
-    ensures { FindsMissing rows.now folder.now (HasName share.now) (option_copied result) }
-{
-    let recorded = first_without_row(rows, folder, &share.own);
-    let stored = first_without_row(rows, folder, &share.store);
-    let elsewhere = least_of_foreign(rows, folder, share);
-    lesser(recorded, lesser(stored, elsewhere))
-}
-
-// Of those that the device pulls or has in a view.
+// The least name without a row, of those that the device pulls or has in a view.
 fn least_of_foreign<'a>(rows: &[Row], folder: &FolderName, share: &'a Share) -> Option<&'a Name>
     requires { Rise rows.now }
     ensures { FindsMissing rows.now folder.now (HasForeign share.now) (option_copied result) }
 {
     let pulled = first_without_row(rows, folder, &share.pulls);
-    let viewed = least_of_views(rows, folder, share.views.as_slice());
+    let viewed = least_of(rows, folder, share.views.as_slice());
     lesser(pulled, viewed)
 }
 
@@ -67,16 +52,13 @@ fn first_without_row<'a, V>(
     None
 }
 
-// The least name without a row, of those of which a view has a valid record.
-fn least_of_views<'a>(rows: &[Row], folder: &FolderName, views: &'a [PeerView]) -> Option<&'a Name>
-    requires { Rise rows.now }
-    ensures { FindsMissing rows.now folder.now (IsViewedIn views.now) (option_copied result) }
-{
-    let mut least = None;
-    for view in views {
-        least = lesser(least, first_valid_without_row(rows, folder, &view.records));
+// Those of which the view has a valid record.
+impl HasNames for PeerView {
+    ghost names = { λ view folder. HasValid view.records };
+
+    fn least_missing<'a>(&'a self, rows: &[Row], folder: &FolderName) -> Option<&'a Name> {
+        first_valid_without_row(rows, folder, &self.records)
     }
-    least
 }
 
 // The first name of the map whose record is valid and that has no row.

@@ -5,7 +5,7 @@ use Rattle.std.specs.declared.cmp.Ordering.TheVariants.{Less, Equal, Greater}
 use Rattle.std.specs.Ordering.{is_eq}
 use Rattle.std.proofs.lemmas.List.{take_all}
 use Rattle.std.proofs.lemmas.List.Elements.{Contains-append_cases}
-use Rattle.bep_facts.specs.Members.{Contains-one, not_in_none}
+use Rattle.bep_facts.specs.Members.{Contains-one}
 use Rattle.bep_facts.specs.Orders.{Equal_from_same, texts_exact, texts_total}
 use Rattle.bep_facts.specs.Places.{done_with}
 use Rattle.bep_model.specs.declared.row.Row.{Row}
@@ -29,9 +29,6 @@ pub record NoneAbout (rows : List Row) (key : Folder × FileName) : Type 0 where
   pub none : (row : Row) → Contains rows row → ¬ (key_of row ≡ key)
 
 module _ (rows : List Row) (key : Folder × FileName) where
-  pub none_starts : NoneAbout (take 0 rows) key
-  none_starts = record { none = λ row there. absurd (not_in_none row there) }
-
   pub none_goes_on : (place : ℕ) (row : Row) → place < length rows → row ≡ get_or rows place row → ¬ (key_cmp (key_of row) key ≡ Equal) → NoneAbout (take place rows) key → NoneAbout (take (place + 1) rows) key
   none_goes_on place row below is differs before = subst (λ (done : List Row). NoneAbout done key) (sym (done_with rows place row below is)) (record {
     none = λ other there.

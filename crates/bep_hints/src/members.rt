@@ -1,8 +1,9 @@
 //! The members of documents, in the order in which their description names them.
-use crate::scenario::{fresh_folder_members, fresh_share_members, scenario_members};
+use crate::members::Holds::{List, Single};
+use crate::members::Need::{Due, May};
+use crate::scenario::{FRESH_FOLDER, FRESH_SHARE, SCENARIO};
 use bep_index::{MAX_NAMES, MAX_RECORDS};
 use bep_record::{MAX_FOLDERS, MAX_MESSAGES, MAX_PULLS};
-use std::alloc::{AllocError, Global};
 
 /// What is expected of a document.
 #[derive(Clone, Copy, Debug, PartialEq, Eq)]
@@ -65,188 +66,135 @@ pub(crate) enum Sort {
     Hex,
 }
 
-/// A member of an object.
+/// A member of an object: its name, whether it must be there, and what stands in it.
 #[derive(Clone, Copy)]
-pub(crate) struct Member {
-    pub(crate) name: &'static str,
-    /// Whether it must be there.
-    pub(crate) is_due: bool,
-    /// What stands in it,
-    pub(crate) sort: Sort,
-    /// or, where it is a list, in each of its items, of which there are at most so many.
-    pub(crate) most: Option<usize>,
+pub(crate) struct Member(pub(crate) &'static str, pub(crate) Need, pub(crate) Holds);
+
+/// Whether a member must be there.
+#[derive(Clone, Copy, PartialEq, Eq)]
+pub(crate) enum Need {
+    /// It must.
+    Due,
+    /// It may be left out.
+    May,
 }
 
-/// A member that must be there.
-pub(crate) fn due(name: &'static str, sort: Sort) -> Member {
-    Member {
-        name,
-        is_due: true,
-        sort,
-        most: None,
-    }
+/// What stands in a member.
+#[derive(Clone, Copy)]
+pub(crate) enum Holds {
+    /// A value of this sort.
+    Single(Sort),
+    /// A list of such, at most so many.
+    List(Sort, usize),
 }
 
-// A member that may be there.
-fn may(name: &'static str, sort: Sort) -> Member {
-    Member {
-        is_due: false,
-        ..due(name, sort)
-    }
-}
-
-/// A list of so many at most.
-pub(crate) fn list(member: Member, most: usize) -> Member {
-    Member {
-        most: Some(most),
-        ..member
-    }
-}
-
-/// A list of any length.
-pub(crate) fn any_list(member: Member) -> Member {
-    list(member, usize::MAX)
-}
+/// So many as there are: of a list of any length.
+pub(crate) const ANY: usize = usize::MAX;
 
 /// The members that an object of this sort may have; none where the sort is no object.
-pub(crate) fn members_of(alloc: Global, sort: Sort) -> Result<Vec<Member>, AllocError> {
+pub(crate) fn members_of(sort: Sort) -> &'static [Member] {
     match sort {
-        Sort::CheckDocument => Vec::from_slice(
-            alloc,
-            &[
-                due("version", Sort::One),
-                due("cut", Sort::Cut),
-                any_list(due("certificate", Sort::Row)),
-            ],
-        ),
-        Sort::CutDocument => Vec::from_slice(
-            alloc,
-            &[
-                due("version", Sort::One),
-                due("cut", Sort::Cut),
-                may("certificate", Sort::Anything),
-            ],
-        ),
-        Sort::Cut => Vec::from_slice(
-            alloc,
-            &[
-                list(due("folders", Sort::Folder), MAX_FOLDERS),
-                any_list(may("links", Sort::Link)),
-            ],
-        ),
-        Sort::Folder => Vec::from_slice(
-            alloc,
-            &[
-                due("folder", Sort::FolderName),
-                any_list(due("devices", Sort::Share)),
-            ],
-        ),
-        Sort::Row => Vec::from_slice(
-            alloc,
-            &[
-                due("folder", Sort::FolderName),
-                due("device", Sort::Id),
-                due("record", Sort::Record),
-            ],
-        ),
-        Sort::Share => share_members(alloc),
-        Sort::View => view_members(alloc),
-        Sort::Link => link_members(alloc),
-        Sort::Message => message_members(alloc),
-        Sort::Record => record_members(alloc),
-        Sort::Node => node_members(alloc),
-        Sort::Scenario => scenario_members(alloc),
-        Sort::FreshFolder => fresh_folder_members(alloc),
-        Sort::FreshShare => fresh_share_members(alloc),
-        _ => Ok(Vec::new(alloc)),
+        Sort::CheckDocument => &CHECK_DOCUMENT,
+        Sort::CutDocument => &CUT_DOCUMENT,
+        Sort::Cut => &CUT,
+        Sort::Folder => &FOLDER,
+        Sort::Share => &SHARE,
+        Sort::View => &VIEW,
+        Sort::Link => &LINK,
+        Sort::Message => &MESSAGE,
+        Sort::Row => &ROW,
+        Sort::Record => &RECORD,
+        Sort::Node => &NODE,
+        Sort::Scenario => &SCENARIO,
+        Sort::FreshFolder => &FRESH_FOLDER,
+        Sort::FreshShare => &FRESH_SHARE,
+        _ => &[],
     }
 }
 
-fn share_members(alloc: Global) -> Result<Vec<Member>, AllocError> {
-    Vec::from_slice(
-        alloc,
-        &[
-            due("device", Sort::Id),
-            due("kind", Sort::FolderKind),
-            due("index_id", Sort::Id),
-            due("max", Sort::Sequence),
-            list(may("own", Sort::Record), MAX_NAMES),
-            any_list(may("store", Sort::Node)),
-            any_list(may("views", Sort::View)),
-            list(may("pulls", Sort::Record), MAX_PULLS),
-        ],
-    )
-}
+static CHECK_DOCUMENT: [Member; 3] = [
+    Member("version", Due, Single(Sort::One)),
+    Member("cut", Due, Single(Sort::Cut)),
+    Member("certificate", Due, List(Sort::Row, ANY)),
+];
 
-fn view_members(alloc: Global) -> Result<Vec<Member>, AllocError> {
-    Vec::from_slice(
-        alloc,
-        &[
-            due("of", Sort::Id),
-            due("index_id", Sort::AnyId),
-            due("max", Sort::Sequence),
-            list(due("records", Sort::Record), MAX_NAMES),
-        ],
-    )
-}
+static CUT_DOCUMENT: [Member; 3] = [
+    Member("version", Due, Single(Sort::One)),
+    Member("cut", Due, Single(Sort::Cut)),
+    Member("certificate", May, Single(Sort::Anything)),
+];
 
-fn link_members(alloc: Global) -> Result<Vec<Member>, AllocError> {
-    Vec::from_slice(
-        alloc,
-        &[
-            due("a", Sort::Id),
-            due("b", Sort::Id),
-            due("up", Sort::Flag),
-            due("epoch", Sort::Sequence),
-            list(may("to_a", Sort::Message), MAX_MESSAGES),
-            list(may("to_b", Sort::Message), MAX_MESSAGES),
-        ],
-    )
-}
+static CUT: [Member; 2] = [
+    Member("folders", Due, List(Sort::Folder, MAX_FOLDERS)),
+    Member("links", May, List(Sort::Link, ANY)),
+];
 
-fn message_members(alloc: Global) -> Result<Vec<Member>, AllocError> {
-    Vec::from_slice(
-        alloc,
-        &[
-            due("folder", Sort::FolderName),
-            due("full", Sort::Flag),
-            list(due("records", Sort::Record), MAX_RECORDS),
-        ],
-    )
-}
+static FOLDER: [Member; 2] = [
+    Member("folder", Due, Single(Sort::FolderName)),
+    Member("devices", Due, List(Sort::Share, ANY)),
+];
 
-fn record_members(alloc: Global) -> Result<Vec<Member>, AllocError> {
-    Vec::from_slice(
-        alloc,
-        &[
-            due("name", Sort::Name),
-            due("type", Sort::Kind),
-            due("modified_s", Sort::Seconds),
-            due("modified_by", Sort::Id),
-            due("version", Sort::Version),
-            due("sequence", Sort::Sequence),
-            may("size", Sort::FileSize),
-            may("modified_ns", Sort::Nanoseconds),
-            may("deleted", Sort::Flag),
-            may("invalid", Sort::Flag),
-            may("block_size", Sort::BlockSize),
-            any_list(may("blocks", Sort::Hash)),
-            may("target", Sort::Target),
-        ],
-    )
-}
+static SHARE: [Member; 8] = [
+    Member("device", Due, Single(Sort::Id)),
+    Member("kind", Due, Single(Sort::FolderKind)),
+    Member("index_id", Due, Single(Sort::Id)),
+    Member("max", Due, Single(Sort::Sequence)),
+    Member("own", May, List(Sort::Record, MAX_NAMES)),
+    Member("store", May, List(Sort::Node, ANY)),
+    Member("views", May, List(Sort::View, ANY)),
+    Member("pulls", May, List(Sort::Record, MAX_PULLS)),
+];
 
-fn node_members(alloc: Global) -> Result<Vec<Member>, AllocError> {
-    Vec::from_slice(
-        alloc,
-        &[
-            due("name", Sort::Name),
-            due("type", Sort::Kind),
-            due("modified_s", Sort::Seconds),
-            may("modified_ns", Sort::Nanoseconds),
-            may("text", Sort::Text),
-            may("hex", Sort::Hex),
-            may("target", Sort::Target),
-        ],
-    )
-}
+static VIEW: [Member; 4] = [
+    Member("of", Due, Single(Sort::Id)),
+    Member("index_id", Due, Single(Sort::AnyId)),
+    Member("max", Due, Single(Sort::Sequence)),
+    Member("records", Due, List(Sort::Record, MAX_NAMES)),
+];
+
+static LINK: [Member; 6] = [
+    Member("a", Due, Single(Sort::Id)),
+    Member("b", Due, Single(Sort::Id)),
+    Member("up", Due, Single(Sort::Flag)),
+    Member("epoch", Due, Single(Sort::Sequence)),
+    Member("to_a", May, List(Sort::Message, MAX_MESSAGES)),
+    Member("to_b", May, List(Sort::Message, MAX_MESSAGES)),
+];
+
+static MESSAGE: [Member; 3] = [
+    Member("folder", Due, Single(Sort::FolderName)),
+    Member("full", Due, Single(Sort::Flag)),
+    Member("records", Due, List(Sort::Record, MAX_RECORDS)),
+];
+
+static ROW: [Member; 3] = [
+    Member("folder", Due, Single(Sort::FolderName)),
+    Member("device", Due, Single(Sort::Id)),
+    Member("record", Due, Single(Sort::Record)),
+];
+
+static RECORD: [Member; 13] = [
+    Member("name", Due, Single(Sort::Name)),
+    Member("type", Due, Single(Sort::Kind)),
+    Member("modified_s", Due, Single(Sort::Seconds)),
+    Member("modified_by", Due, Single(Sort::Id)),
+    Member("version", Due, Single(Sort::Version)),
+    Member("sequence", Due, Single(Sort::Sequence)),
+    Member("size", May, Single(Sort::FileSize)),
+    Member("modified_ns", May, Single(Sort::Nanoseconds)),
+    Member("deleted", May, Single(Sort::Flag)),
+    Member("invalid", May, Single(Sort::Flag)),
+    Member("block_size", May, Single(Sort::BlockSize)),
+    Member("blocks", May, List(Sort::Hash, ANY)),
+    Member("target", May, Single(Sort::Target)),
+];
+
+static NODE: [Member; 7] = [
+    Member("name", Due, Single(Sort::Name)),
+    Member("type", Due, Single(Sort::Kind)),
+    Member("modified_s", Due, Single(Sort::Seconds)),
+    Member("modified_ns", May, Single(Sort::Nanoseconds)),
+    Member("text", May, Single(Sort::Text)),
+    Member("hex", May, Single(Sort::Hex)),
+    Member("target", May, Single(Sort::Target)),
+];

@@ -1,44 +1,30 @@
 //! The members of a scenario, and what belongs to each word of its steps.
-use crate::members::{Member, Sort, any_list, due, list};
+use crate::members::Holds::{List, Single};
+use crate::members::Need::Due;
+use crate::members::{ANY, Member, Sort};
 use bep_record::MAX_FOLDERS;
 use serde_json::Value;
-use std::alloc::{AllocError, Global};
 
 /// The members of a scenario.
-pub(crate) fn scenario_members(alloc: Global) -> Result<Vec<Member>, AllocError> {
-    Vec::from_slice(
-        alloc,
-        &[
-            due("version", Sort::One),
-            list(due("folders", Sort::FreshFolder), MAX_FOLDERS),
-            any_list(due("links", Sort::FreshLink)),
-            any_list(due("steps", Sort::Step)),
-        ],
-    )
-}
+pub(crate) static SCENARIO: [Member; 4] = [
+    Member("version", Due, Single(Sort::One)),
+    Member("folders", Due, List(Sort::FreshFolder, MAX_FOLDERS)),
+    Member("links", Due, List(Sort::FreshLink, ANY)),
+    Member("steps", Due, List(Sort::Step, ANY)),
+];
 
 /// The members of one of its folders.
-pub(crate) fn fresh_folder_members(alloc: Global) -> Result<Vec<Member>, AllocError> {
-    Vec::from_slice(
-        alloc,
-        &[
-            due("folder", Sort::FolderName),
-            any_list(due("devices", Sort::FreshShare)),
-        ],
-    )
-}
+pub(crate) static FRESH_FOLDER: [Member; 2] = [
+    Member("folder", Due, Single(Sort::FolderName)),
+    Member("devices", Due, List(Sort::FreshShare, ANY)),
+];
 
 /// The members of a device that shares it.
-pub(crate) fn fresh_share_members(alloc: Global) -> Result<Vec<Member>, AllocError> {
-    Vec::from_slice(
-        alloc,
-        &[
-            due("device", Sort::Id),
-            due("kind", Sort::FolderKind),
-            due("index_id", Sort::Id),
-        ],
-    )
-}
+pub(crate) static FRESH_SHARE: [Member; 3] = [
+    Member("device", Due, Single(Sort::Id)),
+    Member("kind", Due, Single(Sort::FolderKind)),
+    Member("index_id", Due, Single(Sort::Id)),
+];
 
 /// The sort, and of a step the one of its word, if it begins with one.
 pub(crate) fn sort_at(sort: Sort, value: &Value) -> Sort {
@@ -71,27 +57,18 @@ fn sort_named(word: &str) -> Sort {
 }
 
 /// What stands at each place of a list of this sort, the first one first; nothing where the sort is no such list.
-pub(crate) fn places_of(alloc: Global, sort: Sort) -> Result<Vec<Sort>, AllocError> {
-    let word = Sort::Anything;
+pub(crate) fn places_of(sort: Sort) -> &'static [Sort] {
     match sort {
-        Sort::FreshLink => Vec::from_slice(alloc, &[Sort::Id, Sort::Id]),
-        Sort::EditStep => {
-            Vec::from_slice(alloc, &[word, Sort::Id, Sort::FolderName, Sort::Node])
-        }
-        Sort::NameStep => {
-            Vec::from_slice(alloc, &[word, Sort::Id, Sort::FolderName, Sort::Name])
-        }
-        Sort::PairStep => Vec::from_slice(alloc, &[word, Sort::Id, Sort::Id]),
-        Sort::AnnounceStep => {
-            Vec::from_slice(alloc, &[word, Sort::Id, Sort::Id, Sort::FolderName])
-        }
-        Sort::AskStep => {
-            Vec::from_slice(
-                alloc,
-                &[word, Sort::Id, Sort::Id, Sort::FolderName, Sort::Name],
-            )
-        }
-        Sort::RestartStep => Vec::from_slice(alloc, &[word, Sort::Id]),
-        _ => Ok(Vec::new(alloc)),
+        Sort::FreshLink => &[Sort::Id, Sort::Id],
+        Sort::EditStep => &[WORD, Sort::Id, Sort::FolderName, Sort::Node],
+        Sort::NameStep => &[WORD, Sort::Id, Sort::FolderName, Sort::Name],
+        Sort::PairStep => &[WORD, Sort::Id, Sort::Id],
+        Sort::AnnounceStep => &[WORD, Sort::Id, Sort::Id, Sort::FolderName],
+        Sort::AskStep => &[WORD, Sort::Id, Sort::Id, Sort::FolderName, Sort::Name],
+        Sort::RestartStep => &[WORD, Sort::Id],
+        _ => &[],
     }
 }
+
+// the word of a step, which is known once its sort is
+const WORD: Sort = Sort::Anything;

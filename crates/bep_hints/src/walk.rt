@@ -1,6 +1,6 @@
 //! The search for the first member at fault.
 use crate::leaves::{has_shape, is_in_range, words_of};
-use crate::members::{Member, Sort, members_of};
+use crate::members::{Holds, Member, Need, Sort, members_of};
 use crate::scenario::{places_of, sort_at};
 use serde_json::Value;
 use std::alloc::{AllocError, Global};
@@ -56,24 +56,25 @@ pub(crate) fn look<'a>(
         return Ok(None);
     }
     let sort = sort_at(sort, value);
-    let places = places_of(alloc, sort)?;
+    let places = places_of(sort);
     if !places.is_empty() {
-        return look_at_places(alloc, flaw, way, value, sort, places.as_slice(), levels - 1);
+        return look_at_places(alloc, flaw, way, value, sort, places, levels - 1);
     }
-    let members = members_of(alloc, sort)?;
+    let members = members_of(sort);
     if members.is_empty() {
         return Ok(wrong_leaf(alloc, flaw, value, sort));
     }
     if flaw == Flaw::Shape {
-        let wrong = wrong_object(way, value, sort, members.as_slice())?;
+        let wrong = wrong_object(way, value, sort, members)?;
         if wrong.is_some() {
             return Ok(wrong);
         }
     }
-    for member in members.as_slice() {
-        if let Some(part) = value.get(member.name) {
-            step_to_member(way, member.name)?;
-            let wrong = look_in(alloc, flaw, way, part, member, levels - 1)?;
+    for member in members {
+        let Member(name, _, holds) = *member;
+        if let Some(part) = value.get(name) {
+            step_to_member(way, name)?;
+            let wrong = look_in(alloc, flaw, way, part, holds, levels - 1)?;
             if wrong.is_some() {
                 return Ok(wrong);
             }
@@ -90,14 +91,15 @@ fn look_in<'a>(
     flaw: Flaw,
     way: &mut Vec<Step<'a>>,
     value: &'a Value,
-    member: &Member,
+    holds: Holds,
     levels: usize,
 ) -> Found {
     if levels == 0 {
         return Ok(None);
     }
-    let Some(most) = member.most else {
-        return look(alloc, flaw, way, value, member.sort, levels - 1);
+    let (sort, most) = match holds {
+        Holds::Single(sort) => return look(alloc, flaw, way, value, sort, levels - 1),
+        Holds::List(sort, most) => (sort, most),
     };
     let Some(items) = value.as_array() else {
         return Ok(Some(Wrong::Expected("a list")));
@@ -107,7 +109,7 @@ fn look_in<'a>(
     }
     for (place, item) in items.iter().enumerate() {
         step_to_item(way, place)?;
-        let wrong = look(alloc, flaw, way, item, member.sort, levels - 1)?;
+        let wrong = look(alloc, flaw, way, item, sort, levels - 1)?;
         if wrong.is_some() {
             return Ok(wrong);
         }
@@ -193,15 +195,16 @@ fn wrong_object<'a>(
         }
     }
     for member in members {
-        if member.is_due && value.get(member.name).is_none() {
-            return Ok(Some(Wrong::Missing(member.name)));
+        let Member(name, need, _) = *member;
+        if need == Need::Due && value.get(name).is_none() {
+            return Ok(Some(Wrong::Missing(name)));
         }
     }
     Ok(wrong_node(value, sort))
 }
 
 fn is_known(members: &[Member], name: &str) -> bool {
-    members.iter().any(|member| member.name == name)
+    members.iter().any(|member| member.0 == name)
 }
 
 // What is wrong with a node as a whole.

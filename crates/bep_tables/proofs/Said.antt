@@ -1,6 +1,5 @@
 -- The entries of a cut are what its tables say.
-use Rattle.std.proofs.Common.{◌≡◌, ◌↔◌, ◌++◌, List, map, flat_map, Option, Some, None, Contains, option_and_then, refl, sym, ap, subst, ◌∙◌, inl, inr, ⊎_elim}
-use Rattle.std.specs.Ordering.{nat_cmp}
+use Rattle.std.proofs.Common.{◌≡◌, ◌++◌, ℕ, List, map, flat_map, Option, Some, None, Contains, option_and_then, refl, sym, ap, subst, ◌∙◌, inl, inr, ⊎_elim}
 use Rattle.std.specs.Cmp.{Equal-is}
 use Rattle.std.specs.FinMap.{get, entries, nat_cmp-IsAntisymmetric}
 use Rattle.std.proofs.lemmas.List.Elements.{Contains-append_left, Contains-append_right, Contains-append_cases}
@@ -19,10 +18,9 @@ use Rattle.bep_tables.specs.declared.share.PeerView.{PeerView}
 use Rattle.bep_tables.specs.declared.share.SharedFolder.{SharedFolder}
 use Rattle.bep_tables.specs.declared.link.LinkState.{LinkState}
 use Rattle.bep_tables.specs.declared.cut.CutParts.{CutParts}
-use Rattle.bep_tables.specs.declared.table.entry.Source.{Source}
 use Rattle.bep_tables.specs.declared.table.entry.Source.TheVariants as from
 use Rattle.bep_tables.specs.Cut.{IsCut, is_device, shares_of, share_of, view_of, tables_of}
-use Rattle.bep_tables.specs.Laws.{Carries, HasRecord}
+use Rattle.bep_tables.specs.Laws.{Carries}
 use Rattle.bep_tables.specs.Listed.{Holding, Record, Node, Listed, recorded, stored, flying, records_listed, nodes_listed, views_listed, share_listed, folder_listed, flight_listed, link_listed, cut_listed}
 use Rattle.bep_tables.specs.Said.{Holds, EntriesAreHeld, HoldersShare}
 use Rattle.bep_tables.proofs.Found.{find_gives}
@@ -56,27 +54,29 @@ module _ (cut : CutParts) (is_cut : IsCut cut) where
   shares_it : (folder : Folder) (share : Share) → Contains (SharesOf folder) share → Shares (tables_of cut) share.device folder
   shares_it folder share h = (share.kind, (sharing_is_said cut folder share.device share.kind).1 (share, h, refl, refl))
 
+  held_entry : {V : Type 0} (show : List ℕ × V → Listed) (held : ByName V) (one : Listed) → ((name : FileName) (v : V) → get held name ≡ Some v → IsHeldThere (show (name, v))) → Contains (map show (entries held)) one → IsHeldThere one
+  held_entry show held one says there =
+      let found = Contains-from_image show (entries held) one there in
+      subst IsHeldThere found.2 (says found.0.0 found.0.1 ((entry_stands nat_list_cmp_total exact_bytes held found.0.0 found.0.1).1 found.1))
+
   held_own : (folder : Folder) (share : Share) (one : Listed) → Contains (SharesOf folder) share → Contains (records_listed folder share.device from.Own share.own) one → IsHeldThere one
-  held_own folder share one h there =
-      let found = Contains-from_image (recorded folder share.device from.Own) (entries share.own) one there in
-      subst IsHeldThere found.2 (own_is_said cut folder found.0.0 share is_cut h ∙ (entry_stands nat_list_cmp_total exact_bytes share.own found.0.0 found.0.1).1 found.1, shares_it folder share h)
+  held_own folder share one h =
+      held_entry (recorded folder share.device from.Own) share.own one (λ name entry has. (own_is_said cut folder name share is_cut h ∙ has, shares_it folder share h))
 
   held_node : (folder : Folder) (share : Share) (one : Listed) → Contains (SharesOf folder) share → Contains (nodes_listed folder share.device share.store) one → IsHeldThere one
-  held_node folder share one h there =
-      let found = Contains-from_image (stored folder share.device) (entries share.store) one there in
-      subst IsHeldThere found.2 (node_is_said cut folder found.0.0 share is_cut h ∙ (entry_stands nat_list_cmp_total exact_bytes share.store found.0.0 found.0.1).1 found.1, shares_it folder share h)
+  held_node folder share one h =
+      held_entry (stored folder share.device) share.store one (λ name node has. (node_is_said cut folder name share is_cut h ∙ has, shares_it folder share h))
 
   held_pull : (folder : Folder) (share : Share) (one : Listed) → Contains (SharesOf folder) share → Contains (records_listed folder share.device from.Pull share.pulls) one → IsHeldThere one
-  held_pull folder share one h there =
-      let found = Contains-from_image (recorded folder share.device from.Pull) (entries share.pulls) one there in
-      subst IsHeldThere found.2 (target_is_said cut folder found.0.0 share is_cut h ∙ (entry_stands nat_list_cmp_total exact_bytes share.pulls found.0.0 found.0.1).1 found.1, shares_it folder share h)
+  held_pull folder share one h =
+      held_entry (recorded folder share.device from.Pull) share.pulls one (λ name entry has. (target_is_said cut folder name share is_cut h ∙ has, shares_it folder share h))
 
   held_view : (folder : Folder) (share : Share) (one : Listed) → Contains (SharesOf folder) share → Contains (views_listed folder share.device share.views) one → IsHeldThere one
   held_view folder share one h there =
       let view = Contains-from_flat_map (λ (view : PeerView). records_listed folder share.device from.View view.records) share.views one there in
-      let found = Contains-from_image (recorded folder share.device from.View) (entries view.0.records) one view.2 in
-      let has = (entry_stands nat_list_cmp_total exact_bytes view.0.records found.0.0 found.0.1).1 found.1 in
-      subst IsHeldThere found.2 ((viewed_is_said cut folder found.0.0 found.0.1 share is_cut h).1 (view.0, view.1, has), shares_it folder share h)
+      held_entry (recorded folder share.device from.View) view.0.records one
+      (λ name entry has. ((viewed_is_said cut folder name entry share is_cut h).1 (view.0, view.1, has), shares_it folder share h))
+      view.2
 
   held_share : (folder : Folder) (share : Share) (one : Listed) → Contains (SharesOf folder) share → Contains (share_listed folder share) one → IsHeldThere one
   unfolding share_listed
@@ -165,29 +165,29 @@ module _ (cut : CutParts) (is_cut : IsCut cut) where
       (Contains-image (recorded folder share.device from.Pull) (entries share.pulls) (name, entry) ((entry_stands nat_list_cmp_total exact_bytes share.pulls name entry).0 has))
 
   -- what is looked up of a device is of its share
-  found_in_share : {A : Type 0} (look : Share → Option A) (device : Device) (folder : Folder) (value : A) → option_and_then look (share_of device (SharesOf folder)) ≡ Some value → (share : Share) × Contains (SharesOf folder) share × (share.device ≡ device)
+  found_in_share : {A : Type 0} (look : Share → Option A) (device : Device) (folder : Folder) (value : A) → option_and_then look (share_of device (SharesOf folder)) ≡ Some value → (share : Share) × Contains (SharesOf folder) share × (share.device ≡ device) × (look share ≡ Some value)
   found_in_share {A} look device folder value e = cases (share_of device (SharesOf folder)) refl e where
-    cases : (found : Option Share) → share_of device (SharesOf folder) ≡ found → option_and_then look found ≡ Some value → (share : Share) × Contains (SharesOf folder) share × (share.device ≡ device)
+    cases : (found : Option Share) → share_of device (SharesOf folder) ≡ found → option_and_then look found ≡ Some value → (share : Share) × Contains (SharesOf folder) share × (share.device ≡ device) × (look share ≡ Some value)
     cases None e none = absurd (cc)
     cases (Some share) e some =
         let gives = find_gives (is_device device) (SharesOf folder) share e in
-        (share, gives.0, nat_cmp-IsAntisymmetric share.device device ((Equal-is _).0 gives.1))
+        (share, gives.0, nat_cmp-IsAntisymmetric share.device device ((Equal-is _).0 gives.1), some)
+
+  -- so it is listed, where it is of each share
+  of_share : {A : Type 0} (look : Share → Option A) (device : Device) (folder : Folder) (value : A) (one : Device → Listed) → ((share : Share) → Contains (SharesOf folder) share → look share ≡ Some value → Contains (share_listed folder share) (one share.device)) → option_and_then look (share_of device (SharesOf folder)) ≡ Some value → Contains (cut_listed cut) (one device)
+  of_share look device folder value one listed has =
+      let found = found_in_share look device folder value has in
+      subst (λ d. Contains (cut_listed cut) (one d)) found.2 (listed_in_share folder found.0 _ found.1 (listed found.0 found.1 found.3))
 
   of_own : (device : Device) (folder : Folder) (name : FileName) (entry : Entry) → (tables_of cut).own device folder name ≡ Some entry → Contains (cut_listed cut) (recorded folder device from.Own (name, entry))
   unfolding tables_of
-  of_own device folder name entry has =
-      let found = found_in_share (λ share. get share.own name) device folder entry has in
-      let here = subst (λ d. (tables_of cut).own d folder name ≡ Some entry) (sym found.2) has in
-      subst (λ d. Contains (cut_listed cut) (recorded folder d from.Own (name, entry))) found.2
-      (listed_in_share folder found.0 _ found.1 (listed_own folder name found.0 entry found.1 (sym (own_is_said cut folder name found.0 is_cut found.1) ∙ here)))
+  of_own device folder name entry =
+      of_share (λ share. get share.own name) device folder entry (λ d. recorded folder d from.Own (name, entry)) (λ share. listed_own folder name share entry)
 
   of_node : (device : Device) (folder : Folder) (name : FileName) (node : NodeParts) → (tables_of cut).node device folder name ≡ Some node → Contains (cut_listed cut) (stored folder device (name, node))
   unfolding tables_of
-  of_node device folder name node has =
-      let found = found_in_share (λ share. get share.store name) device folder node has in
-      let here = subst (λ d. (tables_of cut).node d folder name ≡ Some node) (sym found.2) has in
-      subst (λ d. Contains (cut_listed cut) (stored folder d (name, node))) found.2
-      (listed_in_share folder found.0 _ found.1 (listed_node folder name found.0 node found.1 (sym (node_is_said cut folder name found.0 is_cut found.1) ∙ here)))
+  of_node device folder name node =
+      of_share (λ share. get share.store name) device folder node (λ d. stored folder d (name, node)) (λ share. listed_node folder name share node)
 
   of_view : (device : Device) (folder : Folder) (name : FileName) (entry : Entry) → IsViewed (tables_of cut) device folder name entry → Contains (cut_listed cut) (recorded folder device from.View (name, entry))
   unfolding tables_of
@@ -200,11 +200,8 @@ module _ (cut : CutParts) (is_cut : IsCut cut) where
 
   of_pull : (device : Device) (folder : Folder) (name : FileName) (entry : Entry) → (tables_of cut).target device folder name ≡ Some entry → Contains (cut_listed cut) (recorded folder device from.Pull (name, entry))
   unfolding tables_of
-  of_pull device folder name entry has =
-      let found = found_in_share (λ share. get share.pulls name) device folder entry has in
-      let here = subst (λ d. (tables_of cut).target d folder name ≡ Some entry) (sym found.2) has in
-      subst (λ d. Contains (cut_listed cut) (recorded folder d from.Pull (name, entry))) found.2
-      (listed_in_share folder found.0 _ found.1 (listed_pull folder name found.0 entry found.1 (sym (target_is_said cut folder name found.0 is_cut found.1) ∙ here)))
+  of_pull device folder name entry =
+      of_share (λ share. get share.pulls name) device folder entry (λ d. recorded folder d from.Pull (name, entry)) (λ share. listed_pull folder name share entry)
 
   listed_in_link : (link : LinkState) (device : Device) (flight : Flight) (entry : Entry) → Carries link device flight → Contains flight.records entry → Contains (link_listed link) (flying flight.folder device entry)
   unfolding link_listed

@@ -149,19 +149,15 @@ receiver_shares cut link device flight is_cut h (inr to_b) =
 on_link : (from to : Device) (links : List LinkState) (flight : Flight) → Contains (flights_of from to links) flight → (link : LinkState) × Contains links link × Carries link to flight
 on_link from to links flight h =
     ⊎_elim
-    (λ there. to_b (link_of from to links) refl there)
-    (λ there. to_a (link_of to from links) refl there)
+    (carried from to (λ link. link.to_b) (λ link a b there. inr (b, there)) (link_of from to links) refl)
+    (carried to from (λ link. link.to_a) (λ link a b there. inl (a, there)) (link_of to from links) refl)
     (Contains-append_cases
     (unwrap_or (option_map (λ (link : LinkState). link.to_b) (link_of from to links)) [])
     (unwrap_or (option_map (λ (link : LinkState). link.to_a) (link_of to from links)) []) flight h)
   where
-    to_b : (found : Option LinkState) → link_of from to links ≡ found → Contains (unwrap_or (option_map (λ (link : LinkState). link.to_b) found) []) flight → (link : LinkState) × Contains links link × Carries link to flight
-    to_b None e there = absurd (not_in_none flight there)
-    to_b (Some link) e there = let ends = link_has_ends from to links link e in (link, ends.0, inr (ends.2, there))
-
-    to_a : (found : Option LinkState) → link_of to from links ≡ found → Contains (unwrap_or (option_map (λ (link : LinkState). link.to_a) found) []) flight → (link : LinkState) × Contains links link × Carries link to flight
-    to_a None e there = absurd (not_in_none flight there)
-    to_a (Some link) e there = let ends = link_has_ends to from links link e in (link, ends.0, inl (ends.1, there))
+    carried : (a b : Device) (flights : LinkState → List Flight) → ((link : LinkState) → link.a ≡ a → link.b ≡ b → Contains (flights link) flight → Carries link to flight) → (found : Option LinkState) → link_of a b links ≡ found → Contains (unwrap_or (option_map flights found) []) flight → (link : LinkState) × Contains links link × Carries link to flight
+    carried a b flights carries None e there = absurd (not_in_none flight there)
+    carried a b flights carries (Some link) e there = let ends = link_has_ends a b links link e in (link, ends.0, carries link ends.1 ends.2 there)
 
 -- and what a link carries is on its way between its ends
 flies_to_a : (cut : CutParts) (link : LinkState) (flight : Flight) → IsCut cut → Contains cut.links link → Contains link.to_a flight → Contains (flights_of link.b link.a cut.links) flight
@@ -180,27 +176,29 @@ flies_to_b cut link flight is_cut h there =
     flight
     (subst (λ found. Contains (unwrap_or (option_map (λ (one : LinkState). one.to_b) found) []) flight) (sym (link_is_found cut link is_cut h)) there)
 
+-- a message that one device sends to another, as the tables have it
+flying_from : (cut : CutParts) (sender device : Device) (flight : Flight) (folder : Folder) (name : FileName) (entry : Entry) → Shares (tables_of cut) sender flight.folder → Contains (flights_of sender device cut.links) flight → HasRecord flight folder name entry → IsFlying (tables_of cut) device folder name entry
+unfolding tables_of
+flying_from cut sender device flight folder name entry shares sent has = record {
+  sender = sender;
+  shares = subst (Shares (tables_of cut) sender) has.0 shares;
+  flight = flight;
+  sent = sent;
+  same_folder = has.0;
+  carried = has.1;
+  same_name = has.2;
+}
+
 -- a message that a link carries, as the tables have it
 flying_over : (cut : CutParts) (link : LinkState) (flight : Flight) (device : Device) (folder : Folder) (name : FileName) (entry : Entry) → IsCut cut → Contains cut.links link → Carries link device flight → HasRecord flight folder name entry → IsFlying (tables_of cut) device folder name entry
-unfolding tables_of
-flying_over cut link flight device folder name entry is_cut h (inl to_a) has = record {
-  sender = link.b;
-  shares = subst (Shares (tables_of cut) link.b) has.0 (shares_it cut flight.folder link.b (to_a_shared cut link flight is_cut h to_a.1).shared_by_b);
-  flight = flight;
-  sent = subst (λ one. Contains (flights_of link.b one cut.links) flight) to_a.0 (flies_to_a cut link flight is_cut h to_a.1);
-  same_folder = has.0;
-  carried = has.1;
-  same_name = has.2;
-}
-flying_over cut link flight device folder name entry is_cut h (inr to_b) has = record {
-  sender = link.a;
-  shares = subst (Shares (tables_of cut) link.a) has.0 (shares_it cut flight.folder link.a (to_b_shared cut link flight is_cut h to_b.1).shared_by_a);
-  flight = flight;
-  sent = subst (λ one. Contains (flights_of link.a one cut.links) flight) to_b.0 (flies_to_b cut link flight is_cut h to_b.1);
-  same_folder = has.0;
-  carried = has.1;
-  same_name = has.2;
-}
+flying_over cut link flight device folder name entry is_cut h (inl to_a) has =
+    flying_from cut link.b device flight folder name entry
+    (shares_it cut flight.folder link.b (to_a_shared cut link flight is_cut h to_a.1).shared_by_b)
+    (subst (λ one. Contains (flights_of link.b one cut.links) flight) to_a.0 (flies_to_a cut link flight is_cut h to_a.1)) has
+flying_over cut link flight device folder name entry is_cut h (inr to_b) has =
+    flying_from cut link.a device flight folder name entry
+    (shares_it cut flight.folder link.a (to_b_shared cut link flight is_cut h to_b.1).shared_by_a)
+    (subst (λ one. Contains (flights_of link.a one cut.links) flight) to_b.0 (flies_to_b cut link flight is_cut h to_b.1)) has
 
 pub flying_is_said : FlyingIsSaid
 unfolding tables_of

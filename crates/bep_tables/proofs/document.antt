@@ -1,5 +1,4 @@
 -- What a document without faults writes down is a cut, which says what the document lists.
-mod Kept
 mod SortingFacts
 mod WrittenFacts
 mod LinksWritten

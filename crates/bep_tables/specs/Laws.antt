@@ -80,6 +80,18 @@ ReceiverShares =
     (cut : CutParts) (link : LinkState) (device : Device) (flight : Flight) → IsCut cut → Contains cut.links link → Carries link device flight →
     Shares (tables_of cut) device flight.folder
 
+-- the tables of a cut are what its folders and devices have
+pub record CutSays : Type 0 where
+  pub found : FolderIsFound
+  pub has_folder : ShareHasFolder
+  pub sharing : SharingIsSaid
+  pub own : OwnIsSaid
+  pub node : NodeIsSaid
+  pub viewed : ViewedIsSaid
+  pub target : TargetIsSaid
+  pub flying : FlyingIsSaid
+  pub receiver : ReceiverShares
+
 -- the names that are known in a folder
 abbrev pub NamesAreKnown : Type 0
 NamesAreKnown =

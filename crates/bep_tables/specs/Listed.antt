@@ -1,9 +1,7 @@
 -- The entries of a cut, one after the other, and a cut grouped by folder and name (this project's profile).
 use Rattle.std.specs.Prelude.{◌≡◌, ◌≢◌, ◌++◌, Bool, List, [], ◌∷◌, ⊤, map, Contains}
-use Rattle.std.specs.Ordering.{nat_cmp, is_eq, on, then_cmp}
-use Rattle.std.specs.declared.cmp.Ordering.{Ordering}
+use Rattle.std.specs.Ordering.{is_eq}
 use Rattle.std.specs.declared.cmp.Ordering.TheVariants.{Greater}
-use Rattle.std.specs.Cmp.Lexicographic.{slice_cmp}
 use Rattle.std.specs.List.{filter, flat_map}
 use Rattle.std.specs.FinMap.{entries}
 use Rattle.bep_record.specs.declared.entry.Entry.{Entry}
@@ -35,6 +33,10 @@ pub record Listed : Type 0 where
   pub device : Device
   pub holding : Holding
 
+-- the entry of these
+abbrev pub listed_at : Folder → FileName → Device → Holding → Listed
+listed_at folder name device holding = record { folder = folder; name = name; device = device; holding = holding }
+
 -- the folder and the name that it is of
 abbrev pub key_at : Listed → Folder × FileName
 key_at one = (one.folder, one.name)
@@ -45,13 +47,13 @@ held (lends.Record source lent) = Record source lent.now
 held (lends.Node lent) = Node lent.now
 
 abbrev pub listed : TableEntry → Listed
-listed one = record { folder = one.folder.now; name = one.name.now; device = one.device; holding = held one.held }
+listed one = listed_at one.folder.now one.name.now one.device (held one.held)
 
 -- ---- the entries of a cut, in the order in which they stand there
 
 -- a device's record at a name
 abbrev pub recorded : Folder → Device → Source → FileName × Entry → Listed
-recorded folder device source one = record { folder = folder; name = one.0; device = device; holding = Record source one.1 }
+recorded folder device source one = listed_at folder one.0 device (Record source one.1)
 
 -- its records in a map by names
 abbrev pub records_listed : Folder → Device → Source → ByName Entry → List Listed
@@ -59,7 +61,7 @@ records_listed folder device source records = map (recorded folder device source
 
 -- its node at a name
 abbrev pub stored : Folder → Device → FileName × NodeParts → Listed
-stored folder device one = record { folder = folder; name = one.0; device = device; holding = Node one.1 }
+stored folder device one = listed_at folder one.0 device (Node one.1)
 
 -- what its store holds
 abbrev pub nodes_listed : Folder → Device → ByName NodeParts → List Listed
@@ -83,7 +85,7 @@ folder_listed shared = flat_map (share_listed shared.folder) shared.shares
 
 -- a record of a folder on its way to a device
 abbrev pub flying : Folder → Device → Entry → Listed
-flying folder device entry = record { folder = folder; name = entry.name; device = device; holding = Record OnItsWay entry }
+flying folder device entry = listed_at folder entry.name device (Record OnItsWay entry)
 
 -- a message's records, on their way to a device
 abbrev pub flight_listed : Device → Flight → List Listed

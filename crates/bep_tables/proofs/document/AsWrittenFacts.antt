@@ -10,6 +10,7 @@ use Rattle.bep_map.specs.NameMap.{ByName}
 use Rattle.bep_record.specs.declared.entry.Entry.{Entry}
 use Rattle.bep_record.specs.declared.node.NodeParts.{NodeParts}
 use Rattle.bep_index.specs.After.{IsAmong}
+use Rattle.bep_index.specs.Batch.{NamesDiffer, with_all}
 use Rattle.bep_index.specs.Laws.{RecordsAreFound}
 use Rattle.bep_json.specs.declared.nodes.NamedParts.{NamedParts}
 use Rattle.bep_model.specs.Tables.{FileName}
@@ -19,10 +20,10 @@ use Rattle.bep_document.specs.declared.parts.CheckParts.{CheckParts}
 use Rattle.bep_document.specs.Faultless.{HasNoKey, KeysDiffer, IsFaultless, IsFaultlessShare, IsFaultlessFolder}
 use Rattle.bep_tables.specs.declared.share.Share.{Share}
 use Rattle.bep_tables.specs.declared.share.SharedFolder.{SharedFolder}
-use Rattle.bep_tables.specs.document.AsWritten.{IsWrittenIn, SharingIsAsWritten, OwnIsAsWritten, NodeIsAsWritten}
+use Rattle.bep_tables.specs.document.AsWritten.{IsWrittenIn, SharingIsAsWritten, OwnIsAsWritten, NodeIsAsWritten, TargetIsAsWritten}
 use Rattle.bep_tables.specs.Cut.{shares_of}
 use Rattle.bep_tables.specs.document.Written.{by_device, by_folder, with_nodes, share_written, folder_written, cut_written}
-use Rattle.bep_tables.proofs.Tables.{folder_is_found, share_has_folder, sharing_is_said, own_is_said, node_is_said}
+use Rattle.bep_tables.proofs.Tables.{folder_is_found, share_has_folder, sharing_is_said, own_is_said, node_is_said, target_is_said}
 use Rattle.bep_tables.proofs.document.WrittenFacts.{from_part, part_there}
 use Rattle.bep_tables.proofs.document.CutWritten.{CutIsWritten}
 
@@ -59,7 +60,7 @@ pub faultless_share : (parts : CheckParts) (folder : FolderParts) (share : Share
 faultless_share parts folder share faultless h =
     holds_of_member IsFaultlessShare folder.devices share (holds_of_member IsFaultlessFolder parts.folders folder faultless.each_folder h.0).shares h.1
 
-pub among_is_contained : (entries : List Entry) (entry : Entry) → IsAmong entry entries ↔ Contains entries entry
+among_is_contained : (entries : List Entry) (entry : Entry) → IsAmong entry entries ↔ Contains entries entry
 among_is_contained [] entry = (λ h. absurd h, λ h. absurd (not_in_none entry h))
 among_is_contained (first ∷ more) entry =
     let rest = among_is_contained more entry in (
@@ -67,14 +68,26 @@ among_is_contained (first ∷ more) entry =
       λ h. ⊎_elim (λ same. inl (sym same)) (λ later. inr (rest.1 later)) (Contains-cons_cases first more entry h),
     )
 
+-- the record found at a name is the one that is listed
+pub found_as_listed : RecordsAreFound → (records : List Entry) (name : FileName) (entry : Entry) → NamesDiffer records → (get (with_all empty records) name ≡ Some entry) ↔ (Contains records entry × (entry.name ≡ name))
+found_as_listed found records name entry differ =
+    let lists = found records name entry differ in
+    let among = among_is_contained records entry in (
+      λ is. let l = lists.0 is in (among.0 l.0, l.1),
+      λ is. lists.1 (among.1 is.0, is.1),
+    )
+
 pub own_is_as_written : CutIsWritten → RecordsAreFound → OwnIsAsWritten
 own_is_as_written is_cut found parts folder share name entry faultless h =
     let own = own_is_said (cut_written parts.folders parts.links) folder.folder name (share_written share) (is_cut parts faultless) (share_there is_cut parts folder share faultless h) in
-    let lists = found share.own name entry (faultless_share parts folder share faultless h).own_records.names in
-    let among = among_is_contained share.own entry in (
-      λ is. let l = lists.0 (sym own ∙ is) in (among.0 l.0, l.1),
-      λ is. own ∙ lists.1 (among.1 is.0, is.1),
-    )
+    let lists = found_as_listed found share.own name entry (faultless_share parts folder share faultless h).own_records.names in
+    (λ is. lists.0 (sym own ∙ is), λ is. own ∙ lists.1 is)
+
+pub target_is_as_written : CutIsWritten → RecordsAreFound → TargetIsAsWritten
+target_is_as_written is_cut found parts folder share name entry faultless h =
+    let target = target_is_said (cut_written parts.folders parts.links) folder.folder name (share_written share) (is_cut parts faultless) (share_there is_cut parts folder share faultless h) in
+    let lists = found_as_listed found share.pulls name entry (faultless_share parts folder share faultless h).pulled.names in
+    (λ is. lists.0 (sym target ∙ is), λ is. target ∙ lists.1 is)
 
 abbrev named : FileName → NodeParts → NamedParts
 named name node = record { name = name; parts = node }

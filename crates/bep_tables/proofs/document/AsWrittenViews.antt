@@ -1,4 +1,4 @@
--- What a device knows of others and what it pulls, from what the document lists.
+-- What a device knows of others, from what the document lists.
 use Rattle.std.proofs.Common.{◌≡◌, ◌↔◌, ◌==◌, ◌||◌, not, eqb-true, arith, Bool, true, false, map, Option, Some, None, Contains, option_and_then, refl, sym, ap, ◌∙◌}
 use Rattle.std.specs.Ordering.{nat_cmp, is_eq}
 use Rattle.std.specs.Cmp.{nat_cmp_total, Equal-is}
@@ -13,24 +13,20 @@ use Rattle.bep_document.specs.declared.parts.ShareParts.{ShareParts}
 use Rattle.bep_document.specs.declared.parts.ViewParts.{ViewParts}
 use Rattle.bep_document.specs.Faultless.{IsNumbered, IsFaultlessIndex, IsFaultlessShare}
 use Rattle.bep_tables.specs.declared.share.PeerView.{PeerView}
-use Rattle.bep_tables.specs.document.AsWritten.{ViewedIsAsWritten, TargetIsAsWritten}
+use Rattle.bep_tables.specs.document.AsWritten.{ViewedIsAsWritten}
 use Rattle.bep_tables.specs.Cut.{view_of}
 use Rattle.bep_tables.specs.document.Written.{by_viewed, has_point, view_written, share_written, cut_written}
 use Rattle.bep_tables.proofs.Found.{found_itself, find_gives}
-use Rattle.bep_tables.proofs.Tables.{are_views, target_is_said, viewed_by_share}
-use Rattle.bep_tables.proofs.document.Kept.{kept}
+use Rattle.bep_tables.proofs.Tables.{are_views, viewed_by_share}
+use Rattle.bep_tables.specs.Kept.{kept}
 use Rattle.bep_tables.proofs.document.WrittenFacts.{part_there, view_part}
 use Rattle.bep_tables.proofs.document.CutWritten.{CutIsWritten}
-use Rattle.bep_tables.proofs.document.AsWrittenFacts.{among_is_contained, faultless_share, share_there}
+use Rattle.bep_tables.proofs.document.AsWrittenFacts.{faultless_share, found_as_listed, share_there}
 
 -- the record that a listed view has of a name is the one that it lists
 view_lists : RecordsAreFound → (share : ShareParts) (view : ViewParts) (name : FileName) (entry : Entry) → IsFaultlessShare share → Contains share.views view → (get (view_written view).records name ≡ Some entry) ↔ (Contains view.records entry × (entry.name ≡ name))
 view_lists found share view name entry faultless h =
-    let lists = found view.records name entry (holds_of_member (λ (v : ViewParts). IsFaultlessIndex v.max v.records) share.views view faultless.views h).names in
-    let among = among_is_contained view.records entry in (
-      λ is. let l = lists.0 is in (among.0 l.0, l.1),
-      λ is. lists.1 (among.1 is.0, is.1),
-    )
+    found_as_listed found view.records name entry (holds_of_member (λ (v : ViewParts). IsFaultlessIndex v.max v.records) share.views view faultless.views h).names
 
 -- something is known where a record is listed
 listed_has_point : (share : ShareParts) (view : ViewParts) (entry : Entry) → IsFaultlessShare share → Contains share.views view → Contains view.records entry → has_point view ≡ true
@@ -81,13 +77,4 @@ viewed_is_as_written is_cut found parts folder share other name entry faultless 
           let held = ap (λ one. view_of one (share_written share).views) (sym listed.2) ∙ itself in
           viewed ∙ ap (option_and_then (λ (view : PeerView). get view.records name)) held
           ∙ (view_lists found share listed.0 name entry faultless_here listed.1).1 (listed.3, listed.4),
-    )
-
-pub target_is_as_written : CutIsWritten → RecordsAreFound → TargetIsAsWritten
-target_is_as_written is_cut found parts folder share name entry faultless h =
-    let target = target_is_said (cut_written parts.folders parts.links) folder.folder name (share_written share) (is_cut parts faultless) (share_there is_cut parts folder share faultless h) in
-    let lists = found share.pulls name entry (faultless_share parts folder share faultless h).pulled.names in
-    let among = among_is_contained share.pulls entry in (
-      λ is. let l = lists.0 (sym target ∙ is) in (among.0 l.0, l.1),
-      λ is. target ∙ lists.1 (among.1 is.0, is.1),
     )

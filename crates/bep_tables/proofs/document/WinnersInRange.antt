@@ -1,5 +1,5 @@
 -- The records of winners are own records of a cut, so their sequences can be written.
-use Rattle.std.proofs.Common.{◌≡◌, ◌≤◌, ℕ, List, [], ◌∷◌, ◌++◌, Option, Some, None, Contains, option_and_then, refl, ap, subst, ◌∙◌, sym, ⊎_elim, arith}
+use Rattle.std.proofs.Common.{◌≡◌, ◌≤◌, List, [], ◌∷◌, Option, Some, None, Contains, option_and_then, refl, ap, subst, ⊎_elim, arith}
 use Rattle.std.specs.FinMap.{get}
 use Rattle.std.proofs.lemmas.List.Elements.{All-contains, Contains-append_cases}
 use Rattle.bep_facts.specs.Members.{not_in_none, Contains-first, Contains-more, Contains-one}
@@ -8,7 +8,6 @@ use Rattle.bep_record.specs.declared.folder_kind.FolderKind.{FolderKind}
 use Rattle.bep_index.specs.declared.limits.TheConstants.{MAX_SEQUENCE}
 use Rattle.bep_index.specs.Index.{IsIndex}
 use Rattle.bep_model.specs.declared.row.Row.{Row}
-use Rattle.bep_model.specs.Settled.{IsListOfWinners}
 use Rattle.bep_model.specs.Tables.{Tables, Device, Folder, FileName}
 use Rattle.bep_model.specs.Winner.{beside, owned}
 use Rattle.bep_tables.specs.declared.cut.CutParts.{CutParts}

@@ -27,7 +27,7 @@ use Rattle.bep_tables.specs.Cut.{HasPoint, AreViews, ArePulls, AreShares, device
 use Rattle.bep_tables.specs.document.Sorting.{in_order}
 use Rattle.bep_tables.specs.document.Written.{by_viewed, by_device, has_point, view_written, share_written, folder_written}
 use Rattle.bep_tables.proofs.Found.{all_from_each, any_gives}
-use Rattle.bep_tables.proofs.document.Kept.{differ_kept, from_kept}
+use Rattle.bep_tables.specs.Kept.{differ_kept, from_kept}
 use Rattle.bep_tables.proofs.document.SortingFacts.{Contains-in_order, in_in_order, rises-in_order}
 
 -- ---- records

@@ -1,5 +1,5 @@
 -- The tables of a cut are those that its document writes down; src/laws.rt has these as contracts.
-use Rattle.std.specs.Prelude.{◌≡◌, ◌⊎◌, ◌↔◌, [], map, Some, Contains}
+use Rattle.std.specs.Prelude.{◌≡◌, ◌⊎◌, ◌↔◌, List, [], Option, map, Some, Contains}
 use Rattle.bep_record.specs.declared.entry.Entry.{Entry}
 use Rattle.bep_record.specs.declared.node.NodeParts.{NodeParts}
 use Rattle.bep_record.specs.declared.folder_kind.FolderKind.{FolderKind}
@@ -28,12 +28,20 @@ SharingIsAsWritten =
     SharesAs (tables_written parts) device name kind
     ↔ ((folder : FolderParts) × (share : ShareParts) × IsWrittenIn parts folder share × (folder.folder ≡ name) × (share.device ≡ device) × (share.kind ≡ kind))
 
--- a device's own record of a name is the one that the document lists
-abbrev pub OwnIsAsWritten : Type 0
-OwnIsAsWritten =
+-- a device's record of a name in this table is the one that the document lists there
+abbrev pub RecordIsAsWritten : (Tables → Device → Folder → FileName → Option Entry) → (ShareParts → List Entry) → Type 0
+RecordIsAsWritten table listed =
     (parts : CheckParts) (folder : FolderParts) (share : ShareParts) (name : FileName) (entry : Entry) → IsFaultless parts →
     IsWrittenIn parts folder share →
-    ((tables_written parts).own share.device folder.folder name ≡ Some entry) ↔ (Contains share.own entry × (entry.name ≡ name))
+    (table (tables_written parts) share.device folder.folder name ≡ Some entry) ↔ (Contains (listed share) entry × (entry.name ≡ name))
+
+-- so it is with a device's own record
+abbrev pub OwnIsAsWritten : Type 0
+OwnIsAsWritten = RecordIsAsWritten (λ t. t.own) (λ share. share.own)
+
+-- and with what it pulls
+abbrev pub TargetIsAsWritten : Type 0
+TargetIsAsWritten = RecordIsAsWritten (λ t. t.target) (λ share. share.pulls)
 
 -- what a device's store holds at a name is the node that the document lists
 abbrev pub NodeIsAsWritten : Type 0
@@ -49,13 +57,6 @@ ViewedIsAsWritten =
     IsWrittenIn parts folder share →
     ((tables_written parts).viewed share.device other folder.folder name ≡ Some entry)
     ↔ ((view : ViewParts) × Contains share.views view × (view.of ≡ other) × Contains view.records entry × (entry.name ≡ name))
-
--- what a device pulls of a name is the record that the document lists
-abbrev pub TargetIsAsWritten : Type 0
-TargetIsAsWritten =
-    (parts : CheckParts) (folder : FolderParts) (share : ShareParts) (name : FileName) (entry : Entry) → IsFaultless parts →
-    IsWrittenIn parts folder share →
-    ((tables_written parts).target share.device folder.folder name ≡ Some entry) ↔ (Contains share.pulls entry × (entry.name ≡ name))
 
 -- what is on its way over a link is what the document lists, in its order
 abbrev pub FlyingIsAsWritten : Type 0

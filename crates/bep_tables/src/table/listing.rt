@@ -1,12 +1,12 @@
 //! The entries of a cut, one after the other.
-ghost use Rattle.std.specs.Prelude.{◌≡◌, ◌++◌, OnOk, map};
+ghost use Rattle.std.specs.Prelude.{◌≡◌, ◌++◌, ◌∷◌, [], OnOk, map};
 ghost use Rattle.std.specs.List.{flat_map};
-ghost use Rattle.bep_tables.specs.Listed.{listed, records_listed, nodes_listed, views_listed, share_listed, folder_listed, flight_listed, link_listed, cut_listed};
+ghost use Rattle.bep_tables.specs.Listed.{held, listed, listed_at, records_listed, nodes_listed, views_listed, share_listed, folder_listed, flight_listed, link_listed, cut_listed};
 
 use super::{Held, Source, TableEntry};
 use crate::{Cut, Flight, LinkState, PeerView, Share, SharedFolder};
 use bep_map::NameMap;
-use bep_record::{DeviceId, FolderName, Node, Record};
+use bep_record::{DeviceId, FolderName, Name, Node, Record};
 use std::alloc::AllocError;
 
 // Adds all entries of the cut.
@@ -67,14 +67,7 @@ fn add_records<'a>(
     ensures { OnOk result (map listed list.new.items ≡ map listed list.old.items ++ records_listed folder.now device source records.now) }
 {
     for (name, found) in records.iter() {
-        let held = Held::Record(source, found);
-        list.reserve(1)?;
-        list.push_reserved(TableEntry {
-            folder,
-            name,
-            device,
-            held,
-        });
+        add(list, folder, name, device, Held::Record(source, found))?;
     }
     Ok(())
 }
@@ -88,14 +81,7 @@ fn add_nodes<'a>(
     ensures { OnOk result (map listed list.new.items ≡ map listed list.old.items ++ nodes_listed folder.now device store.now) }
 {
     for (name, node) in store.iter() {
-        let held = Held::Node(node);
-        list.reserve(1)?;
-        list.push_reserved(TableEntry {
-            folder,
-            name,
-            device,
-            held,
-        });
+        add(list, folder, name, device, Held::Node(node))?;
     }
     Ok(())
 }
@@ -147,13 +133,27 @@ fn add_flight<'a>(
 {
     for found in flight.records.as_slice() {
         let held = Held::Record(Source::Flight, found);
-        list.reserve(1)?;
-        list.push_reserved(TableEntry {
-            folder: &flight.folder,
-            name: &found.entry().name,
-            device,
-            held,
-        });
+        add(list, &flight.folder, &found.entry().name, device, held)?;
     }
+    Ok(())
+}
+
+// Adds what a device holds at a name.
+fn add<'a>(
+    list: &mut Vec<TableEntry<'a>>,
+    folder: &'a FolderName,
+    name: &'a Name,
+    device: DeviceId,
+    holding: Held<'a>,
+) -> Result<(), AllocError>
+    ensures { OnOk result (map listed list.new.items ≡ map listed list.old.items ++ listed_at folder.now name.now device (held holding.entry) ∷ []) }
+{
+    list.reserve(1)?;
+    list.push_reserved(TableEntry {
+        folder,
+        name,
+        device,
+        held: holding,
+    });
     Ok(())
 }

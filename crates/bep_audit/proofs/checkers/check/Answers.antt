@@ -29,28 +29,16 @@ returns-in-None-clause-verdict c =
     (subst (λ (rows : List Row). FindsLeast (tables_of c.args.cut.now) rows (λ _. ⊤) None) c.rows-rows.ensures c.in-None.ensures)
 
 pub returns-in-None-clause-settled : goal.returns-in-None-clause-settled
-returns-in-None-clause-settled c =
-    let settled = none_is_settled (tables_of c.args.cut.now) c.args.certificate.now c.settled_is_faultless.ensures
-    (subst (λ (rows : List Row). FindsLeast (tables_of c.args.cut.now) rows (λ _. ⊤) None) c.rows-rows.ensures c.in-None.ensures) in
-    (λ _. settled, λ _. refl)
+returns-in-None-clause-settled c = (λ _. returns-in-None-clause-verdict c, λ _. refl)
 
 pub returns-in-None-clause-calm : goal.returns-in-None-clause-calm
-returns-in-None-clause-calm c = λ _.
-    c.settled_is_calm.ensures (tables_of c.args.cut.now) c.args.certificate.now
-    (none_is_settled (tables_of c.args.cut.now) c.args.certificate.now c.settled_is_faultless.ensures
-    (subst (λ (rows : List Row). FindsLeast (tables_of c.args.cut.now) rows (λ _. ⊤) None) c.rows-rows.ensures c.in-None.ensures))
+returns-in-None-clause-calm c = λ _. c.settled_is_calm.ensures (tables_of c.args.cut.now) c.args.certificate.now (returns-in-None-clause-verdict c)
 
 pub returns-in-None-clause-stays_put : goal.returns-in-None-clause-stays_put
-returns-in-None-clause-stays_put c = λ _.
-    c.settled_stays_put.ensures (tables_of c.args.cut.now) c.args.certificate.now
-    (none_is_settled (tables_of c.args.cut.now) c.args.certificate.now c.settled_is_faultless.ensures
-    (subst (λ (rows : List Row). FindsLeast (tables_of c.args.cut.now) rows (λ _. ⊤) None) c.rows-rows.ensures c.in-None.ensures))
+returns-in-None-clause-stays_put c = λ _. c.settled_stays_put.ensures (tables_of c.args.cut.now) c.args.certificate.now (returns-in-None-clause-verdict c)
 
 pub returns-in-None-clause-stays_settled : goal.returns-in-None-clause-stays_settled
-returns-in-None-clause-stays_settled c = λ _.
-    c.settled_stays_settled.ensures (tables_of c.args.cut.now) c.args.certificate.now
-    (none_is_settled (tables_of c.args.cut.now) c.args.certificate.now c.settled_is_faultless.ensures
-    (subst (λ (rows : List Row). FindsLeast (tables_of c.args.cut.now) rows (λ _. ⊤) None) c.rows-rows.ensures c.in-None.ensures))
+returns-in-None-clause-stays_settled c = λ _. c.settled_stays_settled.ensures (tables_of c.args.cut.now) c.args.certificate.now (returns-in-None-clause-verdict c)
 
 pub returns-clause-verdict : goal.returns-clause-verdict
 returns-clause-verdict c =
@@ -63,9 +51,5 @@ returns-clause-verdict c =
 
 pub returns-clause-settled : goal.returns-clause-settled
 returns-clause-settled c =
-    let t = tables_of c.args.cut.now in
-    let rows = c.args.certificate.now in
     let least = failure_shown c.in-Some-least_failure.least in
-    failing_is_not_settled t rows c.settled_is_faultless.ensures c.at-in-Some-least_failure.result least.reason least.place c.at-in-Some-least_failure.ensures
-    (least_is_first t rows least
-    (subst (λ (all : List Row). FindsLeast (tables_of c.args.cut.now) all (λ _. ⊤) (Some (failure_shown c.in-Some-least_failure.least))) c.rows-rows.ensures c.in-Some-least_failure.ensures))
+    failing_is_not_settled (tables_of c.args.cut.now) c.args.certificate.now c.settled_is_faultless.ensures c.at-in-Some-least_failure.result least.reason least.place c.at-in-Some-least_failure.ensures (returns-clause-verdict c)

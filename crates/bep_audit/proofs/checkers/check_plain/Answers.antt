@@ -30,12 +30,7 @@ returns-in-Some-clause-verdict c =
 
 pub returns-in-Some-clause-settled : goal.returns-in-Some-clause-settled
 returns-in-Some-clause-settled c =
-    let t = tables_of c.args.cut.now in
-    let rows = c.args.certificate.now in
-    let spot = place_shown c.in-Some.spot in
-    let found = subst (λ (all : List Row). FindsFailing t all (reason_at c.loop-reason.reason-index) (Some spot)) c.rows.ensures c.in-Some.ensures in
-    failing_is_not_settled t rows c.settled_is_faultless.ensures c.at.result (reason_at c.loop-reason.reason-index) spot c.at.ensures
-    (first_failing_at t rows c.loop-reason.reason-index c.loop-reason-test.true c.loop-reason.invariant spot found)
+    failing_is_not_settled (tables_of c.args.cut.now) c.args.certificate.now c.settled_is_faultless.ensures c.at.result (reason_at c.loop-reason.reason-index) (place_shown c.in-Some.spot) c.at.ensures (returns-in-Some-clause-verdict c)
 
 pub returns-in-Some-clause-calm : goal.returns-in-Some-clause-calm
 returns-in-Some-clause-calm c =
@@ -45,14 +40,10 @@ pub returns-clause-verdict : goal.returns-clause-verdict
 returns-clause-verdict c = settled_at_last (tables_of c.args.cut.now) c.args.certificate.now c.settled_is_faultless.ensures c.reasons_are_numbered.ensures.within c.loop-reason.reason-index c.loop-reason-test.false c.loop-reason.invariant
 
 pub returns-clause-settled : goal.returns-clause-settled
-returns-clause-settled c =
-    let settled = settled_at_last (tables_of c.args.cut.now) c.args.certificate.now c.settled_is_faultless.ensures c.reasons_are_numbered.ensures.within c.loop-reason.reason-index c.loop-reason-test.false c.loop-reason.invariant in
-    (λ _. settled, λ _. refl)
+returns-clause-settled c = (λ _. returns-clause-verdict c, λ _. refl)
 
 pub returns-clause-calm : goal.returns-clause-calm
-returns-clause-calm c = λ _.
-    c.settled_is_calm.ensures (tables_of c.args.cut.now) c.args.certificate.now
-    (settled_at_last (tables_of c.args.cut.now) c.args.certificate.now c.settled_is_faultless.ensures c.reasons_are_numbered.ensures.within c.loop-reason.reason-index c.loop-reason-test.false c.loop-reason.invariant)
+returns-clause-calm c = λ _. c.settled_is_calm.ensures (tables_of c.args.cut.now) c.args.certificate.now (returns-clause-verdict c)
 
 pub returns-in-Some-clause-stays_put : goal.returns-in-Some-clause-stays_put
 returns-in-Some-clause-stays_put c =
@@ -63,11 +54,7 @@ returns-in-Some-clause-stays_settled c =
     calm_of_none (tables_of c.args.cut.now) c.args.certificate.now c.at.result (reason_at c.loop-reason.reason-index) (place_shown c.in-Some.spot) c.at.ensures
 
 pub returns-clause-stays_put : goal.returns-clause-stays_put
-returns-clause-stays_put c = λ _.
-    c.settled_stays_put.ensures (tables_of c.args.cut.now) c.args.certificate.now
-    (settled_at_last (tables_of c.args.cut.now) c.args.certificate.now c.settled_is_faultless.ensures c.reasons_are_numbered.ensures.within c.loop-reason.reason-index c.loop-reason-test.false c.loop-reason.invariant)
+returns-clause-stays_put c = λ _. c.settled_stays_put.ensures (tables_of c.args.cut.now) c.args.certificate.now (returns-clause-verdict c)
 
 pub returns-clause-stays_settled : goal.returns-clause-stays_settled
-returns-clause-stays_settled c = λ _.
-    c.settled_stays_settled.ensures (tables_of c.args.cut.now) c.args.certificate.now
-    (settled_at_last (tables_of c.args.cut.now) c.args.certificate.now c.settled_is_faultless.ensures c.reasons_are_numbered.ensures.within c.loop-reason.reason-index c.loop-reason-test.false c.loop-reason.invariant)
+returns-clause-stays_settled c = λ _. c.settled_stays_settled.ensures (tables_of c.args.cut.now) c.args.certificate.now (returns-clause-verdict c)

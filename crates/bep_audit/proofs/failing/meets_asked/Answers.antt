@@ -1,13 +1,11 @@
 use Rattle.std.proofs.Common.{◌↔◌, List, IsTrue, subst}
 use Rattle.bep_tables.specs.declared.link.LinkState.{LinkState}
 use Rattle.bep_audit.specs.Held.{AsksOf}
-use Rattle.bep_audit.proofs.CutFacts.{CutSays}
 use Rattle.bep_audit.proofs.FailingDevice.{share_asked}
 use Rattle.bep_audit.proofs.failing.meets_asked.Goals as goal
 
 pub returns : goal.returns
 returns c =
-    let said : CutSays = record { found = c.cut_says.ensures.found; has_folder = c.cut_says.ensures.has_folder; sharing = c.cut_says.ensures.sharing; own = c.cut_says.ensures.own; node = c.cut_says.ensures.node; viewed = c.cut_says.ensures.viewed; target = c.cut_says.ensures.target; flying = c.cut_says.ensures.flying; receiver = c.cut_says.ensures.receiver } in
-    let asked = share_asked said c.share_is_asked.ensures c.args.cut.now c.links.ensures.a_cut c.args.row.now c.args.reason c.args.share.now c.requires in
+    let asked = share_asked c.cut_says.ensures c.share_is_asked.ensures c.args.cut.now c.links.ensures.a_cut c.args.row.now c.args.reason c.args.share.now c.requires in
     let met = subst (λ (links : List LinkState). IsTrue c.meets.result ↔ AsksOf c.args.reason c.args.row.now links c.args.share.now) c.links.ensures.value c.meets.ensures in
     (λ is. asked.0 (met.0 is), λ asks. met.1 (asked.1 asks))

@@ -3,20 +3,18 @@ use Rattle.bep_tables.specs.Cut.{shares_of}
 use Rattle.bep_tables.specs.declared.link.LinkState.{LinkState}
 use Rattle.bep_tables.specs.declared.share.Share.{Share}
 use Rattle.bep_audit.specs.Known.{IsHeldIn, IsOnItsWay}
-use Rattle.bep_audit.proofs.CutFacts.{CutSays, known_exactly}
+use Rattle.bep_audit.proofs.CutFacts.{known_exactly}
 use Rattle.bep_audit.proofs.known.is_known.Goals as goal
 
 pub returns-then-is_held : goal.returns-then-is_held
 returns-then-is_held c =
-    let said : CutSays = record { found = c.cut_says.ensures.found; has_folder = c.cut_says.ensures.has_folder; sharing = c.cut_says.ensures.sharing; own = c.cut_says.ensures.own; node = c.cut_says.ensures.node; viewed = c.cut_says.ensures.viewed; target = c.cut_says.ensures.target; flying = c.cut_says.ensures.flying; receiver = c.cut_says.ensures.receiver } in
-    let exactly = known_exactly said c.args.cut.now c.shares.ensures.a_cut c.args.folder.now c.args.name.now in
+    let exactly = known_exactly c.cut_says.ensures c.args.cut.now c.shares.ensures.a_cut c.args.folder.now c.args.name.now in
     let held = subst (λ (shares : List Share). IsHeldIn shares c.args.name.now) c.shares.ensures.value (c.is_held.ensures.0 c.if-is_held.true) in
     (λ _. exactly.1 (inl held), λ _. c.if-is_held.true)
 
 pub returns-else-is_held : goal.returns-else-is_held
 returns-else-is_held c =
-    let said : CutSays = record { found = c.cut_says.ensures.found; has_folder = c.cut_says.ensures.has_folder; sharing = c.cut_says.ensures.sharing; own = c.cut_says.ensures.own; node = c.cut_says.ensures.node; viewed = c.cut_says.ensures.viewed; target = c.cut_says.ensures.target; flying = c.cut_says.ensures.flying; receiver = c.cut_says.ensures.receiver } in
-    let exactly = known_exactly said c.args.cut.now c.shares.ensures.a_cut c.args.folder.now c.args.name.now in
+    let exactly = known_exactly c.cut_says.ensures c.args.cut.now c.shares.ensures.a_cut c.args.folder.now c.args.name.now in
     let held : IsHeldIn (shares_of c.args.folder.now c.args.cut.now.folders) c.args.name.now → IsHeldIn c.shares.result.now c.args.name.now
     = λ held. subst (λ (shares : List Share). IsHeldIn shares c.args.name.now) (sym c.shares.ensures.value) held in (
       λ way. exactly.1 (inr (subst (λ (links : List LinkState). IsOnItsWay c.args.folder.now links c.args.name.now) c.links.ensures.value (c.is_on_its_way.ensures.0 way))),

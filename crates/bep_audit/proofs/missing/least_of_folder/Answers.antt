@@ -10,6 +10,6 @@ pub returns : goal.returns
 returns c =
     let rows = c.args.rows.now in
     let held = c.args.held.now in
-    let one = option_copied c.least_of_devices-there.result in
-    let there = subst (λ (shares : List Share). FindsMissing rows held.folder (IsHeldIn shares) one) c.as_slice.ensures c.least_of_devices-there.ensures in
-    least_of_two rows held.folder (IsHeldIn held.shares) (IsOnItsWay held.folder c.args.links.now) one (option_copied c.least_on_its_way-coming.result) (option_copied c.lesser.result) there c.least_on_its_way-coming.ensures c.lesser.ensures
+    let one = option_copied c.least_of-there.result in
+    let there = subst (λ (shares : List Share). FindsMissing rows held.folder (IsHeldIn shares) one) c.as_slice.ensures c.least_of-there.ensures in
+    least_of_two rows held.folder (IsHeldIn held.shares) (IsOnItsWay held.folder c.args.links.now) one (option_copied c.least_of-coming.result) (option_copied c.lesser.result) there c.least_of-coming.ensures c.lesser.ensures

@@ -1,29 +1,22 @@
-use Rattle.std.proofs.Common.{◌≡◌, ◌≤◌, ◌∙◌, ℕ, List, Option, Some, None, length, map, option_map, sym, ap, subst}
+use Rattle.std.proofs.Common.{◌≡◌, ◌∙◌, ℕ, List, Option, Some, None, map, option_map, sym, ap, subst}
 use Rattle.std.specs.Prelude.{IfSome, IfNone}
 use Rattle.std.specs.FinMap.{get}
 use Rattle.bep_choice.specs.Choice.{Candidate, candidate_of, IsChoice}
-use Rattle.bep_record.specs.declared.limits.TheConstants.{MAX_DEVICES}
 use Rattle.bep_model.specs.Tables.{Tables, Folder, FileName}
 use Rattle.bep_model.specs.Winner.{IsWinner}
-use Rattle.bep_tables.specs.Cut.{AreShares, tables_of}
+use Rattle.bep_tables.specs.Cut.{tables_of}
 use Rattle.bep_tables.specs.Listed.{listed}
 use Rattle.bep_tables.specs.declared.share.Share.{Share}
 use Rattle.bep_audit.specs.Candidates.{FindsWinner, own_among, owned_by, chooser_of}
 use Rattle.bep_audit.proofs.OwnFacts.{group_owns}
 use Rattle.bep_audit.proofs.WinnerFacts.{Lent}
-use Rattle.bep_audit.proofs.WinnerSaid.{are_shares, few_shares, winner_said, winner_is_named}
+use Rattle.bep_audit.proofs.WinnerSaid.{few_rise, winner_said, winner_is_named}
 use Rattle.bep_audit.proofs.winner.winner_in.Goals as goal
 
 pub winner_among-requires : goal.winner_among-requires
 winner_among-requires c =
-    let laws = c.cut_says.ensures in
-    let cut = c.args.cut.now in
-    let folder = c.args.folder.now in
-    let value = sym c.shares.ensures.value in
-    record {
-      few = subst (λ (shares : List Share). length shares ≤ MAX_DEVICES) value (few_shares laws.found laws.has_folder cut c.shares.ensures.a_cut folder);
-      rise = (subst AreShares value (are_shares laws.found laws.has_folder cut c.shares.ensures.a_cut folder)).rise;
-    }
+    let both = few_rise c.cut_says.ensures.found c.cut_says.ensures.has_folder c.args.cut.now c.shares.ensures.a_cut c.args.folder.now c.shares.result.now c.shares.ensures.value in
+    record { few = both.0; rise = both.1 }
 
 found_by : (t : Tables) (folder : Folder) (name : FileName) (found : Option Lent) → ((one : Candidate) → IsWinner t folder name one → one.1.name ≡ name) → IfSome found (λ one. IsWinner t folder name (candidate_of one)) → IfNone found ((one : Candidate) → ¬ IsWinner t folder name one) → FindsWinner t folder name (option_map candidate_of found)
 found_by t folder name None named wins none = none

@@ -1,22 +1,13 @@
-use Rattle.std.proofs.Common.{◌≤◌, ℕ, List, IfNone, IfSome, length, sym, subst}
+use Rattle.std.proofs.Common.{ℕ, List, IfNone, IfSome, subst}
 use Rattle.std.proofs.lemmas.Option.{IfSome_then}
 use Rattle.bep_choice.specs.Choice.{Candidate, candidate_of, IsChoice}
-use Rattle.bep_tables.specs.Cut.{AreShares}
-use Rattle.bep_record.specs.declared.limits.TheConstants.{MAX_DEVICES}
-use Rattle.bep_tables.specs.declared.share.Share.{Share}
-use Rattle.bep_audit.proofs.WinnerSaid.{are_shares, few_shares, winner_said, winner_is_named}
+use Rattle.bep_audit.proofs.WinnerSaid.{few_rise, winner_said, winner_is_named}
 use Rattle.bep_audit.proofs.winner.winner_of.Goals as goal
 
 pub winner_among-requires : goal.winner_among-requires
 winner_among-requires c =
-    let laws = c.cut_says.ensures in
-    let cut = c.args.cut.now in
-    let folder = c.args.folder.now in
-    let value = sym c.shares.ensures.value in
-    record {
-      few = subst (λ (shares : List Share). length shares ≤ MAX_DEVICES) value (few_shares laws.found laws.has_folder cut c.shares.ensures.a_cut folder);
-      rise = (subst AreShares value (are_shares laws.found laws.has_folder cut c.shares.ensures.a_cut folder)).rise;
-    }
+    let both = few_rise c.cut_says.ensures.found c.cut_says.ensures.has_folder c.args.cut.now c.shares.ensures.a_cut c.args.folder.now c.shares.result.now c.shares.ensures.value in
+    record { few = both.0; rise = both.1 }
 
 pub returns-clause-wins : goal.returns-clause-wins
 returns-clause-wins c =

@@ -3,7 +3,7 @@ use Rattle.std.specs.List.{AllByRecursion}
 use Rattle.bep_document.specs.declared.parts.ViewParts.{ViewParts}
 use Rattle.bep_document.specs.Faultless.{IsFaultlessIndex}
 use Rattle.bep_tables.specs.document.Written.{has_point}
-use Rattle.bep_tables.proofs.document.Kept.{all_kept}
+use Rattle.bep_tables.specs.Kept.{all_kept}
 use Rattle.bep_tables.proofs.document.written.ShareFromParts.from_parts.Goals as goal
 
 pub all_in_order-requires : goal.all_in_order-requires
