@@ -81,33 +81,24 @@ fn documents_are_refused(rt: HostRuntime) {
         (r#"{"version":"1"}"#, "182"),
         (r#"{"version":1,"version":2}"#, "182"),
         (r#"{"version":2,"version":1}"#, "183"),
-        (
-            r#"{"version":1,"cut":{"folders":[]},"certificate":[]}"#,
-            "read",
-        ),
-        (
-            r#"{"version":1,"cut":{"folders":[],"links":[]},"certificate":[]}"#,
-            "read",
-        ),
-        (
-            r#"{"version":1,"cut":{"folders":[],"links":[1]},"certificate":[]}"#,
-            "183",
-        ),
-        (
-            r#"{"version":1,"cut":{"folders":[],"more":1},"certificate":[]}"#,
-            "183",
-        ),
-        (
-            r#"{"version":1,"cut":{"folders":[]},"certificate":[],"more":1}"#,
-            "183",
-        ),
-        (
-            r#"{"version":1,"cut":{"folders":[]},"certificate":[{}]}"#,
-            "183",
-        ),
-        (r#"{"version":1,"cut":{"folders":[]}}"#, "183"),
     ] {
         assert!(rt; is_told(rt.alloc(), text.as_bytes(), told), "{text}");
+    }
+}
+
+#[test]
+fn cuts_and_certificates_are_refused(rt: HostRuntime) {
+    // What follows a list of folders.
+    for (rest, told) in [
+        (r#"]},"certificate":[]}"#, "read"),
+        (r#"],"links":[]},"certificate":[]}"#, "read"),
+        (r#"],"links":[1]},"certificate":[]}"#, "183"),
+        (r#"],"more":1},"certificate":[]}"#, "183"),
+        (r#"]},"certificate":[],"more":1}"#, "183"),
+        (r#"]},"certificate":[{}]}"#, "183"),
+        ("]}}", "183"),
+    ] {
+        assert!(rt; tells(rt.alloc(), &[DOCUMENT, rest], told), "{rest}");
     }
 }
 

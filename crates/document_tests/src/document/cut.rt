@@ -12,6 +12,10 @@ const OTHERS: &str = r#"},
 
 const END: &str = r#"]},"certificate":[]}"#;
 
+const VIEWS: &str = r#","views":[{"#;
+
+const LINK: &str = r#"{"a":1,"b":2,"epoch":0,"up":"#;
+
 const OWN: &str = r#","own":["#;
 
 const PULLS: &str = r#","pulls":["#;
@@ -36,59 +40,37 @@ const AFTER_MESSAGE: &str = "]}]}";
 const INVALID: &str =
     r#"{"type":1,"modified_s":0,"modified_by":1,"version":[[1,1]],"invalid":true"#;
 
-// Whether this is told of a document whose first device has these members more, and which has these links.
-fn cut_tells(alloc: Global, members: &str, links: &str, told: &str) -> bool {
-    tells(
-        alloc,
-        &[DOCUMENT, FOLDER, DEVICE, members, OTHERS, links, END],
-        told,
-    )
-}
-
 #[test]
 fn views_are_refused(rt: HostRuntime) {
-    for (views, told) in [
+    // The first device's view, without its brackets.
+    for (view, told) in [
+        (r#""of":2,"index_id":0,"max":0,"records":[]"#, "read"),
+        (r#""of":2,"index_id":-1,"max":0,"records":[]"#, "184"),
+        (r#""of":0,"index_id":0,"max":0,"records":[]"#, "184"),
         (
-            r#","views":[{"of":2,"index_id":0,"max":0,"records":[]}]"#,
+            r#""of":2,"index_id":18446744073709551615,"max":9223372036854775807,"records":[]"#,
             "read",
         ),
         (
-            r#","views":[{"of":2,"index_id":-1,"max":0,"records":[]}]"#,
+            r#""of":2,"index_id":0,"max":9223372036854775808,"records":[]"#,
             "184",
         ),
+        (r#""of":2,"index_id":0,"max":0"#, "183"),
+        (r#""of":2,"index_id":0,"records":[]"#, "183"),
         (
-            r#","views":[{"of":0,"index_id":0,"max":0,"records":[]}]"#,
-            "184",
-        ),
-        (
-            r#","views":[{"of":2,"index_id":18446744073709551615,"max":9223372036854775807,"records":[]}]"#,
-            "read",
-        ),
-        (
-            r#","views":[{"of":2,"index_id":0,"max":9223372036854775808,"records":[]}]"#,
-            "184",
-        ),
-        (r#","views":[{"of":2,"index_id":0,"max":0}]"#, "183"),
-        (r#","views":[{"of":2,"index_id":0,"records":[]}]"#, "183"),
-        (
-            r#","views":[{"of":2,"index_id":0,"max":0,"records":[],"more":1}]"#,
+            r#""of":2,"index_id":0,"max":0,"records":[],"more":1"#,
             "183",
         ),
         (
-            r#","views":[{"of":2,"index_id":0,"max":0,"records":[]},{"of":2,"index_id":1,"max":1,"records":[]}]"#,
+            r#""of":2,"index_id":0,"max":0,"records":[]},{"of":2,"index_id":1,"max":1,"records":[]"#,
             "185 docs 1",
         ),
         // A view of the device itself, and of one that shares another folder.
-        (
-            r#","views":[{"of":1,"index_id":0,"max":0,"records":[]}]"#,
-            "186 docs 1",
-        ),
-        (
-            r#","views":[{"of":3,"index_id":0,"max":0,"records":[]}]"#,
-            "186 docs 1",
-        ),
+        (r#""of":1,"index_id":0,"max":0,"records":[]"#, "186 docs 1"),
+        (r#""of":3,"index_id":0,"max":0,"records":[]"#, "186 docs 1"),
     ] {
-        assert!(rt; cut_tells(rt.alloc(), views, "", told), "{views}");
+        let pieces = [DOCUMENT, FOLDER, DEVICE, VIEWS, view, "}]", OTHERS, END];
+        assert!(rt; tells(rt.alloc(), &pieces, told), "{view}");
     }
 }
 
@@ -109,10 +91,6 @@ fn links_are_refused(rt: HostRuntime) {
         (r#"{"a":1,"b":2,"up":true}"#, "183"),
         (r#"{"a":1,"b":2,"up":true,"epoch":0,"more":1}"#, "183"),
         (
-            r#"{"a":1,"b":2,"up":true,"epoch":0,"to_a":[{"folder":"docs","records":[]}]}"#,
-            "183",
-        ),
-        (
             r#"{"a":2,"b":3,"up":true,"epoch":0},{"a":2,"b":3,"up":false,"epoch":1}"#,
             "185 2",
         ),
@@ -123,28 +101,42 @@ fn links_are_refused(rt: HostRuntime) {
         (r#"{"a":3,"b":2,"up":true,"epoch":0}"#, "189 3"),
         (r#"{"a":2,"b":2,"up":true,"epoch":0}"#, "189 2"),
         (r#"{"a":2,"b":4,"up":true,"epoch":0}"#, "189 2"),
+    ] {
+        let pieces = [DOCUMENT, FOLDER, DEVICE, OTHERS, links, END];
+        assert!(rt; tells(rt.alloc(), &pieces, told), "{links}");
+    }
+}
+
+#[test]
+fn messages_are_refused(rt: HostRuntime) {
+    // Whether the link is up, and what is on its way.
+    for (rest, told) in [
+        (r#"true,"to_a":[{"folder":"docs","records":[]}]"#, "183"),
         (
-            r#"{"a":1,"b":2,"up":false,"epoch":0,"to_b":[{"folder":"docs","full":true,"records":[]}]}"#,
+            r#"false,"to_b":[{"folder":"docs","full":true,"records":[]}]"#,
             "189 1",
         ),
         // A folder that one end shares, and one that isn't there.
         (
-            r#"{"a":1,"b":2,"up":true,"epoch":0,"to_a":[{"folder":"other","full":true,"records":[]}]}"#,
+            r#"true,"to_a":[{"folder":"other","full":true,"records":[]}]"#,
             "186 other 1",
         ),
         (
-            r#"{"a":1,"b":2,"up":true,"epoch":0,"to_b":[{"folder":"none","full":true,"records":[]}]}"#,
+            r#"true,"to_b":[{"folder":"none","full":true,"records":[]}]"#,
             "186 none 2",
         ),
     ] {
-        assert!(rt; cut_tells(rt.alloc(), "", links, told), "{links}");
+        let pieces = [DOCUMENT, FOLDER, DEVICE, OTHERS, LINK, rest, "}", END];
+        assert!(rt; tells(rt.alloc(), &pieces, told), "{rest}");
     }
 }
 
-// What begins a record, and its name and sequence.
-type Said<'a> = (&'a str, &'a str);
+// What begins a record, its name, and its sequence.
+type Said<'a> = (&'a str, &'a str, &'a str);
 
 const NAME: &str = r#","name":""#;
+
+const SEQUENCE: &str = r#"","sequence":"#;
 
 // Where records stand: what begins the list, the rest of the list behind them, and what follows.
 type Place<'a> = (&'a str, &'a str, &'a str);
@@ -153,56 +145,34 @@ type Place<'a> = (&'a str, &'a str, &'a str);
 fn list_tells(alloc: Global, place: Place<'_>, records: [Said<'_>; 3], told: &str) -> bool {
     let (before, list, after) = place;
     let [
-        (first, first_name),
-        (second, second_name),
-        (third, third_name),
+        (kind_1, name_1, at_1),
+        (kind_2, name_2, at_2),
+        (kind_3, name_3, at_3),
     ] = records;
     let pieces = [
-        DOCUMENT,
-        FOLDER,
-        DEVICE,
-        before,
-        list,
-        first,
-        NAME,
-        first_name,
-        "},",
-        second,
-        NAME,
-        second_name,
-        "},",
-        third,
-        NAME,
-        third_name,
-        "}",
-        after,
-        END,
+        DOCUMENT, FOLDER, DEVICE, before, list, kind_1, NAME, name_1, SEQUENCE, at_1, "},", kind_2,
+        NAME, name_2, SEQUENCE, at_2, "},", kind_3, NAME, name_3, SEQUENCE, at_3, "}", after, END,
     ];
     tells(alloc, &pieces, told)
 }
 
 #[test]
 fn own_records_are_refused(rt: HostRuntime) {
-    let a = (RECORD, r#"a","sequence":1"#);
-    let b = (RECORD, r#"b","sequence":2"#);
-    let bad = (BLOCKLESS, r#"c","sequence":3"#);
+    let a = (RECORD, "a", "1");
+    let b = (RECORD, "b", "2");
+    let bad = (BLOCKLESS, "c", "3");
     for (first, second, third, told) in [
-        (a, b, (RECORD, r#"c","sequence":9"#), "read"),
-        (a, b, (RECORD, r#"b","sequence":3"#), "185 docs 1 b"),
-        (bad, b, (RECORD, r#"b","sequence":0"#), "185 docs 1 b"),
-        (a, bad, (BLOCKLESS, r#"d","sequence":4"#), "187 docs 1 c"),
-        ((RECORD, r#"d","sequence":0"#), b, bad, "187 docs 1 c"),
-        (a, b, (RECORD, r#"c","sequence":10"#), "188 docs 1 c"),
-        (
-            a,
-            (RECORD, r#"c","sequence":0"#),
-            (RECORD, r#"d","sequence":10"#),
-            "188 docs 1 c",
-        ),
-        (a, b, (RECORD, r#"c","sequence":1"#), "188 docs 1 c"),
-        (a, b, (RECORD, r#"c","sequence":-1"#), "184"),
-        (a, b, (RECORD, r#"c/","sequence":3"#), "184"),
-        (a, b, (RECORD, r#"c","sequence":1.0"#), "183"),
+        (a, b, (RECORD, "c", "9"), "read"),
+        (a, b, (RECORD, "b", "3"), "185 docs 1 b"),
+        (bad, b, (RECORD, "b", "0"), "185 docs 1 b"),
+        (a, bad, (BLOCKLESS, "d", "4"), "187 docs 1 c"),
+        ((RECORD, "d", "0"), b, bad, "187 docs 1 c"),
+        (a, b, (RECORD, "c", "10"), "188 docs 1 c"),
+        (a, (RECORD, "c", "0"), (RECORD, "d", "10"), "188 docs 1 c"),
+        (a, b, (RECORD, "c", "1"), "188 docs 1 c"),
+        (a, b, (RECORD, "c", "-1"), "184"),
+        (a, b, (RECORD, "c/", "3"), "184"),
+        (a, b, (RECORD, "c", "1.0"), "183"),
     ] {
         let records = [first, second, third];
         assert!(rt; list_tells(rt.alloc(), ("", OWN, AFTER_LIST), records, told));
@@ -220,69 +190,28 @@ fn lists_tell(alloc: Global, records: [Said<'_>; 3], told: [&str; 3]) -> [bool; 
 
 #[test]
 fn lists_are_refused(rt: HostRuntime) {
-    let a = (RECORD, r#"a","sequence":1"#);
-    for (first, third, in_view, in_pulls, in_message) in [
-        (a, (RECORD, r#"c","sequence":9"#), "read", "read", "read"),
+    for (third, in_view, in_pulls, in_message) in [
+        ((RECORD, "c", "9"), "read", "read", "read"),
         (
-            a,
-            (RECORD, r#"b","sequence":3"#),
+            (RECORD, "b", "3"),
             "185 docs 1 b",
             "185 docs 1 b",
             "185 docs 2 b",
         ),
         (
-            a,
-            (BLOCKLESS, r#"c","sequence":3"#),
+            (BLOCKLESS, "c", "3"),
             "187 docs 1 c",
             "187 docs 1 c",
             "187 docs 2 c",
         ),
-        (
-            a,
-            (INVALID, r#"c","sequence":3"#),
-            "read",
-            "187 docs 1 c",
-            "read",
-        ),
-        (
-            a,
-            (RECORD, r#"c","sequence":10"#),
-            "188 docs 1 c",
-            "read",
-            "read",
-        ),
-        (
-            a,
-            (RECORD, r#"c","sequence":0"#),
-            "188 docs 1 c",
-            "read",
-            "188 docs 2 c",
-        ),
-        (
-            a,
-            (RECORD, r#"c","sequence":1"#),
-            "188 docs 1 c",
-            "read",
-            "188 docs 2 c",
-        ),
-        (
-            a,
-            (RECORD, r#"c","sequence":2"#),
-            "188 docs 1 c",
-            "read",
-            "188 docs 2 c",
-        ),
-        (a, (RECORD, r#"c","sequence":-1"#), "184", "184", "184"),
-        // No sequence of an index is 0, not even a message's first.
-        (
-            (RECORD, r#"a","sequence":0"#),
-            (RECORD, r#"c","sequence":3"#),
-            "188 docs 1 a",
-            "read",
-            "188 docs 2 a",
-        ),
+        ((INVALID, "c", "3"), "read", "187 docs 1 c", "read"),
+        ((RECORD, "c", "10"), "188 docs 1 c", "read", "read"),
+        ((RECORD, "c", "0"), "188 docs 1 c", "read", "188 docs 2 c"),
+        ((RECORD, "c", "1"), "188 docs 1 c", "read", "188 docs 2 c"),
+        ((RECORD, "c", "2"), "188 docs 1 c", "read", "188 docs 2 c"),
+        ((RECORD, "c", "-1"), "184", "184", "184"),
     ] {
-        let records = [first, (RECORD, r#"b","sequence":2"#), third];
+        let records = [(RECORD, "a", "1"), (RECORD, "b", "2"), third];
         let told = [in_view, in_pulls, in_message];
         assert_eq!(rt;
             lists_tell(rt.alloc(), records, told),
@@ -290,6 +219,14 @@ fn lists_are_refused(rt: HostRuntime) {
             "{third:?}"
         );
     }
+}
+
+#[test]
+fn no_sequence_of_an_index_is_zero(rt: HostRuntime) {
+    // Not even a message's first.
+    let records = [(RECORD, "a", "0"), (RECORD, "b", "2"), (RECORD, "c", "3")];
+    let told = ["188 docs 1 a", "read", "188 docs 2 a"];
+    assert_eq!(rt; lists_tell(rt.alloc(), records, told), [true, true, true]);
 }
 
 const DOWN_TO_A: &str =
@@ -310,11 +247,7 @@ fn smallest_number_is_told(rt: HostRuntime) {
         (OTHERS, BLOCKLESS, AFTER_MESSAGE, "187 docs 1 a"),
         (OTHERS, RECORD, AFTER_MESSAGE, "188 docs 1 b"),
     ] {
-        let falling = [
-            (first, r#"a","sequence":2"#),
-            (RECORD, r#"b","sequence":1"#),
-            (RECORD, r#"c","sequence":3"#),
-        ];
+        let falling = [(first, "a", "2"), (RECORD, "b", "1"), (RECORD, "c", "3")];
         let place = (before, DOWN_TO_A, after);
         assert!(rt; list_tells(rt.alloc(), place, falling, told), "{told}");
     }
