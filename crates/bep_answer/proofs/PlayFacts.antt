@@ -9,7 +9,7 @@ use Rattle.bep_machine.specs.Steps.{Event, IsRun, IsStep}
 use Rattle.bep_core.specs.declared.why.Why.{Why}
 use Rattle.bep_core.specs.declared.why.Why.TheVariants as whys
 use Rattle.bep_core.specs.Why.{Gives}
-use Rattle.bep_answer.specs.Played.{AreMade, AreSure, IsTold, Leads, answer_line, refused_lines}
+use Rattle.bep_answer.specs.Played.{AreMade, AreSure, IsTold, answer_line, refused_lines}
 
 -- one step more
 run_on : (old : Cluster) (events : List Event) (now new : Cluster) (event : Event) → IsRun old events now → IsStep event.step event.failed now new event.answer → IsRun old (events ++ event ∷ []) new
@@ -55,21 +55,6 @@ pub record LeadsSoFar (old : Cluster) (steps : List Step) (now : Cluster) (left 
   pub sure : AreSure events
   pub tells : told ≡ refused_lines 1 events
   pub place_is : place ≡ length events
-
--- none yet
-pub at_first : (old : Cluster) (steps : List Step) → LeadsSoFar old steps old steps [] 0
-at_first old steps = record { events = []; all = refl; run = refl; made = tt; sure = tt; tells = refl; place_is = refl }
-
--- none is left
-pub at_last : (old : Cluster) (steps : List Step) (now : Cluster) (told : List ℕ) (place : ℕ) → LeadsSoFar old steps now [] told place → Leads old steps now told
-at_last old steps now told place so_far = record {
-  events = so_far.events;
-  all = sym (append-nil (map (λ (event : Event). event.step) so_far.events)) ∙ so_far.all;
-  run = so_far.run;
-  made = so_far.made;
-  sure = so_far.sure;
-  tells = so_far.tells;
-}
 
 module _ (old : Cluster) (steps : List Step) (now : Cluster) (step : Step) (left : List Step) (told : List ℕ) (place : ℕ) (so_far : LeadsSoFar old steps now (step ∷ left) told place) (failed : Option ℕ) (sure : failed ≡ None) (new : Cluster) where
   one_more : (answer : Answer) (later : List ℕ) → answer ≢ OutOfMemory → IsStep step failed now new answer → later ≡ told ++ answer_line (suc place) answer → LeadsSoFar old steps new left later (suc place)

@@ -42,35 +42,31 @@ certified_status_of (Err Write) = 5
 abbrev pub usage : ℕ
 usage = 3
 
--- a document was answered, or cut short, and the status tells which
-pub record IsTold (unread left held now : Option (List ℕ)) (status : ℕ) : Type 0 where
-  pub answer : Result Outcome ReportError
-  pub told : status ≡ status_of answer
-  pub done : MatchResult answer (IsWhole IsAnswerOfBytes unread left held now) (IsEndedEarly IsAnswerOfBytes unread left held now)
+-- what was read was answered as this says, or it was cut short, and the status tells which
+pub record IsToldAs {O : Type 0} (Says : List ℕ → O → List ℕ → Type 0) (status_after : Result O ReportError → ℕ) (unread left held now : Option (List ℕ)) (status : ℕ) : Type 0 where
+  pub answer : Result O ReportError
+  pub told : status ≡ status_after answer
+  pub done : MatchResult answer (IsWhole Says unread left held now) (IsEndedEarly Says unread left held now)
 
--- a certificate was written or refused, or cut short, and the status tells which
-pub record IsCertificateTold (unread left held now : Option (List ℕ)) (status : ℕ) : Type 0 where
-  pub answer : Result Certified ReportError
-  pub told : status ≡ certified_status_of answer
-  pub done : MatchResult answer (IsWhole IsCertifiedOfBytes unread left held now) (IsEndedEarly IsCertifiedOfBytes unread left held now)
+-- a document was answered
+abbrev pub IsTold : Option (List ℕ) → Option (List ℕ) → Option (List ℕ) → Option (List ℕ) → ℕ → Type 0
+IsTold = IsToldAs IsAnswerOfBytes status_of
 
--- all that fails was written, or the document refused, or it was cut short, and the status tells which
-pub record IsExplanationTold (form : Form) (unread left held now : Option (List ℕ)) (status : ℕ) : Type 0 where
-  pub answer : Result Outcome ReportError
-  pub told : status ≡ status_of answer
-  pub done : MatchResult answer (IsWhole (IsExplainedOfBytes form) unread left held now) (IsEndedEarly (IsExplainedOfBytes form) unread left held now)
+-- a certificate was written or refused
+abbrev pub IsCertificateTold : Option (List ℕ) → Option (List ℕ) → Option (List ℕ) → Option (List ℕ) → ℕ → Type 0
+IsCertificateTold = IsToldAs IsCertifiedOfBytes certified_status_of
 
--- a scenario was run or refused, or cut short, and the status tells which
-pub record IsRunTold (unread left held now : Option (List ℕ)) (status : ℕ) : Type 0 where
-  pub answer : Result Outcome ReportError
-  pub told : status ≡ status_of answer
-  pub done : MatchResult answer (IsWhole IsRunOfBytes unread left held now) (IsEndedEarly IsRunOfBytes unread left held now)
+-- all that fails was written, or the document refused
+abbrev pub IsExplanationTold : Form → Option (List ℕ) → Option (List ℕ) → Option (List ℕ) → Option (List ℕ) → ℕ → Type 0
+IsExplanationTold form = IsToldAs (IsExplainedOfBytes form) status_of
 
--- the document of a scenario's end was written or the scenario refused, or it was cut short, and the status tells which
-pub record IsEndTold (unread left held now : Option (List ℕ)) (status : ℕ) : Type 0 where
-  pub answer : Result Certified ReportError
-  pub told : status ≡ certified_status_of answer
-  pub done : MatchResult answer (IsWhole IsEndOfBytes unread left held now) (IsEndedEarly IsEndOfBytes unread left held now)
+-- a scenario was run or refused
+abbrev pub IsRunTold : Option (List ℕ) → Option (List ℕ) → Option (List ℕ) → Option (List ℕ) → ℕ → Type 0
+IsRunTold = IsToldAs IsRunOfBytes status_of
+
+-- the document of a scenario's end was written or the scenario refused
+abbrev pub IsEndTold : Option (List ℕ) → Option (List ℕ) → Option (List ℕ) → Option (List ℕ) → ℕ → Type 0
+IsEndTold = IsToldAs IsEndOfBytes certified_status_of
 
 -- what came of a scenario for each ending that is asked for
 abbrev pub IsEnding : Ending → Option (List ℕ) → Option (List ℕ) → Option (List ℕ) → Option (List ℕ) → ℕ → Type 0
