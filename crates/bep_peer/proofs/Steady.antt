@@ -1,4 +1,4 @@
--- A call of a folder that is a step, or a read, is steady.
+-- A step of a folder is steady.
 use Rattle.std.proofs.Common.{ℕ, Option, Result}
 use Rattle.bep_model.specs.Tables.{Device}
 use Rattle.bep_machine.specs.declared.moved.Moved.{Moved}

@@ -1,5 +1,5 @@
 -- What a device does with one of its folders is the step of the folder's replica, and leaves all else.
-use Rattle.std.proofs.Common.{rules, ◌≡◌, ◌↔◌, ◌<◌, ℕ, List, Bool, true, false, cond, Option, Some, None, IsSome, Contains, Result, Ok, Err, IsErr, Bor, option_map, refl, sym, ap, subst, ◌∙◌, arith, inl, inr, ⊎_elim}
+use Rattle.std.proofs.Common.{◌≡◌, ◌↔◌, ◌<◌, ℕ, List, Bool, true, false, cond, Option, Some, None, IsSome, Contains, Result, Ok, Err, IsErr, Bor, option_map, refl, sym, ap, subst, ◌∙◌, arith, inl, inr, ⊎_elim}
 use Rattle.std.specs.Ordering.{nat_cmp, eq_by_cmp}
 use Rattle.std.specs.Cmp.Lexicographic.{slice_cmp, nat_list_cmp_total}
 use Rattle.std.specs.FinMap.{get, insert, get-insert}
@@ -25,7 +25,7 @@ use Rattle.bep_peer.specs.declared.trace.Trace.{Trace}
 use Rattle.bep_peer.specs.Call.{AnswersAt, IsCalled, IsSteady, IsStepped, row_of}
 use Rattle.bep_peer.specs.Member.{Member, AreOwn, IsMember, HasFailed, Remains, tables_of, untold}
 use Rattle.bep_peer.specs.PeerError.{Gives}
-use Rattle.bep_peer.specs.Within.{GainsCopyIn, OnlyFolder, StepWithin, TellsFault, told_of, with_folder, answer_of, error_of}
+use Rattle.bep_peer.specs.Within.{GainsCopyIn, OnlyFolder, StepWithin, told_of, with_folder, answer_of, error_of}
 use Rattle.bep_peer.proofs.Refusals.{failed_or_not, wanting_or_refused}
 use Rattle.bep_peer.proofs.Mapped.{get-changed, insert-changed}
 
@@ -83,7 +83,7 @@ left_with begun folder after trace = record begun { folders = insert begun.folde
 pub told_by : (trace : Trace) (pair : Option ℕ × Bool) (held : HeldTrace) → trace ≡ told_of (record { failed = pair.0; copied = pair.1 }) → pair ≡ (held.failed, held.copied) → trace ≡ told_of held
 told_by trace pair held is same = is ∙ ap (λ (p : Option ℕ × Bool). told_of (record { failed = p.0; copied = p.1 })) same
 
-pub left_within : (old begun : Member) (folder : Folder) (after : Held) (trace : Trace) → begun ≡ untold old → trace ≡ told_of after.trace → left_with begun folder after trace ≡ with_folder old folder after
+left_within : (old begun : Member) (folder : Folder) (after : Held) (trace : Trace) → begun ≡ untold old → trace ≡ told_of after.trace → left_with begun folder after trace ≡ with_folder old folder after
 left_within old begun folder after trace same told =
     ap (left_with begun folder after) told ∙ ap (λ (m : Member). left_with m folder after (told_of after.trace)) same
 
@@ -173,11 +173,6 @@ member_within number folders sessions linked folder before after member there st
             )
         cases false apart = (shared.0, get-insert nat_list_cmp_total folders folder after name ∙ ap (λ (b : Bool). cond b (Some after) (get folders name)) apart ∙ shared.1, shared.2)
 
--- ---- what is told of a fault
-
-tells_of_it : {A : Type 0} (old : Member) (folder : Folder) (before after : Held) (answer : Result A FolderError) → CountsFaults before after answer → TellsFault (with_folder old folder after) (answer_of answer)
-tells_of_it old folder before after answer counted = search rules
-
 -- ---- what every call of a folder does
 
 module _ {A : Type 0} {does : Held → Held → Result A FolderError → Type 0} {folder : Folder} {old new : Member} {result : Result A PeerError} where
@@ -188,12 +183,6 @@ module _ {A : Type 0} {does : Held → Held → Result A FolderError → Type 0}
 
   pub remains_within : IsCalled does folder old new result → Remains old new
   remains_within call = subst (Remains old) (sym call.now) (remains_at old folder call.before call.after call.answer call.there call.steady.counted)
-
-  pub tells_within : IsCalled does folder old new result → TellsFault new result
-  tells_within call =
-      subst (λ (m : Member). TellsFault m result) (sym call.now)
-      (subst (λ (one : Result A PeerError). TellsFault (with_folder old folder call.after) one) (sym call.says)
-      (tells_of_it old folder call.before call.after call.answer call.steady.counted))
 
   -- what holds where the device doesn't have the folder, and where the folder was called
   pub either_way : (P : Member → Result A PeerError → Type 0) → (get old.folders folder ≡ None → P (untold old) (Err (Refused NotShared))) →

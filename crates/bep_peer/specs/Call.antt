@@ -26,7 +26,8 @@ use Rattle.bep_peer.specs.Within.{IsOfStep, answer_of, with_folder}
 
 -- ---- every call
 
--- It is the same folder after it, shared with the same devices; its count of faults rises exactly where a fault is answered.
+-- It is the same folder after it, shared with the same devices; its count of faults rises exactly where a fault is answered;
+-- and only what a step or a commit answers is answered.
 pub record IsSteady {A : Type 0} (before after : Held) (answer : Result A FolderError) : Type 0 where
   pub stays : Stays before after
   pub others : after.tables.others ≡ before.tables.others
@@ -61,14 +62,14 @@ row_of (Finish name) device failed = FinishRow device name.now failed
 row_of (Override name) device failed = OverrideRow device name.now
 row_of (Revert name) device failed = RevertRow device name.now failed
 
--- the end of a pull may write a conflict copy, and after an error that is all that it did
-pub record Copies (name : FileName) (before after : Held) (answer : Result Moved FolderError) : Type 0 where
+-- a conflict copy may be written, and after an error that is all that was done
+pub record MayCopy (name : FileName) (before after : Held) (answer : Result Moved FolderError) : Type 0 where
   pub copied : (after.trace.copied ≡ true) ↔ GainsCopy name before.tables after.tables
   pub kept : IsErr answer → after.trace.copied ≡ false → after.tables ≡ before.tables
 
--- no other step writes one
+-- the end of a pull alone may write one
 abbrev pub TellsOfCopy : Step → Held → Held → Result Moved FolderError → Type 0
-TellsOfCopy (Finish name) before after answer = Copies name.now before after answer
+TellsOfCopy (Finish name) before after answer = MayCopy name.now before after answer
 TellsOfCopy step before after answer = after.trace.copied ≡ false
 
 -- the step's row is made
