@@ -94,10 +94,7 @@ fn read_at<S: Store>(
 }
 
 // The folder's node at the name, a copy of its own; a store that never fails gives it, or wants memory.
-fn look_at<S: Store>(
-    replica: &mut Replica<S>,
-    name: &Name,
-) -> Result<Option<Node>, FolderError>
+fn look_at<S: Store>(replica: &mut Replica<S>, name: &Name) -> Result<Option<Node>, FolderError>
     ensures node { IfOk result (λ node. node ≡ node_at replica.old.tables name.now) }
     ensures same { replica.new.tables ≡ replica.old.tables }
     ensures only { IfErr result (λ e. (e ≡ StoreFault) ⊎ (e ≡ OutOfMemory)) }
