@@ -7,7 +7,7 @@ use Rattle.bep_machine.specs.declared.refusal.Refusal.TheVariants.{NotShared}
 use Rattle.bep_machine.specs.Answer.{Answer, Refused as Refuses, Row}
 use Rattle.bep_machine.specs.Cluster.{Cluster}
 use Rattle.bep_machine.specs.Replica.{Replica}
-use Rattle.bep_machine.specs.Steps.{AtReplica, SharesFolder}
+use Rattle.bep_machine.specs.Steps.{AtReplica, IsStep, SharesFolder}
 use Rattle.bep_peer.specs.declared.error.PeerError.{PeerError}
 use Rattle.bep_peer.specs.Member.{Member}
 use Rattle.bep_peer.specs.PeerError.{Gives as GivesThere}
@@ -15,19 +15,46 @@ use Rattle.bep_peer.specs.Within.{StepWithin}
 use Rattle.bep_core.specs.declared.why.Why.{Why}
 use Rattle.bep_core.specs.Network.{Network, IsNetwork, is_number, cluster_of, failed_at}
 use Rattle.bep_core.specs.Why.{Gives, answer_of}
+use Rattle.bep_core.specs.Within.{row_of, step_of}
+use Rattle.bep_core.specs.declared.folder_steps.Within.{Within}
+use Rattle.bep_core.specs.declared.folder_steps.Within.TheVariants.{Edit, Remove, Scan, Override, Revert, Pull, Finish}
 use Rattle.bep_core.proofs.AtLinks.{none_found}
 use Rattle.bep_core.proofs.OneDevice.{Replaces, with_member, network_after, failed_now}
-use Rattle.bep_peer.proofs.RowsKeep.{Keeps}
+use Rattle.bep_peer.proofs.RowsKeep.{Keeps, edit_keeps, remove_keeps, scan_keeps, override_keeps, revert_keeps, start_keeps, finish_keeps}
 use Rattle.bep_core.proofs.Within.{StepOf, absent, carried, replaces, whichever, within, within_keeps}
 
--- a step of the device in the folder, whose row may name the device and the call of the store that failed
-module _ (device : Device) (folder : Folder) (step : Option ℕ → Cluster → Row Cluster) (row : Device → Option ℕ → Replica → Row Replica)
-    (is : (failed : Option ℕ) (old new : Cluster) (answer : Answer) → StepOf (SharesFolder old.config device folder) (AtReplica device folder (row device failed) old) old new answer → step failed old new answer)
-    (keeps : (number : Device) (failed : Option ℕ) (replica : Replica) → Keeps replica (row number failed replica)) where
+-- the cluster's step is the row at the folder's replica
+is_step : (what : Within) (device : Device) (folder : Folder) (failed : Option ℕ) (old new : Cluster) (answer : Answer) →
+    StepOf (SharesFolder old.config device folder) (AtReplica device folder (row_of what device failed) old) old new answer → IsStep (step_of what device folder) failed old new answer
+is_step (Edit name node) device folder failed old new answer made = made
+is_step (Remove name) device folder failed old new answer made = made
+is_step (Scan name) device folder failed old new answer made = made
+is_step (Override name) device folder failed old new answer made = made
+is_step (Revert name) device folder failed old new answer made = made
+is_step (Pull name) device folder failed old new answer made = made
+is_step (Finish name) device folder failed old new answer made = made
+
+row_keeps : (what : Within) (number : Device) (failed : Option ℕ) (replica : Replica) → Keeps replica (row_of what number failed replica)
+row_keeps (Edit name node) number failed replica = edit_keeps name node failed replica
+row_keeps (Remove name) number failed replica = remove_keeps name failed replica
+row_keeps (Scan name) number failed replica = scan_keeps number name failed replica
+row_keeps (Override name) number failed replica = override_keeps number name replica
+row_keeps (Revert name) number failed replica = revert_keeps number name failed replica
+row_keeps (Pull name) number failed replica = start_keeps number name replica
+row_keeps (Finish name) number failed replica = finish_keeps number name failed replica
+
+-- what the device does in the folder
+module _ (device : Device) (folder : Folder) (what : Within) where
+  abbrev step : Option ℕ → Cluster → Row Cluster
+  step = IsStep (step_of what device folder)
+
+  abbrev row : Device → Option ℕ → Replica → Row Replica
+  row = row_of what
+
   -- the device isn't there
   pub none_within : (self network : Network) (failed : Option ℕ) → network ≡ self → IsNetwork network → position (is_number device) self.members ≡ None → step failed (cluster_of self) (cluster_of self) (Refuses NotShared)
   none_within self network failed seen rules none =
-      is failed (cluster_of self) (cluster_of self) (Refuses NotShared)
+      is_step what device folder failed (cluster_of self) (cluster_of self) (Refuses NotShared)
       (absent self device folder (AtReplica device folder (row device failed) (cluster_of self)) (subst IsNetwork seen rules) (none_found (is_number device) self.members none))
 
   module _ (self network : Network) (seen : network ≡ self) (rules : IsNetwork network) (place : ℕ) (was after : Member)
@@ -36,7 +63,7 @@ module _ (device : Device) (folder : Folder) (step : Option ℕ → Cluster → 
     replaced : Replaces network.members device place was after
     replaced =
         replaces network.members device place was after (ap (λ (n : Network). position (is_number device) n.members) seen ∙ found) value numbered linked
-        (whichever (StepWithin folder (row was.number after.trace.failed) was) after (within_keeps folder (row was.number after.trace.failed) (keeps was.number after.trace.failed) was after) result given)
+        (whichever (StepWithin folder (row was.number after.trace.failed) was) after (within_keeps folder (row was.number after.trace.failed) (row_keeps what was.number after.trace.failed) was after) result given)
 
     -- the cluster is a network still
     pub within_rules : IsNetwork (with_member network place after)
@@ -49,6 +76,6 @@ module _ (device : Device) (folder : Folder) (step : Option ℕ → Cluster → 
         (subst (Gives (step (failed_at (with_member network place after).members device) (cluster_of network)) (cluster_of (with_member network place after))) (sym same)
         (subst (λ (failed : Option ℕ). Gives (step failed (cluster_of network)) (cluster_of (with_member network place after)) (answer_of result)) (sym (failed_now network device place was after replaced))
         (carried (StepWithin folder (row device after.trace.failed) was) after (step after.trace.failed (cluster_of network)) (cluster_of (with_member network place after))
-        (λ answer made. is after.trace.failed (cluster_of network) (cluster_of (with_member network place after)) answer
+        (λ answer made. is_step what device folder after.trace.failed (cluster_of network) (cluster_of (with_member network place after)) answer
         (within folder (row device after.trace.failed) network rules device place was after replaced answer made))
         result (subst (λ (number : Device). GivesThere (StepWithin folder (row number after.trace.failed) was) after result) replaced.number given))))

@@ -5,3 +5,4 @@ pub mod Reached
 pub mod Restart
 pub mod Why
 pub mod Sharing
+pub mod Within

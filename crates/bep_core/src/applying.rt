@@ -10,6 +10,7 @@ ghost use Rattle.bep_core.specs.Reached.{IsReached};
 ghost use Rattle.bep_core.specs.Why.{Gives};
 ghost use Rattle.bep_core.specs.declared.why.Why.TheVariants.{ConfigBad};
 
+use crate::folder_steps::Within;
 use crate::{Cluster, Why};
 use bep_machine::{Moved, Step, undone_steps_leave_all};
 use bep_record::DeviceId;
@@ -50,19 +51,43 @@ impl<S: Store> Cluster<S> {
         ensures { Gives (IsStep step (failed_by step self.new.members) (cluster_of self.old)) (cluster_of self.new) result }
     {
         match step {
-            Step::Edit(device, folder, name, node) => self.edit(device, &folder, &name, &node),
-            Step::Remove(device, folder, name) => self.remove(device, &folder, &name),
-            Step::Scan(device, folder, name) => self.scan(device, &folder, name),
-            Step::Override(device, folder, name) => self.override_one(device, &folder, &name),
-            Step::Revert(device, folder, name) => self.revert_one(device, &folder, &name),
+            Step::Edit(device, folder, name, node) => self.within(
+                device,
+                &folder,
+                Within::Edit(name, node),
+            ),
+            Step::Remove(device, folder, name) => self.within(
+                device,
+                &folder,
+                Within::Remove(name),
+            ),
+            Step::Scan(device, folder, name) => self.within(device, &folder, Within::Scan(name)),
+            Step::Override(device, folder, name) => self.within(
+                device,
+                &folder,
+                Within::Override(name),
+            ),
+            Step::Revert(device, folder, name) => self.within(
+                device,
+                &folder,
+                Within::Revert(name),
+            ),
             Step::Connect(lower, upper) => self.connect(lower, upper),
             Step::Lose(lower, upper) => self.lose(lower, upper),
             Step::Begin(device, other) => self.begin(device, other),
             Step::Deliver(device, other) => self.deliver(device, other),
             Step::Announce(device, other, folder) => self.announce(device, other, &folder),
-            Step::StartPull(device, folder, name) => self.pull(device, &folder, &name),
+            Step::StartPull(device, folder, name) => self.within(
+                device,
+                &folder,
+                Within::Pull(name),
+            ),
             Step::Ask(device, other, folder, name) => self.ask(device, other, &folder, &name),
-            Step::Finish(device, folder, name) => self.finish(device, &folder, &name),
+            Step::Finish(device, folder, name) => self.within(
+                device,
+                &folder,
+                Within::Finish(name),
+            ),
             Step::Restart(device) => self.restart(device),
         }
     }

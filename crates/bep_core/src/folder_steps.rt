@@ -1,17 +1,40 @@
 //! The steps of one device within one of its folders.
 ghost use Rattle.std.specs.Prelude.{◌≡◌, ◌≢◌, Err};
 ghost use Rattle.std.specs.List.{position};
-ghost use Rattle.bep_machine.specs.declared.step.Step.TheVariants.{Edit, Remove, Override, Revert, StartPull, Finish};
 ghost use Rattle.bep_machine.specs.Steps.{IsStep};
+ghost use Rattle.bep_peer.specs.PeerError.{Gives as GivesThere};
+ghost use Rattle.bep_peer.specs.Within.{StepWithin};
 ghost use Rattle.bep_peer.specs.declared.error.PeerError.TheVariants.{Stale};
 ghost use Rattle.bep_core.specs.Network.{cluster_of, failed_at, is_number};
+ghost use Rattle.bep_core.specs.Within.{row_of, step_of};
 ghost use Rattle.bep_core.specs.Why.{Gives, answer_of};
 
+use crate::scanning::scan_at;
 use crate::{Cluster, Why};
 use bep_machine::{Moved, Refusal};
-use bep_peer::PeerError;
+use bep_peer::{Peer, PeerError};
 use bep_record::{DeviceId, FolderName, Name, Node};
 use bep_store::Store;
+use std::alloc::Global;
+
+// What a device does within a folder.
+#[derive(Drop)]
+pub(crate) enum Within {
+    // a user puts the node at the name
+    Edit(Name, Node),
+    // a user removes what stands at the name
+    Remove(Name),
+    // the device compares the name with its own record
+    Scan(Name),
+    // a user lets the device's own content win
+    Override(Name),
+    // a user takes a local change back
+    Revert(Name),
+    // the device begins to pull the record that it wants of the name
+    Pull(Name),
+    // the device ends the name's pull
+    Finish(Name),
+}
 
 impl<S: Store> Cluster<S> {
     // Where the device of this number stands.
@@ -21,95 +44,41 @@ impl<S: Store> Cluster<S> {
         self.peers.iter().position(|peer| peer.number() == device)
     }
 
-    // A user puts the node at the name.
-    pub(crate) fn edit(
+    // The device makes the step within the folder.
+    pub(crate) fn within(
         &mut self,
         device: DeviceId,
         folder: &FolderName,
-        name: &Name,
-        node: &Node,
+        step: Within,
     ) -> Result<Moved, Why>
-        ensures { Gives (IsStep (Edit device folder.now name.now node.now) (failed_at self.new.members device) (cluster_of self.old)) (cluster_of self.new) result }
+        ensures { Gives (IsStep (step_of step device folder.now) (failed_at self.new.members device) (cluster_of self.old)) (cluster_of self.new) result }
     {
         let Some(place) = self.device_place(device) else {
             return Err(Why::Refused(Refusal::NotShared));
         };
-        answered(self.peers[place].edit(folder, name, node))
+        answered(make(self.alloc, &mut self.peers[place], folder, step))
     }
+}
 
-    // A user removes what stands at the name.
-    pub(crate) fn remove(
-        &mut self,
-        device: DeviceId,
-        folder: &FolderName,
-        name: &Name,
-    ) -> Result<Moved, Why>
-        ensures { Gives (IsStep (Remove device folder.now name.now) (failed_at self.new.members device) (cluster_of self.old)) (cluster_of self.new) result }
-    {
-        let Some(place) = self.device_place(device) else {
-            return Err(Why::Refused(Refusal::NotShared));
-        };
-        answered(self.peers[place].remove(folder, name))
-    }
-
-    // A user lets the device's own content win.
-    pub(crate) fn override_one(
-        &mut self,
-        device: DeviceId,
-        folder: &FolderName,
-        name: &Name,
-    ) -> Result<Moved, Why>
-        ensures { Gives (IsStep (Override device folder.now name.now) (failed_at self.new.members device) (cluster_of self.old)) (cluster_of self.new) result }
-    {
-        let Some(place) = self.device_place(device) else {
-            return Err(Why::Refused(Refusal::NotShared));
-        };
-        answered(self.peers[place].override_one(folder, name))
-    }
-
-    // A user takes a local change back.
-    pub(crate) fn revert_one(
-        &mut self,
-        device: DeviceId,
-        folder: &FolderName,
-        name: &Name,
-    ) -> Result<Moved, Why>
-        ensures { Gives (IsStep (Revert device folder.now name.now) (failed_at self.new.members device) (cluster_of self.old)) (cluster_of self.new) result }
-    {
-        let Some(place) = self.device_place(device) else {
-            return Err(Why::Refused(Refusal::NotShared));
-        };
-        answered(self.peers[place].revert_one(folder, name))
-    }
-
-    // The device begins to pull the record that it wants of the name.
-    pub(crate) fn pull(
-        &mut self,
-        device: DeviceId,
-        folder: &FolderName,
-        name: &Name,
-    ) -> Result<Moved, Why>
-        ensures { Gives (IsStep (StartPull device folder.now name.now) (failed_at self.new.members device) (cluster_of self.old)) (cluster_of self.new) result }
-    {
-        let Some(place) = self.device_place(device) else {
-            return Err(Why::Refused(Refusal::NotShared));
-        };
-        answered(self.peers[place].pull(folder, name))
-    }
-
-    // The device ends the name's pull.
-    pub(crate) fn finish(
-        &mut self,
-        device: DeviceId,
-        folder: &FolderName,
-        name: &Name,
-    ) -> Result<Moved, Why>
-        ensures { Gives (IsStep (Finish device folder.now name.now) (failed_at self.new.members device) (cluster_of self.old)) (cluster_of self.new) result }
-    {
-        let Some(place) = self.device_place(device) else {
-            return Err(Why::Refused(Refusal::NotShared));
-        };
-        answered(self.peers[place].finish(folder, name))
+// The device makes the step.
+fn make<S: Store>(
+    alloc: Global,
+    peer: &mut Peer<S>,
+    folder: &FolderName,
+    step: Within,
+) -> Result<Moved, PeerError>
+    ensures step { GivesThere (StepWithin folder.now (row_of step peer.old.number peer.new.trace.failed) peer.old) peer.new result }
+    ensures number { peer.new.number ≡ peer.old.number }
+    ensures linked { peer.new.linked ≡ peer.old.linked }
+{
+    match step {
+        Within::Edit(name, node) => peer.edit(folder, &name, &node),
+        Within::Remove(name) => peer.remove(folder, &name),
+        Within::Scan(name) => scan_at(alloc, peer, folder, name),
+        Within::Override(name) => peer.override_one(folder, &name),
+        Within::Revert(name) => peer.revert_one(folder, &name),
+        Within::Pull(name) => peer.pull(folder, &name),
+        Within::Finish(name) => peer.finish(folder, &name),
     }
 }
 
