@@ -6,3 +6,4 @@ pub mod Restart
 pub mod Why
 pub mod Sharing
 pub mod Within
+pub mod Over

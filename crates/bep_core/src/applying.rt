@@ -11,6 +11,7 @@ ghost use Rattle.bep_core.specs.Why.{Gives};
 ghost use Rattle.bep_core.specs.declared.why.Why.TheVariants.{ConfigBad};
 
 use crate::folder_steps::Within;
+use crate::session_steps::Over;
 use crate::{Cluster, Why};
 use bep_machine::{Moved, Step, undone_steps_leave_all};
 use bep_record::DeviceId;
@@ -74,15 +75,23 @@ impl<S: Store> Cluster<S> {
             ),
             Step::Connect(lower, upper) => self.connect(lower, upper),
             Step::Lose(lower, upper) => self.lose(lower, upper),
-            Step::Begin(device, other) => self.begin(device, other),
-            Step::Deliver(device, other) => self.deliver(device, other),
-            Step::Announce(device, other, folder) => self.announce(device, other, &folder),
+            Step::Begin(device, other) => self.over(device, other, Over::Begin),
+            Step::Deliver(device, other) => self.over(device, other, Over::Deliver),
+            Step::Announce(device, other, folder) => self.over(
+                device,
+                other,
+                Over::Announce(folder),
+            ),
             Step::StartPull(device, folder, name) => self.within(
                 device,
                 &folder,
                 Within::Pull(name),
             ),
-            Step::Ask(device, other, folder, name) => self.ask(device, other, &folder, &name),
+            Step::Ask(device, other, folder, name) => self.over(
+                device,
+                other,
+                Over::Ask(folder, name),
+            ),
             Step::Finish(device, folder, name) => self.within(
                 device,
                 &folder,

@@ -1,16 +1,34 @@
 //! The steps of one device over its link with another one.
 ghost use Rattle.std.specs.Prelude.{◌≡◌, ◌⊎◌, Some, None, IfSome, IfNone};
 ghost use Rattle.std.specs.List.{position};
-ghost use Rattle.bep_machine.specs.declared.step.Step.TheVariants.{Begin, Announce, Ask, Deliver};
 ghost use Rattle.bep_machine.specs.Steps.{IsStep};
+ghost use Rattle.bep_peer.specs.Lent.{StepOver};
+ghost use Rattle.bep_peer.specs.Member.{Remains};
+ghost use Rattle.bep_peer.specs.PeerError.{Gives as GivesThere};
 ghost use Rattle.bep_core.specs.Network.{cluster_of, failed_at, in_order, is_between, is_number};
+ghost use Rattle.bep_core.specs.Over.{row_of, shares_of, step_of};
 ghost use Rattle.bep_core.specs.Why.{Gives};
 
 use crate::folder_steps::answered;
 use crate::{Cluster, Why};
+use bep_links::Link;
 use bep_machine::{Moved, Refusal};
+use bep_peer::{Peer, PeerError};
 use bep_record::{DeviceId, FolderName, Name};
 use bep_store::Store;
+
+// What a device does over its link with another one.
+#[derive(Drop)]
+pub(crate) enum Over {
+    // it begins a session
+    Begin,
+    // it takes the first message that came from the other one
+    Deliver,
+    // it sends what comes next of the folder's index
+    Announce(FolderName),
+    // it asks for the next block of the name's pull
+    Ask(FolderName, Name),
+}
 
 impl<S: Store> Cluster<S> {
     // Where the link between the two stands, whichever is named first.
@@ -35,54 +53,31 @@ impl<S: Store> Cluster<S> {
         Some((place, between))
     }
 
-    // The device begins a session with the other one.
-    pub(crate) fn begin(&mut self, device: DeviceId, other: DeviceId) -> Result<Moved, Why>
-        ensures { Gives (IsStep (Begin device other) (failed_at self.new.members device) (cluster_of self.old)) (cluster_of self.new) result }
-    {
-        let Some((place, between)) = self.places(device, other) else {
-            return Err(Why::Refused(Refusal::NotShared));
-        };
-        answered(self.peers[place].begin(&mut self.links[between]))
-    }
-
-    // The device sends the other one what comes next of the folder's index.
-    pub(crate) fn announce(
+    // The device makes the step over its link with the other one.
+    pub(crate) fn over(
         &mut self,
         device: DeviceId,
         other: DeviceId,
-        folder: &FolderName,
+        step: Over,
     ) -> Result<Moved, Why>
-        ensures { Gives (IsStep (Announce device other folder.now) (failed_at self.new.members device) (cluster_of self.old)) (cluster_of self.new) result }
+        ensures { Gives (IsStep (step_of step device other) (failed_at self.new.members device) (cluster_of self.old)) (cluster_of self.new) result }
     {
         let Some((place, between)) = self.places(device, other) else {
             return Err(Why::Refused(Refusal::NotShared));
         };
-        answered(self.peers[place].announce(&mut self.links[between], folder))
+        answered(act(&mut self.peers[place], &mut self.links[between], step))
     }
+}
 
-    // The device asks the other one for the next block of the name's pull.
-    pub(crate) fn ask(
-        &mut self,
-        device: DeviceId,
-        other: DeviceId,
-        folder: &FolderName,
-        name: &Name,
-    ) -> Result<Moved, Why>
-        ensures { Gives (IsStep (Ask device other folder.now name.now) (failed_at self.new.members device) (cluster_of self.old)) (cluster_of self.new) result }
-    {
-        let Some((place, between)) = self.places(device, other) else {
-            return Err(Why::Refused(Refusal::NotShared));
-        };
-        answered(self.peers[place].ask(&mut self.links[between], folder, name))
-    }
-
-    // The device takes the first message that came from the other one.
-    pub(crate) fn deliver(&mut self, device: DeviceId, other: DeviceId) -> Result<Moved, Why>
-        ensures { Gives (IsStep (Deliver device other) (failed_at self.new.members device) (cluster_of self.old)) (cluster_of self.new) result }
-    {
-        let Some((place, between)) = self.places(device, other) else {
-            return Err(Why::Refused(Refusal::NotShared));
-        };
-        answered(self.peers[place].deliver(&mut self.links[between]))
+// The device makes the step over the link.
+fn act<S: Store>(peer: &mut Peer<S>, link: &mut Link, step: Over) -> Result<Moved, PeerError>
+    ensures step { GivesThere (StepOver (row_of step peer.new.trace.failed) (shares_of step) (record { member = peer.old; link = link.old })) (record { member = peer.new; link = link.new }) result }
+    ensures rest { Remains peer.old peer.new }
+{
+    match step {
+        Over::Begin => peer.begin(link),
+        Over::Deliver => peer.deliver(link),
+        Over::Announce(folder) => peer.announce(link, &folder),
+        Over::Ask(folder, name) => peer.ask(link, &folder, &name),
     }
 }
