@@ -1,5 +1,5 @@
 #!/usr/bin/env bash
-# Measures a whole './test' of a fresh clone of REVISION (HEAD if there is no word): processor seconds of proofs, tests and
+# Measures a whole './test --anew' of a fresh clone of REVISION (HEAD if there is no word): processor seconds of proofs, tests and
 # must-fail edits for each crate, and the wall time. The clone stands in a temporary folder, and its output in LOG, the
 # second word, or else in that folder, which then stays.
 set -euo pipefail
@@ -22,5 +22,5 @@ echo "toolchain $(rt version)"
 echo "log       $log"
 cd "$work/clone"
 status=0
-python3 "$top/bench/gate.py" "$log" "${GATE_COMMAND:-./test}" || status=$?
+python3 "$top/bench/gate.py" "$log" ${GATE_COMMAND:-./test --anew} || status=$?
 exit $status
