@@ -143,6 +143,53 @@ touch -d yesterday "$work/top/crates/syncaudit/src/main.rt" "$work/top/crates.tx
 script check it
 expect "the script says something of a program that is up to date: $(cat "$work/error")" [ ! -s "$work/error" ]
 
+# ---- the script ./syncaudit with a command that builds
+
+# A stand-in for 'rt', which notes where it was called and as what: it proves each crate that stands there, and builds a
+# program that says its words; a crate named 'stuck' is proved by nobody.
+cat > "$work/tools/rt" << 'END'
+#!/bin/sh
+echo "${PWD##*/top/} rt $*" >> "$NOTED"
+case $1 in
+  all) for crate in crates/*; do
+      [ "${crate#crates/}" != stuck ] || exit 1
+      mkdir -p "$crate/out"
+      echo "== ${crate#crates/}"
+    done ;;
+  run)
+    printf '#!/bin/sh\necho "built: $@"\n' > out/syncaudit
+    chmod +x out/syncaudit
+    ;;
+esac
+END
+chmod +x "$work/tools/rt"
+for tool in awk basename cat cp grep mkdir mktemp mv nproc rm sh tail tee touch wc chmod; do
+  ln -sf "$(command -v "$tool")" "$work/tools/$tool"
+done
+export NOTED=$work/noted
+printf 'apart: thiserror\nlow:\nsyncaudit: clap low\n' > "$work/top/crates.txt"
+echo 'Handles allowed: none.' > "$work/top/HANDLES"
+mkdir -p "$work/top/crates/low/src" "$work/top/crates/low/out" "$work/top/crates/apart/src"
+touch "$work/top/crates/low/out/kept" "$work/top/crates/syncaudit/stdin"
+script check it
+expect "the script doesn't run what it built: $(cat "$work/output" "$work/error")" says 'built: check it' "$work/output"
+expect "the script's status after a build is $status" [ "$status" = 0 ]
+expect "the script doesn't tell each crate that is proved" says 'syncaudit: syncaudit (2 of 2)' "$work/error"
+expect "the script proves another crate than the program's: $(cat "$work/error")" [ ! -e "$work/top/crates/apart/out" ]
+expect "the script loses what was built before" [ -e "$work/top/crates/low/out/kept" ]
+expect "the script leaves a copy of the crates" [ ! -e "$work/top/out/program" ]
+expect "the script doesn't prove apart: $(cat "$NOTED")" says "out/program rt all check" "$NOTED"
+
+printf 'low:\nstuck: low\nsyncaudit: clap stuck\n' > "$work/top/crates.txt"
+mkdir -p "$work/top/crates/stuck/src"
+touch -d tomorrow "$work/top/crates/stuck/src"
+script check it
+expect "the script's status where a proof fails is $status, and not 126" [ "$status" = 126 ]
+expect "the script runs an older program where a proof fails" [ ! -s "$work/output" ]
+expect "the script loses what was built where a proof fails" [ -e "$work/top/crates/low/out/kept" ]
+expect "the script leaves a copy where a proof fails" [ ! -e "$work/top/out/program" ]
+rm -r "$work/top/crates/stuck"
+
 # ---- the script ./install
 
 mkdir -p "$work/top/docs"
