@@ -12,11 +12,12 @@ import sys
 import time
 
 TICKS = os.sysconf("SC_CLK_TCK")
+PAGE = os.sysconf("SC_PAGE_SIZE")
 PHASES = ("proofs", "tests", "edits")
 
 
 def processes():
-    """The parent and the processor seconds of each process that there is."""
+    """The parent, the processor seconds and the bytes of memory of each process that there is."""
     found = {}
     for name in os.listdir("/proc"):
         if name.isdigit():
@@ -25,14 +26,14 @@ def processes():
                     fields = stat.read().rpartition(")")[2].split()
             except OSError:
                 continue
-            found[int(name)] = (int(fields[1]), (int(fields[11]) + int(fields[12])) / TICKS)
+            found[int(name)] = (int(fields[1]), (int(fields[11]) + int(fields[12])) / TICKS, int(fields[21]) * PAGE)
     return found
 
 
 def below(top, found):
     """The processes of the tree under this one."""
     children = {}
-    for process, (parent, _) in found.items():
+    for process, (parent, _, _) in found.items():
         children.setdefault(parent, []).append(process)
     tree, waiting = [], [top]
     while waiting:
@@ -62,17 +63,19 @@ def main():
     log, command = sys.argv[1], sys.argv[2:]
     begin = time.time()
     seen = {}
-    peak = 0
+    peak = most_memory = greatest = 0
     with open(log, "wb") as out:
         gate = subprocess.Popen(command, stdin=subprocess.DEVNULL, stdout=out, stderr=subprocess.STDOUT)
         while gate.poll() is None:
             found = processes()
             tree = below(gate.pid, found)
-            working = 0
+            working = memory = 0
             for process in tree:
                 told = purpose(process)
                 if told:
                     working += 1
+                    memory += found[process][2]
+                    greatest = max(greatest, found[process][2])
                     # a number may come again for another process, which then has other words or fewer seconds
                     key = (process, *told)
                     kept = seen.setdefault(key, [0.0, 0.0])
@@ -81,6 +84,7 @@ def main():
                         kept[0] += kept[1]
                     kept[1] = now
             peak = max(peak, working)
+            most_memory = max(most_memory, memory)
             time.sleep(0.2)
     wall = time.time() - begin
     used = resource.getrusage(resource.RUSAGE_CHILDREN)
@@ -98,6 +102,7 @@ def main():
     print(f"{'other':14}{'':27}{whole - sum(sums.values()):9.0f}   compiling, running, and what went unseen")
     print(f"{'whole':14}{'':27}{whole:9.0f}   {whole / 60:.1f} processor minutes")
     print(f"\nwall time {int(wall // 60)} min {int(wall % 60)} s, at most {peak} checks at once, status {gate.returncode}")
+    print(f"memory: at most {most_memory / 1e9:.1f} GB, {greatest / 1e9:.1f} GB in one check")
     with open(log, encoding="utf-8", errors="replace") as out:
         lines = out.read().splitlines()
     print(f"last line: {lines[-1] if lines else ''}")
