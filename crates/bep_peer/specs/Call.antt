@@ -17,6 +17,7 @@ use Rattle.bep_folder.specs.Makes.{Makes, Stays, CountsFaults}
 use Rattle.bep_folder.specs.ScanResult.{Scanned}
 use Rattle.bep_folder.specs.declared.error.FolderError.{FolderError}
 use Rattle.bep_folder.specs.declared.error.FolderError.TheVariants as errors
+use Rattle.bep_peer.specs.Contents.{HasNames, HoldsNodes}
 use Rattle.bep_peer.specs.declared.error.PeerError.{PeerError}
 use Rattle.bep_peer.specs.declared.error.PeerError.TheVariants.{Refused}
 use Rattle.bep_peer.specs.declared.local.Step.{Step}
@@ -91,9 +92,13 @@ pub record IsLooked (name : FileName) (before after : Held) (answer : Result (Op
   pub read : IsRead (λ node. node ≡ node_at before.tables name) before after answer
   pub first : IsErrOf answer errors.StoreFault → after.trace.failed ≡ Some 1
 
--- the store holds these
+-- what the store holds was read out
 abbrev pub IsReadOut : Held → Held → Result (ByName NodeParts) FolderError → Type 0
-IsReadOut before after answer = IsRead (λ nodes. nodes ≡ before.tables.store) before after answer
+IsReadOut before after answer = IsRead (HoldsNodes before.tables) before after answer
+
+-- the names that are there were listed
+abbrev pub IsListed : Held → Held → Result (ByName (Unit {0})) FolderError → Type 0
+IsListed before after answer = IsRead (HasNames before.tables) before after answer
 
 -- what was found is recorded
 pub record IsCommitted (scan : Scanned) (before after : Held) (answer : Result Moved FolderError) : Type 0 where

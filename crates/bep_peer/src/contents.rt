@@ -1,7 +1,7 @@
-//! What the stores of a device hold, read out.
+//! What is read of a device's folders: what their stores hold, and which names are there.
 ghost use Rattle.std.specs.Prelude.{◌≡◌, false};
-ghost use Rattle.bep_peer.specs.Call.{IsReadOut};
-ghost use Rattle.bep_peer.specs.Contents.{ReadsOutIn};
+ghost use Rattle.bep_peer.specs.Call.{IsListed, IsReadOut};
+ghost use Rattle.bep_peer.specs.Contents.{NamesIn, ReadsOutIn};
 ghost use Rattle.bep_peer.specs.Member.{Remains, tables_of};
 ghost use Rattle.bep_peer.specs.Within.{TellsFault};
 
@@ -24,6 +24,19 @@ impl<S: Store> Peer<S> {
     {
         self.call(folder, Contents)
     }
+
+    /// The names of which the folder's store has a node or the device a record. Refuses `NotShared` where the device doesn't
+    /// share the folder, and `StoreFault` where its store fails to list its names; else only for want of memory. It is no
+    /// step.
+    pub fn names(&mut self, folder: &FolderName) -> Result<NameMap<()>, PeerError>
+        ensures read { NamesIn folder.now self.old self.new result }
+        ensures same { tables_of self.new ≡ tables_of self.old }
+        ensures rest { Remains self.old self.new }
+        ensures fault { TellsFault self.new result }
+        ensures uncopied { self.new.trace.copied ≡ false }
+    {
+        self.call(folder, Names)
+    }
 }
 
 // All that the store holds.
@@ -35,5 +48,17 @@ impl<S: Store> Call<S, NameMap<Node>> for Contents {
 
     fn make(self, replica: &mut Replica<S>) -> Result<NameMap<Node>, FolderError> {
         replica.contents()
+    }
+}
+
+// The names that are there.
+#[derive(Drop)]
+struct Names;
+
+impl<S: Store> Call<S, NameMap<()>> for Names {
+    ghost does = { λ _. IsListed };
+
+    fn make(self, replica: &mut Replica<S>) -> Result<NameMap<()>, FolderError> {
+        replica.names()
     }
 }

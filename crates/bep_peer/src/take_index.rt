@@ -36,7 +36,7 @@ impl<S: Store> Peer<S> {
         ensures silent { IfOk result SendsNone }
         ensures err { OnErr result (tables_of self.new ≡ tables_of self.old) }
     {
-        if !self.names(other, folder) {
+        if !self.is_named(other, folder) {
             return Ok(Effect::Lost);
         }
         if has_many_names(batch) {
@@ -61,7 +61,7 @@ impl<S: Store> Peer<S> {
         ensures silent { IfOk result SendsNone }
         ensures err { OnErr result (tables_of self.new ≡ tables_of self.old) }
     {
-        if !self.names(other, folder) {
+        if !self.is_named(other, folder) {
             return Ok(Effect::Lost);
         }
         let batch = batch.copy(self.alloc)?;

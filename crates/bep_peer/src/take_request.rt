@@ -41,7 +41,7 @@ impl<S: Store> Peer<S> {
         ensures room { IfOk result (λ effect. IsSome (deed_of effect).sends → full ≡ false) }
         ensures same { tables_of self.new ≡ tables_of self.old }
     {
-        if !self.names(other, &request.folder) {
+        if !self.is_named(other, &request.folder) {
             return Ok(Effect::Lost);
         }
         if full {
@@ -52,7 +52,7 @@ impl<S: Store> Peer<S> {
     }
 
     // Whether the session with the other device names the folder, which both share then.
-    pub(crate) fn names(&self, other: DeviceId, folder: &FolderName) -> bool
+    pub(crate) fn is_named(&self, other: DeviceId, folder: &FolderName) -> bool
         ensures value { (session : SessionOf) → map.get self.now.sessions other ≡ Some session → (IsTrue result ↔ IsNamed session folder.now) }
         ensures shared { IsTrue result → (held : Held) × (map.get self.now.folders folder.now ≡ Some held) × Contains held.tables.others other }
     {

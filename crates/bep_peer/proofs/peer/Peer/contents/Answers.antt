@@ -1,8 +1,9 @@
+use Rattle.bep_peer.specs.Contents.{HoldsNodes}
 use Rattle.bep_peer.proofs.ContentsFacts.{reads_within, reads_same}
 use Rattle.bep_peer.proofs.peer.Peer.contents.Goals as goal
 
 pub returns-clause-read : goal.returns-clause-read
-returns-clause-read g c = reads_within c.call.ensures.answers
+returns-clause-read g c = reads_within HoldsNodes c.call.ensures.answers
 
 pub returns-clause-same : goal.returns-clause-same
-returns-clause-same g c = reads_same c.call.ensures.answers
+returns-clause-same g c = reads_same HoldsNodes c.call.ensures.answers

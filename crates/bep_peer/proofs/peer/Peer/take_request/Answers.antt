@@ -7,18 +7,18 @@ use Rattle.bep_peer.proofs.peer.Peer.take_request.Goals as goal
 
 pub returns-then-full-clause-step : goal.returns-then-full-clause-step
 returns-then-full-clause-step g c = λ session has.
-    let yes : c.names.result ≡ true = search rules in
-    let shared = c.names.ensures.shared yes in
+    let yes : c.is_named.result ≡ true = search rules in
+    let shared = c.is_named.ensures.shared yes in
     request_waits c.args.other c.args.self.now.trace.failed c.args.full session c.args.request.now c.args.self.now shared.0
-    c.if-full.true ((c.names.ensures.value session has).0 yes) shared.1
+    c.if-full.true ((c.is_named.ensures.value session has).0 yes) shared.1
 
 pub returns-clause-step : goal.returns-clause-step
 returns-clause-step g c = λ session has.
-    let yes : c.names.result ≡ true = search rules in
-    let shared = c.names.ensures.shared yes in
+    let yes : c.is_named.result ≡ true = search rules in
+    let shared = c.is_named.ensures.shared yes in
     let request = c.args.request.now in
     let read = node_of c.args.self.now.folders request.folder request.name shared.0 c.read-read.result shared.1 c.read-read.ensures.node in
     request_answered c.args.other c.read-read.new.self.trace.failed c.args.full session request c.args.self.now c.read-read.new.self shared.0 c.in_ok-answer_read.field-0
-    c.if-full.false ((c.names.ensures.value session has).0 yes) shared.1 c.read-read.ensures.same
+    c.if-full.false ((c.is_named.ensures.value session has).0 yes) shared.1 c.read-read.ensures.same
     (subst (λ (trace : Trace). Answers request trace.failed (node_at shared.0.tables request.name) c.in_ok-answer_read.field-0) (sym c.read-read.ensures.told)
     (c.in_ok-answer_read.ensures.ok (node_at shared.0.tables request.name) read))
