@@ -13,7 +13,7 @@ use Rattle.bep_document.specs.declared.parts.FolderParts.{FolderParts}
 use Rattle.bep_document.specs.declared.parts.FlightParts.{FlightParts}
 use Rattle.bep_document.specs.declared.parts.LinkParts.{LinkParts}
 use Rattle.bep_document.specs.declared.parts.CheckParts.{CheckParts}
-use Rattle.bep_json.specs.Tree.{has_only}
+use Rattle.bep_json.specs.Tree.{has_only, names_of}
 use Rattle.bep_document.specs.read.Checks.{is_cut, read_cut, has_version, check_members, is_check, read_check}
 use Rattle.bep_document.specs.read.Devices.{is_one_of, with_devices}
 use Rattle.bep_document.specs.Reading.{Read, first_fault, reading_of_tree, reading_of, without_rows, reading_of_cut, reading_of_cut_in, reading_of_cut_document}
@@ -141,7 +141,7 @@ cut_in_faultless : (tree : Data) (parts : CheckParts) → reading_of_cut_in tree
 unfolding reading_of_cut_in
 cut_in_faultless tree parts e =
     let known = passed_and VersionBad has_version tree _ e in
-    let listed = passed_and Shape (has_only check_members) tree _ known in
+    let listed = passed_and Shape (has_only (names_of check_members)) tree _ known in
     let cut = given_and Shape (get (codes "cut") tree) _ listed in
     cut_faultless cut.0 parts cut.2
 

@@ -4,9 +4,9 @@ use Rattle.serde_json.specs.Data.{Data}
 use Rattle.bep_json.specs.Reading as json
 use Rattle.bep_document.specs.declared.fault.DocFault.{DocFault}
 use Rattle.bep_document.specs.declared.fault.Fault.{Fault}
-use Rattle.bep_document.specs.declared.fault.Fault.TheVariants.{NotJson, Shape, Range}
+use Rattle.bep_document.specs.declared.fault.Fault.TheVariants.{Shape, Range}
 use Rattle.bep_document.specs.Fault.{nowhere}
-use Rattle.bep_document.specs.Reading.{Reading, Read, Refused, ◌>>=◌, given, passed, unless, is_short, tree_of, of_bytes, of_shape}
+use Rattle.bep_document.specs.Reading.{Reading, Read, Refused, ◌>>=◌, given, passed, unless, document_tree, of_bytes, of_shape}
 
 -- the thing is such, if there is one
 abbrev pub Gives : {T : Type 0} → (T → Type 0) → Option T → Type 0
@@ -53,6 +53,12 @@ given_and fault None next {y = y} e = absurd (different e) where
   different d = cc
 given_and fault (Some x) next e = (x, refl, e)
 
+read_and : {A B : Type 0} (reading : Reading A) (next : A → Reading B) {y : B} → (reading >>= next) ≡ Read y → (x : A) × (next x ≡ Read y)
+read_and (Read x) next e = (x, e)
+read_and (Refused fault) next {y = y} e = absurd (different e) where
+  different : Refused fault ≡ Read y → ⊥
+  different d = cc
+
 pub no_fault_and : {A : Type 0} (o : Option DocFault) {x y : A} → unless o x ≡ Read y → (o ≡ None) × (x ≡ y)
 no_fault_and None e = (refl, cc)
 no_fault_and (Some fault) {y = y} e = absurd (different e) where
@@ -61,10 +67,7 @@ no_fault_and (Some fault) {y = y} e = absurd (different e) where
 
 -- of bytes, that their tree says the same
 pub of_bytes_and : {T : Type 0} (of_tree : Data → Reading T) (bytes : List ℕ) {y : T} → of_bytes of_tree bytes ≡ Read y → (tree : Data) × (of_tree tree ≡ Read y)
-of_bytes_and of_tree bytes e =
-    let short = passed_and Range is_short bytes _ e in
-    let tree = given_and NotJson (tree_of bytes) _ short in
-    (tree.0, tree.2)
+of_bytes_and of_tree bytes e = read_and (document_tree bytes) of_tree e
 
 -- of a tree that has a shape, that the thing stands there, and has no fault
 pub of_shape_and : {T : Type 0} (has_shape : Data → Bool) (reads : Data → Option T) (fault_of : T → Option DocFault) (tree : Data) {y : T} → of_shape has_shape reads fault_of tree ≡ Read y → (reads tree ≡ Some y) × (fault_of y ≡ None)

@@ -4,29 +4,23 @@ use Rattle.bep_document.specs.declared.fault.Fault.{Fault}
 use Rattle.bep_document.specs.declared.fault.Fault.TheVariants.{NotJson, VersionBad, Shape, Range, Twice, Unshared, RecordBad, SequenceBad, LinkBad}
 use Rattle.bep_document.specs.declared.fault.DocFault.{DocFault}
 
--- the number under which the product prints a fault
-abbrev pub number_of : Fault → ℕ
-number_of NotJson = 181
-number_of VersionBad = 182
-number_of Shape = 183
-number_of Range = 184
-number_of Twice = 185
-number_of Unshared = 186
-number_of RecordBad = 187
-number_of SequenceBad = 188
-number_of LinkBad = 189
+-- the number and the name under which the product prints a fault
+abbrev pub told_as : Fault → ℕ × List ℕ
+told_as NotJson = (181, codes "NotJson")
+told_as VersionBad = (182, codes "VersionBad")
+told_as Shape = (183, codes "Shape")
+told_as Range = (184, codes "Range")
+told_as Twice = (185, codes "Twice")
+told_as Unshared = (186, codes "Unshared")
+told_as RecordBad = (187, codes "RecordBad")
+told_as SequenceBad = (188, codes "SequenceBad")
+told_as LinkBad = (189, codes "LinkBad")
 
--- the name under which the product prints a fault
+abbrev pub number_of : Fault → ℕ
+number_of fault = (told_as fault).0
+
 abbrev pub name_of : Fault → List ℕ
-name_of NotJson = codes "NotJson"
-name_of VersionBad = codes "VersionBad"
-name_of Shape = codes "Shape"
-name_of Range = codes "Range"
-name_of Twice = codes "Twice"
-name_of Unshared = codes "Unshared"
-name_of RecordBad = codes "RecordBad"
-name_of SequenceBad = codes "SequenceBad"
-name_of LinkBad = codes "LinkBad"
+name_of fault = (told_as fault).1
 
 -- a fault of this kind is at some place of the document
 abbrev pub has_place : Fault → Bool

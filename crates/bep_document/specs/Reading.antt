@@ -20,7 +20,7 @@ use Rattle.bep_document.specs.faults.Unshared.{first_unshared}
 use Rattle.bep_document.specs.faults.Records.{first_bad}
 use Rattle.bep_document.specs.faults.Sequences.{first_bad_sequence}
 use Rattle.bep_document.specs.faults.Links.{first_bad_link}
-use Rattle.bep_json.specs.Tree.{has_only}
+use Rattle.bep_json.specs.Tree.{has_only, names_of}
 use Rattle.bep_document.specs.read.Checks.{is_cut, read_cut, has_version, check_members, is_check, read_check}
 
 -- a thing, or the fault in place of it
@@ -33,15 +33,14 @@ abbrev pub IsRefusal : {T : Type 0} → DocError → Reading T → Type 0
 IsRefusal (errors.Refused fault) reading = reading ≡ Refused fault
 IsRefusal errors.Memory reading = ⊤
 
--- the answer is what was read, or the fault; or memory ran out
-abbrev pub Answers : {T : Type 0} → Result T DocError → Reading T → Type 0
-Answers (Ok x) reading = reading ≡ Read x
-Answers (Err error) reading = IsRefusal error reading
-
--- the same, where what is read is seen by a view
+-- the answer is what was read, seen by a view, or the fault; or memory ran out
 abbrev pub AnswersBy : {X T : Type 0} → (X → T) → Result X DocError → Reading T → Type 0
 AnswersBy view (Ok x) reading = reading ≡ Read (view x)
 AnswersBy view (Err error) reading = IsRefusal error reading
+
+-- the same, where what is read is seen as it is
+abbrev pub Answers : {T : Type 0} → Result T DocError → Reading T → Type 0
+Answers answer reading = AnswersBy (λ x. x) answer reading
 
 -- the second step, if the first gave a thing
 infixl 10 ◌>>=◌
@@ -75,12 +74,15 @@ is_short bytes = nat_le (length bytes) most_bytes
 abbrev pub tree_of : List ℕ → Option Data
 tree_of bytes = if is_utf8 bytes then json.read bytes else None
 
+-- the tree of a document's bytes, which aren't too many
+abbrev pub document_tree : List ℕ → Reading Data
+document_tree bytes = do
+  short ← passed Range is_short bytes
+  given NotJson (tree_of short)
+
 -- what bytes say, by what their tree says
 abbrev pub of_bytes : {T : Type 0} → (Data → Reading T) → List ℕ → Reading T
-of_bytes of_tree bytes = do
-  short ← passed Range is_short bytes
-  tree ← given NotJson (tree_of short)
-  of_tree tree
+of_bytes of_tree bytes = document_tree bytes >>= of_tree
 
 -- what a tree of this shape says, where there is no fault
 abbrev pub of_shape : {T : Type 0} → (Data → Bool) → (Data → Option T) → (T → Option DocFault) → Data → Reading T
@@ -122,7 +124,7 @@ reading_of_cut tree = do
 unfoldable pub reading_of_cut_in : Data → Reading CheckParts
 reading_of_cut_in tree = do
   known ← passed VersionBad has_version tree
-  listed ← passed Shape (has_only check_members) known
+  listed ← passed Shape (has_only (names_of check_members)) known
   cut ← given Shape (get (codes "cut") listed)
   reading_of_cut cut
 

@@ -1,6 +1,6 @@
 //! Faults of documents: their numbers and names, and where they are.
 ghost use Rattle.std.specs.Prelude.{◌≡◌, IfOk};
-ghost use Rattle.bep_document.specs.Fault.{number_of, name_of, has_place, nowhere, at_folder, at_device, at_link, at_name};
+ghost use Rattle.bep_document.specs.Fault.{told_as, number_of, name_of, has_place, nowhere, at_folder, at_device, at_link, at_name};
 
 use bep_record::{DeviceId, FolderName, Name};
 use std::alloc::{AllocError, Global};
@@ -33,33 +33,29 @@ impl Fault {
     pub fn number(self) -> u32
         ensures { result ≡ number_of self }
     {
-        match self {
-            Fault::NotJson => 181,
-            Fault::VersionBad => 182,
-            Fault::Shape => 183,
-            Fault::Range => 184,
-            Fault::Twice => 185,
-            Fault::Unshared => 186,
-            Fault::RecordBad => 187,
-            Fault::SequenceBad => 188,
-            Fault::LinkBad => 189,
-        }
+        self.told_as().0
     }
 
     /// The name that the product prints.
     pub fn name(self) -> &'static str
         ensures { result.now ≡ name_of self }
     {
+        self.told_as().1
+    }
+
+    fn told_as(self) -> (u32, &'static str)
+        ensures { (result.0, result.1.now) ≡ told_as self }
+    {
         match self {
-            Fault::NotJson => "NotJson",
-            Fault::VersionBad => "VersionBad",
-            Fault::Shape => "Shape",
-            Fault::Range => "Range",
-            Fault::Twice => "Twice",
-            Fault::Unshared => "Unshared",
-            Fault::RecordBad => "RecordBad",
-            Fault::SequenceBad => "SequenceBad",
-            Fault::LinkBad => "LinkBad",
+            Fault::NotJson => (181, "NotJson"),
+            Fault::VersionBad => (182, "VersionBad"),
+            Fault::Shape => (183, "Shape"),
+            Fault::Range => (184, "Range"),
+            Fault::Twice => (185, "Twice"),
+            Fault::Unshared => (186, "Unshared"),
+            Fault::RecordBad => (187, "RecordBad"),
+            Fault::SequenceBad => (188, "SequenceBad"),
+            Fault::LinkBad => (189, "LinkBad"),
         }
     }
 }

@@ -11,7 +11,7 @@ mod twice;
 mod unshared;
 mod walks;
 
-use crate::CheckParts;
+use crate::{CheckParts, first_of};
 pub use judge::{Found, Judge, first_fault};
 pub use links::first_bad_link;
 use records::first_bad;
@@ -26,20 +26,11 @@ use unshared::first_unshared;
 pub(crate) fn fault_of(alloc: Global, parts: &CheckParts) -> Found
     ensures { IfOk result (λ found. found ≡ first_fault parts.now) }
 {
-    match first_twice(alloc, parts)? {
-        Some(fault) => return Ok(Some(fault)),
-        None => {}
-    }
-    match first_unshared(alloc, parts)? {
-        Some(fault) => return Ok(Some(fault)),
-        None => {}
-    }
-    match first_bad(alloc, parts)? {
-        Some(fault) => return Ok(Some(fault)),
-        None => {}
-    }
-    match first_bad_sequence(alloc, parts)? {
-        Some(fault) => Ok(Some(fault)),
-        None => first_bad_link(alloc, parts),
-    }
+    first_of!(
+        first_twice(alloc, parts),
+        first_unshared(alloc, parts),
+        first_bad(alloc, parts),
+        first_bad_sequence(alloc, parts),
+        first_bad_link(alloc, parts)
+    )
 }

@@ -12,3 +12,4 @@ pub use checks::has_version;
 pub(crate) use checks::{CutLists, is_check, read_check};
 pub use devices::has_few_devices;
 pub use few::Few;
+pub use shares::{IndexNumber, index_id_of};

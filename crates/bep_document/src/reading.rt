@@ -1,7 +1,7 @@
 //! The reading of a document: from its bytes to what it says, or to its fault.
 ghost use Rattle.std.specs.Prelude.{◌≡◌};
 ghost use Rattle.serde_json.specs.View.{view};
-ghost use Rattle.bep_document.specs.Reading.{Answers, AnswersBy, given, tree_of, unless, first_fault, reading_of_tree, reading_of, reading_of_cut, reading_of_cut_in, reading_of_cut_document};
+ghost use Rattle.bep_document.specs.Reading.{Answers, AnswersBy, given, tree_of, document_tree, unless, first_fault, reading_of_tree, reading_of, reading_of_cut, reading_of_cut_in, reading_of_cut_document};
 ghost use Rattle.bep_document.specs.Fault.{nowhere};
 ghost use Rattle.bep_document.specs.declared.fault.Fault.TheVariants.{NotJson};
 
@@ -25,13 +25,8 @@ pub const MAX_BYTES: usize = 67108864;
 pub fn read_parts(alloc: Global, bytes: &[u8]) -> Result<CheckParts, DocError>
     ensures { Answers result (reading_of bytes.now) }
 {
-    if bytes.len() > MAX_BYTES {
-        return Err(refused(Fault::Range));
-    }
-    match tree_of(alloc, bytes) {
-        Ok(tree) => parts_of(alloc, tree),
-        Err(error) => Err(error),
-    }
+    let tree = document_tree(alloc, bytes)?;
+    parts_of(alloc, tree)
 }
 
 /// The error of a fault of the whole document.
@@ -41,7 +36,18 @@ pub fn refused(fault: Fault) -> DocError
     DocError::Refused(DocFault::nowhere(fault))
 }
 
-/// The tree of a document's bytes. Refuses `NotJson` where they aren't JSON; `Memory` may come in place of any answer.
+/// The tree of a document's bytes. Refuses `Range` where they are too many, and `NotJson` where they aren't JSON; `Memory`
+/// may come in place of any answer.
+pub fn document_tree(alloc: Global, bytes: &[u8]) -> Result<Value, DocError>
+    ensures { AnswersBy view result (document_tree bytes.now) }
+{
+    if bytes.len() > MAX_BYTES {
+        return Err(refused(Fault::Range));
+    }
+    tree_of(alloc, bytes)
+}
+
+/// The tree of bytes, however many. Refuses `NotJson` where they aren't JSON; `Memory` may come in place of any answer.
 pub fn tree_of(alloc: Global, bytes: &[u8]) -> Result<Value, DocError>
     ensures { AnswersBy view result (given NotJson (tree_of bytes.now)) }
 {
@@ -76,9 +82,17 @@ fn parts_of(alloc: Global, tree: Value) -> Result<CheckParts, DocError>
 fn judged(alloc: Global, parts: CheckParts) -> Result<CheckParts, DocError>
     ensures { Answers result (unless (first_fault parts) parts) }
 {
-    match fault_of(alloc, &parts)? {
+    let found = fault_of(alloc, &parts)?;
+    unless_found(found, parts)
+}
+
+/// The thing, unless a fault was found.
+pub fn unless_found<T: Drop>(found: Option<DocFault>, thing: T) -> Result<T, DocError>
+    ensures { Answers result (unless found thing) }
+{
+    match found {
         Some(fault) => Err(DocError::Refused(fault)),
-        None => Ok(parts),
+        None => Ok(thing),
     }
 }
 
@@ -104,13 +118,8 @@ pub fn read_cut_parts(alloc: Global, tree: &Value) -> Result<CheckParts, DocErro
 pub fn read_cut_document(alloc: Global, bytes: &[u8]) -> Result<CheckParts, DocError>
     ensures { Answers result (reading_of_cut_document bytes.now) }
 {
-    if bytes.len() > MAX_BYTES {
-        return Err(refused(Fault::Range));
-    }
-    match tree_of(alloc, bytes) {
-        Ok(tree) => cut_in(alloc, &tree),
-        Err(error) => Err(error),
-    }
+    let tree = document_tree(alloc, bytes)?;
+    cut_in(alloc, &tree)
 }
 
 // What the tree of a check document says of its cut.

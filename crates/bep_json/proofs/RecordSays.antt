@@ -16,7 +16,7 @@ use Rattle.bep_json.specs.Numbers.{is_whole, read_number, read_signed, greatest_
 use Rattle.bep_json.specs.Texts.{is_text, read_hash}
 use Rattle.bep_json.specs.Lists.{is_list, read_list, is_pair, read_version}
 use Rattle.bep_json.specs.Nodes.{is_node, has_node_members, has_one_body, has_due_target, read_node}
-use Rattle.bep_json.specs.Records.{is_record, has_record_members, may_have_record_members, blocks_from, read_record}
+use Rattle.bep_json.specs.Records.{is_record, blocks_from, read_record}
 use Rattle.bep_json.specs.Says.{Says, both_are, then_read, number_says, list_says}
 use Rattle.bep_json.specs.Written.{whole, signed, version_written, hex_written, hashes_written, record_written, node_written}
 use Rattle.bep_json.proofs.WrittenFacts.{map_same, kind_says, name_says, target_says, bytes_say, blocks_again}
@@ -74,18 +74,11 @@ hashes_say blocks all =
     let told = list_says is_text read_hash (λ h. h) hex_written hashes (each_hash blocks all) in
     (told.0, told.1 ∙ ap Some (map_same hashes))
 
-must_have : (entry : Entry) → AreTyped entry → has_record_members (record_written entry) ≡ true
-unfolding has_record_members record_written
-must_have entry typed =
-    both_are refl (both_are (kind_says entry.kind).0 (both_are typed.modified_s.0 (both_are refl (both_are typed.version.0 refl))))
-
-may_have : (entry : Entry) → AreTyped entry → may_have_record_members (record_written entry) ≡ true
-unfolding may_have_record_members record_written
-may_have entry typed = both_are refl (both_are refl (both_are refl (both_are refl (both_are refl (both_are typed.hashes.0 refl)))))
-
 record_shaped : (entry : Entry) → AreTyped entry → is_record (record_written entry) ≡ true
 unfolding is_record record_written
-record_shaped entry typed = both_are refl (both_are (must_have entry typed) (may_have entry typed))
+record_shaped entry typed =
+    let may = both_are refl (both_are refl (both_are refl (both_are refl (both_are refl (both_are typed.hashes.0 refl))))) in
+    both_are refl (both_are refl (both_are (kind_says entry.kind).0 (both_are typed.modified_s.0 (both_are refl (both_are typed.version.0 (both_are refl may))))))
 
 record_read : (entry : Entry) → IsWellFormed entry → AreTyped entry → entry.sequence ≤ 9223372036854775807 → read_record (record_written entry) ≡ Some entry
 unfolding read_record record_written
@@ -115,7 +108,7 @@ or_true false = refl
 
 node_shaped : (name : List ℕ) (node : NodeParts) → Says is_whole read_signed node.modified_s (signed node.modified_s) → is_node (node_written name node) ≡ true
 unfolding is_node has_node_members has_one_body has_due_target node_written
-node_shaped name node time = both_are refl (both_are (both_are refl (both_are (kind_says node.kind).0 (both_are time.0 refl))) (both_are refl (or_true _)))
+node_shaped name node time = both_are (both_are refl (both_are refl (both_are (kind_says node.kind).0 (both_are time.0 refl)))) (both_are refl (or_true _))
 
 -- a node is read again with its name
 pub node_says : (name : List ℕ) (node : NodeParts) → IsName name → IsNode node → IsTarget node.target → IsBytes node.bytes → Says is_whole read_signed node.modified_s (signed node.modified_s) → Says is_node read_node (record { name = name; parts = node }) (node_written name node)

@@ -6,27 +6,19 @@ use Rattle.bep_record.specs.declared.kind.Kind.{Kind}
 use Rattle.bep_record.specs.declared.kind.Kind.TheVariants.{File, Directory, Symlink}
 use Rattle.bep_json.specs.declared.nodes.NamedParts.{NamedParts}
 use Rattle.bep_record.specs.declared.limits.TheConstants.{MAX_NANOSECONDS}
-use Rattle.bep_json.specs.Tree.{has_only, has_member, may_have_member}
+use Rattle.bep_json.specs.Tree.{due, may, is_object}
 use Rattle.bep_json.specs.Reading.{◌>>=◌, read_member, read_member_or}
 use Rattle.bep_json.specs.Numbers.{is_whole, read_number, read_signed, read_kind}
 use Rattle.bep_json.specs.Texts.{is_text, read_name, read_target, read_text_bytes, read_hex_bytes}
 
--- the members that a node may have
-abbrev pub node_members : List (List ℕ)
-node_members =
-    codes "name" ∷ codes "type" ∷ codes "modified_s" ∷ codes "modified_ns" ∷ codes "text" ∷ codes "hex" ∷
-    codes "target" ∷ []
-
--- the members that any node must have, and those that it may have
+-- an object with the members of a node, each of its kind, and no others
 unfoldable pub has_node_members : Data → Bool
 has_node_members d =
-    has_member (codes "name") is_text d
-    && (has_member (codes "type") is_whole d
-    && (has_member (codes "modified_s") is_whole d
-    && (may_have_member (codes "modified_ns") is_whole d
-    && (may_have_member (codes "text") is_text d
-    && (may_have_member (codes "hex") is_text d
-    && may_have_member (codes "target") is_text d)))))
+    is_object
+    (due (codes "name") is_text ∷ due (codes "type") is_whole ∷ due (codes "modified_s") is_whole ∷
+    may (codes "modified_ns") is_whole ∷ may (codes "text") is_text ∷ may (codes "hex") is_text ∷
+    may (codes "target") is_text ∷ [])
+    d
 
 -- the bytes are written in one way at most
 unfoldable pub has_one_body : Data → Bool
@@ -43,9 +35,9 @@ says_symlink (Some Symlink) = true
 unfoldable pub has_due_target : Data → Bool
 has_due_target d = not (says_symlink (read_member (codes "type") read_kind d)) || is_some (get (codes "target") d)
 
--- a node: each member of its kind, and no others
+-- a node: its members, one body at most, and a target where one is due
 unfoldable pub is_node : Data → Bool
-is_node d = has_only node_members d && (has_node_members d && (has_one_body d && has_due_target d))
+is_node d = has_node_members d && (has_one_body d && has_due_target d)
 
 -- the bytes: those of the text, where there is one, else those of the hexadecimal digits, else none
 abbrev pub read_body : Option Data → Data → Option (List ℕ)

@@ -1,5 +1,5 @@
 -- Records in JSON trees (BEP v1, 'FileInfo'; members and defaults are this project's profile).
-use Rattle.std.specs.Prelude.{ℕ, ◌+◌, ◌-◌, ◌&&◌, min, Bool, true, false, List, [], ◌∷◌, Option, Some, codes}
+use Rattle.std.specs.Prelude.{ℕ, ◌+◌, ◌-◌, min, Bool, true, false, List, [], ◌∷◌, Option, Some, codes}
 use Rattle.serde_json.specs.Data.{Data}
 use Rattle.bep_record.specs.Block.{base_block_size}
 use Rattle.bep_record.specs.declared.block.Block.{Block}
@@ -7,43 +7,22 @@ use Rattle.bep_record.specs.declared.entry.Entry.{Entry}
 use Rattle.bep_record.specs.declared.kind.Kind.{Kind}
 use Rattle.bep_record.specs.declared.kind.Kind.TheVariants.{File, Directory, Symlink}
 use Rattle.bep_record.specs.declared.limits.TheConstants.{MAX_FILE_SIZE, MAX_NANOSECONDS}
-use Rattle.bep_json.specs.Tree.{has_only, has_member, may_have_member}
+use Rattle.bep_json.specs.Tree.{due, may, is_object}
 use Rattle.bep_json.specs.Reading.{◌>>=◌, read_member, read_member_or}
 use Rattle.bep_json.specs.Numbers.{is_whole, is_flag, read_number, read_signed, read_flag, read_kind, greatest_id}
 use Rattle.bep_json.specs.Texts.{is_text, read_name, read_target, read_hash}
 use Rattle.bep_json.specs.Lists.{is_list, read_list, is_pair, read_version}
 
--- the members that a record may have
-abbrev pub record_members : List (List ℕ)
-record_members =
-    codes "name" ∷ codes "type" ∷ codes "modified_s" ∷ codes "modified_by" ∷ codes "version" ∷ codes "sequence" ∷
-    codes "size" ∷ codes "modified_ns" ∷ codes "deleted" ∷ codes "invalid" ∷ codes "block_size" ∷ codes "blocks" ∷
-    codes "target" ∷ []
-
--- the members that a record must have
-unfoldable pub has_record_members : Data → Bool
-has_record_members d =
-    has_member (codes "name") is_text d
-    && (has_member (codes "type") is_whole d
-    && (has_member (codes "modified_s") is_whole d
-    && (has_member (codes "modified_by") is_whole d
-    && (has_member (codes "version") (is_list is_pair) d
-    && has_member (codes "sequence") is_whole d))))
-
--- the members that have a default
-unfoldable pub may_have_record_members : Data → Bool
-may_have_record_members d =
-    may_have_member (codes "size") is_whole d
-    && (may_have_member (codes "modified_ns") is_whole d
-    && (may_have_member (codes "deleted") is_flag d
-    && (may_have_member (codes "invalid") is_flag d
-    && (may_have_member (codes "block_size") is_whole d
-    && (may_have_member (codes "blocks") (is_list is_text) d
-    && may_have_member (codes "target") is_text d)))))
-
 -- a record: each member of its kind, and no others
 unfoldable pub is_record : Data → Bool
-is_record d = has_only record_members d && (has_record_members d && may_have_record_members d)
+is_record d =
+    is_object
+    (due (codes "name") is_text ∷ due (codes "type") is_whole ∷ due (codes "modified_s") is_whole ∷
+    due (codes "modified_by") is_whole ∷ due (codes "version") (is_list is_pair) ∷ due (codes "sequence") is_whole ∷
+    may (codes "size") is_whole ∷ may (codes "modified_ns") is_whole ∷ may (codes "deleted") is_flag ∷
+    may (codes "invalid") is_flag ∷ may (codes "block_size") is_whole ∷ may (codes "blocks") (is_list is_text) ∷
+    may (codes "target") is_text ∷ [])
+    d
 
 -- the block size of a record that doesn't say one: that of a file that isn't deleted
 abbrev pub default_block_size : Kind → Bool → ℕ

@@ -9,7 +9,7 @@ ghost use Rattle.bep_json.specs.Nodes.{is_node, has_node_members, has_one_body, 
 
 use crate::numbers::kind_of;
 use crate::texts::{HexBytes, TextBytes};
-use crate::{Nanoseconds, ReadError, Readable, Whole, has, has_only, may_have, member, member_or};
+use crate::{Nanoseconds, ReadError, Readable, Whole, is_object, member, member_or};
 use bep_record::{Items, Kind, Name, NodeParts, Target};
 use serde_json::Value;
 use std::alloc::Global;
@@ -31,19 +31,7 @@ impl Readable for NamedParts {
 
     #[tactic(auto, unfolding(crate::specs::Nodes::is_node))]
     fn has_shape(value: &Value) -> bool {
-        let members = [
-            "name",
-            "type",
-            "modified_s",
-            "modified_ns",
-            "text",
-            "hex",
-            "target",
-        ];
-        has_only(value, &members)
-            && has_node_members(value)
-            && has_one_body(value)
-            && has_due_target(value)
+        has_node_members(value) && has_one_body(value) && has_due_target(value)
     }
 
     #[tactic(auto, unfolding(crate::specs::Nodes::read_node))]
@@ -65,17 +53,14 @@ impl Readable for NamedParts {
     }
 }
 
+// Whether the value is an object with the members of a node, each of its kind, and no others.
 #[tactic(auto, unfolding(crate::specs::Nodes::has_node_members))]
 fn has_node_members(value: &Value) -> bool
     ensures { result ≡ has_node_members (view value.now) }
 {
-    has::<Name>(value, "name")
-        && has::<Kind>(value, "type")
-        && has::<i64>(value, "modified_s")
-        && may_have::<Nanoseconds>(value, "modified_ns")
-        && may_have::<TextBytes>(value, "text")
-        && may_have::<HexBytes>(value, "hex")
-        && may_have::<Target>(value, "target")
+    is_object!(value;
+        has "name": Name, has "type": Kind, has "modified_s": i64, may_have "modified_ns": Nanoseconds,
+        may_have "text": TextBytes, may_have "hex": HexBytes, may_have "target": Target)
 }
 
 // Whether the bytes are written in one way at most.

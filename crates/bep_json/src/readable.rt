@@ -72,3 +72,14 @@ pub fn member_or<T: Readable>(
         None => Ok(default),
     }
 }
+
+/// Whether the value is an object with these members, each of its thing's shape, and no others. A member behind `has` must
+/// be there, one behind `may_have` may be left out.
+///
+///     is_object!(value; has "folders": Items<FolderParts>, may_have "links": Items<LinkParts>)
+#[macro_export]
+macro_rules! is_object {
+    ($value:expr; $($asked:ident $name:literal: $thing:ty),+) => {
+        $crate::has_only($value, &[$($name),+]) $(&& $crate::$asked::<$thing>($value, $name))+
+    };
+}

@@ -1,13 +1,10 @@
 //! Records, well formed or not.
 ghost use Rattle.std.specs.Prelude.{◌≡◌, ◌≤◌, ◌+◌, ◌-◌, min, IfOk};
-ghost use Rattle.serde_json.specs.View.{view};
 ghost use Rattle.bep_record.specs.Block.{base_block_size};
 ghost use Rattle.bep_json.specs.Reading.{Gives};
-ghost use Rattle.bep_json.specs.Records.{is_record, has_record_members, may_have_record_members, read_record, blocks_from, default_block_size};
+ghost use Rattle.bep_json.specs.Records.{is_record, read_record, blocks_from, default_block_size};
 
-use crate::{
-    Nanoseconds, ReadError, Readable, Sequence, Whole, has, has_only, may_have, member, member_or,
-};
+use crate::{Nanoseconds, ReadError, Readable, Sequence, Whole, is_object, member, member_or};
 use bep_record::{
     BASE_BLOCK_SIZE, Block, DeviceId, Entry, Items, Kind, MAX_FILE_SIZE, Name, Target, Vector,
 };
@@ -28,22 +25,11 @@ impl Readable for Entry {
 
     #[tactic(auto, unfolding(crate::specs::Records::is_record))]
     fn has_shape(value: &Value) -> bool {
-        let members = [
-            "name",
-            "type",
-            "modified_s",
-            "modified_by",
-            "version",
-            "sequence",
-            "size",
-            "modified_ns",
-            "deleted",
-            "invalid",
-            "block_size",
-            "blocks",
-            "target",
-        ];
-        has_only(value, &members) && has_record_members(value) && may_have_record_members(value)
+        is_object!(value;
+            has "name": Name, has "type": Kind, has "modified_s": i64, has "modified_by": DeviceId,
+            has "version": Vector, has "sequence": Sequence, may_have "size": FileSize,
+            may_have "modified_ns": Nanoseconds, may_have "deleted": bool, may_have "invalid": bool,
+            may_have "block_size": AnyBlockSize, may_have "blocks": Hashes, may_have "target": Target)
     }
 
     #[tactic(auto, unfolding(crate::specs::Records::read_record))]
@@ -81,31 +67,6 @@ impl Readable for Entry {
             target,
         })
     }
-}
-
-#[tactic(auto, unfolding(crate::specs::Records::has_record_members))]
-fn has_record_members(value: &Value) -> bool
-    ensures { result ≡ has_record_members (view value.now) }
-{
-    has::<Name>(value, "name")
-        && has::<Kind>(value, "type")
-        && has::<i64>(value, "modified_s")
-        && has::<DeviceId>(value, "modified_by")
-        && has::<Vector>(value, "version")
-        && has::<Sequence>(value, "sequence")
-}
-
-#[tactic(auto, unfolding(crate::specs::Records::may_have_record_members))]
-fn may_have_record_members(value: &Value) -> bool
-    ensures { result ≡ may_have_record_members (view value.now) }
-{
-    may_have::<FileSize>(value, "size")
-        && may_have::<Nanoseconds>(value, "modified_ns")
-        && may_have::<bool>(value, "deleted")
-        && may_have::<bool>(value, "invalid")
-        && may_have::<AnyBlockSize>(value, "block_size")
-        && may_have::<Hashes>(value, "blocks")
-        && may_have::<Target>(value, "target")
 }
 
 // The block size of a record that doesn't say one.

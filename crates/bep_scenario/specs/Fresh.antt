@@ -2,7 +2,7 @@
 -- is said (this project's profile). It is read as a cut in which nothing is recorded, kept, known or on its way.
 use Rattle.std.specs.Prelude.{ℕ, nat_le, ◌&&◌, Bool, false, List, [], ◌∷◌, Option, Some, None, if◌then◌else◌, codes}
 use Rattle.serde_json.specs.Data.{Data}
-use Rattle.bep_json.specs.Tree.{has_only, has_member}
+use Rattle.bep_json.specs.Tree.{due, is_object}
 use Rattle.bep_json.specs.Reading.{◌>>=◌, read_member}
 use Rattle.bep_json.specs.Numbers.{is_whole, read_number, greatest_id}
 use Rattle.bep_json.specs.Texts.{is_text, read_folder_kind}
@@ -12,17 +12,9 @@ use Rattle.bep_document.specs.declared.parts.ShareParts.{ShareParts}
 use Rattle.bep_document.specs.declared.parts.FolderParts.{FolderParts}
 use Rattle.bep_document.specs.declared.parts.LinkParts.{LinkParts}
 
--- the members of a device of a folder
-abbrev pub share_members : List (List ℕ)
-share_members = codes "device" ∷ codes "kind" ∷ codes "index_id" ∷ []
-
 -- a device of a folder: each member of its kind, and no others
 unfoldable pub is_fresh_share : Data → Bool
-is_fresh_share d =
-    has_only share_members d
-    && (has_member (codes "device") is_whole d
-    && (has_member (codes "kind") is_text d
-    && has_member (codes "index_id") is_whole d))
+is_fresh_share d = is_object (due (codes "device") is_whole ∷ due (codes "kind") is_text ∷ due (codes "index_id") is_whole ∷ []) d
 
 -- the device, with nothing in its index and its store
 unfoldable pub read_fresh_share : Data → Option ShareParts

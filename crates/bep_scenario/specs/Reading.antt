@@ -1,9 +1,9 @@
 -- The reading of a scenario document: what its bytes say, or the one fault for which it is refused. The smallest number
 -- that applies is told, at its first place (this project's profile).
-use Rattle.std.specs.Prelude.{ℕ, ◌&&◌, Bool, List, [], ◌∷◌, Option, Some, codes}
+use Rattle.std.specs.Prelude.{ℕ, Bool, List, [], ◌∷◌, Option, Some, codes}
 use Rattle.serde_json.specs.Data.{Data}
 use Rattle.bep_record.specs.declared.limits.TheConstants.{MAX_FOLDERS}
-use Rattle.bep_json.specs.Tree.{has_only, has_member}
+use Rattle.bep_json.specs.Tree.{due, is_object}
 use Rattle.bep_json.specs.Reading as json
 use Rattle.bep_json.specs.Reading.{read_member}
 use Rattle.bep_json.specs.Numbers.{is_whole}
@@ -17,18 +17,13 @@ use Rattle.bep_scenario.specs.Steps.{is_step, read_step}
 use Rattle.bep_scenario.specs.Fresh.{is_fresh_folder, read_fresh_folder, read_fresh_link}
 use Rattle.bep_scenario.specs.Faults.{first_fault}
 
--- the members of a scenario document
-abbrev pub scenario_members : List (List ℕ)
-scenario_members = codes "version" ∷ codes "folders" ∷ codes "links" ∷ codes "steps" ∷ []
-
 -- a scenario document: each member of its kind, and no others
 unfoldable pub is_scenario : Data → Bool
 is_scenario d =
-    has_only scenario_members d
-    && (has_member (codes "version") is_whole d
-    && (has_member (codes "folders") (is_list is_fresh_folder) d
-    && (has_member (codes "links") (is_list is_pair) d
-    && has_member (codes "steps") (is_list is_step) d)))
+    is_object
+    (due (codes "version") is_whole ∷ due (codes "folders") (is_list is_fresh_folder) ∷
+    due (codes "links") (is_list is_pair) ∷ due (codes "steps") (is_list is_step) ∷ [])
+    d
 
 -- the folders and links, and the steps
 unfoldable pub read_scenario : Data → Option ScenarioParts

@@ -1,5 +1,5 @@
 -- Steps as lists in JSON trees (this project's profile).
-use Rattle.std.specs.Prelude.{ℕ, ◌&&◌, Bool, false, List, Option, Some, None}
+use Rattle.std.specs.Prelude.{ℕ, Bool, false, List, [], ◌∷◌, Option, Some, None}
 use Rattle.serde_json.specs.Data.{Data}
 use Rattle.bep_json.specs.Reading.{◌>>=◌}
 use Rattle.bep_json.specs.Numbers.{is_whole, read_number, greatest_id}
@@ -15,51 +15,26 @@ use Rattle.bep_scenario.specs.declared.words.Word.{Word}
 use Rattle.bep_scenario.specs.declared.words.Word.TheVariants.{Edit, OfName, OfPair, Announce, Ask, Restart}
 use Rattle.bep_scenario.specs.declared.parts.StepParts.{StepParts}
 use Rattle.bep_scenario.specs.declared.parts.StepParts.TheVariants as parts
-use Rattle.bep_scenario.specs.Items.{has_item, ends_at, read_item}
+use Rattle.bep_scenario.specs.Items.{has_items, read_item}
 use Rattle.bep_scenario.specs.Words.{read_word}
 
--- ---- shapes, behind the word
+-- the shapes of what stands behind the word
+abbrev pub shapes_of : Word → List (Data → Bool)
+shapes_of Edit = is_whole ∷ is_text ∷ is_node ∷ []
+shapes_of (OfName word) = is_whole ∷ is_text ∷ is_text ∷ []
+shapes_of (OfPair word) = is_whole ∷ is_whole ∷ []
+shapes_of Announce = is_whole ∷ is_whole ∷ is_text ∷ []
+shapes_of Ask = is_whole ∷ is_whole ∷ is_text ∷ is_text ∷ []
+shapes_of Restart = is_whole ∷ []
 
--- a device, a folder and a node
-unfoldable pub is_edit : Data → Bool
-is_edit d = has_item 1 is_whole d && (has_item 2 is_text d && (has_item 3 is_node d && ends_at 4 d))
-
--- a device, a folder and a name
-unfoldable pub is_name_step : Data → Bool
-is_name_step d = has_item 1 is_whole d && (has_item 2 is_text d && (has_item 3 is_text d && ends_at 4 d))
-
--- two devices
-unfoldable pub is_pair_step : Data → Bool
-is_pair_step d = has_item 1 is_whole d && (has_item 2 is_whole d && ends_at 3 d)
-
--- two devices and a folder
-unfoldable pub is_announce : Data → Bool
-is_announce d = has_item 1 is_whole d && (has_item 2 is_whole d && (has_item 3 is_text d && ends_at 4 d))
-
--- two devices, a folder and a name
-unfoldable pub is_ask : Data → Bool
-is_ask d =
-    has_item 1 is_whole d && (has_item 2 is_whole d && (has_item 3 is_text d && (has_item 4 is_text d && ends_at 5 d)))
-
--- a device
-unfoldable pub is_restart : Data → Bool
-is_restart d = has_item 1 is_whole d && ends_at 2 d
-
--- what belongs to the word
+-- what belongs to the word, if there is one
 abbrev pub has_form : Option Word → Data → Bool
 has_form None d = false
-has_form (Some Edit) d = is_edit d
-has_form (Some (OfName word)) d = is_name_step d
-has_form (Some (OfPair word)) d = is_pair_step d
-has_form (Some Announce) d = is_announce d
-has_form (Some Ask) d = is_ask d
-has_form (Some Restart) d = is_restart d
+has_form (Some word) d = has_items 1 (shapes_of word) d
 
 -- a step: a list of a word and what belongs to it, and of nothing else
 unfoldable pub is_step : Data → Bool
 is_step d = has_form (read_item 0 read_word d) d
-
--- ---- steps
 
 -- a device, by its number
 abbrev pub read_device : Data → Option ℕ

@@ -4,7 +4,7 @@ ghost use Rattle.bep_scenario.specs.Faults.{bad_step, first_fault};
 
 use crate::{ScenarioParts, StepParts};
 use bep_document::{
-    DocFault, Fault, Found, Judge, first_bad_link, first_fault, first_twice, is_node,
+    DocFault, Fault, Found, Judge, first_bad_link, first_fault, first_of, first_twice, is_node,
 };
 use std::alloc::Global;
 
@@ -32,12 +32,9 @@ impl Judge<StepParts> for BadSteps {
 pub(crate) fn fault_of(alloc: Global, parts: &ScenarioParts) -> Found
     ensures { IfOk result (λ found. found ≡ first_fault parts.now) }
 {
-    match first_twice(alloc, &parts.cluster)? {
-        Some(fault) => return Ok(Some(fault)),
-        None => {}
-    }
-    match first_fault(alloc, &BadSteps, parts.steps.as_slice())? {
-        Some(fault) => Ok(Some(fault)),
-        None => first_bad_link(alloc, &parts.cluster),
-    }
+    first_of!(
+        first_twice(alloc, &parts.cluster),
+        first_fault(alloc, &BadSteps, parts.steps.as_slice()),
+        first_bad_link(alloc, &parts.cluster)
+    )
 }

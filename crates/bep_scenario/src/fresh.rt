@@ -4,16 +4,12 @@ ghost use Rattle.serde_json.specs.View.{view};
 ghost use Rattle.bep_json.specs.Lists.{is_pair};
 ghost use Rattle.bep_scenario.specs.Fresh.{is_fresh_share, read_fresh_share, is_fresh_folder, read_fresh_folder, fresh_link, read_fresh_link};
 
-use bep_document::{FolderParts, LinkParts, ShareParts};
-use bep_index::IndexId;
-use bep_json::{ReadError, Readable, Whole, has, has_only, member};
+use bep_document::{FolderParts, IndexNumber, LinkParts, ShareParts, index_id_of};
+use bep_json::{ReadError, Readable, is_object, member};
 use bep_record::{DeviceId, FolderKind, FolderName, Items};
 use serde_json::Value;
 use std::alloc::{AllocError, Global};
 use std::marker::Model;
-
-// The number of an index's id.
-type IndexNumber = Whole<1, 18446744073709551615>;
 
 // A part of a cut in which nothing is recorded, kept, known or on its way, as a scenario writes it.
 #[derive(Drop)]
@@ -51,24 +47,15 @@ impl Readable for Fresh<ShareParts> {
 
     #[tactic(auto, unfolding(crate::specs::Fresh::is_fresh_share))]
     fn has_shape(value: &Value) -> bool {
-        has_only(value, &["device", "kind", "index_id"])
-            && has::<DeviceId>(value, "device")
-            && has::<FolderKind>(value, "kind")
-            && has::<IndexNumber>(value, "index_id")
+        is_object!(value; has "device": DeviceId, has "kind": FolderKind, has "index_id": IndexNumber)
     }
 
     #[tactic(auto, unfolding(crate::specs::Fresh::read_fresh_share))]
     fn read(alloc: Global, value: &Value) -> Result<Self, ReadError> {
-        let device = member::<DeviceId>(alloc, value, "device")?;
-        let kind = member::<FolderKind>(alloc, value, "kind")?;
-        let index_id = member::<IndexNumber>(alloc, value, "index_id")?;
-        let Some(index_id) = IndexId::read(index_id.number()) else {
-            return Err(ReadError::Range);
-        };
         let part = ShareParts {
-            device,
-            kind,
-            index_id,
+            device: member(alloc, value, "device")?,
+            kind: member(alloc, value, "kind")?,
+            index_id: index_id_of(alloc, value)?,
             max: 0,
             own: Items::new(Vec::new(alloc)),
             store: Items::new(Vec::new(alloc)),
@@ -87,9 +74,7 @@ impl Readable for Fresh<FolderParts> {
 
     #[tactic(auto, unfolding(crate::specs::Fresh::is_fresh_folder))]
     fn has_shape(value: &Value) -> bool {
-        has_only(value, &["folder", "devices"])
-            && has::<FolderName>(value, "folder")
-            && has::<Items<Fresh<ShareParts>>>(value, "devices")
+        is_object!(value; has "folder": FolderName, has "devices": Items<Fresh<ShareParts>>)
     }
 
     #[tactic(auto, unfolding(crate::specs::Fresh::read_fresh_folder))]

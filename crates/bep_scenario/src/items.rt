@@ -34,3 +34,12 @@ pub(crate) fn item<T: Readable>(alloc: Global, value: &Value, place: usize) -> R
         None => Err(ReadError::Range),
     }
 }
+
+// Whether the value, if it is a list, has things of these shapes at these places, and no more items than so many.
+macro_rules! has_items {
+    ($value:expr; $($place:literal: $thing:ty),+; $count:literal) => {
+        $(has_item::<$thing>($value, $place) &&)+ ends_at($value, $count)
+    };
+}
+
+pub(crate) use has_items;

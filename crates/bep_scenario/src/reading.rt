@@ -9,10 +9,10 @@ use crate::faults::fault_of;
 use crate::fresh::{Fresh, into_parts};
 use crate::{ScenarioParts, StepParts};
 use bep_document::{
-    CheckParts, DocError, Fault, Few, FolderParts, LinkParts, MAX_BYTES, has_few_devices,
-    has_version, refused, tree_of,
+    CheckParts, DocError, Fault, Few, FolderParts, LinkParts, document_tree, has_few_devices,
+    has_version, refused, unless_found,
 };
-use bep_json::{ReadError, Readable, Whole, has, has_only, member};
+use bep_json::{ReadError, Readable, Whole, is_object, member};
 use bep_record::{Items, MAX_FOLDERS};
 use serde_json::Value;
 use std::alloc::Global;
@@ -28,11 +28,9 @@ impl Readable for ScenarioParts {
 
     #[tactic(auto, unfolding(crate::specs::Reading::is_scenario))]
     fn has_shape(value: &Value) -> bool {
-        has_only(value, &["version", "folders", "links", "steps"])
-            && has::<Whole<1, 1>>(value, "version")
-            && has::<FreshFolders>(value, "folders")
-            && has::<FreshLinks>(value, "links")
-            && has::<Items<StepParts>>(value, "steps")
+        is_object!(value;
+            has "version": Whole<1, 1>, has "folders": FreshFolders, has "links": FreshLinks,
+            has "steps": Items<StepParts>)
     }
 
     #[tactic(auto, unfolding(crate::specs::Reading::read_scenario))]
@@ -63,13 +61,8 @@ impl Readable for ScenarioParts {
 pub fn read_scenario_parts(alloc: Global, bytes: &[u8]) -> Result<ScenarioParts, DocError>
     ensures { Answers result (reading_of bytes.now) }
 {
-    if bytes.len() > MAX_BYTES {
-        return Err(refused(Fault::Range));
-    }
-    match tree_of(alloc, bytes) {
-        Ok(tree) => parts_of(alloc, &tree),
-        Err(error) => Err(error),
-    }
+    let tree = document_tree(alloc, bytes)?;
+    parts_of(alloc, &tree)
 }
 
 // What the tree of a document says.
@@ -94,8 +87,6 @@ fn parts_of(alloc: Global, tree: &Value) -> Result<ScenarioParts, DocError>
 fn judged(alloc: Global, parts: ScenarioParts) -> Result<ScenarioParts, DocError>
     ensures { Answers result (unless (first_fault parts) parts) }
 {
-    match fault_of(alloc, &parts)? {
-        Some(fault) => Err(DocError::Refused(fault)),
-        None => Ok(parts),
-    }
+    let found = fault_of(alloc, &parts)?;
+    unless_found(found, parts)
 }

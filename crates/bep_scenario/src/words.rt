@@ -1,7 +1,7 @@
 //! The words by which scenarios name steps.
 ghost use Rattle.std.specs.Prelude.{◌≡◌};
 ghost use Rattle.serde_json.specs.View.{view};
-ghost use Rattle.bep_scenario.specs.Words.{name_word, pair_word, other_word, word_named, read_word};
+ghost use Rattle.bep_scenario.specs.Words.{word_named, read_word};
 
 use serde_json::Value;
 
@@ -51,45 +51,17 @@ pub(crate) fn word_of(value: &Value) -> Option<Word>
 fn word_named(text: &str) -> Option<Word>
     ensures { result ≡ word_named text.now }
 {
-    if let Some(word) = name_word(text) {
-        return Some(Word::OfName(word));
-    }
-    if let Some(word) = pair_word(text) {
-        return Some(Word::OfPair(word));
-    }
-    other_word(text)
-}
-
-fn name_word(text: &str) -> Option<NameWord>
-    ensures { result ≡ name_word text.now }
-{
     match text {
-        "remove" => Some(NameWord::Remove),
-        "scan" => Some(NameWord::Scan),
-        "override" => Some(NameWord::Override),
-        "revert" => Some(NameWord::Revert),
-        "pull" => Some(NameWord::Pull),
-        "finish" => Some(NameWord::Finish),
-        _ => None,
-    }
-}
-
-fn pair_word(text: &str) -> Option<PairWord>
-    ensures { result ≡ pair_word text.now }
-{
-    match text {
-        "connect" => Some(PairWord::Connect),
-        "lose" => Some(PairWord::Lose),
-        "begin" => Some(PairWord::Begin),
-        "deliver" => Some(PairWord::Deliver),
-        _ => None,
-    }
-}
-
-fn other_word(text: &str) -> Option<Word>
-    ensures { result ≡ other_word text.now }
-{
-    match text {
+        "remove" => Some(Word::OfName(NameWord::Remove)),
+        "scan" => Some(Word::OfName(NameWord::Scan)),
+        "override" => Some(Word::OfName(NameWord::Override)),
+        "revert" => Some(Word::OfName(NameWord::Revert)),
+        "pull" => Some(Word::OfName(NameWord::Pull)),
+        "finish" => Some(Word::OfName(NameWord::Finish)),
+        "connect" => Some(Word::OfPair(PairWord::Connect)),
+        "lose" => Some(Word::OfPair(PairWord::Lose)),
+        "begin" => Some(Word::OfPair(PairWord::Begin)),
+        "deliver" => Some(Word::OfPair(PairWord::Deliver)),
         "edit" => Some(Word::Edit),
         "announce" => Some(Word::Announce),
         "ask" => Some(Word::Ask),

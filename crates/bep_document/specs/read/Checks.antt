@@ -1,8 +1,8 @@
 -- Check documents as JSON trees (this project's profile).
-use Rattle.std.specs.Prelude.{ℕ, ◌==◌, ◌&&◌, option_map, option_and_then, unwrap_or, false, Bool, List, [], ◌∷◌, Option, Some, None, if◌then◌else◌, codes}
+use Rattle.std.specs.Prelude.{ℕ, ◌==◌, option_map, option_and_then, unwrap_or, false, Bool, List, [], ◌∷◌, Option, Some, None, if◌then◌else◌, codes}
 use Rattle.serde_json.specs.Data.{Data}
 use Rattle.serde_json.specs.Find.{as_number, as_u64}
-use Rattle.bep_json.specs.Tree.{has_only, has_member, may_have_member}
+use Rattle.bep_json.specs.Tree.{has_member, due, may, is_object}
 use Rattle.bep_json.specs.Reading.{◌>>=◌, read_member, read_member_or}
 use Rattle.bep_json.specs.Numbers.{is_whole}
 use Rattle.bep_json.specs.Lists.{is_list, read_list}
@@ -16,16 +16,9 @@ use Rattle.bep_document.specs.declared.parts.LinkParts.{LinkParts}
 use Rattle.bep_document.specs.declared.parts.RowParts.{RowParts}
 use Rattle.bep_document.specs.declared.parts.CheckParts.{CheckParts}
 
--- the members of a cut
-abbrev pub cut_members : List (List ℕ)
-cut_members = codes "folders" ∷ codes "links" ∷ []
-
 -- a cut: each member of its kind, and no others
 unfoldable pub is_cut : Data → Bool
-is_cut d =
-    has_only cut_members d
-    && (has_member (codes "folders") (is_list is_folder) d
-    && may_have_member (codes "links") (is_list is_link) d)
+is_cut d = is_object (due (codes "folders") (is_list is_folder) ∷ may (codes "links") (is_list is_link) ∷ []) d
 
 -- the folders, if not too many different devices share them
 abbrev pub if_few_devices : List FolderParts → Option (List FolderParts)
@@ -53,16 +46,12 @@ abbrev pub has_version : Data → Bool
 has_version d = has_member (codes "version") is_one d
 
 -- the members of a check document
-abbrev pub check_members : List (List ℕ)
-check_members = codes "version" ∷ codes "cut" ∷ codes "certificate" ∷ []
+abbrev pub check_members : List (List ℕ × (Data → Bool))
+check_members = due (codes "version") is_whole ∷ due (codes "cut") is_cut ∷ due (codes "certificate") (is_list is_row) ∷ []
 
 -- a check document: each member of its kind, and no others
 unfoldable pub is_check : Data → Bool
-is_check d =
-    has_only check_members d
-    && (has_member (codes "version") is_whole d
-    && (has_member (codes "cut") is_cut d
-    && has_member (codes "certificate") (is_list is_row) d))
+is_check d = is_object check_members d
 
 -- a cut and rows, where each could be read
 abbrev pub with_rows : Option (List FolderParts × List LinkParts) → Option (List RowParts) → Option CheckParts

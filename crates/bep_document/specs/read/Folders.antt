@@ -1,7 +1,7 @@
 -- Folders of a cut and rows of a certificate in JSON trees (this project's profile).
-use Rattle.std.specs.Prelude.{ℕ, ◌&&◌, Bool, List, [], ◌∷◌, Option, Some, codes}
+use Rattle.std.specs.Prelude.{ℕ, Bool, List, [], ◌∷◌, Option, Some, codes}
 use Rattle.serde_json.specs.Data.{Data}
-use Rattle.bep_json.specs.Tree.{has_only, has_member}
+use Rattle.bep_json.specs.Tree.{due, is_object}
 use Rattle.bep_json.specs.Reading.{◌>>=◌, read_member}
 use Rattle.bep_json.specs.Numbers.{is_whole, read_number, greatest_id}
 use Rattle.bep_json.specs.Texts.{is_text, read_folder_name}
@@ -12,16 +12,9 @@ use Rattle.bep_document.specs.declared.parts.ShareParts.{ShareParts}
 use Rattle.bep_document.specs.declared.parts.FolderParts.{FolderParts}
 use Rattle.bep_document.specs.declared.parts.RowParts.{RowParts}
 
--- the members of a folder
-abbrev pub folder_members : List (List ℕ)
-folder_members = codes "folder" ∷ codes "devices" ∷ []
-
 -- a folder, each device of which has this shape: each member of its kind, and no others
 abbrev pub is_folder_of : (Data → Bool) → Data → Bool
-is_folder_of is_device d =
-    has_only folder_members d
-    && (has_member (codes "folder") is_text d
-    && has_member (codes "devices") (is_list is_device) d)
+is_folder_of is_device d = is_object (due (codes "folder") is_text ∷ due (codes "devices") (is_list is_device) ∷ []) d
 
 -- the folder, with the devices that share it, each read so
 abbrev pub read_folder_of : (Data → Option ShareParts) → Data → Option FolderParts
@@ -38,17 +31,9 @@ is_folder d = is_folder_of is_share d
 unfoldable pub read_folder : Data → Option FolderParts
 read_folder d = read_folder_of read_share d
 
--- the members of a row
-abbrev pub row_members : List (List ℕ)
-row_members = codes "folder" ∷ codes "device" ∷ codes "record" ∷ []
-
 -- a row: each member of its kind, and no others
 unfoldable pub is_row : Data → Bool
-is_row d =
-    has_only row_members d
-    && (has_member (codes "folder") is_text d
-    && (has_member (codes "device") is_whole d
-    && has_member (codes "record") is_record d))
+is_row d = is_object (due (codes "folder") is_text ∷ due (codes "device") is_whole ∷ due (codes "record") is_record ∷ []) d
 
 -- the row
 unfoldable pub read_row : Data → Option RowParts

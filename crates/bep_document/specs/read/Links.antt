@@ -1,9 +1,9 @@
 -- What documents say of links, and of what is on its way over them (this project's profile; BEP v1, 'Index' and 'Index
 -- Update').
-use Rattle.std.specs.Prelude.{ℕ, ◌&&◌, Bool, List, [], ◌∷◌, Option, Some, codes}
+use Rattle.std.specs.Prelude.{ℕ, Bool, List, [], ◌∷◌, Option, Some, codes}
 use Rattle.serde_json.specs.Data.{Data}
 use Rattle.bep_index.specs.declared.limits.TheConstants.{MAX_RECORDS, MAX_SEQUENCE}
-use Rattle.bep_json.specs.Tree.{has_only, has_member, may_have_member}
+use Rattle.bep_json.specs.Tree.{due, may, is_object}
 use Rattle.bep_json.specs.Reading.{◌>>=◌, read_member, read_member_or}
 use Rattle.bep_json.specs.Numbers.{is_whole, is_flag, read_number, read_flag, greatest_id}
 use Rattle.bep_json.specs.Texts.{is_text, read_folder_name}
@@ -14,17 +14,9 @@ use Rattle.bep_document.specs.read.Few.{read_few}
 use Rattle.bep_document.specs.declared.parts.FlightParts.{FlightParts}
 use Rattle.bep_document.specs.declared.parts.LinkParts.{LinkParts}
 
--- the members of an Index or Index Update on its way
-abbrev pub flight_members : List (List ℕ)
-flight_members = codes "folder" ∷ codes "full" ∷ codes "records" ∷ []
-
 -- an Index or Index Update on its way: each member of its kind, and no others
 unfoldable pub is_flight : Data → Bool
-is_flight d =
-    has_only flight_members d
-    && (has_member (codes "folder") is_text d
-    && (has_member (codes "full") is_flag d
-    && has_member (codes "records") (is_list is_record) d))
+is_flight d = is_object (due (codes "folder") is_text ∷ due (codes "full") is_flag ∷ due (codes "records") (is_list is_record) ∷ []) d
 
 -- the message, of at most 1000 records
 unfoldable pub read_flight : Data → Option FlightParts
@@ -34,23 +26,13 @@ read_flight d = do
   records ← read_member (codes "records") (read_few MAX_RECORDS read_record) d
   Some (record { folder = folder; full = full; records = records })
 
--- the members of a link
-abbrev pub link_members : List (List ℕ)
-link_members = codes "a" ∷ codes "b" ∷ codes "up" ∷ codes "epoch" ∷ codes "to_a" ∷ codes "to_b" ∷ []
-
--- the members that a link must have, and those that have a default
-unfoldable pub has_link_members : Data → Bool
-has_link_members d =
-    has_member (codes "a") is_whole d
-    && (has_member (codes "b") is_whole d
-    && (has_member (codes "up") is_flag d
-    && (has_member (codes "epoch") is_whole d
-    && (may_have_member (codes "to_a") (is_list is_flight) d
-    && may_have_member (codes "to_b") (is_list is_flight) d))))
-
 -- a link: each member of its kind, and no others
 unfoldable pub is_link : Data → Bool
-is_link d = has_only link_members d && has_link_members d
+is_link d =
+    is_object
+    (due (codes "a") is_whole ∷ due (codes "b") is_whole ∷ due (codes "up") is_flag ∷ due (codes "epoch") is_whole ∷
+    may (codes "to_a") (is_list is_flight) ∷ may (codes "to_b") (is_list is_flight) ∷ [])
+    d
 
 -- the link, with at most 1024 messages on their way to either end
 unfoldable pub read_link : Data → Option LinkParts

@@ -1,8 +1,8 @@
 -- What documents say of a device that shares a folder (this project's profile).
-use Rattle.std.specs.Prelude.{ℕ, ◌&&◌, Bool, List, [], ◌∷◌, Option, Some, codes}
+use Rattle.std.specs.Prelude.{ℕ, Bool, List, [], ◌∷◌, Option, Some, codes}
 use Rattle.serde_json.specs.Data.{Data}
 use Rattle.bep_index.specs.declared.limits.TheConstants.{MAX_NAMES, MAX_SEQUENCE}
-use Rattle.bep_json.specs.Tree.{has_only, has_member, may_have_member}
+use Rattle.bep_json.specs.Tree.{due, may, is_object}
 use Rattle.bep_json.specs.Reading.{◌>>=◌, read_member, read_member_or}
 use Rattle.bep_json.specs.Numbers.{is_whole, read_number, greatest_id}
 use Rattle.bep_json.specs.Texts.{is_text, read_folder_kind}
@@ -14,31 +14,14 @@ use Rattle.bep_document.specs.read.Views.{is_view, read_view}
 use Rattle.bep_record.specs.declared.limits.TheConstants.{MAX_PULLS}
 use Rattle.bep_document.specs.declared.parts.ShareParts.{ShareParts}
 
--- the members that a device of a folder may have
-abbrev pub share_members : List (List ℕ)
-share_members =
-    codes "device" ∷ codes "kind" ∷ codes "index_id" ∷ codes "max" ∷ codes "own" ∷ codes "store" ∷ codes "views" ∷
-    codes "pulls" ∷ []
-
--- the members that it must have
-unfoldable pub has_share_members : Data → Bool
-has_share_members d =
-    has_member (codes "device") is_whole d
-    && (has_member (codes "kind") is_text d
-    && (has_member (codes "index_id") is_whole d
-    && has_member (codes "max") is_whole d))
-
--- the members that have a default
-unfoldable pub may_have_share_members : Data → Bool
-may_have_share_members d =
-    may_have_member (codes "own") (is_list is_record) d
-    && (may_have_member (codes "store") (is_list is_node) d
-    && (may_have_member (codes "views") (is_list is_view) d
-    && may_have_member (codes "pulls") (is_list is_record) d))
-
 -- a device of a folder: each member of its kind, and no others
 unfoldable pub is_share : Data → Bool
-is_share d = has_only share_members d && (has_share_members d && may_have_share_members d)
+is_share d =
+    is_object
+    (due (codes "device") is_whole ∷ due (codes "kind") is_text ∷ due (codes "index_id") is_whole ∷
+    due (codes "max") is_whole ∷ may (codes "own") (is_list is_record) ∷ may (codes "store") (is_list is_node) ∷
+    may (codes "views") (is_list is_view) ∷ may (codes "pulls") (is_list is_record) ∷ [])
+    d
 
 -- the device, with its records and nodes, its views and what it pulls
 unfoldable pub read_share : Data → Option ShareParts

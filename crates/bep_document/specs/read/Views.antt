@@ -1,8 +1,8 @@
 -- What documents say of what a device knows of another's index (this project's profile; BEP v1, 'Index').
-use Rattle.std.specs.Prelude.{ℕ, ◌&&◌, Bool, List, [], ◌∷◌, Option, Some, codes}
+use Rattle.std.specs.Prelude.{ℕ, Bool, List, [], ◌∷◌, Option, Some, codes}
 use Rattle.serde_json.specs.Data.{Data}
 use Rattle.bep_index.specs.declared.limits.TheConstants.{MAX_NAMES, MAX_SEQUENCE}
-use Rattle.bep_json.specs.Tree.{has_only, has_member}
+use Rattle.bep_json.specs.Tree.{due, is_object}
 use Rattle.bep_json.specs.Reading.{◌>>=◌, read_member}
 use Rattle.bep_json.specs.Numbers.{is_whole, read_number, greatest_id}
 use Rattle.bep_json.specs.Lists.{is_list}
@@ -10,18 +10,13 @@ use Rattle.bep_json.specs.Records.{is_record, read_record}
 use Rattle.bep_document.specs.read.Few.{read_few}
 use Rattle.bep_document.specs.declared.parts.ViewParts.{ViewParts}
 
--- the members of a view
-abbrev pub view_members : List (List ℕ)
-view_members = codes "of" ∷ codes "index_id" ∷ codes "max" ∷ codes "records" ∷ []
-
 -- a view: each member of its kind, and no others
 unfoldable pub is_view : Data → Bool
 is_view d =
-    has_only view_members d
-    && (has_member (codes "of") is_whole d
-    && (has_member (codes "index_id") is_whole d
-    && (has_member (codes "max") is_whole d
-    && has_member (codes "records") (is_list is_record) d)))
+    is_object
+    (due (codes "of") is_whole ∷ due (codes "index_id") is_whole ∷ due (codes "max") is_whole ∷
+    due (codes "records") (is_list is_record) ∷ [])
+    d
 
 -- the view, of at most 4096 records
 unfoldable pub read_view : Data → Option ViewParts

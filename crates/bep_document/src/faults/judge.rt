@@ -12,6 +12,20 @@ use std::collections::BTreeSet;
 /// The first fault, if there is one, or want of memory.
 pub type Found = Result<Option<DocFault>, AllocError>;
 
+/// What the first of these searches finds, or else the next: each is made only where those before it found no fault.
+#[macro_export]
+macro_rules! first_of {
+    ($last:expr) => {
+        $last
+    };
+    ($first:expr, $($more:expr),+) => {
+        match $first? {
+            Some(fault) => Ok(Some(fault)),
+            None => $crate::first_of!($($more),+),
+        }
+    };
+}
+
 /// A judge of the items of a list, which looks for one kind of fault.
 pub trait Judge<T> {
     /// The first fault at an item, given the items before it.

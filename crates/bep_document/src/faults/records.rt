@@ -5,7 +5,7 @@ ghost use Rattle.bep_document.specs.faults.Records.{is_well_formed, is_node, bad
 use crate::faults::holder::Holder;
 use crate::faults::judge::{Found, Judge, first_fault};
 use crate::faults::walks::{FlightAt, JudgeFlights, JudgeShares, ShareAt, first_in_cut};
-use crate::{CheckParts, Fault, RowParts, ViewParts};
+use crate::{CheckParts, Fault, RowParts, ViewParts, first_of};
 use bep_json::NamedParts;
 use bep_record::{Entry, NodeParts};
 use std::alloc::Global;
@@ -72,18 +72,12 @@ impl JudgeShares for BadInDocument {
         let share = place.share;
         let at = &Holder::of_share(place);
         let judge = BadAtDevice { at };
-        match first_fault(alloc, &judge, share.own.as_slice())? {
-            Some(fault) => return Ok(Some(fault)),
-            None => {}
-        }
-        match first_fault(alloc, &judge, share.store.as_slice())? {
-            Some(fault) => return Ok(Some(fault)),
-            None => {}
-        }
-        match first_fault(alloc, &judge, share.views.as_slice())? {
-            Some(fault) => Ok(Some(fault)),
-            None => first_fault(alloc, &BadPulls { at }, share.pulls.as_slice()),
-        }
+        first_of!(
+            first_fault(alloc, &judge, share.own.as_slice()),
+            first_fault(alloc, &judge, share.store.as_slice()),
+            first_fault(alloc, &judge, share.views.as_slice()),
+            first_fault(alloc, &BadPulls { at }, share.pulls.as_slice())
+        )
     }
 }
 
@@ -114,10 +108,10 @@ impl Judge<RowParts> for BadInDocument {
 pub(crate) fn first_bad(alloc: Global, parts: &CheckParts) -> Found
     ensures { IfOk result (λ found. found ≡ first_bad parts.now) }
 {
-    match first_in_cut(alloc, &BadInDocument, parts)? {
-        Some(fault) => Ok(Some(fault)),
-        None => first_fault(alloc, &BadInDocument, parts.certificate.as_slice()),
-    }
+    first_of!(
+        first_in_cut(alloc, &BadInDocument, parts),
+        first_fault(alloc, &BadInDocument, parts.certificate.as_slice())
+    )
 }
 
 // Whether the fields are a record.

@@ -8,7 +8,7 @@ ghost use Rattle.bep_document.specs.faults.Sequences.{sequence_in, sequence_in_v
 use crate::faults::holder::Holder;
 use crate::faults::judge::{Found, Judge, JudgeKeyed, first_fault, first_keyed};
 use crate::faults::walks::{FlightAt, JudgeFlights, JudgeShares, ShareAt, first_in_cut};
-use crate::{CheckParts, Fault, ViewParts};
+use crate::{CheckParts, Fault, ViewParts, first_of};
 use bep_record::Entry;
 use std::alloc::{AllocError, Global};
 use std::cmp::Ordering;
@@ -58,13 +58,13 @@ fn first_unnumbered(alloc: Global, at: &Holder<'_>, max: u64, entries: &[Entry])
     first_keyed(alloc, &Numbered { at, max }, entries)
 }
 
-// Sequences that a device's views can't have.
+// Sequences that a device's views can't have, and those of a message that don't rise.
 #[derive(Clone, Copy)]
-struct SequencesAtViews<'a> {
+struct SequencesAt<'a> {
     at: &'a Holder<'a>,
 }
 
-impl<'a> Judge<ViewParts> for SequencesAtViews<'a> {
+impl<'a> Judge<ViewParts> for SequencesAt<'a> {
     ghost fault_at = { λ judge. sequence_in_view judge.at.now.folder.now judge.at.now.device };
 
     fn fault_at(&self, alloc: Global, _earlier: &[ViewParts], item: &ViewParts) -> Found {
@@ -72,13 +72,7 @@ impl<'a> Judge<ViewParts> for SequencesAtViews<'a> {
     }
 }
 
-// Sequences that don't rise.
-#[derive(Clone, Copy)]
-struct Rising<'a> {
-    at: &'a Holder<'a>,
-}
-
-impl<'a> Judge<Entry> for Rising<'a> {
+impl<'a> Judge<Entry> for SequencesAt<'a> {
     ghost fault_at = { λ judge. bad_next judge.at.now.folder.now judge.at.now.device };
 
     fn fault_at(&self, alloc: Global, earlier: &[Entry], item: &Entry) -> Found {
@@ -110,10 +104,10 @@ impl JudgeShares for SequencesInCut {
     fn fault_at_share(&self, alloc: Global, place: &ShareAt<'_>) -> Found {
         let share = place.share;
         let at = &Holder::of_share(place);
-        match first_unnumbered(alloc, at, share.max, share.own.as_slice())? {
-            Some(fault) => Ok(Some(fault)),
-            None => first_fault(alloc, &SequencesAtViews { at }, share.views.as_slice()),
-        }
+        first_of!(
+            first_unnumbered(alloc, at, share.max, share.own.as_slice()),
+            first_fault(alloc, &SequencesAt { at }, share.views.as_slice())
+        )
     }
 }
 
@@ -122,7 +116,7 @@ impl JudgeFlights for SequencesInCut {
 
     fn fault_in_flight(&self, alloc: Global, place: &FlightAt<'_>) -> Found {
         let at = &Holder::of_flight(place);
-        first_fault(alloc, &Rising { at }, place.flight.records.as_slice())
+        first_fault(alloc, &SequencesAt { at }, place.flight.records.as_slice())
     }
 }
 

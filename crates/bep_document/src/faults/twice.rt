@@ -14,7 +14,7 @@ use crate::faults::unshared::has_device;
 use crate::faults::walks::{
     FlightAt, JudgeFlights, JudgeShares, ShareAt, first_at_shares, first_on_link,
 };
-use crate::{CheckParts, DocFault, Fault, FolderParts, LinkParts, ViewParts};
+use crate::{CheckParts, DocFault, Fault, FolderParts, LinkParts, ViewParts, first_of};
 use bep_json::NamedParts;
 use bep_record::{DeviceId, Entry, FolderName, Name};
 use std::alloc::{AllocError, Global};
@@ -129,18 +129,12 @@ impl JudgeShares for TwiceInCut {
             let fault = at.fault(alloc, Fault::Twice)?;
             return Ok(Some(fault));
         }
-        match first_again(alloc, at, share.own.as_slice())? {
-            Some(fault) => return Ok(Some(fault)),
-            None => {}
-        }
-        match first_again(alloc, at, share.store.as_slice())? {
-            Some(fault) => return Ok(Some(fault)),
-            None => {}
-        }
-        match first_keyed(alloc, &ViewsOnce { at }, share.views.as_slice())? {
-            Some(fault) => Ok(Some(fault)),
-            None => first_again(alloc, at, share.pulls.as_slice()),
-        }
+        first_of!(
+            first_again(alloc, at, share.own.as_slice()),
+            first_again(alloc, at, share.store.as_slice()),
+            first_keyed(alloc, &ViewsOnce { at }, share.views.as_slice()),
+            first_again(alloc, at, share.pulls.as_slice())
+        )
     }
 }
 
@@ -203,10 +197,10 @@ fn first_at_links(alloc: Global, links: &[LinkParts]) -> Found
 pub fn first_twice(alloc: Global, parts: &CheckParts) -> Found
     ensures { IfOk result (λ found. found ≡ first_twice parts.now) }
 {
-    match first_fault(alloc, &TwiceInCut, parts.folders.as_slice())? {
-        Some(fault) => Ok(Some(fault)),
-        None => first_at_links(alloc, parts.links.as_slice()),
-    }
+    first_of!(
+        first_fault(alloc, &TwiceInCut, parts.folders.as_slice()),
+        first_at_links(alloc, parts.links.as_slice())
+    )
 }
 
 // Whether one of these is the folder.

@@ -9,7 +9,7 @@ ghost use Rattle.bep_document.specs.faults.Judge.{◌else_at◌, first_in};
 ghost use Rattle.bep_document.specs.faults.Walks.{at_shares, on_link};
 
 use crate::faults::judge::{Found, Judge, first_fault};
-use crate::{CheckParts, FlightParts, FolderParts, LinkParts, ShareParts};
+use crate::{CheckParts, FlightParts, FolderParts, LinkParts, ShareParts, first_of};
 use bep_record::DeviceId;
 use std::alloc::Global;
 
@@ -139,34 +139,28 @@ fn first_to<J: JudgeFlights>(
 pub(crate) fn first_on_link<J: JudgeFlights>(alloc: Global, judge: &J, link: &LinkParts) -> Found
     ensures { IfOk result (λ found. found ≡ on_link (J.fault_in_flight judge.now) [] link.now) }
 {
-    match first_to(alloc, judge, link, link.a, link.to_a.as_slice())? {
-        Some(fault) => Ok(Some(fault)),
-        None => first_to(alloc, judge, link, link.b, link.to_b.as_slice()),
-    }
+    first_of!(
+        first_to(alloc, judge, link, link.a, link.to_a.as_slice()),
+        first_to(alloc, judge, link, link.b, link.to_b.as_slice())
+    )
 }
 
-// Each folder, before a judge of its devices.
+// Each folder, before a judge of its devices, and each link, before a judge of what is on its way.
 #[derive(Drop)]
-struct FoldersBy<'a, J> {
+struct InCut<'a, J> {
     judge: &'a J,
 }
 
-impl<'a, J: JudgeShares> Judge<FolderParts> for FoldersBy<'a, J> {
-    ghost fault_at = { λ folders. at_shares (J.fault_at_share folders.judge.now) };
+impl<'a, J: JudgeShares> Judge<FolderParts> for InCut<'a, J> {
+    ghost fault_at = { λ all. at_shares (J.fault_at_share all.judge.now) };
 
     fn fault_at(&self, alloc: Global, _earlier: &[FolderParts], item: &FolderParts) -> Found {
         first_at_shares(alloc, self.judge, item)
     }
 }
 
-// Each link, before a judge of what is on its way.
-#[derive(Drop)]
-struct LinksBy<'a, J> {
-    judge: &'a J,
-}
-
-impl<'a, J: JudgeFlights> Judge<LinkParts> for LinksBy<'a, J> {
-    ghost fault_at = { λ links. on_link (J.fault_in_flight links.judge.now) };
+impl<'a, J: JudgeFlights> Judge<LinkParts> for InCut<'a, J> {
+    ghost fault_at = { λ all. on_link (J.fault_in_flight all.judge.now) };
 
     fn fault_at(&self, alloc: Global, _earlier: &[LinkParts], item: &LinkParts) -> Found {
         first_on_link(alloc, self.judge, item)
@@ -183,8 +177,8 @@ pub(crate) fn first_in_cut<J: JudgeShares + JudgeFlights>(
         first_in (at_shares (J.fault_at_share judge.now)) [] parts.now.folders
         else_at first_in (on_link (J.fault_in_flight judge.now)) [] parts.now.links)) }
 {
-    match first_fault(alloc, &FoldersBy { judge }, parts.folders.as_slice())? {
-        Some(fault) => Ok(Some(fault)),
-        None => first_fault(alloc, &LinksBy { judge }, parts.links.as_slice()),
-    }
+    first_of!(
+        first_fault(alloc, &InCut { judge }, parts.folders.as_slice()),
+        first_fault(alloc, &InCut { judge }, parts.links.as_slice())
+    )
 }

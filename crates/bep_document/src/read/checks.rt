@@ -10,7 +10,7 @@ ghost use Rattle.bep_document.specs.read.Checks.{is_cut, read_folders, read_cut,
 use crate::read::devices::has_few_devices;
 use crate::read::few::Few;
 use crate::{CheckParts, FolderParts, LinkParts, RowParts};
-use bep_json::{ReadError, Readable, Whole, has, has_only, may_have, member, member_or};
+use bep_json::{ReadError, Readable, Whole, is_object, member, member_or};
 use bep_record::{Items, MAX_FOLDERS};
 use serde_json::Value;
 use std::alloc::Global;
@@ -53,17 +53,15 @@ impl Readable for CutLists {
 
     #[tactic(auto, unfolding(crate::specs::read::Checks::is_cut))]
     fn has_shape(value: &Value) -> bool {
-        has_only(value, &["folders", "links"])
-            && has::<Items<FolderParts>>(value, "folders")
-            && may_have::<Items<LinkParts>>(value, "links")
+        is_object!(value; has "folders": Items<FolderParts>, may_have "links": Items<LinkParts>)
     }
 
     #[tactic(auto, unfolding(crate::specs::read::Checks::read_cut))]
     fn read(alloc: Global, value: &Value) -> Result<Self, ReadError> {
-        let folders = folders_of(alloc, value)?;
-        let none = Items::new(Vec::new(alloc));
-        let links = member_or::<Items<LinkParts>>(alloc, value, "links", none)?;
-        Ok(CutLists { folders, links })
+        Ok(CutLists {
+            folders: folders_of(alloc, value)?,
+            links: member_or(alloc, value, "links", Items::new(Vec::new(alloc)))?,
+        })
     }
 }
 
@@ -91,10 +89,7 @@ fn is_one(value: &Value) -> bool
 pub(crate) fn is_check(value: &Value) -> bool
     ensures { result ≡ is_check (view value.now) }
 {
-    has_only(value, &["version", "cut", "certificate"])
-        && has::<Whole<1, 1>>(value, "version")
-        && has::<CutLists>(value, "cut")
-        && has::<Items<RowParts>>(value, "certificate")
+    is_object!(value; has "version": Whole<1, 1>, has "cut": CutLists, has "certificate": Items<RowParts>)
 }
 
 // What the tree of a check document says. The tree is given up as it is read, rows first, so that the cut is read in the

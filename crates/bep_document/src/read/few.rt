@@ -1,9 +1,11 @@
 //! Short lists.
 ghost use Rattle.std.specs.Prelude.{◌≡◌, List, []};
+ghost use Rattle.serde_json.specs.View.{view};
 ghost use Rattle.bep_json.specs.Lists.{is_list};
+ghost use Rattle.bep_json.specs.Reading.{Gives, read_member_or};
 ghost use Rattle.bep_document.specs.read.Few.{read_few};
 
-use bep_json::{ReadError, Readable};
+use bep_json::{ReadError, Readable, member_or};
 use bep_record::Items;
 use serde_json::Value;
 use std::alloc::Global;
@@ -57,4 +59,17 @@ impl<T: Readable, const MOST: usize> Readable for Few<T, MOST> {
         }
         Ok(Few { items })
     }
+}
+
+// At most so many things of the list at a member; none where there is no such member. `Range` where the member is no such
+// list; `Memory` may come in place of any answer.
+pub(crate) fn few_or_none<T: Readable, const MOST: usize>(
+    alloc: Global,
+    value: &Value,
+    name: &str,
+) -> Result<Items<T>, ReadError>
+    ensures { Gives result (read_member_or name.now (read_few MOST T.reads) [] (view value.now)) }
+{
+    let few = member_or::<Few<T, MOST>>(alloc, value, name, Few::none(alloc))?;
+    Ok(few.into_items())
 }

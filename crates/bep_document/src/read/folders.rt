@@ -4,7 +4,7 @@ ghost use Rattle.serde_json.specs.View.{view};
 ghost use Rattle.bep_document.specs.read.Folders.{is_folder, read_folder, is_row, read_row};
 
 use crate::{FolderParts, RowParts, ShareParts};
-use bep_json::{ReadError, Readable, has, has_only, member};
+use bep_json::{ReadError, Readable, is_object, member};
 use bep_record::{DeviceId, Entry, FolderName, Items};
 use serde_json::Value;
 use std::alloc::Global;
@@ -17,16 +17,15 @@ impl Readable for FolderParts {
 
     #[tactic(auto, unfolding(crate::specs::read::Folders::is_folder))]
     fn has_shape(value: &Value) -> bool {
-        has_only(value, &["folder", "devices"])
-            && has::<FolderName>(value, "folder")
-            && has::<Items<ShareParts>>(value, "devices")
+        is_object!(value; has "folder": FolderName, has "devices": Items<ShareParts>)
     }
 
     #[tactic(auto, unfolding(crate::specs::read::Folders::read_folder))]
     fn read(alloc: Global, value: &Value) -> Result<Self, ReadError> {
-        let folder = member::<FolderName>(alloc, value, "folder")?;
-        let devices = member::<Items<ShareParts>>(alloc, value, "devices")?;
-        Ok(FolderParts { folder, devices })
+        Ok(FolderParts {
+            folder: member(alloc, value, "folder")?,
+            devices: member(alloc, value, "devices")?,
+        })
     }
 }
 
@@ -38,21 +37,15 @@ impl Readable for RowParts {
 
     #[tactic(auto, unfolding(crate::specs::read::Folders::is_row))]
     fn has_shape(value: &Value) -> bool {
-        has_only(value, &["folder", "device", "record"])
-            && has::<FolderName>(value, "folder")
-            && has::<DeviceId>(value, "device")
-            && has::<Entry>(value, "record")
+        is_object!(value; has "folder": FolderName, has "device": DeviceId, has "record": Entry)
     }
 
     #[tactic(auto, unfolding(crate::specs::read::Folders::read_row))]
     fn read(alloc: Global, value: &Value) -> Result<Self, ReadError> {
-        let folder = member::<FolderName>(alloc, value, "folder")?;
-        let device = member::<DeviceId>(alloc, value, "device")?;
-        let entry = member::<Entry>(alloc, value, "record")?;
         Ok(RowParts {
-            folder,
-            device,
-            entry,
+            folder: member(alloc, value, "folder")?,
+            device: member(alloc, value, "device")?,
+            entry: member(alloc, value, "record")?,
         })
     }
 }

@@ -1,12 +1,10 @@
 //! Links, and what is on its way over them.
-ghost use Rattle.std.specs.Prelude.{◌≡◌};
-ghost use Rattle.serde_json.specs.View.{view};
-ghost use Rattle.bep_document.specs.read.Links.{is_flight, read_flight, has_link_members, is_link, read_link};
+ghost use Rattle.bep_document.specs.read.Links.{is_flight, read_flight, is_link, read_link};
 
-use crate::read::few::Few;
+use crate::read::few::{Few, few_or_none};
 use crate::{FlightParts, LinkParts};
 use bep_index::MAX_RECORDS;
-use bep_json::{ReadError, Readable, Sequence, has, has_only, may_have, member, member_or};
+use bep_json::{ReadError, Readable, Sequence, is_object, member, member_or};
 use bep_record::{DeviceId, Entry, FolderName, Items, MAX_MESSAGES};
 use serde_json::Value;
 use std::alloc::Global;
@@ -19,21 +17,15 @@ impl Readable for FlightParts {
 
     #[tactic(auto, unfolding(crate::specs::read::Links::is_flight))]
     fn has_shape(value: &Value) -> bool {
-        has_only(value, &["folder", "full", "records"])
-            && has::<FolderName>(value, "folder")
-            && has::<bool>(value, "full")
-            && has::<Items<Entry>>(value, "records")
+        is_object!(value; has "folder": FolderName, has "full": bool, has "records": Items<Entry>)
     }
 
     #[tactic(auto, unfolding(crate::specs::read::Links::read_flight))]
     fn read(alloc: Global, value: &Value) -> Result<Self, ReadError> {
-        let folder = member::<FolderName>(alloc, value, "folder")?;
-        let full = member::<bool>(alloc, value, "full")?;
-        let records = member::<Few<Entry, MAX_RECORDS>>(alloc, value, "records")?;
         Ok(FlightParts {
-            folder,
-            full,
-            records: records.into_items(),
+            folder: member(alloc, value, "folder")?,
+            full: member(alloc, value, "full")?,
+            records: member::<Few<Entry, MAX_RECORDS>>(alloc, value, "records")?.into_items(),
         })
     }
 }
@@ -46,38 +38,20 @@ impl Readable for LinkParts {
 
     #[tactic(auto, unfolding(crate::specs::read::Links::is_link))]
     fn has_shape(value: &Value) -> bool {
-        has_only(value, &["a", "b", "up", "epoch", "to_a", "to_b"]) && has_link_members(value)
+        is_object!(value;
+            has "a": DeviceId, has "b": DeviceId, has "up": bool, has "epoch": Sequence,
+            may_have "to_a": Items<FlightParts>, may_have "to_b": Items<FlightParts>)
     }
 
     #[tactic(auto, unfolding(crate::specs::read::Links::read_link))]
     fn read(alloc: Global, value: &Value) -> Result<Self, ReadError> {
-        let a = member::<DeviceId>(alloc, value, "a")?;
-        let b = member::<DeviceId>(alloc, value, "b")?;
-        let up = member::<bool>(alloc, value, "up")?;
-        let epoch = member::<Sequence>(alloc, value, "epoch")?;
-        let none = Few::none(alloc);
-        let to_a = member_or::<Few<FlightParts, MAX_MESSAGES>>(alloc, value, "to_a", none)?;
-        let none = Few::none(alloc);
-        let to_b = member_or::<Few<FlightParts, MAX_MESSAGES>>(alloc, value, "to_b", none)?;
         Ok(LinkParts {
-            a,
-            b,
-            up,
-            epoch: epoch.number(),
-            to_a: to_a.into_items(),
-            to_b: to_b.into_items(),
+            a: member(alloc, value, "a")?,
+            b: member(alloc, value, "b")?,
+            up: member(alloc, value, "up")?,
+            epoch: member::<Sequence>(alloc, value, "epoch")?.number(),
+            to_a: few_or_none::<FlightParts, MAX_MESSAGES>(alloc, value, "to_a")?,
+            to_b: few_or_none::<FlightParts, MAX_MESSAGES>(alloc, value, "to_b")?,
         })
     }
-}
-
-#[tactic(auto, unfolding(crate::specs::read::Links::has_link_members))]
-fn has_link_members(value: &Value) -> bool
-    ensures { result ≡ has_link_members (view value.now) }
-{
-    has::<DeviceId>(value, "a")
-        && has::<DeviceId>(value, "b")
-        && has::<bool>(value, "up")
-        && has::<Sequence>(value, "epoch")
-        && may_have::<Items<FlightParts>>(value, "to_a")
-        && may_have::<Items<FlightParts>>(value, "to_b")
 }

@@ -1,20 +1,20 @@
 //! A device that shares a folder.
-ghost use Rattle.std.specs.Prelude.{◌≡◌};
+ghost use Rattle.std.specs.Prelude.{codes};
 ghost use Rattle.serde_json.specs.View.{view};
-ghost use Rattle.bep_document.specs.read.Shares.{is_share, has_share_members, may_have_share_members, read_share};
+ghost use Rattle.bep_json.specs.Numbers.{read_number, greatest_id};
+ghost use Rattle.bep_json.specs.Reading.{Gives, read_member};
+ghost use Rattle.bep_document.specs.read.Shares.{is_share, read_share};
 
-use crate::read::few::Few;
+use crate::read::few::few_or_none;
 use crate::{ShareParts, ViewParts};
 use bep_index::{IndexId, MAX_NAMES};
-use bep_json::{
-    NamedParts, ReadError, Readable, Sequence, Whole, has, has_only, may_have, member, member_or,
-};
+use bep_json::{NamedParts, ReadError, Readable, Sequence, Whole, is_object, member, member_or};
 use bep_record::{DeviceId, Entry, FolderKind, Items, MAX_PULLS};
 use serde_json::Value;
 use std::alloc::Global;
 
-// The number of an index's id.
-type IndexNumber = Whole<1, 18446744073709551615>;
+/// The number of an index's id.
+pub type IndexNumber = Whole<1, 18446744073709551615>;
 
 // A device that shares a folder.
 impl Readable for ShareParts {
@@ -24,58 +24,34 @@ impl Readable for ShareParts {
 
     #[tactic(auto, unfolding(crate::specs::read::Shares::is_share))]
     fn has_shape(value: &Value) -> bool {
-        let members = [
-            "device", "kind", "index_id", "max", "own", "store", "views", "pulls",
-        ];
-        has_only(value, &members) && has_share_members(value) && may_have_share_members(value)
+        is_object!(value;
+            has "device": DeviceId, has "kind": FolderKind, has "index_id": IndexNumber, has "max": Sequence,
+            may_have "own": Items<Entry>, may_have "store": Items<NamedParts>, may_have "views": Items<ViewParts>,
+            may_have "pulls": Items<Entry>)
     }
 
     #[tactic(auto, unfolding(crate::specs::read::Shares::read_share))]
     fn read(alloc: Global, value: &Value) -> Result<Self, ReadError> {
-        let device = member::<DeviceId>(alloc, value, "device")?;
-        let kind = member::<FolderKind>(alloc, value, "kind")?;
-        let index_id = member::<IndexNumber>(alloc, value, "index_id")?;
-        let Some(index_id) = IndexId::read(index_id.number()) else {
-            return Err(ReadError::Range);
-        };
-        let max = member::<Sequence>(alloc, value, "max")?;
-        let none = Few::none(alloc);
-        let own = member_or::<Few<Entry, MAX_NAMES>>(alloc, value, "own", none)?;
-        let empty = Items::new(Vec::new(alloc));
-        let store = member_or::<Items<NamedParts>>(alloc, value, "store", empty)?;
-        let none = Items::new(Vec::new(alloc));
-        let views = member_or::<Items<ViewParts>>(alloc, value, "views", none)?;
-        let none = Few::none(alloc);
-        let pulls = member_or::<Few<Entry, MAX_PULLS>>(alloc, value, "pulls", none)?;
         Ok(ShareParts {
-            device,
-            kind,
-            index_id,
-            max: max.number(),
-            own: own.into_items(),
-            store,
-            views,
-            pulls: pulls.into_items(),
+            device: member(alloc, value, "device")?,
+            kind: member(alloc, value, "kind")?,
+            index_id: index_id_of(alloc, value)?,
+            max: member::<Sequence>(alloc, value, "max")?.number(),
+            own: few_or_none::<Entry, MAX_NAMES>(alloc, value, "own")?,
+            store: member_or(alloc, value, "store", Items::new(Vec::new(alloc)))?,
+            views: member_or(alloc, value, "views", Items::new(Vec::new(alloc)))?,
+            pulls: few_or_none::<Entry, MAX_PULLS>(alloc, value, "pulls")?,
         })
     }
 }
 
-#[tactic(auto, unfolding(crate::specs::read::Shares::has_share_members))]
-fn has_share_members(value: &Value) -> bool
-    ensures { result ≡ has_share_members (view value.now) }
+/// The id of an index at its member. `Range` where there is none; `Memory` may come in place of any answer.
+pub fn index_id_of(alloc: Global, value: &Value) -> Result<IndexId, ReadError>
+    ensures { Gives result (read_member (codes "index_id") (read_number 1 greatest_id) (view value.now)) }
 {
-    has::<DeviceId>(value, "device")
-        && has::<FolderKind>(value, "kind")
-        && has::<IndexNumber>(value, "index_id")
-        && has::<Sequence>(value, "max")
-}
-
-#[tactic(auto, unfolding(crate::specs::read::Shares::may_have_share_members))]
-fn may_have_share_members(value: &Value) -> bool
-    ensures { result ≡ may_have_share_members (view value.now) }
-{
-    may_have::<Items<Entry>>(value, "own")
-        && may_have::<Items<NamedParts>>(value, "store")
-        && may_have::<Items<ViewParts>>(value, "views")
-        && may_have::<Items<Entry>>(value, "pulls")
+    let number = member::<IndexNumber>(alloc, value, "index_id")?.number();
+    match IndexId::read(number) {
+        Some(index_id) => Ok(index_id),
+        None => Err(ReadError::Range),
+    }
 }

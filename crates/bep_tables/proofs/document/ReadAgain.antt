@@ -16,7 +16,7 @@ reading_as : (bytes : List ℕ) (tree : Data) → is_utf8 bytes ≡ true → rea
 unfolding reading_of
 reading_as bytes tree text is few =
     let short : is_short bytes ≡ true = le-leb (length bytes) most_bytes few in
-    ap (λ (b : Bool). (if b then Read bytes else Refused (nowhere Range)) >>= (λ (whole : List ℕ). given NotJson (tree_of whole) >>= reading_of_tree)) short
+    ap (λ (b : Bool). ((if b then Read bytes else Refused (nowhere Range)) >>= (λ (whole : List ℕ). given NotJson (tree_of whole))) >>= reading_of_tree) short
     ∙ ap (λ (b : Bool). given NotJson (if b then read bytes else None) >>= reading_of_tree) text
     ∙ ap (λ (found : Option Data). given NotJson found >>= reading_of_tree) is
 

@@ -21,8 +21,8 @@ use Rattle.bep_json.specs.Says.{Says, both_are, then_read, number_says, list_say
 use Rattle.bep_json.specs.Written.{whole, list_of, record_written, node_written}
 use Rattle.bep_document.specs.read.Few.{if_few, read_few}
 use Rattle.bep_document.specs.read.Folders.{is_folder, read_folder, is_row, read_row}
-use Rattle.bep_document.specs.read.Links.{is_flight, read_flight, has_link_members, is_link, read_link}
-use Rattle.bep_document.specs.read.Shares.{is_share, has_share_members, may_have_share_members, read_share}
+use Rattle.bep_document.specs.read.Links.{is_flight, read_flight, is_link, read_link}
+use Rattle.bep_document.specs.read.Shares.{is_share, read_share}
 use Rattle.bep_document.specs.read.Views.{is_view, read_view}
 use Rattle.bep_model.specs.declared.flight.Flight.{Flight}
 use Rattle.bep_model.specs.declared.row.Row.{Row}
@@ -79,8 +79,9 @@ view_says view of id told range =
 
 -- ---- devices
 share_shaped : (share : Share) → is_list is_record (list_of (map record_written (values share.own))) ≡ true → is_list is_node (list_of (map (λ held. node_written held.0 held.1) (entries share.store))) ≡ true → is_list is_view (list_of (map view_tree share.views)) ≡ true → is_list is_record (list_of (map record_written (values share.pulls))) ≡ true → is_share (share_tree share) ≡ true
-unfolding is_share has_share_members may_have_share_members share_tree
-share_shaped share own store views pulls = both_are refl (both_are refl (both_are own (both_are store (both_are views pulls))))
+unfolding is_share share_tree
+share_shaped share own store views pulls =
+    both_are refl (both_are refl (both_are refl (both_are refl (both_are refl (both_are own (both_are store (both_are views pulls)))))))
 
 pub share_says : (share : Share) → Says is_whole (read_number 1 greatest_id) share.device (whole share.device) → Says is_whole (read_number 1 greatest_id) share.index_id (whole share.index_id) → AllByRecursion IsRecordTold (values share.own) → AllByRecursion IsNodeTold (entries share.store) → AllByRecursion IsViewTold share.views → AllByRecursion IsRecordTold (values share.pulls) → IsShareTold share
 unfolding read_share share_tree
@@ -125,7 +126,7 @@ few_parts : (flights : List Flight) → length flights ≤ MAX_MESSAGES → leng
 few_parts flights few = let same = length-map flights flight_parts in omega arith
 
 pub link_says : (link : LinkState) → Says is_whole (read_number 1 greatest_id) link.a (whole link.a) → Says is_whole (read_number 1 greatest_id) link.b (whole link.b) → AllByRecursion IsFlightTold link.to_a → AllByRecursion IsFlightTold link.to_b → IsLinkTold link
-unfolding is_link has_link_members read_link link_tree
+unfolding is_link read_link link_tree
 link_says link a b to_a_told to_b_told range =
     let to_a = flights_say link.to_a to_a_told range.to_a in
     let to_b = flights_say link.to_b to_b_told range.to_b in (
