@@ -11,6 +11,7 @@ ghost use Rattle.bep_core.specs.Why.{Gives};
 ghost use Rattle.bep_core.specs.declared.why.Why.TheVariants.{ConfigBad};
 
 use crate::folder_steps::Within;
+use crate::link_steps::Between;
 use crate::session_steps::Over;
 use crate::{Cluster, Why};
 use bep_machine::{Moved, Step, undone_steps_leave_all};
@@ -73,8 +74,8 @@ impl<S: Store> Cluster<S> {
                 &folder,
                 Within::Revert(name),
             ),
-            Step::Connect(lower, upper) => self.connect(lower, upper),
-            Step::Lose(lower, upper) => self.lose(lower, upper),
+            Step::Connect(lower, upper) => self.between(lower, upper, Between::Connect),
+            Step::Lose(lower, upper) => self.between(lower, upper, Between::Lose),
             Step::Begin(device, other) => self.over(device, other, Over::Begin),
             Step::Deliver(device, other) => self.over(device, other, Over::Deliver),
             Step::Announce(device, other, folder) => self.over(

@@ -1,4 +1,4 @@
-use Rattle.bep_audit.proofs.WinnerFacts.{chosen_at}
+use Rattle.bep_choice.proofs.Lent.{chosen_at}
 use Rattle.bep_audit.proofs.candidates.chosen.Goals as goal
 
 pub returns-in-Some-clause-wins : goal.returns-in-Some-clause-wins

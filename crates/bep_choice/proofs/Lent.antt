@@ -12,7 +12,7 @@ abbrev pub Lent : Type 0
 Lent = ℕ × Bor Entry
 
 -- the place of a choice is one of the list's
-pub within : (chooser : ℕ) (lent : List Lent) (place : ℕ) → IsChoiceAt chooser (candidates_of lent) place → place < length lent
+within : (chooser : ℕ) (lent : List Lent) (place : ℕ) → IsChoiceAt chooser (candidates_of lent) place → place < length lent
 within chooser lent place h =
     ⊎_elim
     (λ there. omega (arith, length-map lent candidate_of, there.1))
