@@ -5,7 +5,7 @@ use Rattle.std.specs.declared.cmp.Ordering.TheVariants.{Less}
 use Rattle.bep_record.specs.declared.folder_kind.FolderKind.{FolderKind}
 use Rattle.bep_model.specs.declared.row.Row.{Row}
 use Rattle.bep_model.specs.declared.reason.Reason.{Reason}
-use Rattle.bep_model.specs.declared.reason.Reason.TheVariants.{CertificateOrder, NameMissing, NameUnknown, NotWinner, RecordMissing, RecordDiffers, LocalOnly, StoreDiffers, StoreUnclean, ViewAhead, FlightAhead, PullAhead}
+use Rattle.bep_model.specs.declared.reason.Reason.TheVariants.{CertificateOrder, NameMissing, NameUnknown, NotWinner}
 use Rattle.bep_model.specs.Tables.{Tables, Device, Folder, FileName, Shares}
 use Rattle.bep_model.specs.Foreign.{IsFinite}
 use Rattle.bep_model.specs.Settled.{HasRow, key_of}
