@@ -1,5 +1,5 @@
 -- What became of a link, as the cluster answers it.
-use Rattle.std.proofs.Common.{◌≡◌, ℕ, get_or, Option, Some, None, Result, Contains, sym, ap, subst, ◌∙◌}
+use Rattle.std.proofs.Common.{◌≡◌, ℕ, get_or, Some, None, Result, Contains, ap, subst, ◌∙◌}
 use Rattle.std.specs.List.{position}
 use Rattle.bep_model.specs.Tables.{Device}
 use Rattle.bep_machine.specs.declared.moved.Moved.{Moved}
