@@ -30,7 +30,7 @@ returns-in-Less-clause-found t c =
     let rows = c.args.rows.now in
     let within = middle_is_within (length rows) c.is_empty.result c.is_empty.ensures c.if-is_empty.false in
     let searched = go_right rows (length rows / 2) c.index-rows-middle.result c.args.folder.now c.args.name.now c.requires within c.index-rows-middle.is (sym c.compare_row.ensures ∙ c.in-Less.is) in
-    found_among (λ row. row.now) rows _ c.args.folder.now c.args.name.now searched c.find_row.result c.find_row.ensures.found
+    found_among rows _ c.args.folder.now c.args.name.now searched c.find_row.result c.find_row.ensures.found
 
 pub returns-in-Greater-clause-has : goal.returns-in-Greater-clause-has
 returns-in-Greater-clause-has t c =
@@ -44,7 +44,7 @@ returns-in-Greater-clause-found t c =
     let rows = c.args.rows.now in
     let within = middle_is_within (length rows) c.is_empty.result c.is_empty.ensures c.if-is_empty.false in
     let searched = go_left rows (length rows / 2) c.index-rows-middle.result c.args.folder.now c.args.name.now c.requires within c.index-rows-middle.is (sym c.compare_row.ensures ∙ c.in-Greater.is) in
-    found_among (λ row. row.now) rows _ c.args.folder.now c.args.name.now searched c.find_row-in-Greater.result c.find_row-in-Greater.ensures.found
+    found_among rows _ c.args.folder.now c.args.name.now searched c.find_row-in-Greater.result c.find_row-in-Greater.ensures.found
 
 pub returns-in-Equal-clause-has : goal.returns-in-Equal-clause-has
 returns-in-Equal-clause-has t c =
