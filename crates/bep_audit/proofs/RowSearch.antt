@@ -1,6 +1,7 @@
 -- Rows that rise are halved: which half a name's row is in.
-use Rattle.std.proofs.Common.{◌≡◌, ◌↔◌, ◌+◌, ◌-◌, ◌<◌, ◌∙◌, ℕ, List, ◌∷◌, ◌++◌, Contains, length, get_or, take, drop, sym, ap, subst, ⊎_elim, zero, suc, Bool, false, arith, length-drop, map}
-use Rattle.std.specs.Prelude.{◌/◌, ◌==◌}
+use Rattle.std.proofs.Common.{◌≡◌, ◌↔◌, ◌+◌, ◌-◌, ◌<◌, ◌∙◌, ℕ, List, Option, Some, None, ◌∷◌, ◌++◌, Contains, length, get_or, take, drop, sym, ap, subst, ⊎_elim, zero, suc, Bool, false, arith, length-drop, map}
+use Rattle.std.specs.Borrow.{Bor}
+use Rattle.std.specs.Prelude.{◌/◌, ◌==◌, IfSome}
 use Rattle.std.specs.declared.cmp.Ordering.TheVariants.{Less, Equal, Greater}
 use Rattle.std.proofs.lemmas.Cmp.{tied_itself}
 use Rattle.std.proofs.lemmas.List.{length-take, take_all}
@@ -90,6 +91,12 @@ found_here rows place row folder name below is tied = ((place, below, sym is), t
 -- what is left has the row exactly where all rows have it
 pub has_exactly : (rows rest : List Row) (folder : Folder) (name : FileName) → IsSearched rows rest folder name → HasRow rest folder name ↔ HasRow rows folder name
 has_exactly rows rest folder name s = (λ has. (has.0, s.within has.0 has.1, has.2), s.has)
+
+-- and what is found in it is found in all rows
+pub found_among : (rows rest : List Row) (folder : Folder) (name : FileName) → IsSearched rows rest folder name → (found : Option (Bor Row)) →
+    IfSome found (λ row. Contains rest row.now × (key_of row.now ≡ (folder, name))) → IfSome found (λ row. Contains rows row.now × (key_of row.now ≡ (folder, name)))
+found_among rows rest folder name s None h = h
+found_among rows rest folder name s (Some row) h = (s.within row.now h.0, h.1)
 
 -- the middle of some rows is one of them
 pub middle_is_within : (n : ℕ) (b : Bool) → b ≡ (n == 0) → b ≡ false → n / 2 < n

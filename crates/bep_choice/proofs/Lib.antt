@@ -3,3 +3,4 @@ pub mod VersionOrder
 pub mod ChoiceOrder
 pub mod Existence
 pub mod Firsts
+pub mod Lent

@@ -13,6 +13,7 @@ mod SessionsKeep
 mod SharedBetween
 mod Over
 mod SessionSteps
+mod LinkSteps
 mod BegunJoined
 mod HavingFacts
 mod Restarted

@@ -7,3 +7,4 @@ pub mod Why
 pub mod Sharing
 pub mod Within
 pub mod Over
+pub mod Between

@@ -11,6 +11,7 @@ ghost use Rattle.bep_core.specs.Why.{Gives};
 ghost use Rattle.bep_core.specs.declared.why.Why.TheVariants.{ConfigBad};
 
 use crate::folder_steps::Within;
+use crate::link_steps::Between;
 use crate::session_steps::Over;
 use crate::{Cluster, Why};
 use bep_machine::{Moved, Step, undone_steps_leave_all};
@@ -54,27 +55,19 @@ impl<S: Store> Cluster<S> {
         match step {
             Step::Edit(device, folder, name, node) => self.within(
                 device,
-                &folder,
+                folder,
                 Within::Edit(name, node),
             ),
-            Step::Remove(device, folder, name) => self.within(
-                device,
-                &folder,
-                Within::Remove(name),
-            ),
-            Step::Scan(device, folder, name) => self.within(device, &folder, Within::Scan(name)),
+            Step::Remove(device, folder, name) => self.within(device, folder, Within::Remove(name)),
+            Step::Scan(device, folder, name) => self.within(device, folder, Within::Scan(name)),
             Step::Override(device, folder, name) => self.within(
                 device,
-                &folder,
+                folder,
                 Within::Override(name),
             ),
-            Step::Revert(device, folder, name) => self.within(
-                device,
-                &folder,
-                Within::Revert(name),
-            ),
-            Step::Connect(lower, upper) => self.connect(lower, upper),
-            Step::Lose(lower, upper) => self.lose(lower, upper),
+            Step::Revert(device, folder, name) => self.within(device, folder, Within::Revert(name)),
+            Step::Connect(lower, upper) => self.between(lower, upper, Between::Connect),
+            Step::Lose(lower, upper) => self.between(lower, upper, Between::Lose),
             Step::Begin(device, other) => self.over(device, other, Over::Begin),
             Step::Deliver(device, other) => self.over(device, other, Over::Deliver),
             Step::Announce(device, other, folder) => self.over(
@@ -84,7 +77,7 @@ impl<S: Store> Cluster<S> {
             ),
             Step::StartPull(device, folder, name) => self.within(
                 device,
-                &folder,
+                folder,
                 Within::Pull(name),
             ),
             Step::Ask(device, other, folder, name) => self.over(
@@ -92,11 +85,7 @@ impl<S: Store> Cluster<S> {
                 other,
                 Over::Ask(folder, name),
             ),
-            Step::Finish(device, folder, name) => self.within(
-                device,
-                &folder,
-                Within::Finish(name),
-            ),
+            Step::Finish(device, folder, name) => self.within(device, folder, Within::Finish(name)),
             Step::Restart(device) => self.restart(device),
         }
     }

@@ -48,15 +48,15 @@ impl<S: Store> Cluster<S> {
     pub(crate) fn within(
         &mut self,
         device: DeviceId,
-        folder: &FolderName,
+        folder: FolderName,
         step: Within,
     ) -> Result<Moved, Why>
-        ensures { Gives (IsStep (step_of step device folder.now) (failed_at self.new.members device) (cluster_of self.old)) (cluster_of self.new) result }
+        ensures { Gives (IsStep (step_of step device folder) (failed_at self.new.members device) (cluster_of self.old)) (cluster_of self.new) result }
     {
         let Some(place) = self.device_place(device) else {
             return Err(Why::Refused(Refusal::NotShared));
         };
-        answered(make(self.alloc, &mut self.peers[place], folder, step))
+        answered(make(self.alloc, &mut self.peers[place], &folder, step))
     }
 }
 

@@ -1,6 +1,5 @@
 mod AskedFacts
 mod BlockFacts
-mod ChosenFacts
 mod CommitFacts
 mod ContentsFacts
 mod CopyFacts

@@ -26,20 +26,21 @@ module _ (index : Listing) (is_index : IsIndex index) where
   abbrev NextOrNone : ℕ → List FileName → Type 0
   NextOrNone low names = ((entry : Entry) × IsNext low names entry) ⊎ NoneAbove low names
 
-  -- a name more
+  -- a name more, whose record isn't before the least of the others
+  still_next : (low : ℕ) (name : FileName) (names : List FileName) (entry : Entry) → ((other : Entry) → get index.records name ≡ Some other → low < other.sequence → entry.sequence ≤ other.sequence) → IsNext low names entry → IsNext low (name ∷ names) entry
+  still_next low name names entry here next = record {
+    recorded = next.recorded;
+    above = next.above;
+    least = λ other stands is above.
+        ⊎_elim
+        (λ same. here other (ap (get index.records) same ∙ is) above)
+        (λ later. next.least other later is above)
+        (Contains-cons_cases name names other.name stands);
+  }
+
   without_record : (low : ℕ) (name : FileName) (names : List FileName) → ((entry : Entry) → get index.records name ≡ Some entry → entry.sequence ≤ low) → NextOrNone low names → NextOrNone low (name ∷ names)
-  without_record low name names none (inl (entry, next)) = inl (
-    entry,
-    record {
-      recorded = next.recorded;
-      above = next.above;
-      least = λ other stands is above.
-          ⊎_elim
-          (λ same. absurd (let small = none other (ap (get index.records) same ∙ is) in omega (arith, small, above)))
-          (λ later. next.least other later is above)
-          (Contains-cons_cases name names other.name stands);
-    },
-  )
+  without_record low name names none (inl (entry, next)) =
+      inl (entry, still_next low name names entry (λ other is above. let small = none other is in absurd (omega (arith, small, above))) next)
   without_record low name names none (inr nothing) = inr (λ other stands is.
       ⊎_elim
       (λ same. none other (ap (get index.records) same ∙ is))
@@ -71,18 +72,9 @@ module _ (index : Listing) (is_index : IsIndex index) where
       by_rest (inl (next, is_next)) =
           ⊎_elim
           (λ smaller. inl (entry, first (λ other stands found higher. let bound = is_next.least other stands found higher in omega (arith, bound, smaller))))
-          (λ not_smaller. inl (
-            next,
-            record {
-              recorded = is_next.recorded;
-              above = is_next.above;
-              least = λ other stands found higher.
-                  ⊎_elim
-                  (λ same. let equal = ap (λ (e : Entry). e.sequence) (same_entry name entry other is found same) in omega (arith, equal, not_smaller))
-                  (λ later. is_next.least other later found higher)
-                  (Contains-cons_cases name names other.name stands);
-            },
-          ))
+          (λ not_smaller.
+          let same = λ (other : Entry) (found : get index.records name ≡ Some other). ap (λ (e : Entry). e.sequence) (same_Some entry other (sym is ∙ found)) in
+          inl (next, still_next low name names next (λ other found higher. let equal = same other found in omega (arith, equal, not_smaller)) is_next))
           (above_or_not next.sequence entry.sequence)
 
   next_or_none : (low : ℕ) (names : List FileName) → NextOrNone low names

@@ -57,19 +57,11 @@ same_kind kinds.Symlink kinds.File blocks others target link e = absurd (cc)
 same_kind kinds.Symlink kinds.Directory blocks others target link e = absurd (cc)
 same_kind kinds.Symlink kinds.Symlink blocks others target link e = refl
 
-same_blocks : (kind more : Kind) (blocks others : List Block) (target link : List ℕ) → kind ≡ kinds.File → more ≡ kinds.File → content_of_kind kind blocks target ≡ content_of_kind more others link → blocks ≡ others
-same_blocks kinds.File kinds.File blocks others target link is too e = cc
-same_blocks kinds.File kinds.Directory blocks others target link is too e = absurd (cc)
-same_blocks kinds.File kinds.Symlink blocks others target link is too e = absurd (cc)
-same_blocks kinds.Directory more blocks others target link is too e = absurd (cc)
-same_blocks kinds.Symlink more blocks others target link is too e = absurd (cc)
+same_blocks : (blocks others : List Block) (target link : List ℕ) → content_of_kind kinds.File blocks target ≡ content_of_kind kinds.File others link → blocks ≡ others
+same_blocks blocks others target link e = cc
 
-same_target : (kind more : Kind) (blocks others : List Block) (target link : List ℕ) → kind ≡ kinds.Symlink → more ≡ kinds.Symlink → content_of_kind kind blocks target ≡ content_of_kind more others link → target ≡ link
-same_target kinds.Symlink kinds.Symlink blocks others target link is too e = cc
-same_target kinds.Symlink kinds.Directory blocks others target link is too e = absurd (cc)
-same_target kinds.Symlink kinds.File blocks others target link is too e = absurd (cc)
-same_target kinds.Directory more blocks others target link is too e = absurd (cc)
-same_target kinds.File more blocks others target link is too e = absurd (cc)
+same_target : (blocks others : List Block) (target link : List ℕ) → content_of_kind kinds.Symlink blocks target ≡ content_of_kind kinds.Symlink others link → target ≡ link
+same_target blocks others target link e = cc
 
 -- two records that are there, of the same content
 pub record AreAlike (one other : Entry) : Type 0 where
@@ -81,10 +73,12 @@ pub alike_where_same : (one other : Entry) → content_of one ≡ content_of oth
 alike_where_same one other same there too =
     let e : content_of_kind one.kind one.blocks one.target ≡ content_of_kind other.kind other.blocks other.target = sym (content_of_there one there) ∙ same ∙ content_of_there other too in
     let kind = same_kind one.kind other.kind one.blocks other.blocks one.target other.target e in
+    let of_kind = λ (k : Kind) (is : one.kind ≡ k).
+    subst₂ (λ (a b : Kind). content_of_kind a one.blocks one.target ≡ content_of_kind b other.blocks other.target) is (sym kind ∙ is) e in
     record {
       kind = kind;
-      blocks = λ is. same_blocks one.kind other.kind one.blocks other.blocks one.target other.target is (sym kind ∙ is) e;
-      target = λ is. same_target one.kind other.kind one.blocks other.blocks one.target other.target is (sym kind ∙ is) e;
+      blocks = λ is. same_blocks one.blocks other.blocks one.target other.target (of_kind kinds.File is);
+      target = λ is. same_target one.blocks other.blocks one.target other.target (of_kind kinds.Symlink is);
     }
 
 pub has_blocks : (entry : Entry) → IsWellFormed entry → entry.deleted ≡ false → entry.kind ≡ kinds.File → HasBlocks entry

@@ -21,10 +21,10 @@ use Rattle.bep_machine.specs.Answer.{Answer}
 use Rattle.bep_machine.specs.Replica.{Replica, Pull, view_of, pull_at, with_view}
 use Rattle.bep_machine.specs.Link.{first_of_queue, taking, losing}
 use Rattle.bep_machine.specs.Peer.{Session, Peer, Acted, with_session, with_replica}
-use Rattle.bep_machine.specs.Exchange.{IsGoodConfig, known_under, cursor_after, all_renewed, cursors_for, configured_by, ViewRow, RequestRow, asked_for, AnsweredRow, AskedRow, ResponseRow, MessageRow, WaitingRow, DeliverRow, taken_by, with_block, with_received, without}
+use Rattle.bep_machine.specs.Exchange.{IsGoodConfig, known_under, cursor_after, all_renewed, cursors_for, configured_by, ViewRow, RequestRow, asked_for, AnsweredRow, AskedRow, ResponseRow, MessageRow, WaitingRow, DeliverRow, same_bytes, taken_by, with_block, with_received, without}
 use Rattle.bep_machine.proofs.ReplicaFacts.{same_name_or_not, insert_here, insert_apart}
 use Rattle.bep_machine.proofs.ViewFacts.{known_same, known_other, view_here, view_apart}
-use Rattle.bep_machine.proofs.GapFlow.{Whole, Further, Other, part_of, EachSays, ConfigSays, SaysId, SaysPoint, IsInStep}
+use Rattle.bep_machine.proofs.GapFlow.{Part, Whole, Further, Other, part_of, EachSays, ConfigSays, SaysId, SaysPoint, IsInStep}
 use Rattle.bep_machine.proofs.GapMoves.{same_id_or_not, in_step_sending_other, in_step_with_cursor, in_step_less_back, in_step_more_back, in_step_taking_other, in_step_cleared, in_step_named, in_step_taking_whole, in_step_taking_further}
 use Rattle.bep_machine.proofs.GapNamed.{shared_at, Naming, Unnamed, NamedBy, naming, named_says, renewed_unnamed, cursors_unnamed}
 use Rattle.bep_machine.proofs.GapPair.{OfBoth, of_same, KeepsFolder, KeepsExchange, idle_keeps, losing_keeps, session_keeps, in_session_keeps, steps_keep_folder}
@@ -233,24 +233,28 @@ module _ (other : Device) (up : Bool) (epoch : ℕ) (first : Message) (rest back
       lost_keeps : acted ≡ record { peer = old; deed = losing } → KeepsExchange other up epoch (first ∷ rest) back old acted
       lost_keeps made = subst (KeepsExchange other up epoch (first ∷ rest) back old) (sym made) (losing_keeps other up epoch (first ∷ rest) back old)
 
+      -- a batch of a folder says something of this folder, and nothing of another
+      batch_keeps : (folder : Folder) (part : Part) (view : Listing) (replica : Replica) → get old.replicas folder ≡ Some replica → ((in_folder : Folder) → part_of in_folder first ≡ (if same_bytes folder in_folder then part else Other)) →
+          ((index : Listing) (theirs : Option Plan) → IsIndex index → part_of folder first ≡ part → IsInStep folder index (view_of replica other) theirs (IsSome (get session.cursors folder)) (first ∷ rest) back → IsInStep folder index view theirs (IsSome (get session.cursors folder)) rest back) →
+          ViewRow other folder view replica old acted answer → KeepsExchange other up epoch (first ∷ rest) back old acted
+      batch_keeps folder part view replica there says receives row =
+          view_keeps folder view replica there
+          (λ in_folder apart. says in_folder ∙ ap (λ b. if b then part else Other) (apart_when_not folder in_folder (λ same. apart (sym same))))
+          (λ index theirs is_index step. receives index theirs is_index (says folder ∙ ap (λ b. if b then part else Other) (same_when_equal folder folder refl)) step)
+          row
+
       message_keeps : (failed : Option ℕ) (message : Message) → first ≡ message → MessageRow other failed full session message old acted answer → KeepsExchange other up epoch (first ∷ rest) back old acted
       message_keeps failed (messages.ClusterConfig named) is (inl (good, made)) = subst (KeepsExchange other up epoch (first ∷ rest) back old) (sym made.0) (config_keeps named unnamed is good)
       message_keeps failed (messages.ClusterConfig named) is (inr (bad, made)) = lost_keeps made.0
       message_keeps failed (messages.Index folder batch) is (inl (named, (replica, there, row))) =
-          view_keeps folder (replaced (view_of replica other) batch) replica there
-          (λ in_folder apart. ap (part_of in_folder) is ∙ ap (λ b. if b then Whole batch else Other) (apart_when_not folder in_folder (λ same. apart (sym same))))
-          (λ index theirs is_index step.
-          in_step_taking_whole found taken others folder index (view_of replica other) theirs (IsSome (get session.cursors folder)) first rest back batch
-          (ap (part_of folder) is ∙ ap (λ b. if b then Whole batch else Other) (same_when_equal folder folder refl)) named is_index step)
+          batch_keeps folder (Whole batch) (replaced (view_of replica other) batch) replica there (λ in_folder. ap (part_of in_folder) is)
+          (λ index theirs is_index part step. in_step_taking_whole found taken others folder index (view_of replica other) theirs (IsSome (get session.cursors folder)) first rest back batch part named is_index step)
           row
       message_keeps failed (messages.Index folder batch) is (inr (bad, made)) = lost_keeps made.0
       message_keeps failed (messages.IndexUpdate folder batch) is (inl (named, (replica, there, inl (late, made)))) = lost_keeps made.0
       message_keeps failed (messages.IndexUpdate folder batch) is (inl (named, (replica, there, inr (timely, row)))) =
-          view_keeps folder (amended (view_of replica other) batch) replica there
-          (λ in_folder apart. ap (part_of in_folder) is ∙ ap (λ b. if b then Further batch else Other) (apart_when_not folder in_folder (λ same. apart (sym same))))
-          (λ index theirs is_index step.
-          in_step_taking_further found taken others folder index (view_of replica other) theirs (IsSome (get session.cursors folder)) first rest back batch
-          (ap (part_of folder) is ∙ ap (λ b. if b then Further batch else Other) (same_when_equal folder folder refl)) named is_index step)
+          batch_keeps folder (Further batch) (amended (view_of replica other) batch) replica there (λ in_folder. ap (part_of in_folder) is)
+          (λ index theirs is_index part step. in_step_taking_further found taken others folder index (view_of replica other) theirs (IsSome (get session.cursors folder)) first rest back batch part named is_index step)
           row
       message_keeps failed (messages.IndexUpdate folder batch) is (inr (bad, made)) = lost_keeps made.0
       message_keeps failed (messages.Request request) is (inl (named, (replica, there, row))) = request_keeps request failed replica is row

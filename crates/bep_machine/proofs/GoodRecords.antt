@@ -44,61 +44,38 @@ body_too false Symlink one other same has = (no_blocks_too one other same has.0,
 itself : (one other : Entry) → one.size ≡ other.size → one.block_size ≡ other.block_size → one.blocks ≡ other.blocks → one.target ≡ other.target → SameBody one other
 itself one other size block_size blocks target = record { size = size; block_size = block_size; blocks = blocks; target = target }
 
+-- another version, and another device, mark or sequence number
+good_with : (entry : Entry) (version : List (ℕ × ℕ)) (by sequence : ℕ) (invalid : Bool) → IsGood entry → IsVersion version → length version ≤ most_counters →
+    IsGood (record entry { version = version; modified_by = by; sequence = sequence; invalid = invalid })
+good_with entry version by sequence invalid good is few =
+    let after : Entry = record entry { version = version; modified_by = by; sequence = sequence; invalid = invalid } in
+    record {
+      formed = record {
+        nanoseconds = good.formed.nanoseconds;
+        no_permissions = good.formed.no_permissions;
+        body = body_too entry.deleted entry.kind entry after (itself entry after refl refl refl refl) good.formed.body;
+      };
+      version = is;
+      few = few;
+    }
+
 -- another sequence number
 pub good_under : (entry : Entry) (sequence : ℕ) → IsGood entry → IsGood (record entry { sequence = sequence })
-good_under entry sequence good = record {
-  formed = record {
-    nanoseconds = good.formed.nanoseconds;
-    no_permissions = good.formed.no_permissions;
-    body = body_too entry.deleted entry.kind entry (record entry { sequence = sequence }) (itself entry (record entry { sequence = sequence }) refl refl refl refl) good.formed.body;
-  };
-  version = good.version;
-  few = good.few;
-}
+good_under entry sequence good = good_with entry entry.version entry.modified_by sequence entry.invalid good good.version good.few
 
 -- another version, and another mark of what is valid
 pub good_as_adopted : (entry : Entry) (version : List (ℕ × ℕ)) → IsGood entry → IsVersion version → length version ≤ most_counters →
     IsGood (record entry { version = version; invalid = false })
-good_as_adopted entry version good is few =
-    let after : Entry = record entry { version = version; invalid = false } in
-    record {
-      formed = record {
-        nanoseconds = good.formed.nanoseconds;
-        no_permissions = good.formed.no_permissions;
-        body = body_too entry.deleted entry.kind entry after (itself entry after refl refl refl refl) good.formed.body;
-      };
-      version = is;
-      few = few;
-    }
+good_as_adopted entry version good is few = good_with entry version entry.modified_by entry.sequence false good is few
 
 -- another version, by another device
 pub good_by : (entry : Entry) (device : Device) (version : List (ℕ × ℕ)) → IsGood entry → IsVersion version → length version ≤ most_counters →
     IsGood (record entry { modified_by = device; version = version })
-good_by entry device version good is few =
-    let after : Entry = record entry { modified_by = device; version = version } in
-    record {
-      formed = record {
-        nanoseconds = good.formed.nanoseconds;
-        no_permissions = good.formed.no_permissions;
-        body = body_too entry.deleted entry.kind entry after (itself entry after refl refl refl refl) good.formed.body;
-      };
-      version = is;
-      few = few;
-    }
+good_by entry device version good is few = good_with entry version device entry.sequence entry.invalid good is few
 
 -- marked as local-only
 pub good_local : (entry : Entry) → IsGood entry → IsGood (record entry { invalid = true })
-good_local entry good =
-    let after : Entry = record entry { invalid = true } in
-    record {
-      formed = record {
-        nanoseconds = good.formed.nanoseconds;
-        no_permissions = good.formed.no_permissions;
-        body = body_too entry.deleted entry.kind entry after (itself entry after refl refl refl refl) good.formed.body;
-      };
-      version = good.version;
-      few = good.few;
-    }
+good_local entry good = good_with entry entry.version entry.modified_by entry.sequence true good good.version good.few
 
 -- ---- records that a device makes
 

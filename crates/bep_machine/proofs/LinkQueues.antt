@@ -68,33 +68,27 @@ sent_or_there (Some sent) queue message has =
     ⊎_elim (λ was. inl was) (λ one. inr (ap (λ m. Some m) (Contains-one sent message one))) (Contains-append_cases queue (sent ∷ []) message has)
 
 module _ (MaySend : Device → Device → Message → Type 0) (deed : Deed) where
-  lower_acted : (lower upper : Device) (link : Link) → ((message : Message) → deed.sends ≡ Some message → MaySend lower upper message) → LinkGoesOn MaySend lower upper link (after_deed Lower deed link)
-  lower_acted lower upper link may = cases deed.loses
-    where
-      cases : (loses : Bool) → LinkGoesOn MaySend lower upper link (after_deed Lower (record deed { loses = loses }) link)
-      cases true = nothing_on_its_way MaySend lower upper link (lost link) refl refl
-      cases false = record {
-        to_upper = λ message has. ⊎_elim (λ was. inl was) (λ sent. inr (may message sent)) (sent_or_there deed.sends link.to_upper message has);
-        to_lower = λ message has. inl (taken_was_there deed.takes link.to_lower message has);
-      }
+  taken_goes_on : (from to : Device) (queue : List Message) (message : Message) → Contains (after_taking deed.takes queue) message → Contains queue message ⊎ MaySend from to message
+  taken_goes_on from to queue message has = inl (taken_was_there deed.takes queue message has)
 
-  upper_acted : (lower upper : Device) (link : Link) → ((message : Message) → deed.sends ≡ Some message → MaySend upper lower message) → LinkGoesOn MaySend lower upper link (after_deed Upper deed link)
-  upper_acted lower upper link may = cases deed.loses
-    where
-      cases : (loses : Bool) → LinkGoesOn MaySend lower upper link (after_deed Upper (record deed { loses = loses }) link)
-      cases true = nothing_on_its_way MaySend lower upper link (lost link) refl refl
-      cases false = record {
-        to_upper = λ message has. inl (taken_was_there deed.takes link.to_upper message has);
-        to_lower = λ message has. ⊎_elim (λ was. inl was) (λ sent. inr (may message sent)) (sent_or_there deed.sends link.to_lower message has);
-      }
+  sent_goes_on : (from to : Device) (queue : List Message) → ((message : Message) → deed.sends ≡ Some message → MaySend from to message) → (message : Message) → Contains (after_sending deed.sends queue) message → Contains queue message ⊎ MaySend from to message
+  sent_goes_on from to queue may message has = ⊎_elim (λ was. inl was) (λ sent. inr (may message sent)) (sent_or_there deed.sends queue message has)
+
+  lower_acted : (loses : Bool) (lower upper : Device) (link : Link) → ((message : Message) → deed.sends ≡ Some message → MaySend lower upper message) → LinkGoesOn MaySend lower upper link (after_deed Lower (record deed { loses = loses }) link)
+  lower_acted true lower upper link may = nothing_on_its_way MaySend lower upper link (lost link) refl refl
+  lower_acted false lower upper link may = record { to_upper = sent_goes_on lower upper link.to_upper may; to_lower = taken_goes_on upper lower link.to_lower }
+
+  upper_acted : (loses : Bool) (lower upper : Device) (link : Link) → ((message : Message) → deed.sends ≡ Some message → MaySend upper lower message) → LinkGoesOn MaySend lower upper link (after_deed Upper (record deed { loses = loses }) link)
+  upper_acted true lower upper link may = nothing_on_its_way MaySend lower upper link (lost link) refl refl
+  upper_acted false lower upper link may = record { to_upper = taken_goes_on lower upper link.to_upper; to_lower = sent_goes_on upper lower link.to_lower may }
 
   -- each link after the device's deed over its link with the other one
   pub links_after_deed : (cluster : Cluster) (device other : Device) → ((message : Message) → deed.sends ≡ Some message → MaySend device other message) → (lower upper : Device) → LinkGoesOn MaySend lower upper (cluster.link lower upper) ((with_link_between cluster device other (after_deed (end_of device other) deed (link_between cluster device other))).link lower upper)
   links_after_deed cluster device other may = cases (nat_lt device other)
     where
       cases : (up : Bool) → (lower upper : Device) → LinkGoesOn MaySend lower upper (cluster.link lower upper) ((if up then with_link cluster device other (after_deed (if up then Lower else Upper) deed (if up then cluster.link device other else cluster.link other device)) else with_link cluster other device (after_deed (if up then Lower else Upper) deed (if up then cluster.link device other else cluster.link other device))).link lower upper)
-      cases true = each_link (λ one two link. LinkGoesOn MaySend one two (cluster.link one two) link) cluster device other _ (lower_acted device other (cluster.link device other) may) (λ one two. link_stays MaySend one two (cluster.link one two))
-      cases false = each_link (λ one two link. LinkGoesOn MaySend one two (cluster.link one two) link) cluster other device _ (upper_acted other device (cluster.link other device) may) (λ one two. link_stays MaySend one two (cluster.link one two))
+      cases true = each_link (λ one two link. LinkGoesOn MaySend one two (cluster.link one two) link) cluster device other _ (lower_acted deed.loses device other (cluster.link device other) may) (λ one two. link_stays MaySend one two (cluster.link one two))
+      cases false = each_link (λ one two link. LinkGoesOn MaySend one two (cluster.link one two) link) cluster other device _ (upper_acted deed.loses other device (cluster.link other device) may) (λ one two. link_stays MaySend one two (cluster.link one two))
 
 -- ---- what waits
 

@@ -2,7 +2,7 @@
 use Rattle.std.proofs.Common.{◌≡◌, Some, option_map, refl, sym, ap, subst, ◌∙◌, arith}
 use Rattle.std.specs.Ordering.{nat_cmp}
 use Rattle.std.specs.Cmp.Lexicographic.{slice_cmp, nat_list_cmp_total}
-use Rattle.std.specs.FinMap.{get, len-empty}
+use Rattle.std.specs.FinMap.{empty, get, len-empty}
 use Rattle.bep_facts.specs.Maps.{nothing_in_empty}
 use Rattle.bep_model.specs.Tables.{Device, Folder}
 use Rattle.bep_machine.specs.Replica.{Pull, Replica}
@@ -11,23 +11,14 @@ use Rattle.bep_machine.specs.Cluster.{Config}
 use Rattle.bep_machine.specs.Steps.{without_pulls, restarted}
 use Rattle.bep_machine.specs.Sound.{IsSoundReplica, IsSoundPeer}
 use Rattle.bep_machine.proofs.SoundParts.{SoundChange}
+use Rattle.bep_machine.proofs.SoundChanges.{pulls_are_sound}
 use Rattle.bep_machine.proofs.FoundAfter.{get-mapped, some_before}
 use Rattle.bep_machine.proofs.PeerKept.{sound_after}
 
 without_pulls_changes : (device : Device) (replica : Replica) → IsSoundReplica device replica → SoundChange device replica (without_pulls replica)
-without_pulls_changes device replica sound = record {
-  sound = record {
-    index = sound.index;
-    id = sound.id;
-    own = sound.own;
-    views = sound.views;
-    pulls = λ name pull is. nothing_in_empty (slice_cmp nat_cmp) name pull is;
-    few_pulls = let none = len-empty (slice_cmp nat_cmp) Pull in omega arith;
-    store = sound.store;
-  };
-  kind = refl;
-  others = refl;
-}
+without_pulls_changes device replica sound =
+    pulls_are_sound empty sound (λ name pull is. nothing_in_empty (slice_cmp nat_cmp) name pull is)
+    (let none = len-empty (slice_cmp nat_cmp) Pull in omega arith)
 
 pub sound_after_restart : (config : Config) (device : Device) (old : Peer) → IsSoundPeer config device old → IsSoundPeer config device (restarted old)
 sound_after_restart config device old sound =

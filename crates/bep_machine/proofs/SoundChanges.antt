@@ -48,22 +48,22 @@ version_is_few name (Some own) good = good.good.few
 
 -- ---- changes
 
--- other nodes in the store
-store_is_sound : {device : Device} {old : Replica} (store : ByName NodeParts) → IsSoundReplica device old → ((name : FileName) (node : NodeParts) → get store name ≡ Some node → IsNode node) →
-    SoundChange device old (record old { store = store })
-store_is_sound store sound nodes = record {
-  sound = record {
-    index = sound.index;
-    id = sound.id;
-    own = sound.own;
-    views = sound.views;
-    pulls = sound.pulls;
-    few_pulls = sound.few_pulls;
-    store = nodes;
-  };
+-- other pulls and other nodes in the store
+rest_is_sound : {device : Device} {old : Replica} (pulls : ByName Pull) (store : ByName NodeParts) → IsSoundReplica device old → ((name : FileName) (pull : Pull) → get pulls name ≡ Some pull → IsSoundPull name pull) →
+    len pulls ≤ MAX_PULLS → ((name : FileName) (node : NodeParts) → get store name ≡ Some node → IsNode node) → SoundChange device old (record old { pulls = pulls; store = store })
+rest_is_sound pulls store sound each few nodes = record {
+  sound = record { index = sound.index; id = sound.id; own = sound.own; views = sound.views; pulls = each; few_pulls = few; store = nodes };
   kind = refl;
   others = refl;
 }
+
+store_is_sound : {device : Device} {old : Replica} (store : ByName NodeParts) → IsSoundReplica device old → ((name : FileName) (node : NodeParts) → get store name ≡ Some node → IsNode node) →
+    SoundChange device old (record old { store = store })
+store_is_sound {device} {old} store sound nodes = rest_is_sound old.pulls store sound sound.pulls sound.few_pulls nodes
+
+pub pulls_are_sound : {device : Device} {old : Replica} (pulls : ByName Pull) → IsSoundReplica device old → ((name : FileName) (pull : Pull) → get pulls name ≡ Some pull → IsSoundPull name pull) → len pulls ≤ MAX_PULLS →
+    SoundChange device old (record old { pulls = pulls })
+pulls_are_sound {device} {old} pulls sound each few = rest_is_sound pulls old.store sound each few sound.store
 
 pub node_is_sound : {device : Device} {old : Replica} (name : FileName) (node : Option NodeParts) → IsSoundReplica device old → IfAny IsNode node →
     SoundChange device old (with_node old name node)
@@ -101,37 +101,15 @@ record_is_sound law {device} {old} name entry sound room good = record {
 }
 
 pub pull_gone_is_sound : {device : Device} {old : Replica} (name : FileName) → IsSoundReplica device old → SoundChange device old (without_pull old name)
-pull_gone_is_sound {device} {old} name sound = record {
-  sound = record {
-    index = sound.index;
-    id = sound.id;
-    own = sound.own;
-    views = sound.views;
-    pulls = each_after_remove IsSoundPull old.pulls name sound.pulls;
-    few_pulls = len-remove_le old.pulls name MAX_PULLS sound.few_pulls;
-    store = sound.store;
-  };
-  kind = refl;
-  others = refl;
-}
+pull_gone_is_sound {device} {old} name sound =
+    pulls_are_sound (remove old.pulls name) sound (each_after_remove IsSoundPull old.pulls name sound.pulls) (len-remove_le old.pulls name MAX_PULLS sound.few_pulls)
 
 pub pull_is_sound : {device : Device} {old : Replica} (name : FileName) (pull : Pull) → IsSoundReplica device old → IsSoundPull name pull → ¬ ArePullsFull old name →
     SoundChange device old (with_pull old name pull)
-pull_is_sound {device} {old} name pull sound is roomy = record {
-  sound = record {
-    index = sound.index;
-    id = sound.id;
-    own = sound.own;
-    views = sound.views;
-    pulls = each_after_insert IsSoundPull old.pulls name sound.pulls pull is;
-    few_pulls =
-        len-insert_le nat_list_cmp_total old.pulls name pull MAX_PULLS sound.few_pulls
-        (λ none. let apart : ¬ (MAX_PULLS ≤ len old.pulls) = λ full. roomy (none, full) in omega arith);
-    store = sound.store;
-  };
-  kind = refl;
-  others = refl;
-}
+pull_is_sound {device} {old} name pull sound is roomy =
+    pulls_are_sound (insert old.pulls name pull) sound (each_after_insert IsSoundPull old.pulls name sound.pulls pull is)
+    (len-insert_le nat_list_cmp_total old.pulls name pull MAX_PULLS sound.few_pulls
+    (λ none. let apart : ¬ (MAX_PULLS ≤ len old.pulls) = λ full. roomy (none, full) in omega arith))
 
 -- nothing was received yet
 pub none_received : (blocks : List Block) → AreReceived blocks (map (λ block. None) blocks)

@@ -26,29 +26,20 @@ use Rattle.bep_machine.proofs.GoodChoice.{chosen_is_good}
 pub edit_is_sound : (device : Device) (name : FileName) (node : NodeParts) (failed : Option ℕ) (old new : Replica) (answer : Answer) →
     IsNode node → IsSoundReplica device old → EditRow name node failed old new answer → SoundChange device old new
 edit_is_sound device name node failed old new answer is sound row =
-    or_rest sound (λ rest. made_is_sound (node_is_sound name (Some node) sound is) rest.1.0) row
+    or_rest sound row (λ _ made. made_is_sound (node_is_sound name (Some node) sound is) made.0)
 
 pub remove_is_sound : (device : Device) (name : FileName) (failed : Option ℕ) (old new : Replica) (answer : Answer) →
     IsSoundReplica device old → RemoveRow name failed old new answer → SoundChange device old new
 remove_is_sound device name failed old new answer sound row =
-    or_rest sound
-    (λ unfailed.
-    or_rest sound
-    (λ there. or_rest sound (λ rest. made_is_sound (node_is_sound name None sound tt) rest.1.0) there.1)
-    unfailed.1)
-    row
+    or_rest sound row (λ _ looked. or_rest sound looked (λ _ there. or_rest sound there (λ _ made. made_is_sound (node_is_sound name None sound tt) made.0)))
 
 -- ---- new records
 
 put_is_sound : LowerLaws → {device : Device} {old new : Replica} {answer : Answer} (name : FileName) (IsNew : Entry → Type 0) → IsSoundReplica device old →
     ((entry : Entry) → IsNew entry → IsGoodAt name entry) → PutRow name IsNew old new answer → SoundChange device old new
 put_is_sound laws name IsNew sound good row =
-    or_rest sound
-    (λ numbers.
-    or_rest sound
-    (λ names. let put = names.1 in made_is_sound (record_is_sound laws.puts_keep_an_index name put.0 sound (record { numbers = numbers.0; names = names.0 }) (good put.0 put.1)) put.2.0)
-    numbers.1)
-    row
+    or_rest sound row (λ numbers counted. or_rest sound counted (λ names put.
+    made_is_sound (record_is_sound laws.puts_keep_an_index name put.0 sound (record { numbers = numbers; names = names }) (good put.0 put.1)) put.2.0))
 
 -- what a device finds, or finds gone
 found_is_good : LowerLaws → (device : Device) (name : FileName) (node : Option NodeParts) (own : Option Entry) (version : List (ℕ × ℕ)) (entry : Entry) →
@@ -88,14 +79,14 @@ found_row_is_sound laws {device} {old} answer ReceiveOnly name sound row =
     local_is_good name new.0 entry found new.2)
     row
 found_row_is_sound laws answer SendReceive name sound row =
-    or_rest sound (λ below. or_rest sound (λ roomy. raised_row_is_sound laws name sound roomy.0 roomy.1) below.1) row
+    or_rest sound row (λ _ below. or_rest sound below (λ roomy put. raised_row_is_sound laws name sound roomy put))
 found_row_is_sound laws answer SendOnly name sound row =
-    or_rest sound (λ below. or_rest sound (λ roomy. raised_row_is_sound laws name sound roomy.0 roomy.1) below.1) row
+    or_rest sound row (λ _ below. or_rest sound below (λ roomy put. raised_row_is_sound laws name sound roomy put))
 
 pub scan_is_sound : LowerLaws → (device : Device) (name : FileName) (failed : Option ℕ) (old new : Replica) (answer : Answer) →
     IsSoundReplica device old → ScanRow device name failed old new answer → SoundChange device old new
 scan_is_sound laws device name failed old new answer sound row =
-    or_rest sound (λ unfailed. or_rest sound (λ unclean. found_row_is_sound laws answer old.kind name sound unclean.1) unfailed.1) row
+    or_rest sound row (λ _ looked. or_rest sound looked (λ _ found. found_row_is_sound laws answer old.kind name sound found))
 
 -- ---- override
 
@@ -109,28 +100,19 @@ overriding_row_is_sound : LowerLaws → {device : Device} {old new : Replica} {a
 overriding_row_is_sound laws {device} {old} name chosen sound good row =
     let own = own_at old name in
     let own_is = own_is_good device old name sound in
-    or_rest sound
-    (λ below.
-    or_rest sound
-    (λ roomy.
+    or_rest sound row (λ _ below. or_rest sound below (λ roomy put.
     put_is_sound laws name _ sound
     (λ entry new.
     subst (IsGoodAt name) (sym new.2)
     (overriding_is_good device name own chosen new.0 own_is good new.1.version
-    (overriding_is_few laws device (version_of own) chosen.version new.0 (version_is name own own_is) good.good.version roomy.0 new.1)))
-    roomy.1)
-    below.1)
-    row
+    (overriding_is_few laws device (version_of own) chosen.version new.0 (version_is name own own_is) good.good.version roomy new.1)))
+    put))
 
 pub override_is_sound : LowerLaws → (device : Device) (name : FileName) (old new : Replica) (answer : Answer) →
     IsSoundReplica device old → OverrideRow device name old new answer → SoundChange device old new
 override_is_sound laws device name old new answer sound row =
-    or_rest sound
-    (λ kind.
-    or_rest sound
-    (λ can. let chosen = can.1 in overriding_row_is_sound laws name chosen.0 sound (chosen_is_good device old name chosen.0 sound chosen.1).good chosen.2)
-    kind.1)
-    row
+    or_rest sound row (λ _ kind. or_rest sound kind (λ _ chosen.
+    overriding_row_is_sound laws name chosen.0 sound (chosen_is_good device old name chosen.0 sound chosen.1).good chosen.2))
 
 -- ---- revert
 
@@ -138,32 +120,17 @@ reverted_row_is_sound : LowerLaws → {device : Device} {old new : Replica} (ans
     own_at old name ≡ own → IfAny (IsGoodAt name) own → ¬ IsSequenceFull old.index → RevertedRow device name failed own old new answer → SoundChange device old new
 reverted_row_is_sound laws answer name failed None sound is own_is numbers row = absurd row
 reverted_row_is_sound laws {device} {old} answer name failed (Some own) sound is own_is numbers row =
-    or_rest sound
-    (λ rest.
+    or_rest sound row (λ _ made.
     let gone = node_is_sound name None sound tt in
     let names : ¬ (own_at old name ≡ None) = λ none. none-some own (sym none ∙ is) in
     made_is_sound
     (then_sound gone
     (record_is_sound laws.puts_keep_an_index name (deletion_of device name own []) gone.sound (record { numbers = numbers; names = λ full. names full.1 })
     (record { good = good_deletion device name own [] own_is.good tt (omega arith); named = refl })))
-    rest.1.0)
-    row
+    made.0)
 
 pub revert_is_sound : LowerLaws → (device : Device) (name : FileName) (failed : Option ℕ) (old new : Replica) (answer : Answer) →
     IsSoundReplica device old → RevertRow device name failed old new answer → SoundChange device old new
 revert_is_sound laws device name failed old new answer sound row =
-    or_rest sound
-    (λ kind.
-    or_rest sound
-    (λ local.
-    or_rest sound
-    (λ unfailed.
-    or_rest sound
-    (λ clean.
-    or_rest sound
-    (λ numbers. reverted_row_is_sound laws answer name failed (own_at old name) sound refl (own_is_good device old name sound) numbers.0 numbers.1)
-    clean.1)
-    unfailed.1)
-    local.1)
-    kind.1)
-    row
+    or_rest sound row (λ _ kind. or_rest sound kind (λ _ local. or_rest sound local (λ _ looked. or_rest sound looked (λ _ clean. or_rest sound clean (λ numbers reverted.
+    reverted_row_is_sound laws answer name failed (own_at old name) sound refl (own_is_good device old name sound) numbers reverted)))))

@@ -26,7 +26,7 @@ pub then_sound : {device : Device} {old next new : Replica} → SoundChange devi
 then_sound one other = record { sound = other.sound; kind = other.kind ∙ one.kind; others = other.others ∙ one.others }
 
 -- of a row of refusals: nothing changed, or the rest of the row holds
-pub or_rest : {device : Device} {old new : Replica} {Refusing Answering Rest : Type 0} →
-    IsSoundReplica device old → (Rest → SoundChange device old new) → ((Refusing × ((new ≡ old) × Answering)) ⊎ Rest) → SoundChange device old new
-or_rest sound rest (inl refused) = same_is_sound sound refused.1.0
-or_rest sound rest (inr more) = rest more
+pub or_rest : {device : Device} {old new : Replica} {Refusing Answering Passing Rest : Type 0} →
+    IsSoundReplica device old → ((Refusing × ((new ≡ old) × Answering)) ⊎ (Passing × Rest)) → (Passing → Rest → SoundChange device old new) → SoundChange device old new
+or_rest sound (inl refused) rest = same_is_sound sound refused.1.0
+or_rest sound (inr passed) rest = rest passed.0 passed.1

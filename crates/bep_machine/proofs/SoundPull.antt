@@ -5,12 +5,11 @@ use Rattle.bep_record.specs.declared.node.NodeParts.{NodeParts}
 use Rattle.bep_record.specs.Node.{IsNode}
 use Rattle.bep_record.specs.Vector.{most_counters, ids_in_either}
 use Rattle.bep_model.specs.Tables.{Device, FileName}
-use Rattle.bep_machine.specs.declared.refusal.Refusal.TheVariants.{StoreFault}
-use Rattle.bep_machine.specs.Answer.{Answer, Refused, Row, when◌then◌else◌, ◌answers◌when◌else◌}
-use Rattle.bep_machine.specs.Local.{Fails}
+use Rattle.bep_machine.specs.Answer.{Answer, Row}
 use Rattle.bep_machine.specs.Replica.{Pull, Replica, own_at, node_at, version_of, with_node}
 use Rattle.bep_machine.specs.Pull.{new_pull, ChosenRow, StartPullRow, IsAdopted, SettlingRow, RoomRow, CopyingRow, EndingRow, FinishRow, copy_name}
 use Rattle.bep_machine.specs.Sound.{IsSoundPull, IsSoundReplica}
+use Rattle.bep_machine.proofs.CalmRows.{CopiedRow}
 use Rattle.bep_machine.proofs.LowerLaws.{LowerLaws}
 use Rattle.bep_machine.proofs.SoundParts.{SoundChange, made_is_sound, same_is_sound, then_sound, or_rest}
 use Rattle.bep_machine.proofs.SoundMaps.{IfAny}
@@ -25,17 +24,13 @@ use Rattle.bep_machine.proofs.WrittenNode.{end_is_node}
 chosen_row_is_sound : {device : Device} {old new : Replica} {answer : Answer} (name : FileName) (chosen : Entry) → IsSoundReplica device old → IsGoodChoice name chosen →
     ChosenRow name chosen old new answer → SoundChange device old new
 chosen_row_is_sound name chosen sound is row =
-    or_rest sound
-    (λ needed.
-    or_rest sound
-    (λ allowed. or_rest sound (λ roomy. made_is_sound (pull_is_sound name (new_pull chosen) sound (new_pull_is_sound name chosen is.good is.valid) roomy.0) roomy.1.0) allowed.1)
-    needed.1)
-    row
+    or_rest sound row (λ _ needed. or_rest sound needed (λ _ allowed. or_rest sound allowed (λ roomy made.
+    made_is_sound (pull_is_sound name (new_pull chosen) sound (new_pull_is_sound name chosen is.good is.valid) roomy) made.0)))
 
 pub start_pull_is_sound : (device : Device) (name : FileName) (old new : Replica) (answer : Answer) →
     IsSoundReplica device old → StartPullRow device name old new answer → SoundChange device old new
 start_pull_is_sound device name old new answer sound row =
-    or_rest sound (λ some. let chosen = some.1 in chosen_row_is_sound name chosen.0 sound (chosen_is_good device old name chosen.0 sound chosen.1) chosen.2) row
+    or_rest sound row (λ _ chosen. chosen_row_is_sound name chosen.0 sound (chosen_is_good device old name chosen.0 sound chosen.1) chosen.2)
 
 -- ---- ending a pull
 
@@ -64,52 +59,34 @@ settling_is_sound laws {device} {old} {new} name pull call failed own held can f
     let after = settles.0 in
     let put = node_is_sound name after sound (end_is_node name own held pull after can.pull_is can.node_is settles.1) in
     let target_is : IsGoodAt name pull.target = record { good = can.pull_is.good; named = can.pull_is.named } in
-    or_rest sound
-    (λ unfailed.
-    let adopted = unfailed.1 in
+    or_rest sound settles.2 (λ _ adopted.
     let good = adopted_is_good laws name own pull.target adopted.0 can.own_is target_is few adopted.1 in
     let there = record_is_sound laws.puts_keep_an_index name adopted.0 put.sound (subst (λ index. HasRoom index name) (sym (index_with_node old name after)) room) good in
     let gone = pull_gone_is_sound name there.sound in
     made_is_sound (then_sound put (then_sound there gone)) adopted.2.0)
-    settles.2
 
 room_is_sound : {device : Device} {old new : Replica} {answer : Answer} (name : FileName) (own : Option Entry) (target : Entry) (rest : Row Replica) → IsSoundReplica device old →
     (¬ (most_counters < ids_in_either (version_of own) target.version) → HasRoom old.index name → rest new answer → SoundChange device old new) →
     RoomRow name own target old rest new answer → SoundChange device old new
 room_is_sound name own target rest sound more row =
-    or_rest sound
-    (λ few. or_rest sound (λ numbers. or_rest sound (λ names. more few.0 (record { numbers = numbers.0; names = names.0 }) names.1) numbers.1) few.1)
-    row
+    or_rest sound row (λ few counted. or_rest sound counted (λ numbers indexed. or_rest sound indexed (λ names made.
+    more few (record { numbers = numbers; names = names }) made)))
 
 copying_is_sound : LowerLaws → {device : Device} {old new : Replica} {answer : Answer} (name : FileName) (pull : Pull) (failed : Option ℕ) (own : Option Entry) (node : Option NodeParts) →
     CanEnd name pull own node → IsSoundReplica device old → CopyingRow name pull failed own node old new answer → SoundChange device old new
 copying_is_sound laws {device} {old} name pull failed own node can sound row =
-    or_rest sound
-    (λ short.
-    or_rest sound
-    (λ unfailed.
-    or_rest sound
-    (λ free.
-    room_is_sound name own pull.target
-    (when node_at old (copy_name own) ≡ None
-    then (old answers Refused StoreFault when Fails 3 failed else SettlingRow name pull 4 failed own node (with_node old (copy_name own) node))
-    else SettlingRow name pull 3 failed own node old)
-    sound
+    or_rest sound row (λ _ named. or_rest sound named (λ _ looked. or_rest sound looked (λ _ free.
+    room_is_sound name own pull.target (CopiedRow name pull failed own node old) sound
     (λ few room copies.
     ⊎_elim
     (λ absent.
-    or_rest sound
-    (λ succeeded.
+    or_rest sound absent.1 (λ _ settles.
     let copied = node_is_sound (copy_name own) node sound can.node_is in
     then_sound copied
-    (settling_is_sound laws name pull 4 failed own node can few (subst (λ index. HasRoom index name) (sym (index_with_node old (copy_name own) node)) room) copied.sound succeeded.1))
-    absent.1)
+    (settling_is_sound laws name pull 4 failed own node can few (subst (λ index. HasRoom index name) (sym (index_with_node old (copy_name own) node)) room) copied.sound settles)))
     (λ there. settling_is_sound laws name pull 3 failed own node can few room sound there.1)
     copies)
-    free.1)
-    unfailed.1)
-    short.1)
-    row
+    free)))
 
 ending_is_sound : LowerLaws → {device : Device} {old new : Replica} {answer : Answer} (name : FileName) (pull : Pull) (failed : Option ℕ) →
     IsSoundPull name pull → IsSoundReplica device old → EndingRow name pull failed old new answer → SoundChange device old new
@@ -117,29 +94,17 @@ ending_is_sound laws {device} {old} name pull failed is sound row =
     let own = own_at old name in
     let node = node_at old name in
     let can : CanEnd name pull own node = record { pull_is = is; own_is = own_is_good device old name sound; node_is = node_is_node device old name sound } in
-    or_rest sound
-    (λ whole.
-    or_rest sound
-    (λ unfailed.
-    or_rest sound
-    (λ clean.
+    or_rest sound row (λ _ received. or_rest sound received (λ _ looked. or_rest sound looked (λ _ scanned.
     ⊎_elim
     (λ due. copying_is_sound laws name pull failed own node can sound due.1)
     (λ plain. room_is_sound name own pull.target (SettlingRow name pull 2 failed own node old) sound (λ few room rest. settling_is_sound laws name pull 2 failed own node can few room sound rest) plain.1)
-    clean.1)
-    unfailed.1)
-    whole.1)
-    row
+    scanned)))
 
 pub finish_is_sound : LowerLaws → (device : Device) (name : FileName) (failed : Option ℕ) (old new : Replica) (answer : Answer) →
     IsSoundReplica device old → FinishRow device name failed old new answer → SoundChange device old new
 finish_is_sound laws device name failed old new answer sound row =
-    or_rest sound
-    (λ some.
-    let pulls = some.1 in
-    let is = sound.pulls name pulls.0 pulls.1 in
+    or_rest sound row (λ _ pulled.
     ⊎_elim
-    (λ wanted. ending_is_sound laws name pulls.0 failed is sound wanted.1)
+    (λ wanted. ending_is_sound laws name pulled.0 failed (sound.pulls name pulled.0 pulled.1) sound wanted.1)
     (λ dropped. made_is_sound (pull_gone_is_sound name sound) dropped.1.0)
-    pulls.2)
-    row
+    pulled.2)

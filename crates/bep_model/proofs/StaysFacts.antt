@@ -145,16 +145,17 @@ counterpart (first ∷ more) (other ∷ others) same row member =
     (found.0, Contains-more other others found.0 found.1, found.2))
     (Contains-cons_cases first more row member)
 
+-- and the other way round
+same_back : (rows others : List Row) → SameContents rows others → SameContents others rows
+same_back [] [] same = same
+same_back [] (other ∷ others) same = absurd same
+same_back (row ∷ more) [] same = absurd same
+same_back (row ∷ more) (other ∷ others) same = (sym same.0, sym same.1, sym same.2, same_back more others same.3)
+
 counterpart_back : (rows others : List Row) → SameContents rows others → (other : Row) → Contains others other → (row : Row) × Contains rows row × IsCounterpart row other
-counterpart_back rows [] same other member = absurd (not_in_none other member)
-counterpart_back [] (first ∷ others) same other member = absurd same
-counterpart_back (row ∷ more) (first ∷ others) same other member =
-    ⊎_elim
-    (λ here. (row, Contains-first row more, subst (λ (r : Row). IsCounterpart row r) here (record { key = same_key row first same.0 same.1; content = same.2 })))
-    (λ later.
-    let found = counterpart_back more others same.3 other later in
-    (found.0, Contains-more row more found.0 found.1, found.2))
-    (Contains-cons_cases first others other member)
+counterpart_back rows others same other member =
+    let found = counterpart others rows (same_back rows others same) other member in
+    (found.0, found.1, record { key = sym found.2.key; content = sym found.2.content })
 
 module _ (some_choice : SomeChoice) (unique : OneChoice) (t later : Tables) (rows : List Row) (settled : IsSettled t rows) (shares : SameShares t later) (keeps : KeepsRecords t later) (named : RecordsAreNamed later) (calm : IsCalm later (contents_of rows)) where
   -- a row's name has a winner later on, of the same content

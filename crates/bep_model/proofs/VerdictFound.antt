@@ -5,7 +5,7 @@ use Rattle.std.specs.declared.cmp.Ordering.TheVariants.{Less}
 use Rattle.bep_record.specs.declared.folder_kind.FolderKind.{FolderKind}
 use Rattle.bep_model.specs.declared.row.Row.{Row}
 use Rattle.bep_model.specs.declared.reason.Reason.{Reason}
-use Rattle.bep_model.specs.declared.reason.Reason.TheVariants.{CertificateOrder, NameMissing, NameUnknown, NotWinner, RecordMissing, RecordDiffers, LocalOnly, StoreDiffers, StoreUnclean, ViewAhead, FlightAhead, PullAhead}
+use Rattle.bep_model.specs.declared.reason.Reason.TheVariants.{CertificateOrder, NameMissing, NameUnknown, NotWinner}
 use Rattle.bep_model.specs.Tables.{Tables, Device, Folder, FileName, Shares}
 use Rattle.bep_model.specs.Foreign.{IsFinite}
 use Rattle.bep_model.specs.Settled.{HasRow, key_of}
@@ -14,7 +14,7 @@ use Rattle.bep_model.specs.Verdict.{Verdict, Settled, Not, number_of, IsVerdict}
 use Rattle.bep_model.specs.Laws.{VerdictExists}
 use Rattle.bep_model.proofs.Deciding.{Finite, finite_list, finite_one, finite_option, finite_or, finite_union}
 use Rattle.bep_model.proofs.Faultless.{settled_is_faultless_lem}
-use Rattle.bep_model.proofs.Verdicts.{reason_at, reason_at_number, place_total}
+use Rattle.bep_model.proofs.Verdicts.{reason_at, reason_at_number, number_within, place_total}
 use Rattle.bep_model.proofs.FirstFault.{holds_or_first}
 use Rattle.bep_model.proofs.Winners.{OneChoice}
 use Rattle.bep_model.proofs.CutDecided.{SomeChoice, same_key, known_or_not, share_or_not, has_row_or_not, asks_or_not}
@@ -167,18 +167,7 @@ module _ (some_choice : SomeChoice) (one_choice : OneChoice) (t : Tables) (finit
   below_or_found (suc n) = ⊎_elim (step n) inr (below_or_found n)
 
   all_below : (reason : Reason) → number_of reason < 13
-  all_below CertificateOrder = omega arith
-  all_below NameMissing = omega arith
-  all_below NameUnknown = omega arith
-  all_below NotWinner = omega arith
-  all_below RecordMissing = omega arith
-  all_below RecordDiffers = omega arith
-  all_below LocalOnly = omega arith
-  all_below StoreDiffers = omega arith
-  all_below StoreUnclean = omega arith
-  all_below ViewAhead = omega arith
-  all_below FlightAhead = omega arith
-  all_below PullAhead = omega arith
+  all_below reason = let within = number_within reason in omega (arith, within.1)
 
   verdict_found : Found
   unfolding FaultlessBelow Found Faultless

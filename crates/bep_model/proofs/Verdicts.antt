@@ -37,34 +37,14 @@ reason_at n =
 
 pub reason_at_number : (reason : Reason) → reason_at (number_of reason) ≡ reason
 reason_at_number CertificateOrder = refl
-reason_at_number NameMissing = refl
-reason_at_number NameUnknown = refl
-reason_at_number NotWinner = refl
-reason_at_number RecordMissing = refl
-reason_at_number RecordDiffers = refl
-reason_at_number LocalOnly = refl
-reason_at_number StoreDiffers = refl
-reason_at_number StoreUnclean = refl
-reason_at_number ViewAhead = refl
-reason_at_number FlightAhead = refl
-reason_at_number PullAhead = refl
+reason_at_number _ = refl
 
 pub same_from_number : NumbersDiffer
 same_from_number one other e = sym (reason_at_number one) ∙ ap reason_at e ∙ reason_at_number other
 
 pub number_within : NumbersAreWithin
 number_within CertificateOrder = (omega arith, omega arith)
-number_within NameMissing = (omega arith, omega arith)
-number_within NameUnknown = (omega arith, omega arith)
-number_within NotWinner = (omega arith, omega arith)
-number_within RecordMissing = (omega arith, omega arith)
-number_within RecordDiffers = (omega arith, omega arith)
-number_within LocalOnly = (omega arith, omega arith)
-number_within StoreDiffers = (omega arith, omega arith)
-number_within StoreUnclean = (omega arith, omega arith)
-number_within ViewAhead = (omega arith, omega arith)
-number_within FlightAhead = (omega arith, omega arith)
-number_within PullAhead = (omega arith, omega arith)
+number_within _ = (omega arith, omega arith)
 
 -- ---- places
 

@@ -135,26 +135,10 @@ pub fn local_change_of_a_receive_only_folder()
 /// Where the name is deleted, a device may still see or pull an older record, but not one that the deletion isn't newer
 /// than.
 pub fn another_record_is_seen_or_pulled()
-    ensures older_in_a_view { Asks
-        (deletion_viewing (link 1 98 by_one))
-        (row_of 1 (deletion twice_by_one) ∷ [])
-        ViewAhead
-        (place_of 2) }
-    ensures concurrent_in_a_view { ¬ Asks
-        (deletion_viewing (link 2 98 by_two))
-        (row_of 1 (deletion twice_by_one) ∷ [])
-        ViewAhead
-        (place_of 2) }
-    ensures older_as_target { Asks
-        (deletion_pulling (link 1 98 by_one))
-        (row_of 1 (deletion twice_by_one) ∷ [])
-        PullAhead
-        (place_of 2) }
-    ensures concurrent_as_target { ¬ Asks
-        (deletion_pulling (link 2 98 by_two))
-        (row_of 1 (deletion twice_by_one) ∷ [])
-        PullAhead
-        (place_of 2) }
+    ensures older_in_a_view { Asks (deletion_viewing (link 1 98 by_one)) (row_of 1 (deletion twice_by_one) ∷ []) ViewAhead (place_of 2) }
+    ensures concurrent_in_a_view { ¬ Asks (deletion_viewing (link 2 98 by_two)) (row_of 1 (deletion twice_by_one) ∷ []) ViewAhead (place_of 2) }
+    ensures older_as_target { Asks (deletion_pulling (link 1 98 by_one)) (row_of 1 (deletion twice_by_one) ∷ []) PullAhead (place_of 2) }
+    ensures concurrent_as_target { ¬ Asks (deletion_pulling (link 2 98 by_two)) (row_of 1 (deletion twice_by_one) ∷ []) PullAhead (place_of 2) }
 {}
 
 /// What is touched is kept, and is clean where it is a symlink, but not where it is a file. What leads elsewhere or is

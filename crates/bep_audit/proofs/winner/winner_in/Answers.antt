@@ -2,6 +2,7 @@ use Rattle.std.proofs.Common.{◌≡◌, ◌∙◌, ℕ, List, Option, Some, Non
 use Rattle.std.specs.Prelude.{IfSome, IfNone}
 use Rattle.std.specs.FinMap.{get}
 use Rattle.bep_choice.specs.Choice.{Candidate, candidate_of, IsChoice}
+use Rattle.bep_choice.proofs.Lent.{Lent}
 use Rattle.bep_model.specs.Tables.{Tables, Folder, FileName}
 use Rattle.bep_model.specs.Winner.{IsWinner}
 use Rattle.bep_tables.specs.Cut.{tables_of}
@@ -9,7 +10,6 @@ use Rattle.bep_tables.specs.Listed.{listed}
 use Rattle.bep_tables.specs.declared.share.Share.{Share}
 use Rattle.bep_audit.specs.Candidates.{FindsWinner, own_among, owned_by, chooser_of}
 use Rattle.bep_audit.proofs.OwnFacts.{group_owns}
-use Rattle.bep_audit.proofs.WinnerFacts.{Lent}
 use Rattle.bep_audit.proofs.WinnerSaid.{few_rise, winner_said, winner_is_named}
 use Rattle.bep_audit.proofs.winner.winner_in.Goals as goal
 

@@ -1,4 +1,4 @@
-use Rattle.bep_folder.proofs.ChosenFacts.{chosen_at, only_at}
+use Rattle.bep_choice.proofs.Lent.{chosen_at, only_at}
 use Rattle.bep_folder.proofs.chosen.best.Goals as goal
 
 pub returns-in-Some-clause-chosen : goal.returns-in-Some-clause-chosen

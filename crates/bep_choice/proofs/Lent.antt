@@ -1,11 +1,11 @@
 -- The choice among candidates that are lent, found by its place.
-use Rattle.std.proofs.Common.{◌≡◌, ◌<◌, ◌∙◌, ℕ, Option, Some, List, IsSomeAnd, Contains, length, get_or, sym, ap, subst, ⊎_elim, arith}
+use Rattle.std.proofs.Common.{◌≡◌, ◌<◌, ◌∙◌, ◌↔◌, ℕ, true, false, Option, Some, None, IsSome, List, IsSomeAnd, Contains, length, get_or, sym, ap, subst, ⊎_elim, arith}
 use Rattle.std.specs.Borrow.{Bor}
 use Rattle.std.specs.List.{slice_get}
 use Rattle.std.proofs.lemmas.List.{length-map, get_or-map}
 use Rattle.std.proofs.lemmas.Option.{slice_get-get_or, slice_get_cases}
 use Rattle.bep_record.specs.declared.entry.Entry.{Entry}
-use Rattle.bep_choice.specs.Choice.{Candidate, candidate_of, candidates_of, IsChoice, IsChoiceAt}
+use Rattle.bep_choice.specs.Choice.{Candidate, candidate_of, candidates_of, IsValidAmong, IsChoice, IsChoiceAt}
 
 -- a candidate as it is lent
 abbrev pub Lent : Type 0
@@ -29,6 +29,10 @@ at_place lent place one below is =
 pub chosen_at : (chooser : ℕ) (lent : List Lent) (place : ℕ) (one : Lent) → IsChoiceAt chooser (candidates_of lent) place → one ≡ get_or lent place one → IsChoice chooser (candidates_of lent) (candidate_of one)
 chosen_at chooser lent place one at is =
     subst (λ (o : Option Candidate). IsSomeAnd o (IsChoice chooser (candidates_of lent))) (at_place lent place one (within chooser lent place at) is) at
+
+-- where no candidate is valid, none is chosen
+pub none_chosen : (chooser : ℕ) (candidates : List Candidate) → (IsSome {T = ℕ} None ↔ ((one : Candidate) × IsValidAmong candidates one)) → (one : Candidate) → ¬ IsChoice chooser candidates one
+none_chosen chooser candidates found one choice = let some : false ≡ true = found.1 (one, choice.left.valid) in cc
 
 -- where a choice has one place only, it is what stands at that place
 pub only_at : (chooser : ℕ) (lent : List Lent) (place : ℕ) (one : Lent) → IsChoiceAt chooser (candidates_of lent) place → one ≡ get_or lent place one → ((other : ℕ) → IsChoiceAt chooser (candidates_of lent) other → Some place ≡ Some other) → (choice : Candidate) → IsChoice chooser (candidates_of lent) choice → Some one.1.now ≡ Some choice.1
