@@ -8,7 +8,7 @@ use crate::PeerError;
 use bep_links::{Link, LinkError, Side};
 use bep_machine::Message;
 use bep_record::DeviceId;
-use std::alloc::Global;
+use std::alloc::{AllocError, Global};
 
 /// The end of the first device, of a link between the two.
 pub(crate) fn side_of(device: DeviceId, other: DeviceId) -> Side
@@ -58,8 +58,13 @@ pub(crate) fn send_copied(
     ensures only { IfErr result (λ e. e ≡ Memory) }
     ensures err { OnErr result (link.new ≡ link.old) }
 {
-    let first = message.copy(alloc)?;
-    let again = message.copy(alloc)?;
+    let told = two_copies(alloc, &message)?;
     send(link, side, message)?;
-    Ok((first, again))
+    Ok(told)
+}
+
+fn two_copies(alloc: Global, message: &Message) -> Result<(Message, Message), AllocError>
+    ensures { IfOk result (λ told. told ≡ (message.now, message.now)) }
+{
+    Ok((message.copy(alloc)?, message.copy(alloc)?))
 }
