@@ -1,16 +1,21 @@
 -- What a commit of a scan's result does (this project's profile).
-use Rattle.std.specs.Prelude.{◌≡◌, ℕ, true, List, Option, Result, Err}
+use Rattle.std.specs.Prelude.{◌≡◌, ◌⊎◌, ℕ, true, List, Option, Result, Ok, Err}
+use Rattle.std.specs.FinMap.{get}
 use Rattle.bep_record.specs.declared.entry.Entry.{Entry}
 use Rattle.bep_record.specs.declared.node.NodeParts.{NodeParts}
 use Rattle.bep_record.specs.declared.folder_kind.FolderKind.{FolderKind}
 use Rattle.bep_record.specs.declared.folder_kind.FolderKind.TheVariants.{ReceiveOnly}
+use Rattle.bep_record.specs.Node.{IsClean}
 use Rattle.bep_record.specs.Vector.{counter_of, greatest_counter}
+use Rattle.bep_index.specs.Listing.{Listing}
+use Rattle.bep_index.specs.Index.{IsSequenceFull, IsIndexFull, after_put}
 use Rattle.bep_model.specs.Tables.{Device, FileName}
 use Rattle.bep_machine.specs.declared.moved.Moved.{Moved}
+use Rattle.bep_machine.specs.declared.moved.Moved.TheVariants.{Changed, Unchanged}
 use Rattle.bep_machine.specs.Local.{Finds, IsCrowded, IsRaised, ScanRow}
 use Rattle.bep_machine.specs.Replica.{Replica, node_at, version_of}
 use Rattle.bep_folder.specs.declared.error.FolderError.{FolderError}
-use Rattle.bep_folder.specs.declared.error.FolderError.TheVariants.{Stale, StoreFault, Memory}
+use Rattle.bep_folder.specs.declared.error.FolderError.TheVariants.{CounterFull, TooManyCounters, SequenceFull, IndexFull, Stale, StoreFault, Memory}
 use Rattle.bep_folder.specs.Held.{Held}
 use Rattle.bep_folder.specs.Makes.{Makes}
 use Rattle.bep_folder.specs.ScanResult.{Scanned}
@@ -45,3 +50,33 @@ IsCounterFull kind device own = counter_of (version_of own) device ≡ greatest_
 abbrev pub IsVersionFull : FolderKind → Device → Option Entry → Type 0
 IsVersionFull ReceiveOnly device own = ⊥
 IsVersionFull kind device own = IsCrowded device (version_of own)
+
+-- it can be raised
+abbrev pub CanRaise : FolderKind → Device → Option Entry → Type 0
+CanRaise kind device own = (¬ IsCounterFull kind device own) × (¬ IsVersionFull kind device own)
+
+-- the new record is put, for which there is room
+pub record PutsFound (kind : FolderKind) (device : Device) (scan : Scanned) (old new : Listing) : Type 0 where
+  pub entry : Entry
+  pub raised : CanRaise kind device (get old.records scan.name)
+  pub found : IsFound kind device scan.name scan.node (get old.records scan.name) entry
+  pub numbers : ¬ IsSequenceFull old
+  pub names : ¬ IsIndexFull old scan.name
+  pub put : new ≡ after_put old entry
+
+-- why none is
+abbrev pub IsNotPut : FolderKind → Device → Scanned → Listing → FolderError → Type 0
+IsNotPut kind device scan old error =
+    let own = get old.records scan.name in
+    ((error ≡ CounterFull) × IsCounterFull kind device own) ⊎
+    ((error ≡ TooManyCounters) × (¬ IsCounterFull kind device own) × IsVersionFull kind device own) ⊎
+    ((error ≡ SequenceFull) × CanRaise kind device own × IsSequenceFull old) ⊎
+    ((error ≡ IndexFull) × CanRaise kind device own × (¬ IsSequenceFull old) × IsIndexFull old scan.name) ⊎
+    (error ≡ Memory)
+
+-- what was found is recorded: the own record is clean against it, or a new one is put, or there is a reason why none is
+abbrev pub Records : FolderKind → Device → Scanned → Listing → Listing → Result Moved FolderError → Type 0
+Records kind device scan old new result =
+    ((result ≡ Ok Unchanged) × IsClean scan.node (get old.records scan.name) × (new ≡ old)) ⊎
+    ((result ≡ Ok Changed) × (¬ IsClean scan.node (get old.records scan.name)) × PutsFound kind device scan old new) ⊎
+    ((error : FolderError) × (result ≡ Err error) × (¬ IsClean scan.node (get old.records scan.name)) × IsNotPut kind device scan old error × (new ≡ old))

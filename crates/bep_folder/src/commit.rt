@@ -1,19 +1,24 @@
 //! Recording what a scan found.
-ghost use Rattle.std.specs.Prelude.{◌≡◌, false, ◌⊎◌, ◌↔◌, Some, IfErr, IsErrOf, OnOk, OnErr, IsTrue};
+ghost use Rattle.std.specs.Prelude.{◌≡◌, false, ◌⊎◌, ◌↔◌, Some, IfOk, IfErr, IsErrOf, OnOk, OnErr, IsTrue};
 ghost use Rattle.std.specs.Option.{option_copied};
+ghost use Rattle.std.specs.FinMap as map;
+ghost use Rattle.bep_record.specs.Node.{IsClean};
 ghost use Rattle.bep_index.specs.Index.{IsSequenceFull, IsIndexFull, after_put};
-ghost use Rattle.bep_folder.specs.Commit.{Commits};
+ghost use Rattle.bep_folder.specs.Commit.{Commits, IsNotPut, PutsFound, Records};
 ghost use Rattle.bep_folder.specs.Makes.{Stays, CountsFaults};
+ghost use Rattle.bep_folder.specs.Trace.{CountsCall};
 ghost use Rattle.bep_folder.specs.declared.error.FolderError.TheVariants.{SequenceFull, IndexFull, Memory};
 
 use crate::beside::is_clean;
 use crate::error::index_error;
 use crate::found::found;
+use crate::traced::Traced;
 use crate::{FolderError, Replica, ScanResult};
 use bep_index::Index;
 use bep_machine::Moved;
-use bep_record::{Node, NodeParts, Record};
+use bep_record::{DeviceId, FolderKind, Node, NodeParts, Record};
 use bep_store::Store;
+use std::alloc::Global;
 
 impl<S: Store> Replica<S> {
     /// Records what a scan found, as a scan of the name would now: Unchanged where the own record is clean against it.
@@ -31,18 +36,60 @@ impl<S: Store> Replica<S> {
         ensures called { self.new.made ≡ 1 }
     {
         self.store.begin();
-        let node = self.store.read(self.alloc, scan.name())?;
-        if !same_node(node.as_ref(), scan.node()) {
+        if !is_fresh(&mut self.store, self.alloc, &scan)? {
             return Err(FolderError::Stale);
         }
-        let own = self.index.get(scan.name());
-        if is_clean(scan.node(), own) {
-            return Ok(Moved::Unchanged);
-        }
-        let entry = found(self.alloc, self.kind, self.device, scan, own)?;
-        put_record(&mut self.index, entry)?;
-        Ok(Moved::Changed)
+        record_found(&mut self.index, self.alloc, self.kind, self.device, scan)
     }
+}
+
+// Whether the store still has the node that was found.
+fn is_fresh<S: Store>(
+    store: &mut Traced<S>,
+    alloc: Global,
+    scan: &ScanResult,
+) -> Result<bool, FolderError>
+    ensures fresh { IfOk result (λ fresh. IsTrue fresh ↔ (map.get store.old.contents scan.now.name ≡ scan.now.node)) }
+    ensures same { store.new.contents ≡ store.old.contents }
+    ensures counted { CountsCall store.old store.new result }
+{
+    let node = store.read(alloc, scan.name())?;
+    Ok(same_node(node.as_ref(), scan.node()))
+}
+
+// Puts a record of what was found, unless the own one is clean against it.
+fn record_found(
+    index: &mut Index,
+    alloc: Global,
+    kind: FolderKind,
+    device: DeviceId,
+    scan: ScanResult,
+) -> Result<Moved, FolderError>
+    ensures { Records kind device scan index.old index.new result }
+{
+    if is_clean(scan.node(), index.get(scan.name())) {
+        return Ok(Moved::Unchanged);
+    }
+    put_found(index, alloc, kind, device, scan)?;
+    Ok(Moved::Changed)
+}
+
+// Puts the record of what was found in the place of the own one.
+fn put_found(
+    index: &mut Index,
+    alloc: Global,
+    kind: FolderKind,
+    device: DeviceId,
+    scan: ScanResult,
+) -> Result<(), FolderError>
+    requires { ¬ IsClean scan.node (map.get index.old.records scan.name) }
+    ensures ok { OnOk result (PutsFound kind device scan index.old index.new) }
+    ensures refused { IfErr result (IsNotPut kind device scan index.old) }
+    ensures err { OnErr result (index.new ≡ index.old) }
+{
+    let own = index.get(scan.name());
+    let entry = found(alloc, kind, device, scan, own)?;
+    put_record(index, entry)
 }
 
 /// Puts the record under its name, with the index's refusals.

@@ -48,8 +48,7 @@ impl<S: Store> Replica<S> {
         ensures uncopied { self.new.trace.copied ≡ false }
     {
         self.store.begin();
-        let node = self.store.read(self.alloc, name)?;
-        if node.is_none() {
+        if self.store.lacks(self.alloc, name)? {
             return Err(FolderError::NothingToDo);
         }
         self.store.remove(name)?;

@@ -1,20 +1,22 @@
 //! Revert: in a receive-only folder a change of the device's own is given up.
-ghost use Rattle.std.specs.Prelude.{◌≡◌, false, Some, IfSome, IfNone, IsSome};
+ghost use Rattle.std.specs.Prelude.{◌≡◌, ◌↔◌, false, IsSome, IsTrue};
 ghost use Rattle.std.specs.Option.{option_copied};
 ghost use Rattle.std.specs.FinMap as map;
 ghost use Rattle.bep_machine.specs.Local.{IsLocalOnly, RevertRow};
 ghost use Rattle.bep_machine.specs.Replica.{node_at};
 ghost use Rattle.bep_folder.specs.Makes.{Makes, Stays, CountsFaults};
-ghost use Rattle.bep_folder.specs.Revert.{CallsInRevert, PutsAndRemoves};
+ghost use Rattle.bep_folder.specs.Revert.{CallsInRevert, GivesUp, PutsAndRemoves};
 
 use crate::deletion::deletion;
 use crate::error::index_error;
+use crate::settle::remove_node;
 use crate::traced::Traced;
 use crate::{FolderError, Replica};
 use bep_index::Index;
 use bep_machine::Moved;
-use bep_record::{FolderKind, Name, Node, Record, Vector};
+use bep_record::{DeviceId, FolderKind, Name, Node, Record, Vector};
 use bep_store::Store;
+use std::alloc::Global;
 
 impl<S: Store> Replica<S> {
     /// Gives up the device's own change of the name, as a user of a receive-only folder does: its node is removed, if
@@ -38,29 +40,53 @@ impl<S: Store> Replica<S> {
         if self.kind != FolderKind::ReceiveOnly {
             return Err(FolderError::KindForbids);
         }
-        let Some(own) = local_only(self.index.get(name)) else {
+        if !is_local_only(self.index.get(name)) {
             return Err(FolderError::NothingToDo);
-        };
-        let node = self.store.read(self.alloc, name)?;
-        if !own.clean(node.as_ref()) {
-            return Err(FolderError::Unscanned);
         }
-        let named = name.copy(self.alloc)?;
-        let gone = deletion(self.alloc, self.device, named, own, Vector::empty());
-        put_and_remove(&mut self.index, &mut self.store, name, gone, node.as_ref())?;
-        Ok(Moved::Changed)
+        let node = self.store.read(self.alloc, name)?;
+        give_up(
+            &mut self.index,
+            &mut self.store,
+            self.alloc,
+            self.device,
+            name,
+            node.as_ref(),
+        )
     }
 }
 
-// The record, if it is marked local-only.
-fn local_only(own: Option<&Record>) -> Option<&Record>
-    ensures marked { IfSome result (λ one. (option_copied own.entry ≡ Some one.now) × IsLocalOnly (Some one.now)) }
-    ensures none { IfNone result (¬ IsLocalOnly (option_copied own.entry)) }
+// Whether the record is marked local-only.
+fn is_local_only(own: Option<&Record>) -> bool
+    ensures { IsTrue result ↔ IsLocalOnly (option_copied own.entry) }
 {
     match own {
-        Some(own) if own.entry().invalid => Some(own),
-        _ => None,
+        Some(own) => own.entry().invalid,
+        None => false,
     }
+}
+
+// Puts a deletion in the place of the local-only record, and takes the node away, if there is one. Refuses `Unscanned`
+// where the node isn't what the record says.
+fn give_up<S: Store>(
+    index: &mut Index,
+    store: &mut Traced<S>,
+    alloc: Global,
+    device: DeviceId,
+    name: &Name,
+    node: Option<&Node>,
+) -> Result<Moved, FolderError>
+    requires marked { IsLocalOnly (map.get index.old.records name.now) }
+    requires node { map.get store.old.contents name.now ≡ option_copied node }
+    ensures { GivesUp device name.now (option_copied node.entry) index.old index.new store.old store.new result }
+{
+    let Some(own) = index.get(name) else {
+        unreachable!()
+    };
+    if !own.clean(node) {
+        return Err(FolderError::Unscanned);
+    }
+    let gone = deletion(alloc, device, name.copy(alloc)?, own, Vector::empty());
+    put_and_remove(index, store, name, gone, node)
 }
 
 // Puts the record and takes the node away, if there is one. The record is put first, since that can be taken back
@@ -71,7 +97,7 @@ fn put_and_remove<S: Store>(
     name: &Name,
     entry: Record,
     node: Option<&Node>,
-) -> Result<(), FolderError>
+) -> Result<Moved, FolderError>
     requires recorded { IsSome (map.get index.old.records name.now) }
     requires named { entry.name ≡ name.now }
     requires node { map.get store.old.contents name.now ≡ option_copied node }
@@ -81,11 +107,8 @@ fn put_and_remove<S: Store>(
         Ok(undo) => undo,
         Err(error) => return Err(index_error(error)),
     };
-    if node.is_none() {
-        return Ok(());
-    }
-    match store.remove(name) {
-        Ok(()) => Ok(()),
+    match remove_node(store, name, node) {
+        Ok(()) => Ok(Moved::Changed),
         Err(error) => {
             index.undo(undo);
             Err(error)

@@ -1,10 +1,11 @@
 //! The writes at the end of a pull.
-ghost use Rattle.std.specs.Prelude.{◌≡◌, ◌≢◌, ◌≤◌, ◌↔◌, ⊤, false, IsTrue, IsSome, IsErr, OnOk, Some, None};
+ghost use Rattle.std.specs.Prelude.{◌≡◌, ◌≢◌, ◌≤◌, ◌↔◌, ⊤, false, IfErr, IsTrue, IsSome, IsErr, OnOk, Some, None};
 ghost use Rattle.std.specs.Option.{option_copied};
 ghost use Rattle.std.specs.FinMap as map;
 ghost use Rattle.bep_machine.specs.Pull.{IsFile, IsMissingBlocks, timed};
 ghost use Rattle.bep_record.specs.declared.limits.TheConstants.{MAX_NANOSECONDS};
 ghost use Rattle.bep_folder.specs.Ending.{Stores, WritesAll, WritesTarget, with_copy};
+ghost use Rattle.bep_folder.specs.Revert.{after_removal};
 
 use crate::traced::Traced;
 use crate::{FolderError, Pull};
@@ -113,13 +114,15 @@ fn has_time(node: &Node, entry: &Entry) -> bool
 }
 
 // Takes the node away, if there is one.
-fn remove_node<S: Store>(
+pub(crate) fn remove_node<S: Store>(
     store: &mut Traced<S>,
     name: &Name,
     node: Option<&Node>,
 ) -> Result<(), FolderError>
     requires node { map.get store.old.contents name.now ≡ option_copied node }
-    ensures { Stores name.now None (None ≢ option_copied node.entry) store.old store.new result }
+    ensures removed { Stores name.now None (None ≢ option_copied node.entry) store.old store.new result }
+    ensures made { store.new.made ≡ after_removal (option_copied node.entry) store.old.made }
+    ensures only { IfErr result (λ e. e ≡ FolderError.StoreFault) }
 {
     match node {
         Some(_) => store.remove(name),

@@ -96,12 +96,25 @@ fn put_in(
     ensures err { OnErr result (pulls.new ≡ pulls.old) }
 {
     match pulls.replace(name, pull) {
-        Ok(_) => Ok(()),
-        Err(pull) => {
-            pulls.insert(name.copy(alloc)?, pull)?;
-            Ok(())
-        }
+        Ok(_replaced) => Ok(()),
+        Err(pull) => put_first(pulls, alloc, name, pull),
     }
+}
+
+// Puts the pull under the name, which has none.
+fn put_first(
+    pulls: &mut NameMap<Pull>,
+    alloc: Global,
+    name: &Name,
+    pull: Pull,
+) -> Result<(), FolderError>
+    ensures ok { OnOk result (pulls.new ≡ map.insert pulls.old name.now pull) }
+    ensures only { IfErr result (λ e. e ≡ FolderError.Memory) }
+    ensures err { OnErr result (pulls.new ≡ pulls.old) }
+{
+    let named = name.copy(alloc)?;
+    pulls.insert(named, pull)?;
+    Ok(())
 }
 
 // The same beside this own record, if there is one.

@@ -1,5 +1,5 @@
 //! A store whose calls are counted: which one of the current action failed, and whether it wrote a conflict copy.
-ghost use Rattle.std.specs.Prelude.{◌≡◌, true, None, IfOk, IfErr, OnOk, OnErr};
+ghost use Rattle.std.specs.Prelude.{◌≡◌, ◌↔◌, true, None, IsTrue, IfOk, IfErr, OnOk, OnErr};
 ghost use Rattle.std.specs.FinMap as map;
 ghost use Rattle.bep_store.specs.Store.{after_set_time};
 ghost use Rattle.bep_store.specs.Sure.{NeverFails};
@@ -112,6 +112,16 @@ impl<S: Store> Traced<S> {
             Ok(node) => Ok(node),
             Err(error) => Err(self.noted(error)),
         }
+    }
+
+    // Whether the name has no node.
+    pub(crate) fn lacks(&mut self, alloc: Global, name: &Name) -> Result<bool, FolderError>
+        ensures lacks { IfOk result (λ lacks. IsTrue lacks ↔ (map.get self.old.contents name.now ≡ None)) }
+        ensures same { self.new.contents ≡ self.old.contents }
+        ensures counted { CountsCall self.old self.new result }
+    {
+        let node = self.read(alloc, name)?;
+        Ok(node.is_none())
     }
 
     // Gives the name a copy of the node.

@@ -11,6 +11,7 @@ use Rattle.bep_record.specs.declared.block.Block.{Block}
 use Rattle.bep_index.specs.Listing.{Listing}
 use Rattle.bep_index.specs.View.{cleared}
 use Rattle.bep_model.specs.Tables.{Device, Folder, FileName}
+use Rattle.bep_machine.specs.declared.message.Message.{Message}
 use Rattle.bep_machine.specs.declared.message.Message.TheVariants as messages
 use Rattle.bep_machine.specs.declared.message.Request.{Request}
 use Rattle.bep_machine.specs.declared.refusal.Refusal.TheVariants.{LinkFull, NothingToDo}
@@ -111,8 +112,9 @@ module _ (other : Device) (folder : Folder) (name : FileName) (sight : Sight) (p
     pub no_room : sight.full ≡ true → AskRow other folder name sight peer (idle peer) (Refuses LinkFull)
     no_room filled = asking _ _ (inr (λ none. none (block, can), inl (filled, (refl, refl))))
 
-    pub next_is : (request : Request) → sight.full ≡ false → request ≡ request_for session folder name block → IsNextAsked other folder name sight peer request
-    next_is request room is = record {
+    pub next_is : (request : Request) (message : Message) → sight.full ≡ false → request ≡ request_for session folder name block → message ≡ messages.Request request →
+        IsNextAsked other folder name sight peer request message
+    next_is request message room is sent = record {
       session = session;
       over = over;
       next = record { few = can.few; left = can.numbered; number = ap (λ (r : Request). r.id) is };
@@ -121,7 +123,7 @@ module _ (other : Device) (folder : Folder) (name : FileName) (sight : Sight) (p
         λ none. none (block, can),
         inr (
           (λ filled. absurd (cc)),
-          (block, can, (ap (λ (r : Request). record { peer = with_session peer other (with_request session r); deed = sending (messages.Request r) }) is, refl)),
+          (block, can, (let whole = sent ∙ ap messages.Request is in λ i. record { peer = with_session peer other (with_request session (is i)); deed = sending (whole i) }, refl)),
         ),
       ));
     }

@@ -1,5 +1,5 @@
 -- The ends of a device's action over a link, as a step of the table: refused, want of memory, or done.
-use Rattle.std.proofs.Common.{◌≡◌, Some, Err, refl, sym, ap, subst, ◌∙◌, inl, inr}
+use Rattle.std.proofs.Common.{◌≡◌, ◌<◌, Option, Some, Err, refl, sym, ap, subst, ◌∙◌, inl, inr, arith}
 use Rattle.std.specs.FinMap.{insert}
 use Rattle.bep_model.specs.Tables.{Device}
 use Rattle.bep_machine.specs.declared.message.Message.{Message}
@@ -9,12 +9,14 @@ use Rattle.bep_machine.specs.Answer.{Answer, Row, Done, Refused as Refuses}
 use Rattle.bep_machine.specs.Exchange.{SessionRow}
 use Rattle.bep_machine.specs.Link.{End, Lower, Upper, Link, Sight, end_of, sight_of, after_deed, nothing_done, sending}
 use Rattle.bep_machine.specs.Peer.{Session, Peer, Acted, idle, with_session}
+use Rattle.bep_machine.specs.Replica.{ByDevice}
+use Rattle.bep_folder.specs.Held.{Held}
 use Rattle.bep_links.specs.Link.{LinkBetween}
 use Rattle.bep_peer.specs.declared.error.PeerError.{PeerError}
 use Rattle.bep_peer.specs.declared.error.PeerError.TheVariants.{Refused, Stale, Memory}
 use Rattle.bep_peer.specs.InSession.{IsOver, MayRefuse, NothingDone}
-use Rattle.bep_peer.specs.Lent.{Lent, Joins, IsAtHand, StepOver, twice, untold_over}
-use Rattle.bep_peer.specs.Member.{Member, tables_of, untold}
+use Rattle.bep_peer.specs.Lent.{Lent, Joins, IsAtHand, OnlySessions, StepOver, twice, untold_over}
+use Rattle.bep_peer.specs.Member.{Member, Remains, nothing_told, tables_of, untold}
 use Rattle.bep_peer.specs.PeerError.{Gives}
 
 -- the device and the link, once an action began
@@ -24,6 +26,42 @@ begun_with old begun = record { member = begun; link = old.link }
 pub nothing_carried : (end : End) (link : Link) → link ≡ after_deed end nothing_done link
 nothing_carried Lower link = refl
 nothing_carried Upper link = refl
+
+-- ---- what stays
+
+-- where the sessions alone changed, no store failed once more
+remains_of : (old new : Member) → OnlySessions old new → Remains old new
+remains_of old new only =
+    subst (λ (member : Member). Remains old member) (sym only)
+    (record {
+      number = refl;
+      linked = refl;
+      failed = (
+        λ some. absurd (cc),
+        λ failed. absurd (
+            let found : Some failed.was ≡ Some failed.now = sym failed.before ∙ failed.after in
+            let one : failed.was ≡ failed.now = cc in
+            let rose = subst (λ (h : Held). h.faults < failed.now.faults) one failed.rose in omega arith
+            ),
+      );
+    })
+
+-- an action began, and nothing else was done
+pub begun_remains : (old begun : Member) → begun ≡ untold old → Remains old begun
+begun_remains old begun same = remains_of old begun (subst (λ (member : Member). OnlySessions old member) (sym same) refl)
+
+-- a message was sent, and the sessions became these
+module _ (old begun sent new : Member) (put : Option (Message × Message)) (sessions : ByDevice Session) (same : begun ≡ untold old) (told : sent ≡ record begun { trace = record begun.trace { put = put } }) (is : new ≡ record sent { sessions = sessions }) where
+  pub sent_only : OnlySessions old new
+  sent_only =
+      let whole : new ≡ record old { sessions = sessions; trace = record nothing_told { put = put } } =
+      is ∙ ap (λ (member : Member). record member { sessions = sessions }) (told ∙ ap (λ (member : Member). record member { trace = record member.trace { put = put } }) same) in
+      subst (λ (member : Member). OnlySessions old member) (sym whole) refl
+
+  pub sent_remains : Remains old new
+  sent_remains = remains_of old new sent_only
+
+-- ---- the ends
 
 module _ (row : Device → Sight → Peer → Row Acted) (shares : Device → Peer → Type 0) where
   -- something that the step names isn't at hand

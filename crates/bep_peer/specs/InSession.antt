@@ -6,7 +6,6 @@ use Rattle.bep_record.specs.Content.{content_of}
 use Rattle.bep_index.specs.declared.send.Plan.TheVariants.{Above}
 use Rattle.bep_model.specs.Tables.{Device, Folder, FileName}
 use Rattle.bep_machine.specs.declared.message.Message.{Message}
-use Rattle.bep_machine.specs.declared.message.Message.TheVariants as messages
 use Rattle.bep_machine.specs.declared.message.Request.{Request}
 use Rattle.bep_machine.specs.declared.moved.Moved.TheVariants.{Changed}
 use Rattle.bep_machine.specs.Answer.{Row, Done, Refused as Refuses}
@@ -49,13 +48,13 @@ pub record IsNextAnnounced (other : Device) (folder : Folder) (sight : Sight) (p
 
 -- ---- asking for a block
 
--- this request is the next of the session for a block of the file
-pub record IsNextAsked (other : Device) (folder : Folder) (name : FileName) (sight : Sight) (peer : Peer) (request : Request) : Type 0 where
+-- this request is the next of the session for a block of the file, and this its message
+pub record IsNextAsked (other : Device) (folder : Folder) (name : FileName) (sight : Sight) (peer : Peer) (request : Request) (message : Message) : Type 0 where
   pub session : Session
   pub over : IsOver other sight peer session
   pub next : IsNext session request
   pub room : sight.full ≡ false
-  pub made : AskRow other folder name sight peer (record { peer = with_session peer other (with_request session request); deed = sending (messages.Request request) }) (Done Changed)
+  pub made : AskRow other folder name sight peer (record { peer = with_session peer other (with_request session request); deed = sending message }) (Done Changed)
 
 -- the device knows the other one to have this content under the name, not marked invalid
 pub record IsOffered (other : Device) (name : FileName) (replica : Replica) (target : Entry) : Type 0 where

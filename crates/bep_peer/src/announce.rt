@@ -1,14 +1,13 @@
 //! What a device sends of its index.
-ghost use Rattle.std.specs.Prelude.{◌≡◌, ◌↔◌, ◌≤◌, take, drop, IsTrue, IfOk};
-ghost use Rattle.bep_index.specs.declared.limits.TheConstants.{MAX_NAMES, MAX_RECORDS};
+ghost use Rattle.std.specs.Prelude.{◌≡◌, ◌↔◌, IsTrue, IfOk};
+ghost use Rattle.bep_index.specs.declared.limits.TheConstants.{MAX_RECORDS};
 ghost use Rattle.bep_index.specs.After.{IsAfter};
-ghost use Rattle.bep_index.specs.Batch.{IsBatch, last_sequence};
-ghost use Rattle.bep_index.specs.Order.{in_order};
+ghost use Rattle.bep_index.specs.Batch.{last_sequence};
 ghost use Rattle.bep_machine.specs.Exchange.{IsAllSent, index_message, sent_up_to};
 
 use bep_index::{Batch, Index, MAX_RECORDS, Plan};
 use bep_machine::Message;
-use bep_record::{FolderName, Record};
+use bep_record::FolderName;
 use std::alloc::{AllocError, Global};
 
 /// The records that are sent next: the first 1000 above the cursor, or want of memory.
@@ -17,27 +16,11 @@ use std::alloc::{AllocError, Global};
 pub fn next_batch(alloc: Global, index: &Index, cursor: Plan) -> Result<Batch, AllocError>
     ensures { IfOk result (λ batch. IsAfter index.now.records (sent_up_to cursor) MAX_RECORDS batch) }
 {
-    let first = index.place_above(sent_up_to(cursor));
-    let found = records_from(alloc, index, first)?;
+    let found = index.after(alloc, sent_up_to(cursor), MAX_RECORDS)?;
     match Batch::new(found) {
         Ok(batch) => Ok(batch),
         Err(_) => unreachable!(),
     }
-}
-
-// The first 1000 records from the place on, by rising sequence.
-fn records_from(alloc: Global, index: &Index, first: usize) -> Result<Vec<Record>, AllocError>
-    requires { first ≤ MAX_NAMES }
-    ensures { IfOk result (λ found. found.items ≡ take MAX_RECORDS (drop first (in_order index.now.records))) }
-{
-    let mut found = Vec::new(alloc);
-    for taken in 0..MAX_RECORDS {
-        match index.at(first + taken) {
-            Some(entry) => found.push(entry.copy(alloc)?)?,
-            None => return Ok(found),
-        }
-    }
-    Ok(found)
 }
 
 /// Whether nothing is left to send: an empty Index is sent all the same.

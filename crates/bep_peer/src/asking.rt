@@ -3,7 +3,8 @@ ghost use Rattle.std.specs.Prelude.{◌≡◌, ◌↔◌, false, Some, IsTrue, I
 ghost use Rattle.std.specs.Option.{option_copied};
 ghost use Rattle.std.specs.FinMap as map;
 ghost use Rattle.bep_record.specs.declared.block.Block.{Block as BlockOf};
-ghost use Rattle.bep_machine.specs.Exchange.{AskRow, CanAsk, SharesWith, next_block};
+ghost use Rattle.bep_machine.specs.declared.message.Message.TheVariants as messages;
+ghost use Rattle.bep_machine.specs.Exchange.{AskRow, CanAsk, SharesWith, next_block, request_for};
 ghost use Rattle.bep_machine.specs.Link.{end_of, sight_of};
 ghost use Rattle.bep_machine.specs.Peer.{Session as SessionOf};
 ghost use Rattle.bep_machine.specs.Replica.{HasContentOf, viewed_at};
@@ -21,6 +22,7 @@ use bep_machine::{Message, Moved, Refusal, Request};
 use bep_map::DeviceMap;
 use bep_record::{Block, DeviceId, FolderName, Name, Record};
 use bep_store::Store;
+use std::alloc::{AllocError, Global};
 
 impl<S: Store> Peer<S> {
     /// Asks the other device at the link for the first block of the name's pull that is neither received nor asked for in
@@ -46,23 +48,22 @@ impl<S: Store> Peer<S> {
         let Some(other) = self.sharing(link, folder) else {
             return Err(PeerError::Refused(Refusal::NotShared));
         };
-        let request = self.next_asked(link, other, folder, name)?;
-        let message = Message::Request(request.copy(self.alloc)?);
+        let (request, message) = self.next_asked(link, other, folder, name)?;
         self.send_told(link, other, message)?;
         self.keep_request(other, request);
         Ok(Moved::Changed)
     }
 
-    // The next request for a block of the file, or the first refusal that is due.
+    // The next request for a block of the file, with its message; or the first refusal that is due.
     fn next_asked(
         &self,
         link: &Link,
         other: DeviceId,
         folder: &FolderName,
         name: &Name,
-    ) -> Result<Request, PeerError>
+    ) -> Result<(Request, Message), PeerError>
         requires { SharesWith other (tables_of self.now) folder.now }
-        ensures ok { IfOk result (λ request. IsNextAsked other folder.now name.now (sight_of (end_of self.now.number other) link.now.link) (tables_of self.now) request) }
+        ensures ok { IfOk result (λ next. IsNextAsked other folder.now name.now (sight_of (end_of self.now.number other) link.now.link) (tables_of self.now) next.0 next.1) }
         ensures refused { IfErr result (λ e. MayRefuse (AskRow other folder.now name.now (sight_of (end_of self.now.number other) link.now.link) (tables_of self.now)) (tables_of self.now) e) }
     {
         let session = self.must_be_in_session(link, other)?;
@@ -75,7 +76,7 @@ impl<S: Store> Peer<S> {
         if is_full(link, side_of(self.number, other)) {
             return Err(PeerError::Refused(Refusal::LinkFull));
         }
-        Ok(session.next_request(self.alloc, folder, name, &block)?)
+        Ok(request_for(self.alloc, session, folder, name, &block)?)
     }
 
     // The request was sent: it is outstanding from now on.
@@ -85,6 +86,22 @@ impl<S: Store> Peer<S> {
     {
         ask_in(&mut self.sessions, other, request);
     }
+}
+
+// The session's next request for the block, with its message.
+fn request_for(
+    alloc: Global,
+    session: &Session,
+    folder: &FolderName,
+    name: &Name,
+    block: &Block,
+) -> Result<(Request, Message), AllocError>
+    ensures request { IfOk result (λ next. next.0 ≡ request_for session.now folder.now name.now block.now) }
+    ensures message { IfOk result (λ next. next.1 ≡ messages.Request next.0) }
+{
+    let request = session.next_request(alloc, folder, name, block)?;
+    let message = Message::Request(request.copy(alloc)?);
+    Ok((request, message))
 }
 
 // The request was sent to the other device.

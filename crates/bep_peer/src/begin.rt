@@ -1,5 +1,5 @@
 //! Beginning a session.
-ghost use Rattle.std.specs.Prelude.{◌≡◌, true, false, Some, IsSome, IfErr, OnOk, OnErr, Err};
+ghost use Rattle.std.specs.Prelude.{◌≡◌, true, false, Some, IsSome, IfOk, IfErr, OnOk, OnErr, Err};
 ghost use Rattle.std.specs.FinMap as map;
 ghost use Rattle.bep_links.specs.Side.{end_at};
 ghost use Rattle.bep_machine.specs.declared.message.Message.TheVariants as messages;
@@ -13,13 +13,14 @@ ghost use Rattle.bep_peer.specs.PeerError.{Gives};
 ghost use Rattle.bep_peer.specs.declared.error.PeerError.TheVariants.{Memory};
 
 use crate::config::config_for;
-use crate::ends::{is_full, send, side_of};
+use crate::ends::{is_full, send_copied, side_of};
 use crate::{Peer, PeerError, Session};
 use bep_links::{Link, Side};
 use bep_machine::{Message, Moved, Refusal};
 use bep_map::DeviceMap;
 use bep_record::{DeviceId, Items};
 use bep_store::Store;
+use std::alloc::Global;
 
 impl<S: Store> Peer<S> {
     /// Begins a session over the link, in place of an older one, and sends the other device a ClusterConfig. Refuses, in
@@ -67,34 +68,41 @@ impl<S: Store> Peer<S> {
         ensures err { OnErr result ((self.new ≡ self.old) × (link.new ≡ link.old)) }
     {
         let named = Items::new(config_for(self.alloc, &self.folders, other)?);
-        let message = Message::ClusterConfig(named);
-        let told = (message.copy(self.alloc)?, message.copy(self.alloc)?);
         let session = Session::new(self.alloc, link.epoch())?;
-        let side = side_of(self.number, other);
-        give_and_send(&mut self.sessions, other, session, link, side, message)?;
+        let told = give_and_send(
+            &mut self.sessions,
+            self.alloc,
+            other,
+            session,
+            link,
+            side_of(self.number, other),
+            Message::ClusterConfig(named),
+        )?;
         self.trace.tell_sent(Some(told));
         Ok(())
     }
 }
 
-// Gives the other device's session and sends the message, or neither.
+// Gives the other device's session and sends the message, of which it answers two copies; or neither.
 fn give_and_send(
     sessions: &mut DeviceMap<Session>,
+    alloc: Global,
     other: DeviceId,
     session: Session,
     link: &mut Link,
     side: Side,
     message: Message,
-) -> Result<(), PeerError>
+) -> Result<(Message, Message), PeerError>
     requires up { link.old.link.up ≡ true }
     requires room { (sight_of (end_at side) link.old.link).full ≡ false }
+    ensures copied { IfOk result (λ told. told ≡ (message, message)) }
     ensures ok { OnOk result ((sessions.new ≡ map.insert sessions.old other session) × (link.new ≡ record link.old { link = after_deed (end_at side) (sending message) link.old.link })) }
     ensures only { IfErr result (λ e. e ≡ Memory) }
     ensures err { OnErr result ((sessions.new ≡ sessions.old) × (link.new ≡ link.old)) }
 {
     let before = sessions.insert(other, session)?;
-    match send(link, side, message) {
-        Ok(()) => Ok(()),
+    match send_copied(alloc, link, side, message) {
+        Ok(told) => Ok(told),
         Err(error) => {
             give_back(sessions, other, before);
             Err(error)

@@ -1,9 +1,9 @@
 //! What a ClusterConfig says, and what it asks of a device.
-ghost use Rattle.std.specs.Prelude.{◌≡◌, ◌↔◌, IsTrue, IfOk};
+ghost use Rattle.std.specs.Prelude.{◌≡◌, ◌↔◌, ◌++◌, IsTrue, IfOk, OnOk};
 ghost use Rattle.bep_machine.specs.Exchange.{NamesNot, NamesOnce, cursor_after};
 ghost use Rattle.bep_machine.specs.Peer.{announced, is_shared_with};
 ghost use Rattle.bep_machine.specs.Replica.{view_of};
-ghost use Rattle.bep_peer.specs.Config.{config_of};
+ghost use Rattle.bep_peer.specs.Config.{config_of, said_of};
 
 use bep_folder::Replica;
 use bep_index::{Index, Plan, plan};
@@ -65,11 +65,25 @@ pub(crate) fn config_for<S: Store>(
 {
     let mut named = Vec::new(alloc);
     for (folder, replica) in folders.iter() {
-        if is_shared_with(replica, other) {
-            named.push(announced(alloc, folder, replica, other)?)?;
-        }
+        name_in(&mut named, alloc, folder, replica, other)?;
     }
     Ok(named)
+}
+
+// Adds what it says of the folder, if the other device shares it.
+fn name_in<S: Store>(
+    named: &mut Vec<Announced>,
+    alloc: Global,
+    folder: &FolderName,
+    replica: &Replica<S>,
+    other: DeviceId,
+) -> Result<(), AllocError>
+    ensures { OnOk result (named.new.items ≡ named.old.items ++ said_of other (folder.now, replica.now)) }
+{
+    if is_shared_with(replica, other) {
+        named.push(announced(alloc, folder, replica, other)?)?;
+    }
+    Ok(())
 }
 
 /// Whether the other device shares the folder.

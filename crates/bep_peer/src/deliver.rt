@@ -1,9 +1,10 @@
 //! Taking what came over a link.
-ghost use Rattle.std.specs.Prelude.{◌≡◌, true, false, Some, IsSome, IfOk, IfErr, OnErr};
+ghost use Rattle.std.specs.Prelude.{◌≡◌, true, false, Some, IsSome, IfOk, IfErr, OnErr, drop};
 ghost use Rattle.std.specs.FinMap as map;
+ghost use Rattle.bep_links.specs.Link.{with_queue_to};
 ghost use Rattle.bep_links.specs.Side.{end_at};
 ghost use Rattle.bep_machine.specs.Exchange.{DeliverRow, MessageRow, WaitingRow};
-ghost use Rattle.bep_machine.specs.Link.{end_of, sight_of, after_deed};
+ghost use Rattle.bep_machine.specs.Link.{end_of, sight_of, after_deed, queue_to};
 ghost use Rattle.bep_machine.specs.Peer.{Session as SessionOf};
 ghost use Rattle.bep_peer.specs.Delivered.{TellsRead};
 ghost use Rattle.bep_peer.specs.Effect.{TellsAnswer, Takes, deed_of, moved_of};
@@ -13,7 +14,7 @@ ghost use Rattle.bep_peer.specs.PeerError.{Gives};
 ghost use Rattle.bep_peer.specs.declared.error.PeerError.TheVariants.{Memory};
 
 use crate::effect::Effect;
-use crate::ends::{is_full, send, side_of};
+use crate::ends::{is_full, send_copied, side_of};
 use crate::{Peer, PeerError};
 use bep_links::{Link, Side};
 use bep_machine::{Message, Moved, Refusal};
@@ -108,14 +109,12 @@ fn carry_out(
 {
     match effect {
         Effect::Taken => {
-            let _message = link.pop(side);
+            forget_first(link, side);
             Ok((Moved::Changed, None))
         }
         Effect::Answered(response) => {
-            let message = Message::Response(response);
-            let told = (message.copy(alloc)?, message.copy(alloc)?);
-            send(link, side, message)?;
-            let _message = link.pop(side);
+            let told = send_copied(alloc, link, side, Message::Response(response))?;
+            forget_first(link, side);
             Ok((Moved::Changed, Some(told)))
         }
         Effect::Lost => match link.lose() {
@@ -123,4 +122,11 @@ fn carry_out(
             Err(_) => unreachable!(),
         },
     }
+}
+
+// The first message on its way to this end goes.
+fn forget_first(link: &mut Link, side: Side)
+    ensures { link.new ≡ record link.old { link = with_queue_to (end_at side) (drop 1 (queue_to (end_at side) link.old.link)) link.old.link } }
+{
+    let _message = link.pop(side);
 }

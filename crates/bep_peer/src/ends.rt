@@ -1,5 +1,5 @@
 //! A link as a device at one of its ends sees it, and what the device sends over it.
-ghost use Rattle.std.specs.Prelude.{◌≡◌, true, false, IfErr, OnOk, OnErr};
+ghost use Rattle.std.specs.Prelude.{◌≡◌, true, false, IfOk, IfErr, OnOk, OnErr};
 ghost use Rattle.bep_links.specs.Side.{end_at};
 ghost use Rattle.bep_machine.specs.Link.{end_of, sight_of, sending, after_deed};
 ghost use Rattle.bep_peer.specs.declared.error.PeerError.TheVariants.{Memory};
@@ -8,6 +8,7 @@ use crate::PeerError;
 use bep_links::{Link, LinkError, Side};
 use bep_machine::Message;
 use bep_record::DeviceId;
+use std::alloc::{AllocError, Global};
 
 /// The end of the first device, of a link between the two.
 pub(crate) fn side_of(device: DeviceId, other: DeviceId) -> Side
@@ -27,8 +28,8 @@ pub(crate) fn is_full(link: &Link, side: Side) -> bool
     link.is_full(side.opposite())
 }
 
-/// Sends the message from this end. It fails only for want of memory, and then all is as before.
-pub(crate) fn send(link: &mut Link, side: Side, message: Message) -> Result<(), PeerError>
+// Sends the message from this end. It fails only for want of memory, and then all is as before.
+fn send(link: &mut Link, side: Side, message: Message) -> Result<(), PeerError>
     requires up { link.old.link.up ≡ true }
     requires room { (sight_of (end_at side) link.old.link).full ≡ false }
     ensures ok { OnOk result (link.new ≡ record link.old { link = after_deed (end_at side) (sending message) link.old.link }) }
@@ -40,4 +41,30 @@ pub(crate) fn send(link: &mut Link, side: Side, message: Message) -> Result<(), 
         Err(LinkError::Memory) => Err(PeerError::Memory),
         Err(_) => unreachable!(),
     }
+}
+
+/// Sends the message from this end, and answers two copies of it. It fails only for want of memory, and then all is as
+/// before.
+pub(crate) fn send_copied(
+    alloc: Global,
+    link: &mut Link,
+    side: Side,
+    message: Message,
+) -> Result<(Message, Message), PeerError>
+    requires up { link.old.link.up ≡ true }
+    requires room { (sight_of (end_at side) link.old.link).full ≡ false }
+    ensures copied { IfOk result (λ told. told ≡ (message, message)) }
+    ensures ok { OnOk result (link.new ≡ record link.old { link = after_deed (end_at side) (sending message) link.old.link }) }
+    ensures only { IfErr result (λ e. e ≡ Memory) }
+    ensures err { OnErr result (link.new ≡ link.old) }
+{
+    let told = two_copies(alloc, &message)?;
+    send(link, side, message)?;
+    Ok(told)
+}
+
+fn two_copies(alloc: Global, message: &Message) -> Result<(Message, Message), AllocError>
+    ensures { IfOk result (λ told. told ≡ (message.now, message.now)) }
+{
+    Ok((message.copy(alloc)?, message.copy(alloc)?))
 }

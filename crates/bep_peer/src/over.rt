@@ -7,7 +7,7 @@ ghost use Rattle.bep_peer.specs.Member.{tables_of};
 ghost use Rattle.bep_peer.specs.declared.error.PeerError.TheVariants.{Memory};
 
 use crate::config::is_shared_with;
-use crate::ends::{send, side_of};
+use crate::ends::{send_copied, side_of};
 use crate::{Peer, PeerError};
 use bep_links::Link;
 use bep_machine::Message;
@@ -52,8 +52,8 @@ impl<S: Store> Peer<S> {
         ensures only { IfErr result (λ e. e ≡ Memory) }
         ensures err { OnErr result ((self.new ≡ self.old) × (link.new ≡ link.old)) }
     {
-        let told = (message.copy(self.alloc)?, message.copy(self.alloc)?);
-        send(link, side_of(self.number, other), message)?;
+        let side = side_of(self.number, other);
+        let told = send_copied(self.alloc, link, side, message)?;
         self.trace.tell_sent(Some(told));
         Ok(())
     }

@@ -79,6 +79,6 @@ impl<S: Store> Told<S> {
     pub(crate) fn tell_sent(&mut self, put: Option<(Message, Message)>)
         ensures { self.new ≡ record self.old { put = put } }
     {
-        self.trace.put = put;
+        self.trace.tell_sent(put);
     }
 }

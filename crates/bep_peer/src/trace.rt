@@ -37,4 +37,11 @@ impl Trace {
         self.copied = copied;
         self.put = None;
     }
+
+    // This message was sent, of which these are two copies, or none was.
+    pub(crate) fn tell_sent(&mut self, put: Option<(Message, Message)>)
+        ensures { self.new ≡ record self.old { put = put } }
+    {
+        self.put = put;
+    }
 }

@@ -26,4 +26,4 @@ returns-in-None g c =
     let target : c.target-target.result.now ≡ c.args.pull.now.target = c.target-target.ensures.value in
     let whole : ¬ IsMissingBlocks c.args.pull.now = misses_nothing c.args.pull.now (subst (λ e. IsWellFormed e) target c.entry-entry.ensures.well_formed) c.target-target.ensures.a_pull (λ file. c.requires.complete file c.if-same.false) in
     let is : None ≡ written c.args.pull.now = ap option_copied (sym c.in-None.is) ∙ c.node.ensures whole in
-    (None, subst (λ s. EndsIn s (option_copied c.args.node) c.args.pull.now None) (sym c.if-same.false) is, Stores-for {called = None ≢ option_copied c.args.node} {other = CallsIn c.args.same (option_copied c.args.node) c.args.pull.now.target None} c.args.name.now None c.args.store.now c.remove_node.new.store c.remove_node.result (λ apart. inl apart) c.remove_node.ensures)
+    (None, subst (λ s. EndsIn s (option_copied c.args.node) c.args.pull.now None) (sym c.if-same.false) is, Stores-for {called = None ≢ option_copied c.args.node} {other = CallsIn c.args.same (option_copied c.args.node) c.args.pull.now.target None} c.args.name.now None c.args.store.now c.remove_node.new.store c.remove_node.result (λ apart. inl apart) c.remove_node.ensures.removed)

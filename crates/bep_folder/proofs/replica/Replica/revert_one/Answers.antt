@@ -1,60 +1,36 @@
-use Rattle.std.proofs.Common.{rules, ◌≡◌, [], Ok, Err, subst}
+use Rattle.std.proofs.Common.{rules, subst}
 use Rattle.std.specs.Option.{option_copied}
-use Rattle.std.proofs.lemmas.Result.{err_from_is_err_and}
-use Rattle.bep_record.specs.declared.entry.Entry.{Entry}
-use Rattle.bep_machine.specs.Local.{deletion_of}
-use Rattle.bep_folder.specs.Revert.{PutsAndRemoves}
+use Rattle.bep_folder.specs.Held.{Held}
+use Rattle.bep_folder.specs.Revert.{GivesUp}
 use Rattle.bep_folder.proofs.HeldFacts.{held_of}
-use Rattle.bep_folder.proofs.RevertFacts.{Reverting, revert_done, revert_refused}
+use Rattle.bep_folder.proofs.RevertFacts.{IsLeft, IsReverted, Reverting, given_up}
+use Rattle.bep_folder.proofs.replica.Replica.revert_one.Given.{Over}
 use Rattle.bep_folder.proofs.replica.Replica.revert_one.Goals as goal
 
-pub returns-clause-reverted : goal.returns-clause-reverted
-returns-clause-reverted g c =
-    let own = c.in-Some.own.now in
-    let name = c.args.name.now in
-    let there = option_copied c.as_ref-2.result in
-    let old = c.args.self.now in
-    let known : Reverting name own there old.tables c.read.new.self = record {
-      only = search rules;
-      held = search rules;
-      marked = search rules;
-      found = search rules;
-      clean = search rules;
-      contents = search rules;
-      made = search rules;
-      trace = search rules;
-    } in
-    let gone : c.deletion-gone.result ≡ deletion_of old.device name own [] = search rules in
-    let same : c.self.inside.index ≡ old.tables.index = search rules in
-    revert_done old.device name own there old.tables c.read.new.self known _ c.put_and_remove.new.index c.put_and_remove.new.store
-    (subst (λ index. PutsAndRemoves name (deletion_of old.device name own []) there index c.put_and_remove.new.index c.read.new.self c.put_and_remove.new.store (Ok tt)) same
-    (subst (λ (e : Entry). PutsAndRemoves name e there c.self.inside.index c.put_and_remove.new.index c.read.new.self c.put_and_remove.new.store (Ok tt)) gone c.in_ok-put_and_remove.ensures))
-    (search rules)
+abbrev now : (g : Over) → goal.Joined-node g → Held
+now g c = held_of c.self.inside.device c.self.inside.folder c.self.inside.kind c.self.inside.others c.give_up.new.index c.self.inside.views c.self.inside.pulls c.give_up.new.store
 
-pub returns-in_err-put_and_remove-clause-reverted : goal.returns-in_err-put_and_remove-clause-reverted
-returns-in_err-put_and_remove-clause-reverted g c =
-    let own = c.in-Some.own.now in
-    let name = c.args.name.now in
-    let there = option_copied c.as_ref-2.result in
-    let old = c.args.self.now in
-    let known : Reverting name own there old.tables c.read.new.self = record {
+done : (g : Over) (c : goal.Joined-node g) → IsReverted c.args.self.now.device c.args.name.now c.args.self.now (now g c) c.give_up.result
+done g c =
+    let there = option_copied c.as_ref.result in
+    let known : Reverting c.args.name.now there c.args.self.now c.read.new.self = record {
       only = search rules;
-      held = search rules;
       marked = search rules;
       found = search rules;
-      clean = search rules;
       contents = search rules;
+      faults = search rules;
       made = search rules;
       trace = search rules;
     } in
-    let now = c.put_and_remove.new.store in
-    let new = held_of c.self.inside.device c.self.inside.folder c.self.inside.kind c.self.inside.others c.put_and_remove.new.index c.self.inside.views c.self.inside.pulls now in
-    let gone : c.deletion-gone.result ≡ deletion_of old.device name own [] = search rules in
-    let same : c.self.inside.index ≡ old.tables.index = search rules in
-    let e = c.in_err-put_and_remove.field-0.0 in
-    let error = err_from_is_err_and c.from_residual-in_err-put_and_remove.result c.from_residual-in_err-put_and_remove.ensures.1 in
-    rw (error.1, error.2)
-    (revert_refused old.device name own there old new c.put_and_remove.new.index c.read.new.self now e known
-    (subst (λ index. PutsAndRemoves name (deletion_of old.device name own []) there index c.put_and_remove.new.index c.read.new.self now (Err e)) same
-    (subst (λ (x : Entry). PutsAndRemoves name x there c.self.inside.index c.put_and_remove.new.index c.read.new.self now (Err e)) gone c.in_err-put_and_remove.ensures))
-    (search rules) (search rules))
+    let left : IsLeft c.args.self.now (now g c) c.give_up.new.index c.give_up.new.store = record { tables = search rules; faults = search rules; made = search rules; trace = search rules } in
+    given_up c.args.self.now.device c.args.name.now there c.args.self.now (now g c) c.read.new.self known c.give_up.new.index c.give_up.new.store left c.give_up.result
+    (subst (λ (h : Held). GivesUp h.device c.args.name.now there h.tables.index c.give_up.new.index c.read.new.self c.give_up.new.store c.give_up.result) c.self.view_is c.give_up.ensures)
+
+pub returns-clause-reverted : goal.returns-clause-reverted
+returns-clause-reverted g c = (done g c).reverted
+
+pub returns-clause-counted : goal.returns-clause-counted
+returns-clause-counted g c = (done g c).counted
+
+pub returns-clause-called : goal.returns-clause-called
+returns-clause-called g c = (done g c).called

@@ -1,17 +1,13 @@
-use Rattle.std.proofs.Common.{◌≡◌, Some, sym, subst}
+use Rattle.std.proofs.Common.{◌≡◌, ◌∙◌, Some, sym, subst}
 use Rattle.std.proofs.lemmas.Result.{err_from_is_err_and}
 use Rattle.std.specs.FinMap as map
-use Rattle.bep_machine.specs.declared.message.Message.TheVariants as messages
-use Rattle.bep_machine.specs.declared.message.Request.{Request}
-use Rattle.bep_machine.specs.declared.moved.Moved.TheVariants.{Changed}
-use Rattle.bep_machine.specs.Answer.{Done}
 use Rattle.bep_machine.specs.Exchange.{AskRow}
-use Rattle.bep_machine.specs.Link.{end_of, sight_of, sending}
-use Rattle.bep_machine.specs.Peer.{Session, with_session}
+use Rattle.bep_machine.specs.Peer.{Session}
 use Rattle.bep_peer.specs.Lent.{NamesFolder}
-use Rattle.bep_peer.specs.Member.{Member, tables_of}
+use Rattle.bep_peer.specs.Member.{Member}
 use Rattle.bep_peer.specs.Session.{IsNext, with_request}
-use Rattle.bep_peer.proofs.StepFacts.{refused_as_not_shared, refused_as, sent_as}
+use Rattle.bep_peer.proofs.StepFacts.{begun_remains, refused_as_not_shared, refused_as, sent_as, sent_only, sent_remains}
+use Rattle.bep_peer.proofs.peer.Peer.ask.Given.{Over}
 use Rattle.bep_peer.proofs.peer.Peer.ask.Goals as goal
 
 pub returns-in_default-clause-step : goal.returns-in_default-clause-step
@@ -29,11 +25,31 @@ keep_request-requires g c =
     let next = c.in_ok-request.ensures.ok in
     subst (λ (member : Member). (session : Session) × (map.get member.sessions c.in-Some.other ≡ Some session) × IsNext session c.in_ok-request.request) (sym c.in_ok-send_told.ensures.ok.0) (next.session, next.over.current.0, next.next)
 
+pub returns-in_default-clause-rest : goal.returns-in_default-clause-rest
+returns-in_default-clause-rest g c = begun_remains c.args.self.now c.tell_nothing.new.self c.tell_nothing.ensures
+
+pub returns-in_err-request-clause-rest : goal.returns-in_err-request-clause-rest
+returns-in_err-request-clause-rest g c = begun_remains c.args.self.now c.tell_nothing.new.self c.tell_nothing.ensures
+
+pub returns-in_err-send_told-clause-rest : goal.returns-in_err-send_told-clause-rest
+returns-in_err-send_told-clause-rest g c = begun_remains c.args.self.now c.send_told.new.self (c.in_err-send_told.ensures.err.0 ∙ c.tell_nothing.ensures)
+
+-- the session of the one that was sent to
+kept : (g : Over) (c : goal.After-keep_request g) → c.keep_request.new.self ≡ record c.send_told.new.self { sessions = map.insert c.send_told.new.self.sessions c.in-Some.other (with_request c.in_ok-request.ensures.ok.session c.in_ok-request.request) }
+kept g c =
+    let next = c.in_ok-request.ensures.ok in
+    let has = subst (λ (member : Member). map.get member.sessions c.in-Some.other ≡ Some next.session) (sym c.in_ok-send_told.ensures.ok.0) next.over.current.0 in
+    c.keep_request.ensures next.session has next.next
+
 pub returns-clause-step : goal.returns-clause-step
 returns-clause-step g c =
     let next = c.in_ok-request.ensures.ok in
     let sent = c.in_ok-send_told.ensures.ok in
-    let has = subst (λ (member : Member). map.get member.sessions c.in-Some.other ≡ Some next.session) (sym sent.0) next.over.current.0 in
-    let made = subst (λ (one : Request). AskRow c.in-Some.other c.args.folder.now c.args.name.now (sight_of (end_of c.tell_nothing.new.self.number c.in-Some.other) c.args.link.now.link) (tables_of c.tell_nothing.new.self) (record { peer = with_session (tables_of c.tell_nothing.new.self) c.in-Some.other (with_request next.session c.in_ok-request.request); deed = sending (messages.Request one) }) (Done Changed)) (sym c.in_ok-copy.ensures) next.made in
     sent_as (λ other. AskRow other c.args.folder.now c.args.name.now) (NamesFolder c.args.folder.now) (record { member = c.args.self.now; link = c.args.link.now }) c.tell_nothing.new.self c.send_told.new.self c.keep_request.new.self c.send_told.new.link c.in-Some.other
-    (with_request next.session c.in_ok-request.request) (messages.Request c.in_ok-copy.field-0) c.tell_nothing.ensures c.in-Some.ensures.some.0 c.in-Some.ensures.some.1 made sent.0 sent.1 (c.keep_request.ensures next.session has next.next)
+    (with_request next.session c.in_ok-request.request) c.in_ok-request.message c.tell_nothing.ensures c.in-Some.ensures.some.0 c.in-Some.ensures.some.1 next.made sent.0 sent.1 (kept g c)
+
+pub returns-clause-rest : goal.returns-clause-rest
+returns-clause-rest g c = sent_remains c.args.self.now c.tell_nothing.new.self c.send_told.new.self c.keep_request.new.self _ _ c.tell_nothing.ensures c.in_ok-send_told.ensures.ok.0 (kept g c)
+
+pub returns-clause-only : goal.returns-clause-only
+returns-clause-only g c = sent_only c.args.self.now c.tell_nothing.new.self c.send_told.new.self c.keep_request.new.self _ _ c.tell_nothing.ensures c.in_ok-send_told.ensures.ok.0 (kept g c)

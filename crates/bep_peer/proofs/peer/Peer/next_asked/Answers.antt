@@ -27,4 +27,4 @@ pub returns-clause-ok : goal.returns-clause-ok
 returns-clause-ok g c =
     let has = subst (λ (member : Member). map.get member.folders c.args.folder.now ≡ Some c.in-Some.replica.now) c.self.view_is (sym c.get.ensures ∙ ap option_copied c.in-Some.is) in
     next_is c.args.other c.args.folder.now c.args.name.now (sight_of (end_of c.args.self.now.number c.args.other) c.args.link.now.link) (tables_of c.args.self.now) c.in_ok-session.session.now c.in-Some.replica.now.tables c.in_ok-session.ensures.ok
-    (tables_held c.args.self.now.folders c.args.folder.now c.in-Some.replica.now has) c.in-Some-block_to_ask.block c.in-Some-block_to_ask.ensures.some c.in_ok-next_request.field-0 (search rules) c.in_ok-next_request.ensures
+    (tables_held c.args.self.now.folders c.args.folder.now c.in-Some.replica.now has) c.in-Some-block_to_ask.block c.in-Some-block_to_ask.ensures.some c.in_ok-request_for.field-0.0 c.in_ok-request_for.field-0.1 (search rules) c.in_ok-request_for.ensures.request c.in_ok-request_for.ensures.message
