@@ -1,4 +1,5 @@
 pub mod Answer
+pub mod Asked
 pub mod Certified
 pub mod Exchange
 pub mod Explained

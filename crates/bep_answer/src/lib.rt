@@ -12,22 +12,23 @@
 //! and `run_document` answer to a scenario.
 #![tactic(auto)]
 
+mod answers;
 mod certify;
 mod check;
 mod document;
 mod ending;
+mod exchange;
 mod explain;
-mod hints;
 mod json;
 mod outcome;
 mod play;
+mod questions;
 mod refusal;
 mod run;
 
-pub use certify::{certified, certify_text};
-pub use check::{check_text, checked};
-pub use document::run_document;
-pub use explain::{explain_text, explained};
-pub use hints::Hinted;
+pub use answers::{
+    certified, certify_text, check_text, checked, explain_text, explained, ran, run_document,
+    run_text,
+};
+pub use exchange::Hinted;
 pub use outcome::{Certified, Form, Outcome};
-pub use run::{ran, run_text};

@@ -160,21 +160,15 @@ on_link from to links flight h =
     carried a b flights carries (Some link) e there = let ends = link_has_ends a b links link e in (link, ends.0, carries link ends.1 ends.2 there)
 
 -- and what a link carries is on its way between its ends
+where_found : (cut : CutParts) (link : LinkState) (flight : Flight) (flights : LinkState → List Flight) → IsCut cut → Contains cut.links link → Contains (flights link) flight → Contains (unwrap_or (option_map flights (link_of link.a link.b cut.links)) []) flight
+where_found cut link flight flights is_cut h there =
+    subst (λ found. Contains (unwrap_or (option_map flights found) []) flight) (sym (link_is_found cut link is_cut h)) there
+
 flies_to_a : (cut : CutParts) (link : LinkState) (flight : Flight) → IsCut cut → Contains cut.links link → Contains link.to_a flight → Contains (flights_of link.b link.a cut.links) flight
-flies_to_a cut link flight is_cut h there =
-    Contains-append_right
-    (unwrap_or (option_map (λ (one : LinkState). one.to_b) (link_of link.b link.a cut.links)) [])
-    (unwrap_or (option_map (λ (one : LinkState). one.to_a) (link_of link.a link.b cut.links)) [])
-    flight
-    (subst (λ found. Contains (unwrap_or (option_map (λ (one : LinkState). one.to_a) found) []) flight) (sym (link_is_found cut link is_cut h)) there)
+flies_to_a cut link flight is_cut h there = Contains-append_right _ _ flight (where_found cut link flight (λ one. one.to_a) is_cut h there)
 
 flies_to_b : (cut : CutParts) (link : LinkState) (flight : Flight) → IsCut cut → Contains cut.links link → Contains link.to_b flight → Contains (flights_of link.a link.b cut.links) flight
-flies_to_b cut link flight is_cut h there =
-    Contains-append_left
-    (unwrap_or (option_map (λ (one : LinkState). one.to_b) (link_of link.a link.b cut.links)) [])
-    (unwrap_or (option_map (λ (one : LinkState). one.to_a) (link_of link.b link.a cut.links)) [])
-    flight
-    (subst (λ found. Contains (unwrap_or (option_map (λ (one : LinkState). one.to_b) found) []) flight) (sym (link_is_found cut link is_cut h)) there)
+flies_to_b cut link flight is_cut h there = Contains-append_left _ _ flight (where_found cut link flight (λ one. one.to_b) is_cut h there)
 
 -- a message that one device sends to another, as the tables have it
 flying_from : (cut : CutParts) (sender device : Device) (flight : Flight) (folder : Folder) (name : FileName) (entry : Entry) → Shares (tables_of cut) sender flight.folder → Contains (flights_of sender device cut.links) flight → HasRecord flight folder name entry → IsFlying (tables_of cut) device folder name entry

@@ -5,8 +5,7 @@ ghost use Rattle.serde_json.specs.View.{view};
 ghost use Rattle.bep_document.specs.Reading.{Answers, AnswersBy};
 ghost use Rattle.bep_tables.specs.document.Written.{cut_written, row_written, check_of, cut_of_document, cut_of_tree};
 
-use crate::document::records::rows_from;
-use crate::document::written::all_in_order;
+use crate::document::written::{all_as_listed, all_in_order};
 use crate::{Cut, CutParts, DocError};
 use bep_document::{
     CheckParts, read_cut_document, read_cut_parts, read_parts, readings_are_faultless,
@@ -65,6 +64,6 @@ fn check_from(alloc: Global, parts: CheckParts) -> Result<(Cut, Vec<Row>), Alloc
     records_make_an_index();
     let folders = all_in_order(alloc, parts.folders)?;
     let links = all_in_order(alloc, parts.links)?;
-    let rows = rows_from(alloc, parts.certificate)?;
-    Ok((Cut::of(CutParts { folders, links }), rows))
+    let rows = all_as_listed(alloc, parts.certificate)?;
+    Ok((Cut::of(CutParts { folders, links }), rows.into_vec()))
 }

@@ -1,16 +1,14 @@
-//! Records, nodes and rows, made of what a document says of them.
-ghost use Rattle.std.specs.Prelude.{◌≡◌, IfOk, OnOk, map};
+//! Records and nodes, made of what a document says of them.
+ghost use Rattle.std.specs.Prelude.{◌≡◌, IfOk, OnOk};
 ghost use Rattle.std.specs.List.{AllByRecursion};
 ghost use Rattle.std.specs.FinMap.{empty, insert};
 ghost use Rattle.bep_record.specs.Entry.{IsWellFormed};
 ghost use Rattle.bep_record.specs.Node.{IsNode};
 ghost use Rattle.bep_index.specs.Batch.{with_all};
-ghost use Rattle.bep_tables.specs.document.Written.{with_nodes, row_written};
+ghost use Rattle.bep_tables.specs.document.Written.{with_nodes};
 
-use bep_document::RowParts;
 use bep_json::NamedParts;
 use bep_map::NameMap;
-use bep_model::Row;
 use bep_record::{Entry, Items, Node, Record};
 use std::alloc::{AllocError, Global};
 
@@ -38,7 +36,8 @@ fn put_record(records: &mut NameMap<Record>, alloc: Global, entry: Entry) -> Res
     Ok(())
 }
 
-fn record_of(entry: Entry) -> Record
+// The record that the entry is.
+pub(crate) fn record_of(entry: Entry) -> Record
     requires { IsWellFormed entry }
     ensures { result ≡ entry }
 {
@@ -81,27 +80,4 @@ fn put_node(held: &mut NameMap<Node>, node: NamedParts) -> Result<(), AllocError
 {
     held.insert(node.name, Node::read(node.parts).unwrap())?;
     Ok(())
-}
-
-// The rows of the certificate, as they stand.
-pub(crate) fn rows_from(alloc: Global, parts: Items<RowParts>) -> Result<Vec<Row>, AllocError>
-    requires { AllByRecursion (λ row. IsWellFormed row.entry) parts }
-    ensures { IfOk result (λ rows. rows.items ≡ map row_written parts) }
-{
-    let mut rows = Vec::with_capacity(alloc, parts.as_slice().len())?;
-    for part in parts.into_vec() {
-        rows.push(row_from(part))?;
-    }
-    Ok(rows)
-}
-
-fn row_from(parts: RowParts) -> Row
-    requires { IsWellFormed parts.entry }
-    ensures { result ≡ row_written parts }
-{
-    Row {
-        folder: parts.folder,
-        device: parts.device,
-        entry: record_of(parts.entry),
-    }
 }

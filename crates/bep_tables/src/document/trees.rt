@@ -17,7 +17,7 @@ use crate::{Flight, LinkState, PeerView, Row, Share, SharedFolder};
 use bep_index::IndexId;
 use bep_json::{node_value, record_value, texts_are_told};
 use bep_map::NameMap;
-use bep_record::{DeviceId, FolderKind, FolderName, Node, Record};
+use bep_record::{DeviceId, FolderKind, FolderName, Items, Node, Record};
 use serde_json::{Value, json};
 use std::alloc::{AllocError, Global};
 
@@ -51,6 +51,15 @@ pub(crate) fn list_tree<T: Written>(alloc: Global, items: &[T]) -> Result<Value,
         trees.push(tree)?;
     }
     Ok(Value::Array(trees))
+}
+
+// The same of items.
+fn items_tree<T: Written>(alloc: Global, items: &Items<T>) -> Result<Value, AllocError>
+    ensures value { IfOk result (λ v. view v ≡ list_of (map T.tree_of items.now)) }
+    ensures told { OnOk result (AllByRecursion T.is_told items.now) }
+    ensures sound { OnOk result (AllByRecursion T.is_sound items.now) }
+{
+    list_tree(alloc, items.as_slice())
 }
 
 // The records of a table, names rising.
@@ -163,7 +172,7 @@ impl Written for Share {
         let own = records_tree(alloc, &self.own)?;
         let pulls = records_tree(alloc, &self.pulls)?;
         let store = nodes_tree(alloc, &self.store)?;
-        let views = list_tree(alloc, self.views.as_slice())?;
+        let views = items_tree(alloc, &self.views)?;
         let tree = share_members(alloc, self, own, pulls, store, views)?;
         Ok(tree)
     }
@@ -205,7 +214,7 @@ impl Written for SharedFolder {
 
     fn tree(&self, alloc: Global) -> Result<Value, AllocError> {
         folder_is_told(&self.folder);
-        let devices = list_tree(alloc, self.shares.as_slice())?;
+        let devices = items_tree(alloc, &self.shares)?;
         let tree = folder_members(alloc, self, devices)?;
         Ok(tree)
     }
@@ -241,7 +250,7 @@ impl Written for Flight {
 
     fn tree(&self, alloc: Global) -> Result<Value, AllocError> {
         folder_is_told(&self.folder);
-        let records = list_tree(alloc, self.records.as_slice())?;
+        let records = items_tree(alloc, &self.records)?;
         let tree = flight_members(alloc, self, records)?;
         Ok(tree)
     }
@@ -265,8 +274,8 @@ impl Written for LinkState {
     fn tree(&self, alloc: Global) -> Result<Value, AllocError> {
         device_is_told(self.a);
         device_is_told(self.b);
-        let to_a = list_tree(alloc, self.to_a.as_slice())?;
-        let to_b = list_tree(alloc, self.to_b.as_slice())?;
+        let to_a = items_tree(alloc, &self.to_a)?;
+        let to_b = items_tree(alloc, &self.to_b)?;
         let tree = link_members(alloc, self, to_a, to_b)?;
         Ok(tree)
     }

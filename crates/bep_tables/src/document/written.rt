@@ -1,39 +1,36 @@
-//! Folders and links, made of what a document says of them.
+//! Folders, links and rows, made of what a document says of them.
 ghost use Rattle.std.specs.Prelude.{◌≡◌, IfOk, [], map};
 ghost use Rattle.std.specs.List.{AllByRecursion, filter};
 ghost use Rattle.bep_record.specs.Entry.{IsWellFormed};
 ghost use Rattle.bep_document.specs.Faultless.{IsFaultlessIndex, IsFaultlessShare, IsFaultlessFolder};
 ghost use Rattle.bep_tables.specs.document.Sorting.{in_order};
-ghost use Rattle.bep_tables.specs.document.Written.{AreWellFormed, IsWellFormedLink, has_point, view_written, share_written, folder_written, flight_written, link_written};
+ghost use Rattle.bep_tables.specs.document.Written.{IsWellFormedLink, has_point, view_written, share_written, folder_written, flight_written, link_written, row_written};
 
-use crate::document::records::{nodes_by_name, records_as_listed, records_by_name};
+use crate::document::records::{nodes_by_name, record_of, records_as_listed, records_by_name};
 use crate::document::sorting::{Ordered, place};
-use crate::{Flight, LinkState, PeerView, Share, SharedFolder};
-use bep_document::{FlightParts, FolderParts, LinkParts, ShareParts, ViewParts};
+use crate::{Flight, LinkState, PeerView, Row, Share, SharedFolder};
+use bep_document::{FlightParts, FolderParts, LinkParts, RowParts, ShareParts, ViewParts};
 use bep_record::Items;
 use std::alloc::{AllocError, Global};
 
-/// What stands in order in a cut, made of what a document says of it.
-pub(crate) trait FromParts: Ordered + Drop {
-    /// What the document says of it.
-    type Parts: Drop;
-
+/// What stands in lists of a cut or a certificate, made of what a document says of it.
+pub(crate) trait FromParts<P>: Drop {
     /// Which parts it can be made of.
-    ghost is_sound: { Self.Parts → Type 0 };
+    ghost is_sound: { P → Type 0 };
 
     /// What is made of the parts.
-    ghost made_of: { Self.Parts → Self };
+    ghost made_of: { P → Self };
 
     /// What is made of the parts, or want of memory.
-    fn from_parts(alloc: Global, parts: Self::Parts) -> Result<Self, AllocError>
+    fn from_parts(alloc: Global, parts: P) -> Result<Self, AllocError>
         requires { is_sound parts }
         ensures { IfOk result (λ made. made ≡ made_of parts) };
 }
 
 // What is made of each of these parts, in order.
-pub(crate) fn all_in_order<T: FromParts>(
+pub(crate) fn all_in_order<P: Drop, T: FromParts<P> + Ordered>(
     alloc: Global,
-    parts: Items<T::Parts>,
+    parts: Items<P>,
 ) -> Result<Items<T>, AllocError>
     requires { AllByRecursion T.is_sound parts }
     ensures { IfOk result (λ made. made ≡ in_order T.order [] (map T.made_of parts)) }
@@ -46,9 +43,23 @@ pub(crate) fn all_in_order<T: FromParts>(
     Ok(Items::new(made))
 }
 
-impl FromParts for SharedFolder {
-    type Parts = FolderParts;
+// What is made of each of these parts, as they stand in the document.
+pub(crate) fn all_as_listed<P: Drop, T: FromParts<P>>(
+    alloc: Global,
+    parts: Items<P>,
+) -> Result<Items<T>, AllocError>
+    requires { AllByRecursion T.is_sound parts }
+    ensures { IfOk result (λ made. made ≡ map T.made_of parts) }
+{
+    let mut made = Vec::with_capacity(alloc, parts.as_slice().len())?;
+    for part in parts.into_vec() {
+        let one = T::from_parts(alloc, part)?;
+        made.push(one)?;
+    }
+    Ok(Items::new(made))
+}
 
+impl FromParts<FolderParts> for SharedFolder {
     ghost is_sound = { IsFaultlessFolder };
 
     ghost made_of = { folder_written };
@@ -61,9 +72,7 @@ impl FromParts for SharedFolder {
     }
 }
 
-impl FromParts for Share {
-    type Parts = ShareParts;
-
+impl FromParts<ShareParts> for Share {
     ghost is_sound = { IsFaultlessShare };
 
     ghost made_of = { share_written };
@@ -91,9 +100,7 @@ fn known_views(views: Items<ViewParts>) -> Items<ViewParts>
     Items::new(views)
 }
 
-impl FromParts for PeerView {
-    type Parts = ViewParts;
-
+impl FromParts<ViewParts> for PeerView {
     ghost is_sound = { λ view. IsFaultlessIndex view.max view.records };
 
     ghost made_of = { view_written };
@@ -108,9 +115,7 @@ impl FromParts for PeerView {
     }
 }
 
-impl FromParts for LinkState {
-    type Parts = LinkParts;
-
+impl FromParts<LinkParts> for LinkState {
     ghost is_sound = { IsWellFormedLink };
 
     ghost made_of = { link_written };
@@ -121,32 +126,36 @@ impl FromParts for LinkState {
             b: link.b,
             up: link.up,
             epoch: link.epoch,
-            to_a: flights_from(alloc, link.to_a)?,
-            to_b: flights_from(alloc, link.to_b)?,
+            to_a: all_as_listed(alloc, link.to_a)?,
+            to_b: all_as_listed(alloc, link.to_b)?,
         })
     }
 }
 
-// The messages, as they stand in the document.
-fn flights_from(alloc: Global, parts: Items<FlightParts>) -> Result<Items<Flight>, AllocError>
-    requires { AreWellFormed parts }
-    ensures { IfOk result (λ made. made ≡ map flight_written parts) }
-{
-    let mut flights = Vec::with_capacity(alloc, parts.as_slice().len())?;
-    for part in parts.into_vec() {
-        let flight = flight_from(alloc, part)?;
-        flights.push(flight)?;
+impl FromParts<FlightParts> for Flight {
+    ghost is_sound = { λ flight. AllByRecursion IsWellFormed flight.records };
+
+    ghost made_of = { flight_written };
+
+    fn from_parts(alloc: Global, flight: FlightParts) -> Result<Self, AllocError> {
+        Ok(Flight {
+            folder: flight.folder,
+            full: flight.full,
+            records: records_as_listed(alloc, flight.records)?,
+        })
     }
-    Ok(Items::new(flights))
 }
 
-fn flight_from(alloc: Global, parts: FlightParts) -> Result<Flight, AllocError>
-    requires { AllByRecursion IsWellFormed parts.records }
-    ensures { IfOk result (λ made. made ≡ flight_written parts) }
-{
-    Ok(Flight {
-        folder: parts.folder,
-        full: parts.full,
-        records: records_as_listed(alloc, parts.records)?,
-    })
+impl FromParts<RowParts> for Row {
+    ghost is_sound = { λ row. IsWellFormed row.entry };
+
+    ghost made_of = { row_written };
+
+    fn from_parts(_alloc: Global, row: RowParts) -> Result<Self, AllocError> {
+        Ok(Row {
+            folder: row.folder,
+            device: row.device,
+            entry: record_of(row.entry),
+        })
+    }
 }

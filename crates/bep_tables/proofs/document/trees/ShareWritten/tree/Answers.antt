@@ -1,19 +1,14 @@
-use Rattle.std.proofs.Common.{subst}
-use Rattle.std.specs.List.{AllByRecursion}
-use Rattle.bep_tables.specs.document.Sound.{IsViewSound}
-use Rattle.bep_tables.specs.document.Told.{IsViewTold}
 use Rattle.bep_tables.proofs.document.ToldFacts.{share_says}
 use Rattle.bep_tables.proofs.document.trees.ShareWritten.tree.Goals as goal
 
 pub returns-clause-told : goal.returns-clause-told
 returns-clause-told c =
-    let views = subst (AllByRecursion IsViewTold) c.as_slice.ensures c.in_ok-views.ensures.told in
-    share_says c.args.self.now c.device_is_told.ensures c.index_is_told.ensures c.in_ok-own.ensures.told c.in_ok-store.ensures.told views c.in_ok-pulls.ensures.told
+    share_says c.args.self.now c.device_is_told.ensures c.index_is_told.ensures c.in_ok-own.ensures.told c.in_ok-store.ensures.told c.in_ok-views.ensures.told c.in_ok-pulls.ensures.told
 
 pub returns-clause-sound : goal.returns-clause-sound
 returns-clause-sound c = record {
   own = c.in_ok-own.ensures.sound;
   store = c.in_ok-store.ensures.sound;
-  views = subst (AllByRecursion IsViewSound) c.as_slice.ensures c.in_ok-views.ensures.sound;
+  views = c.in_ok-views.ensures.sound;
   pulls = c.in_ok-pulls.ensures.sound;
 }

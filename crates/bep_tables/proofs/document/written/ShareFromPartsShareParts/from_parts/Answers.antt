@@ -4,7 +4,7 @@ use Rattle.bep_document.specs.declared.parts.ViewParts.{ViewParts}
 use Rattle.bep_document.specs.Faultless.{IsFaultlessIndex}
 use Rattle.bep_tables.specs.document.Written.{has_point}
 use Rattle.bep_tables.specs.Kept.{all_kept}
-use Rattle.bep_tables.proofs.document.written.ShareFromParts.from_parts.Goals as goal
+use Rattle.bep_tables.proofs.document.written.ShareFromPartsShareParts.from_parts.Goals as goal
 
 pub all_in_order-requires : goal.all_in_order-requires
 all_in_order-requires c =

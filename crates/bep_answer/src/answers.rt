@@ -1,0 +1,169 @@
+//! What is answered of a document, from the bytes that come in to the bytes that go out.
+ghost use Rattle.std.specs.Prelude.{◌≡◌, IfOk, IfErr};
+ghost use Rattle.bep_answer.specs.Answer.{IsAnswerOfBytes, SaysSettled};
+ghost use Rattle.bep_answer.specs.Certified.{IsCertifiedOfBytes};
+ghost use Rattle.bep_answer.specs.Exchange.{IsEndedEarly, IsWhole};
+ghost use Rattle.bep_answer.specs.Explained.{IsExplainedOfBytes};
+ghost use Rattle.bep_answer.specs.Played.{EndsSettled, IsEndOfBytes, IsRunOfBytes};
+ghost use Rattle.bep_answer.specs.declared.outcome.Form.TheVariants.{Text};
+ghost use Rattle.bep_answer.specs.declared.outcome.Outcome.TheVariants as outcomes;
+
+use crate::exchange::{Hinted, exchange};
+use crate::outcome::{Certified, Form, Outcome};
+use crate::questions::{AuditOf, CertificateOf};
+use bep_machine::{settled_stays_put, settled_stays_settled};
+use bep_report::ReportError;
+use std::alloc::Global;
+use std::io::{Read, Write};
+
+/// Reads a check document, audits it, and writes the report, or the line of the fault for which it is refused. At most
+/// 67108865 bytes are read.
+///
+/// `Read` and `Write` are answered where the reader or the writer answers any error, or takes nothing; `Memory` may come
+/// in place of an answer. Only after `Write` a beginning of the text may be written, and else nothing. `Settled` means
+/// that what was read is a cut and a certificate that are settled.
+pub fn check_text<R: Read, W: Write>(
+    alloc: Global,
+    reader: &mut R,
+    writer: &mut W,
+) -> Result<Outcome, ReportError>
+    ensures ok { IfOk result (IsWhole IsAnswerOfBytes (R.remaining reader.old) (R.remaining reader.new) (W.contents writer.old) (W.contents writer.new)) }
+    ensures err { IfErr result (IsEndedEarly IsAnswerOfBytes (R.remaining reader.old) (R.remaining reader.new) (W.contents writer.old) (W.contents writer.new)) }
+    ensures settled { IfOk result (λ outcome. outcome ≡ outcomes.Settled → SaysSettled (R.remaining reader.old) (R.remaining reader.new)) }
+{
+    let (outcome, _) = checked(alloc, reader, writer)?;
+    Ok(outcome)
+}
+
+/// The same, with a hint on where a refused document is at fault.
+pub fn checked<R: Read, W: Write>(
+    alloc: Global,
+    reader: &mut R,
+    writer: &mut W,
+) -> Result<Hinted<Outcome>, ReportError>
+    ensures ok { IfOk result (λ told. IsWhole IsAnswerOfBytes (R.remaining reader.old) (R.remaining reader.new) (W.contents writer.old) (W.contents writer.new) told.0) }
+    ensures err { IfErr result (IsEndedEarly IsAnswerOfBytes (R.remaining reader.old) (R.remaining reader.new) (W.contents writer.old) (W.contents writer.new)) }
+    ensures settled { IfOk result (λ told. told.0 ≡ outcomes.Settled → SaysSettled (R.remaining reader.old) (R.remaining reader.new)) }
+{
+    settled_stays_put();
+    settled_stays_settled();
+    exchange(alloc, AuditOf::Cut, reader, writer)
+}
+
+/// Reads the cut of a check document, whose certificate may be missing and isn't looked at, and writes the check document
+/// of that cut with the list of its names' winners, on a line; or the line of the first known name that has none; or that
+/// of the fault for which the document is refused. At most 67108865 bytes are read. The document that is written reads back
+/// as the cut and its winners, where it isn't longer than a document may be.
+///
+/// `Read` and `Write` are answered where the reader or the writer answers any error, or takes nothing; `Memory` may come
+/// in place of an answer. Only after `Write` a beginning of the text may be written, and else nothing.
+pub fn certify_text<R: Read, W: Write>(
+    alloc: Global,
+    reader: &mut R,
+    writer: &mut W,
+) -> Result<Certified, ReportError>
+    ensures ok { IfOk result (IsWhole IsCertifiedOfBytes (R.remaining reader.old) (R.remaining reader.new) (W.contents writer.old) (W.contents writer.new)) }
+    ensures err { IfErr result (IsEndedEarly IsCertifiedOfBytes (R.remaining reader.old) (R.remaining reader.new) (W.contents writer.old) (W.contents writer.new)) }
+{
+    let (outcome, _) = certified(alloc, reader, writer)?;
+    Ok(outcome)
+}
+
+/// The same, with a hint on where a refused document is at fault.
+pub fn certified<R: Read, W: Write>(
+    alloc: Global,
+    reader: &mut R,
+    writer: &mut W,
+) -> Result<Hinted<Certified>, ReportError>
+    ensures ok { IfOk result (λ told. IsWhole IsCertifiedOfBytes (R.remaining reader.old) (R.remaining reader.new) (W.contents writer.old) (W.contents writer.new) told.0) }
+    ensures err { IfErr result (IsEndedEarly IsCertifiedOfBytes (R.remaining reader.old) (R.remaining reader.new) (W.contents writer.old) (W.contents writer.new)) }
+{
+    exchange(alloc, CertificateOf::Cut, reader, writer)
+}
+
+/// Reads a check document, and writes the line of each reason that fails, at each place at which it fails, with what a
+/// person asks next below it, indented; `settled` alone where nothing fails; or the line of the fault for which the
+/// document is refused. At most 67108865 bytes are read.
+///
+/// `Read` and `Write` are answered where the reader or the writer answers any error, or takes nothing; `Memory` may come
+/// in place of an answer. Only after `Write` a beginning of the text may be written, and else nothing.
+pub fn explain_text<R: Read, W: Write>(
+    alloc: Global,
+    reader: &mut R,
+    writer: &mut W,
+) -> Result<Outcome, ReportError>
+    ensures ok { IfOk result (IsWhole (IsExplainedOfBytes Text) (R.remaining reader.old) (R.remaining reader.new) (W.contents writer.old) (W.contents writer.new)) }
+    ensures err { IfErr result (IsEndedEarly (IsExplainedOfBytes Text) (R.remaining reader.old) (R.remaining reader.new) (W.contents writer.old) (W.contents writer.new)) }
+{
+    let (outcome, _) = explained(alloc, Form::Text, reader, writer)?;
+    Ok(outcome)
+}
+
+/// The same in one of two forms, with a hint on where a refused document is at fault. As JSON it is one document on a
+/// line: what fails, in the same order, and whether that is nothing; or the fault.
+pub fn explained<R: Read, W: Write>(
+    alloc: Global,
+    form: Form,
+    reader: &mut R,
+    writer: &mut W,
+) -> Result<Hinted<Outcome>, ReportError>
+    ensures ok { IfOk result (λ told. IsWhole (IsExplainedOfBytes form) (R.remaining reader.old) (R.remaining reader.new) (W.contents writer.old) (W.contents writer.new) told.0) }
+    ensures err { IfErr result (IsEndedEarly (IsExplainedOfBytes form) (R.remaining reader.old) (R.remaining reader.new) (W.contents writer.old) (W.contents writer.new)) }
+{
+    exchange(alloc, AuditOf::Reasons(form), reader, writer)
+}
+
+/// Reads a scenario, makes its steps, and writes a line for each that is refused, the report on the cut to which they lead
+/// under the list of its winners, and that list; or the line of the fault for which the document is refused. Where a name
+/// has no winner the verdict tells the first one, and no list follows. At most 67108865 bytes are read.
+///
+/// `Read` and `Write` are answered where the reader or the writer answers any error, or takes nothing; `Memory` may come
+/// in place of an answer. Only after `Write` a beginning of the text may be written, and else nothing. `Settled` means
+/// that the cut is settled under its winners.
+pub fn run_text<R: Read, W: Write>(
+    alloc: Global,
+    reader: &mut R,
+    writer: &mut W,
+) -> Result<Outcome, ReportError>
+    ensures ok { IfOk result (IsWhole IsRunOfBytes (R.remaining reader.old) (R.remaining reader.new) (W.contents writer.old) (W.contents writer.new)) }
+    ensures err { IfErr result (IsEndedEarly IsRunOfBytes (R.remaining reader.old) (R.remaining reader.new) (W.contents writer.old) (W.contents writer.new)) }
+    ensures settled { IfOk result (λ outcome. outcome ≡ outcomes.Settled → EndsSettled (R.remaining reader.old) (R.remaining reader.new)) }
+{
+    let (outcome, _) = ran(alloc, reader, writer)?;
+    Ok(outcome)
+}
+
+/// The same, with a hint on where a refused scenario is at fault.
+pub fn ran<R: Read, W: Write>(
+    alloc: Global,
+    reader: &mut R,
+    writer: &mut W,
+) -> Result<Hinted<Outcome>, ReportError>
+    ensures ok { IfOk result (λ told. IsWhole IsRunOfBytes (R.remaining reader.old) (R.remaining reader.new) (W.contents writer.old) (W.contents writer.new) told.0) }
+    ensures err { IfErr result (IsEndedEarly IsRunOfBytes (R.remaining reader.old) (R.remaining reader.new) (W.contents writer.old) (W.contents writer.new)) }
+    ensures settled { IfOk result (λ told. told.0 ≡ outcomes.Settled → EndsSettled (R.remaining reader.old) (R.remaining reader.new)) }
+{
+    settled_stays_put();
+    settled_stays_settled();
+    exchange(alloc, AuditOf::Run, reader, writer)
+}
+
+/// Reads a scenario, makes its steps, and writes the check document of the cut to which they lead, with the list of its
+/// winners, on a line; or the line of the first known name that has none; or that of the fault for which the document is
+/// refused. So an audit of what is written has the verdict of the scenario's run. At most 67108865 bytes are read.
+///
+/// The lines of the steps that are refused are answered beside the outcome, without the last line's end, if there are any;
+/// or a hint on where a refused scenario is at fault. No contract speaks of them.
+///
+/// `Read` and `Write` are answered where the reader or the writer answers any error, or takes nothing; `Memory` may come
+/// in place of an answer. Only after `Write` a beginning of the text may be written, and else nothing.
+pub fn run_document<R: Read, W: Write>(
+    alloc: Global,
+    reader: &mut R,
+    writer: &mut W,
+) -> Result<Hinted<Certified>, ReportError>
+    ensures ok { IfOk result (λ told. IsWhole IsEndOfBytes (R.remaining reader.old) (R.remaining reader.new) (W.contents writer.old) (W.contents writer.new) told.0) }
+    ensures err { IfErr result (IsEndedEarly IsEndOfBytes (R.remaining reader.old) (R.remaining reader.new) (W.contents writer.old) (W.contents writer.new)) }
+{
+    exchange(alloc, CertificateOf::Run, reader, writer)
+}

@@ -1,0 +1,40 @@
+//! A document is read and answered, and the answer written, whatever is asked of it.
+ghost use Rattle.std.specs.Prelude.{List, ℕ, IfOk, IfErr};
+ghost use Rattle.bep_answer.specs.Exchange.{IsEndedEarly, IsWhole};
+
+use bep_report::{ReportError, read_document, write_all};
+use std::alloc::{AllocError, Global};
+use std::io::{Read, Write};
+
+/// An answer, and beside it what a person is told, if there is anything: where a refused document is at fault, or which
+/// steps were refused. No contract speaks of that.
+pub type Hinted<T> = (T, Option<String>);
+
+/// An outcome and the text for it, and what is told beside them.
+pub(crate) type Answer<T> = Hinted<(T, Vec<u8>)>;
+
+/// What can be asked of a document, whose answer is an outcome and a text.
+pub(crate) trait Question<T: Drop>: Drop {
+    /// That this is the answer to these bytes.
+    ghost says: { Self → List ℕ → T → List ℕ → Type 0 };
+
+    /// The answer to a document's bytes.
+    fn answer(self, alloc: Global, bytes: &[u8]) -> Result<Answer<T>, AllocError>
+        ensures { IfOk result (λ told. says self bytes.now told.0.0 told.0.1.items) };
+}
+
+/// Reads a document, and writes the text of its answer. What is told beside it is for the caller to write.
+pub(crate) fn exchange<T: Drop, Q: Question<T>, R: Read, W: Write>(
+    alloc: Global,
+    question: Q,
+    reader: &mut R,
+    writer: &mut W,
+) -> Result<Hinted<T>, ReportError>
+    ensures ok { IfOk result (λ told. IsWhole (Q.says question) (R.remaining reader.old) (R.remaining reader.new) (W.contents writer.old) (W.contents writer.new) told.0) }
+    ensures err { IfErr result (IsEndedEarly (Q.says question) (R.remaining reader.old) (R.remaining reader.new) (W.contents writer.old) (W.contents writer.new)) }
+{
+    let bytes = read_document(alloc, reader)?;
+    let ((outcome, text), hint) = question.answer(alloc, bytes.as_slice())?;
+    write_all(writer, text.as_slice())?;
+    Ok((outcome, hint))
+}
