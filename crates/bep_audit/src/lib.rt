@@ -34,6 +34,7 @@ mod verdict;
 mod walk;
 mod winner;
 
+pub use bep_model::Reason;
 pub use certifier::certify;
 pub use checkers::{REASONS, check, check_plain};
 pub use error::CertifyError;

@@ -21,6 +21,8 @@ mod scanning;
 mod session_steps;
 mod why;
 
+pub use bep_config::Config;
+pub use bep_machine::{Moved, Step};
 pub use cluster::Cluster;
 pub use laws::{reached_is_gapless, sharing_is_having};
 pub use why::Why;

@@ -20,6 +20,7 @@ mod records;
 mod share;
 mod views;
 
+pub use bep_scenario::{Scenario, read_scenario};
 pub use bep_tables::{
     Cut, CutParts, DocError, DocFault, Fault, Flight, Held, LinkState, MAX_BYTES, PeerView, Row,
     Share, SharedFolder, Source, Table, TableEntry, check_document, check_value, cut_is_as_written,

@@ -2,20 +2,4 @@
 #![tactic(auto)]
 
 #[cfg(test)]
-mod begin;
-#[cfg(test)]
-mod cluster;
-#[cfg(test)]
-mod dice;
-#[cfg(test)]
-mod local;
-#[cfg(test)]
-mod made;
-#[cfg(test)]
-mod restart;
-#[cfg(test)]
-mod script;
-#[cfg(test)]
-mod session;
-#[cfg(test)]
-mod stories;
+mod tests;

@@ -8,65 +8,17 @@ use bep_record::{DeviceId, FolderKind, FolderName, Items, Kind, Name, Node, Node
 use bep_store::{FaultStore, MemStore};
 use std::alloc::Global;
 
-// A step's first letter, the device that makes it, and the other one, if there is one.
-type Letter = (u8, u64, u64);
-
-// Device 1 makes a directory, and the others take it over.
-const START: [Letter; 25] = [
-    (b'e', 1, 0),
-    (b's', 1, 0),
-    (b'c', 1, 2),
-    (b'c', 1, 3),
-    (b'c', 2, 3),
-    (b'b', 1, 2),
-    (b'b', 2, 1),
-    (b'b', 1, 3),
-    (b'b', 3, 1),
-    (b'b', 2, 3),
-    (b'b', 3, 2),
-    (b'd', 2, 1),
-    (b'd', 1, 2),
-    (b'd', 3, 1),
-    (b'd', 1, 3),
-    (b'd', 3, 2),
-    (b'd', 2, 3),
-    (b'a', 1, 2),
-    (b'd', 2, 1),
-    (b'a', 1, 3),
-    (b'd', 3, 1),
-    (b'p', 2, 0),
-    (b'f', 2, 0),
-    (b'p', 3, 0),
-    (b'f', 3, 0),
+// Device 1 makes a directory, and the others take it over. A step is its first letter, the device that makes it, and the
+// other one, if there is one.
+const START: [&str; 25] = [
+    "e1", "s1", "c12", "c13", "c23", "b12", "b21", "b13", "b31", "b23", "b32", "d21", "d12", "d31",
+    "d13", "d32", "d23", "a12", "d21", "a13", "d31", "p2", "f2", "p3", "f3",
 ];
 
 // Scans, announcements, a lost link, a restart and new sessions; no local edit.
-const ROUND: [Letter; 25] = [
-    (b's', 1, 0),
-    (b's', 2, 0),
-    (b's', 3, 0),
-    (b'a', 2, 1),
-    (b'd', 1, 2),
-    (b'a', 3, 1),
-    (b'd', 1, 3),
-    (b'a', 3, 2),
-    (b'd', 2, 3),
-    (b'p', 1, 0),
-    (b'l', 1, 2),
-    (b'c', 1, 2),
-    (b'b', 1, 2),
-    (b'b', 2, 1),
-    (b'd', 1, 2),
-    (b'd', 2, 1),
-    (b'a', 1, 2),
-    (b'd', 2, 1),
-    (b'f', 2, 0),
-    (b'r', 3, 0),
-    (b'c', 1, 3),
-    (b'b', 1, 3),
-    (b'b', 3, 1),
-    (b'd', 1, 3),
-    (b'd', 3, 1),
+const ROUND: [&str; 25] = [
+    "s1", "s2", "s3", "a21", "d12", "a31", "d13", "a32", "d23", "p1", "l12", "c12", "b12", "b21",
+    "d12", "d21", "a12", "d21", "f2", "r3", "c13", "b13", "b31", "d13", "d31",
 ];
 
 fn share(
@@ -90,34 +42,44 @@ fn link(config: &mut Config<FaultStore<MemStore>>, lower: u64, upper: u64) -> Op
 }
 
 // Three devices share `docs`; this call of each store fails.
+fn configured(alloc: Global, config: &mut Config<FaultStore<MemStore>>, call: u64) -> Option<()> {
+    config.add_folder(b"docs").ok()?;
+    share(alloc, config, 1, call)?;
+    share(alloc, config, 2, call)?;
+    share(alloc, config, 3, call)?;
+    link(config, 1, 2)?;
+    link(config, 1, 3)?;
+    link(config, 2, 3)
+}
+
 fn cluster(alloc: Global, call: u64) -> Option<Cluster<FaultStore<MemStore>>> {
     let mut config = Config::empty(alloc);
-    config.add_folder(b"docs").ok()?;
-    share(alloc, &mut config, 1, call)?;
-    share(alloc, &mut config, 2, call)?;
-    share(alloc, &mut config, 3, call)?;
-    link(&mut config, 1, 2)?;
-    link(&mut config, 1, 3)?;
-    link(&mut config, 2, 3)?;
+    configured(alloc, &mut config, call)?;
     Cluster::new(alloc, config).ok()
 }
 
 fn directory(alloc: Global) -> Option<Node> {
-    let made = Node::read(NodeParts {
+    let parts = NodeParts {
         kind: Kind::Directory,
         bytes: Items::new(Vec::new(alloc)),
         target: Target::empty(alloc),
         modified_s: 1000,
         modified_ns: 0,
-    });
-    made.ok()
+    };
+    Node::read(parts).ok()
+}
+
+fn edit_step(alloc: Global, device: DeviceId) -> Option<Step> {
+    let directory = directory(alloc)?;
+    let docs = FolderName::read(alloc, b"docs").ok()?;
+    let name = Name::read(alloc, b"d").ok()?;
+    Some(Step::Edit(device, docs, name, directory))
 }
 
 fn step_of_folder(alloc: Global, letter: u8, device: DeviceId) -> Option<Step> {
     let docs = FolderName::read(alloc, b"docs").ok()?;
     let name = Name::read(alloc, b"d").ok()?;
     Some(match letter {
-        b'e' => Step::Edit(device, docs, name, directory(alloc)?),
         b's' => Step::Scan(device, docs, name),
         b'p' => Step::StartPull(device, docs, name),
         b'f' => Step::Finish(device, docs, name),
@@ -135,11 +97,18 @@ fn step_of_link(alloc: Global, letter: u8, device: DeviceId, other: DeviceId) ->
     })
 }
 
-fn step_of(alloc: Global, (letter, device, other): Letter) -> Option<Step> {
-    let device = DeviceId::read(device)?;
-    match DeviceId::read(other) {
-        Some(other) => step_of_link(alloc, letter, device, other),
-        None => step_of_folder(alloc, letter, device),
+fn device_of(digit: u8) -> Option<DeviceId> {
+    DeviceId::read(u64::from(digit.checked_sub(b'0')?))
+}
+
+fn step_of(alloc: Global, step: &str) -> Option<Step> {
+    match step.as_bytes() {
+        [b'e', device] => edit_step(alloc, device_of(*device)?),
+        [letter, device] => step_of_folder(alloc, *letter, device_of(*device)?),
+        [letter, device, other] => {
+            step_of_link(alloc, *letter, device_of(*device)?, device_of(*other)?)
+        }
+        _ => None,
     }
 }
 
@@ -147,11 +116,11 @@ fn step_of(alloc: Global, (letter, device, other): Letter) -> Option<Step> {
 fn made(
     alloc: Global,
     cluster: &mut Cluster<FaultStore<MemStore>>,
-    steps: &[Letter],
+    steps: &[&str],
 ) -> Option<(u64, u64)> {
     let (mut made, mut failed) = (0u64, 0u64);
     for step in steps {
-        match cluster.apply(step_of(alloc, *step)?) {
+        match cluster.apply(step_of(alloc, step)?) {
             Ok(_) => made = made.saturating_add(1),
             Err(why) => {
                 if why.number()? == 131 {
@@ -175,11 +144,17 @@ fn winner(certificate: &Certificate) -> Option<(u64, i64)> {
 }
 
 // The winner, and whether the cut is settled under it.
-fn audited(alloc: Global, cut: &Cut) -> Option<((u64, i64), bool)> {
-    let certificate = certify(alloc, cut).ok()?;
-    let winner = winner(&certificate)?;
-    match check(alloc, cut, &certificate) {
+fn told(alloc: Global, cut: &Cut, certificate: &Certificate) -> Option<((u64, i64), bool)> {
+    let winner = winner(certificate)?;
+    match check(alloc, cut, certificate) {
         Ok(verdict) => Some((winner, verdict == Verdict::Settled)),
+        Err(_) => None,
+    }
+}
+
+fn audited(alloc: Global, cut: &Cut) -> Option<((u64, i64), bool)> {
+    match certify(alloc, cut) {
+        Ok(certificate) => told(alloc, cut, &certificate),
         Err(_) => None,
     }
 }
@@ -194,19 +169,25 @@ fn ended(alloc: Global, cluster: Cluster<FaultStore<MemStore>>) -> Option<((u64,
     }
 }
 
-// What was made and what a store refused in eight rounds, and what is said of the end.
-fn story(alloc: Global, call: u64) -> Option<([(u64, u64); 2], ((u64, i64), bool))> {
-    let mut cluster = cluster(alloc, call)?;
-    let start = made(alloc, &mut cluster, &START)?;
+// What was made and what a store refused at the start and in eight rounds.
+fn counted(alloc: Global, cluster: &mut Cluster<FaultStore<MemStore>>) -> Option<[(u64, u64); 2]> {
+    let start = made(alloc, cluster, &START)?;
     let mut rounds = (0u64, 0u64);
     for _round in 0..8 {
-        let (made, failed) = made(alloc, &mut cluster, &ROUND)?;
+        let (made, failed) = made(alloc, cluster, &ROUND)?;
         rounds = (
             rounds.0.saturating_add(made),
             rounds.1.saturating_add(failed),
         );
     }
-    Some(([start, rounds], ended(alloc, cluster)?))
+    Some([start, rounds])
+}
+
+// That, and what is said of the end.
+fn story(alloc: Global, call: u64) -> Option<([(u64, u64); 2], ((u64, i64), bool))> {
+    let mut cluster = cluster(alloc, call)?;
+    let counted = counted(alloc, &mut cluster)?;
+    Some((counted, ended(alloc, cluster)?))
 }
 
 #[test]

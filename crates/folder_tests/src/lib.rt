@@ -2,12 +2,4 @@
 #![tactic(auto)]
 
 #[cfg(test)]
-mod made;
-#[cfg(test)]
-mod pulls;
-#[cfg(test)]
-mod scans;
-#[cfg(test)]
-mod vain;
-#[cfg(test)]
-mod views;
+mod tests;
