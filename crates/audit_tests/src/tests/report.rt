@@ -1,7 +1,14 @@
 //! The wanted lines are those of the profile's worked examples, or were written by hand after its rules.
+use super::streams::Narrow;
+use bep_audit::{Certificate, Verdict};
 use bep_model::Reason;
 use bep_record::{DeviceId, FolderName, Name};
-use bep_report::{push_folder, push_not_settled, push_printed, push_refused, push_settled};
+use bep_report::{
+    ReportError, certificate_text, push_folder, push_not_settled, push_printed, push_refused,
+    push_settled, report,
+};
+use bep_tables::{Cut, read_check};
+use std::alloc::Global;
 use std::test::Fail;
 
 #[test]
