@@ -1,14 +1,7 @@
 //! The wanted lines are those of the profile's worked examples, or were written by hand after its rules.
-use super::streams::Narrow;
-use bep_audit::{Certificate, Verdict};
 use bep_model::Reason;
 use bep_record::{DeviceId, FolderName, Name};
-use bep_report::{
-    ReportError, certificate_text, push_folder, push_not_settled, push_printed, push_refused,
-    push_settled, report,
-};
-use bep_tables::{Cut, read_check};
-use std::alloc::Global;
+use bep_report::{push_folder, push_not_settled, push_printed, push_refused, push_settled};
 use std::test::Fail;
 
 #[test]
@@ -60,37 +53,5 @@ fn five_faults_have_a_place(rt: HostRuntime) -> Result<(), Fail> {
     let wanted =
         "refused: 184 Range\nrefused: 185 Twice docs - a\\x20b\nrefused: 189 LinkBad - 1 -\n";
     assert!(rt; text.as_slice() == wanted.as_bytes());
-    Ok(())
-}
-
-// A folder without files, and a row all the same, whose name has to be escaped.
-const ROW_ALONE: &str = r#"{"version":1,"cut":{"folders":[{"folder":"docs","devices":[
-    {"device":1,"kind":"send-receive","index_id":1,"max":0}]}]},
-    "certificate":[{"folder":"docs","device":1,
-    "record":{"name":"a b\\","type":1,"modified_s":9,"modified_by":1,"version":[[1,1]],"sequence":1}}]}"#;
-
-fn write_both(
-    alloc: Global,
-    cut: &Cut,
-    certificate: &Certificate,
-    writer: &mut Narrow,
-) -> Result<(), ReportError> {
-    report(alloc, cut, &Verdict::Settled, writer)?;
-    certificate_text(alloc, certificate, writer)
-}
-
-#[test]
-fn a_report_and_a_certificate_are_written(rt: HostRuntime) -> Result<(), Fail> {
-    let (cut, rows) = read_check(rt.alloc(), ROW_ALONE.as_bytes())?;
-    let mut writer = Narrow {
-        taken: Vec::new(rt.alloc()),
-        room: 99,
-        fails: false,
-    };
-    let written = write_both(rt.alloc(), &cut, &Certificate::of(rows), &mut writer);
-    let wanted = "settled\nfolder docs: 0 names, 0 deleted, 1 devices\n\
-                  docs a\\x20b\\x5c 1 1 present 1:1\n";
-    assert_eq!(rt; written, Ok(()));
-    assert!(rt; writer.taken.as_slice() == wanted.as_bytes());
     Ok(())
 }
