@@ -1,0 +1,59 @@
+#!/usr/bin/env bash
+# edits.sh [--fit] [CRATE..]: tries the wrong bodies in edits/ that the gate has no time for, of these crates or of all, on a
+# copy of the repository: the prover must refuse each. With --fit it only says whether each still fits its file, in which
+# the text that it changes must stand once, and tries none. The last line is 'N passed, M failed'.
+set -euo pipefail
+cd "$(dirname "$0")/.."
+fit=false
+if [ "${1:-}" = --fit ]; then
+  fit=true
+  shift
+fi
+if [ $# = 0 ]; then
+  mapfile -t crates < <(ls bench/edits)
+else
+  crates=("$@")
+fi
+
+# fits CRATE EDIT: whether each text that the edit changes stands once in its file.
+fits() {
+  local line file=''
+  while IFS= read -r line; do
+    case $line in
+      "file: "*) file=crates/$1/${line#file: } ;;
+      "old: "*) [ "$(grep -cF -- "${line#old: }" "$file")" = 1 ] || return 1 ;;
+    esac
+  done < "$2"
+}
+
+passed=0
+failed=0
+for crate in "${crates[@]}"; do
+  for edit in bench/edits/"$crate"/*.edit; do
+    if fits "$crate" "$edit"; then
+      passed=$((passed + 1))
+    else
+      failed=$((failed + 1))
+      echo "edits: $edit doesn't fit any more"
+    fi
+  done
+done
+if $fit || [ "$failed" != 0 ]; then
+  echo "$passed passed, $failed failed"
+  [ "$failed" = 0 ]
+  exit
+fi
+
+tried=$passed
+work=$(mktemp -d)
+trap 'rm -rf "$work"' EXIT
+git clone -q . "$work/clone"
+for crate in "${crates[@]}"; do
+  rm -rf "$work/clone/crates/$crate/must-fail"
+  cp -r "bench/edits/$crate" "$work/clone/crates/$crate/must-fail"
+done
+cd "$work/clone"
+rt must-fail "${crates[@]}" | tee "$work/log" || true
+passed=$(grep -c ': refused, as it must be' "$work/log" || true)
+echo "$passed passed, $((tried - passed)) failed"
+[ "$passed" = "$tried" ]
