@@ -1,7 +1,6 @@
-//! A module for each crate; of `bep_audit` there is one more for the walk (`walk`), of `bep_report` one for its streams.
+//! A module for each crate; of `bep_report` there is one more for its streams. What is told of each reason, and explained,
+//! is compared on the examples.
 mod answer;
 mod audit;
-mod explain;
 mod report;
 mod streams;
-mod walk;

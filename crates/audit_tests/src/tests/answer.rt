@@ -25,11 +25,7 @@ fn answer(
         piece: 100,
         reads: if fails { 1 } else { 9 },
     };
-    let mut writer = Narrow {
-        taken: Vec::new(alloc),
-        room,
-        fails: false,
-    };
+    let mut writer = Narrow::new(alloc, room, false);
     let answer = check_text(alloc, &mut reader, &mut writer);
     (answer, writer.taken)
 }
@@ -72,11 +68,7 @@ fn what_is_cut_short_is_told(rt: HostRuntime) {
 fn all_that_fails_is_written(rt: HostRuntime) {
     let text = "NameMissing docs a\n  winner: none\n  store of 1: directory, time 1 s 0 ns\n";
     let mut reader = DIRECTORY_WITHOUT_ROW.as_bytes();
-    let mut writer = Narrow {
-        taken: Vec::new(rt.alloc()),
-        room: 99,
-        fails: false,
-    };
+    let mut writer = Narrow::new(rt.alloc(), 99, false);
     let answer = explain_text(rt.alloc(), &mut reader, &mut writer);
     assert_eq!(rt; answer, Ok(Outcome::NotSettled));
     assert!(rt; writer.taken.as_slice() == text.as_bytes());
@@ -87,11 +79,7 @@ fn a_certificate_is_written(rt: HostRuntime) {
     let text = r#"{"certificate":[],"cut":{"folders":[],"links":[]},"version":1}
 "#;
     let mut reader = r#"{"version":1,"cut":{"folders":[]}}"#.as_bytes();
-    let mut writer = Narrow {
-        taken: Vec::new(rt.alloc()),
-        room: 99,
-        fails: false,
-    };
+    let mut writer = Narrow::new(rt.alloc(), 99, false);
     let answer = certify_text(rt.alloc(), &mut reader, &mut writer);
     assert_eq!(rt; answer, Ok(Certified::Written));
     assert!(rt; writer.taken.as_slice() == text.as_bytes());
@@ -102,11 +90,7 @@ fn a_run_is_written(rt: HostRuntime) {
     let text = "step 1: 162 NotShared\nsettled\n";
     let mut reader =
         r#"{"version":1,"folders":[],"links":[],"steps":[["connect",1,2]]}"#.as_bytes();
-    let mut writer = Narrow {
-        taken: Vec::new(rt.alloc()),
-        room: 99,
-        fails: false,
-    };
+    let mut writer = Narrow::new(rt.alloc(), 99, false);
     let answer = run_text(rt.alloc(), &mut reader, &mut writer);
     assert_eq!(rt; answer, Ok(Outcome::Settled));
     assert!(rt; writer.taken.as_slice() == text.as_bytes());

@@ -1,9 +1,8 @@
 //! A folder `docs` with a directory `a`, whose second version is device 2's; the wanted answers were worked out by hand.
 use bep_audit::{Certificate, CertifyError, Verdict, certify, check, check_plain};
 use bep_model::Reason;
-use bep_tables::{Cut, DocError, read_check};
+use bep_tables::{Cut, read_check};
 use std::alloc::Global;
-use std::test::Fail;
 
 // The winner's row, and a directory that no device has a record of.
 const WON: &str = r#"{"version":1,"cut":{"folders":[{"folder":"docs","devices":[
@@ -20,130 +19,74 @@ const UNRECORDED: &str = r#"{"version":1,"cut":{"folders":[{"folder":"docs","dev
     {"device":1,"kind":"send-receive","index_id":1,"max":0,
     "store":[{"name":"a","type":1,"modified_s":9}]}]}]},"certificate":[]}"#;
 
-// A file `a`, whose node has another time on device 1, and a directory `b`, which device 2 has no record of.
-const TWO_NAMES: &str = r#"{"version":1,"cut":{"folders":[{"folder":"docs","devices":[
-    {"device":1,"kind":"send-receive","index_id":1,"max":2,
-    "own":[{"name":"a","type":0,"modified_s":9,"modified_by":1,"version":[[1,1]],"sequence":1,
-    "size":3,"blocks":["ba7816bf8f01cfea414140de5dae2223b00361a396177a9cb410ff61f20015ad"]},
-    {"name":"b","type":1,"modified_s":9,"modified_by":1,"version":[[1,1]],"sequence":2}],
-    "store":[{"name":"a","type":0,"modified_s":7,"text":"abc"},{"name":"b","type":1,"modified_s":9}]},
-    {"device":2,"kind":"send-receive","index_id":2,"max":1,
-    "own":[{"name":"a","type":0,"modified_s":9,"modified_by":1,"version":[[1,1]],"sequence":1,
-    "size":3,"blocks":["ba7816bf8f01cfea414140de5dae2223b00361a396177a9cb410ff61f20015ad"]}],
-    "store":[{"name":"a","type":0,"modified_s":9,"text":"abc"},{"name":"b","type":1,"modified_s":9}]}]}]},
-    "certificate":[{"folder":"docs","device":1,
-    "record":{"name":"a","type":0,"modified_s":9,"modified_by":1,"version":[[1,1]],"sequence":1,
-    "size":3,"blocks":["ba7816bf8f01cfea414140de5dae2223b00361a396177a9cb410ff61f20015ad"]}},
-    {"folder":"docs","device":1,
-    "record":{"name":"b","type":1,"modified_s":9,"modified_by":1,"version":[[1,1]],"sequence":2}}]}"#;
-
-// The reason that fails at `a`, on device 2 if it is one on devices, or at another name if nothing is known of it; none
-// where the cut is settled.
-fn reason_of(verdict: &Verdict<'_>) -> Option<Reason> {
+// Whether this tells that no row names `a`, of which something is known.
+fn misses_a(verdict: &Verdict<'_>) -> bool {
     match verdict {
-        Verdict::Not(reason, folder, name, device) => {
-            let on_names = matches!(
-                reason,
-                Reason::CertificateOrder
-                    | Reason::NameMissing
-                    | Reason::NameUnknown
-                    | Reason::NotWinner
-            );
-            let is_there = match device {
-                None => on_names && folder.as_str() == "docs",
-                Some(device) => !on_names && device.number() == 2,
-            };
-            if is_there && (name.as_str() == "a" || *reason == Reason::NameUnknown) {
-                Some(*reason)
-            } else {
-                None
-            }
-        }
-        Verdict::Settled => None,
-    }
-}
-
-// Whether both checkers tell the same.
-fn agree(alloc: Global, cut: &Cut, certificate: &Certificate) -> Result<bool, DocError> {
-    match check(alloc, cut, certificate) {
-        Err(_) => Err(DocError::Memory),
-        Ok(verdict) => Ok(verdict == check_plain(cut, certificate)),
-    }
-}
-
-/// Whether both checkers tell this reason of the document, or that it is settled.
-pub(crate) fn tells(alloc: Global, text: &[u8], wanted: Option<Reason>) -> Result<bool, DocError> {
-    let (cut, rows) = read_check(alloc, text)?;
-    let certificate = Certificate::of(rows);
-    let plain = check_plain(&cut, &certificate);
-    let is_wanted = reason_of(&plain) == wanted && (wanted.is_some() || plain == Verdict::Settled);
-    Ok(is_wanted && agree(alloc, &cut, &certificate)?)
-}
-
-#[test]
-fn both_checkers_tell_the_verdict(rt: HostRuntime) -> Result<(), Fail> {
-    assert!(rt; tells(rt.alloc(), WON.as_bytes(), None)?);
-    assert!(rt; tells(rt.alloc(), UNRECORDED.as_bytes(), Some(Reason::NameMissing))?);
-    Ok(())
-}
-
-// Whether the verdict is that this reason fails at this name on this device.
-fn fails_on(verdict: &Verdict<'_>, wanted: Reason, name: &str, device: u64) -> bool {
-    match verdict {
-        Verdict::Not(reason, _folder, at, Some(on)) => {
-            *reason == wanted && at.as_str() == name && on.number() == device
+        Verdict::Not(Reason::NameMissing, folder, name, None) => {
+            folder.as_str() == "docs" && name.as_str() == "a"
         }
         _ => false,
     }
 }
 
-// Whether both checkers tell that the record of `b` is missing on device 2.
-fn misses_b(alloc: Global) -> Result<bool, DocError> {
-    let (cut, rows) = read_check(alloc, TWO_NAMES.as_bytes())?;
-    let certificate = Certificate::of(rows);
-    let misses = fails_on(
-        &check_plain(&cut, &certificate),
-        Reason::RecordMissing,
-        "b",
-        2,
-    );
-    Ok(misses && agree(alloc, &cut, &certificate)?)
-}
-
-#[test]
-fn the_lesser_reason_at_a_later_name_is_told(rt: HostRuntime) -> Result<(), Fail> {
-    assert!(rt; misses_b(rt.alloc())?);
-    Ok(())
-}
-
-// The device of the certificate's row, as a copy tells it; none where `a` has no winner.
-fn winning_device(alloc: Global, text: &str) -> Result<Option<u64>, DocError> {
-    let (cut, _rows) = read_check(alloc, text.as_bytes())?;
-    match certify(alloc, &cut) {
-        Ok(certificate) => match certificate.copy(alloc)?.rows() {
-            [row] => Ok(Some(row.device.number())),
-            _ => Ok(Some(0)),
-        },
-        Err(CertifyError::NoWinner(folder, name)) => {
-            if folder.as_str() == "docs" && name.as_str() == "a" {
-                Ok(None)
-            } else {
-                Ok(Some(0))
-            }
-        }
-        Err(CertifyError::Memory) => Err(DocError::Memory),
+// Whether the cut is settled, whether only the row of `a` is missing, and whether both checkers tell the same.
+fn told(alloc: Global, cut: &Cut, certificate: &Certificate) -> Option<[bool; 3]> {
+    match check(alloc, cut, certificate) {
+        Ok(verdict) => Some([
+            verdict == Verdict::Settled,
+            misses_a(&verdict),
+            verdict == check_plain(cut, certificate),
+        ]),
+        Err(_) => None,
     }
 }
 
+fn verdicts(alloc: Global, text: &str) -> Option<[bool; 3]> {
+    let (cut, rows) = read_check(alloc, text.as_bytes()).ok()?;
+    told(alloc, &cut, &Certificate::of(rows))
+}
+
 #[test]
-fn the_winner_is_certified(rt: HostRuntime) -> Result<(), Fail> {
-    assert!(rt;
-        winning_device(rt.alloc(), WON)? == Some(2),
-        "the newer version, though its time is earlier"
-    );
-    assert!(rt;
-        winning_device(rt.alloc(), UNRECORDED)?.is_none(),
-        "only a store has it"
-    );
-    Ok(())
+fn both_checkers_tell_the_verdict(rt: HostRuntime) {
+    assert_eq!(rt; verdicts(rt.alloc(), WON), Some([true, false, true]));
+    assert_eq!(rt; verdicts(rt.alloc(), UNRECORDED), Some([false, true, true]));
+}
+
+// The device of the certificate's one row, as a copy tells it.
+fn device_of_copy(alloc: Global, certificate: &Certificate) -> Option<u64> {
+    match certificate.copy(alloc).ok()?.rows() {
+        [row] => Some(row.device.number()),
+        _ => None,
+    }
+}
+
+// 0 where this says that `a` has no winner.
+fn no_device(error: &CertifyError) -> Option<u64> {
+    match error {
+        CertifyError::NoWinner(folder, name) => {
+            (folder.as_str() == "docs" && name.as_str() == "a").then_some(0)
+        }
+        CertifyError::Memory => None,
+    }
+}
+
+// The device of the winner of `a`, 0 where it has none.
+fn winner(alloc: Global, cut: &Cut) -> Option<u64> {
+    match certify(alloc, cut) {
+        Ok(certificate) => device_of_copy(alloc, &certificate),
+        Err(error) => no_device(&error),
+    }
+}
+
+fn winning_device(alloc: Global, text: &str) -> Option<u64> {
+    let (cut, _rows) = read_check(alloc, text.as_bytes()).ok()?;
+    winner(alloc, &cut)
+}
+
+#[test]
+fn the_winner_is_certified(rt: HostRuntime) {
+    // the newer version, though its time is earlier
+    assert_eq!(rt; winning_device(rt.alloc(), WON), Some(2));
+    // only a store has it
+    assert_eq!(rt; winning_device(rt.alloc(), UNRECORDED), Some(0));
 }

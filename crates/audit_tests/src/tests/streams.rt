@@ -2,7 +2,6 @@
 use bep_report::{ReportError, read_document, write_all};
 use std::alloc::Global;
 use std::io::{Error, ErrorKind, Read, Result as IoResult, Write};
-use std::test::Fail;
 
 // A reader that gives the bytes in pieces of so many, and fails after so many reads.
 #[derive(Drop)]
@@ -29,8 +28,18 @@ impl Read for Pieces<'_> {
 #[derive(Drop)]
 pub struct Narrow {
     pub taken: Vec<u8>,
-    pub room: usize,
-    pub fails: bool,
+    room: usize,
+    fails: bool,
+}
+
+impl Narrow {
+    pub fn new(alloc: Global, room: usize, fails: bool) -> Self {
+        Narrow {
+            taken: Vec::new(alloc),
+            room,
+            fails,
+        }
+    }
 }
 
 impl Write for Narrow {
@@ -65,14 +74,17 @@ fn read_pieces(
     (read, reader.rest.len())
 }
 
+// Whether the whole text is read in pieces of so many bytes.
+fn is_read(alloc: Global, text: &str, piece: usize) -> Option<bool> {
+    let (read, left) = read_pieces(alloc, text, piece, 9);
+    Some(read.ok()?.as_slice() == text.as_bytes() && left == 0)
+}
+
 #[test]
-fn reads_what_there_is(rt: HostRuntime) -> Result<(), Fail> {
+fn reads_what_there_is(rt: HostRuntime) {
     for (text, piece) in [("", 1), ("settled", 1), ("settled", 2), ("settled", 9)] {
-        let (read, left) = read_pieces(rt.alloc(), text, piece, 9);
-        assert!(rt; read?.as_slice() == text.as_bytes(), "{piece}");
-        assert_eq!(rt; left, 0);
+        assert_eq!(rt; is_read(rt.alloc(), text, piece), Some(true), "{piece}");
     }
-    Ok(())
 }
 
 #[test]
@@ -98,24 +110,22 @@ impl Read for Made {
     }
 }
 
+// How many bytes are read of so many, and how many are left.
+fn read_made(alloc: Global, left: usize) -> Option<(usize, usize)> {
+    let mut reader = Made { left };
+    let bytes = read_document(alloc, &mut reader).ok()?;
+    Some((bytes.len(), reader.left))
+}
+
 #[test]
-fn one_byte_more_than_the_greatest_document_is_read(rt: HostRuntime) -> Result<(), Fail> {
-    for (there, left) in [(67108864, 0), (67108866, 1)] {
-        let mut reader = Made { left: there };
-        let bytes = read_document(rt.alloc(), &mut reader)?;
-        assert_eq!(rt; bytes.len(), there - left);
-        assert_eq!(rt; reader.left, left);
-    }
-    Ok(())
+fn one_byte_more_than_the_greatest_document_is_read(rt: HostRuntime) {
+    assert_eq!(rt; read_made(rt.alloc(), 67108864), Some((67108864, 0)));
+    assert_eq!(rt; read_made(rt.alloc(), 67108866), Some((67108865, 1)));
 }
 
 // What a writer of this room took of a text, and whether that was answered to be all.
 fn write_into(alloc: Global, text: &str, room: usize, fails: bool) -> (bool, Vec<u8>) {
-    let mut writer = Narrow {
-        taken: Vec::new(alloc),
-        room,
-        fails,
-    };
+    let mut writer = Narrow::new(alloc, room, fails);
     let written = write_all(&mut writer, text.as_bytes());
     (written == Ok(()), writer.taken)
 }

@@ -1,6 +1,6 @@
 //! Clusters, by hand after their configurations.
 use super::made::docs;
-use super::script::pair;
+use bep_config::Config;
 use bep_core::Cluster;
 use bep_links::Link;
 use bep_peer::Peer;
@@ -8,9 +8,37 @@ use bep_record::{DeviceId, FolderKind, FolderName};
 use bep_store::MemStore;
 use std::alloc::Global;
 
+// The device shares the folder `docs`, with this index id and nothing in its store.
+fn share(
+    alloc: Global,
+    config: &mut Config<MemStore>,
+    device: u64,
+    kind: FolderKind,
+    id: u64,
+) -> Option<()> {
+    let (device, docs) = (DeviceId::read(device)?, docs(alloc)?);
+    config
+        .add_device(&docs, device, kind, id, MemStore::new(alloc))
+        .ok()
+}
+
+fn link(config: &mut Config<MemStore>, lower: u64, upper: u64) -> Option<()> {
+    let (lower, upper) = (DeviceId::read(lower)?, DeviceId::read(upper)?);
+    config.add_link(lower, upper).ok()
+}
+
+fn configured(alloc: Global, config: &mut Config<MemStore>) -> Option<()> {
+    config.add_folder(b"docs").ok()?;
+    share(alloc, config, 1, FolderKind::SendReceive, 11)?;
+    share(alloc, config, 2, FolderKind::ReceiveOnly, 12)?;
+    link(config, 1, 2)
+}
+
 // Devices 1 and 2 share the folder `docs`, with the indexes 11 and 12; their link is down.
 fn cluster(alloc: Global) -> Option<Cluster<MemStore>> {
-    pair(alloc, [FolderKind::SendReceive, FolderKind::ReceiveOnly])
+    let mut config = Config::empty(alloc);
+    configured(alloc, &mut config)?;
+    Cluster::new(alloc, config).ok()
 }
 
 // The device's number, the id of its index of `docs`, the first other one that shares it, and the first one linked.

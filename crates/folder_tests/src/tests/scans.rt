@@ -1,6 +1,6 @@
-//! A name that a user changes, and what a scan, an override and a revert record of it: worked out by hand, by BEP v1,
-//! 'Vector', and by this project's profile.
-use super::made::{batch, directory, file, folder, folder_over, lettered, pulled, sent};
+//! A name that a user changes, and what a scan and a revert record of it: worked out by hand, by BEP v1, 'Vector', and by
+//! this project's profile.
+use super::made::{directory, file, folder, folder_over, lettered, pulled, sent};
 use bep_folder::{FolderError, Replica, ScanResult};
 use bep_machine::Moved;
 use bep_record::{DeviceId, FolderKind};
@@ -120,39 +120,6 @@ fn contents_are_all_or_a_fault(rt: HostRuntime) {
     ] {
         assert_eq!(rt; contents(rt.alloc(), call), Some(counts));
     }
-}
-
-fn overridden(alloc: Global, replica: &mut Replica<MemStore>) -> Option<Moved> {
-    let name = lettered(alloc, b'a')?;
-    replica.override_one(&name).ok()
-}
-
-// Device 1 sends more of its index: a record of `a`, which is later than the own one.
-fn sent_later(alloc: Global, replica: &mut Replica<MemStore>) -> Option<()> {
-    let one = DeviceId::read(1)?;
-    let later = batch(alloc, directory(alloc, b'a', 7)?)?;
-    replica.amend_view(one, later).ok()
-}
-
-// What an override puts over that record.
-fn overriding(alloc: Global, replica: &mut Replica<MemStore>) -> Option<(Moved, Own)> {
-    sent_later(alloc, replica)?;
-    edited(alloc, replica)?;
-    scanned(alloc, replica)?;
-    let answer = overridden(alloc, replica)?;
-    Some((answer, own(alloc, replica)?))
-}
-
-fn overrides(alloc: Global) -> Option<(Moved, Own)> {
-    let mut replica = folder(alloc, FolderKind::SendOnly)?;
-    overriding(alloc, &mut replica)
-}
-
-// Both versions merged, and the own counter raised once more.
-#[test]
-fn an_override_wins(rt: HostRuntime) {
-    let wanted = (Moved::Changed, (2, 999, [1, 2], false, false));
-    assert_eq!(rt; overrides(rt.alloc()), Some(wanted));
 }
 
 // What a local change in a receive-only folder is, the answer to its revert, and what that leaves.

@@ -1,9 +1,9 @@
-//! What comes to nothing: an older record, a pull that own edits overtake, a scan whose node is changed before it is put or
-//! can't be read, and an edit after the last counter. Worked out by hand, by BEP v1, 'Vector', and by this project's profile.
+//! What comes to nothing: a scan whose node is changed before it is put or can't be read, and an edit after the last
+//! counter. Worked out by hand, by BEP v1, 'Vector', and by this project's profile.
 use super::made::{file, folder, folder_over, notes, pulled, record, sent};
 use bep_folder::{FolderError, Replica, ScanResult};
 use bep_machine::Moved;
-use bep_record::{DeviceId, FolderKind, Name, Record};
+use bep_record::{DeviceId, FolderKind, Record};
 use bep_store::{FaultStore, MemStore, Store};
 use std::alloc::Global;
 
@@ -47,53 +47,6 @@ fn scanned<S: Store>(alloc: Global, replica: &mut Replica<S>) -> Option<Answer> 
 fn own<S: Store>(alloc: Global, replica: &Replica<S>) -> Option<(u64, u64)> {
     let entry = replica.index().get(&notes(alloc)?)?.entry();
     Some((entry.sequence, entry.version.get(DeviceId::read(2)?)))
-}
-
-// A pull of a record that is older than the own one.
-fn older(alloc: Global, replica: &mut Replica<MemStore>) -> Option<Answer> {
-    begun(alloc, replica, record(alloc, 1, &[(1, 2)], b"hello")?)?;
-    sent(alloc, replica, record(alloc, 1, &[(1, 1)], b"abc")?)?;
-    Some(replica.start_pull(&notes(alloc)?))
-}
-
-fn old_record(alloc: Global) -> Option<Answer> {
-    let mut replica = folder(alloc, FolderKind::SendReceive)?;
-    older(alloc, &mut replica)
-}
-
-#[test]
-fn an_older_record_is_not_pulled(rt: HostRuntime) {
-    assert_eq!(rt; old_record(rt.alloc()), Some(Err(FolderError::NotNeeded)));
-}
-
-// A pull that two own edits overtake, and that is ended twice.
-fn overtaken(alloc: Global, replica: &mut Replica<MemStore>, name: &Name) -> Option<[Answer; 3]> {
-    let begun = replica.start_pull(name);
-    for bytes in [b"abc", b"xyz"] {
-        edited(alloc, replica, bytes)?;
-        scanned(alloc, replica)?.ok()?;
-    }
-    Some([begun, replica.finish(name), replica.finish(name)])
-}
-
-fn overtakes(alloc: Global, replica: &mut Replica<MemStore>) -> Option<[Answer; 3]> {
-    sent(alloc, replica, record(alloc, 2, &[(2, 1)], b"hello")?)?;
-    overtaken(alloc, replica, &notes(alloc)?)
-}
-
-fn late(alloc: Global) -> Option<[Answer; 3]> {
-    let mut replica = folder(alloc, FolderKind::SendReceive)?;
-    overtakes(alloc, &mut replica)
-}
-
-#[test]
-fn a_pull_that_is_overtaken_is_dropped(rt: HostRuntime) {
-    let ends = [
-        Ok(Moved::Changed),
-        Ok(Moved::Dropped),
-        Err(FolderError::NotNeeded),
-    ];
-    assert_eq!(rt; late(rt.alloc()), Some(ends));
 }
 
 // An answer, and what is recorded then.
