@@ -6,5 +6,6 @@ pub mod Lists
 pub mod Records
 pub mod Nodes
 pub mod Written
+pub mod Members
 pub mod Says
 pub mod Laws

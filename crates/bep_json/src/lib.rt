@@ -11,6 +11,7 @@
 mod error;
 mod laws;
 mod lists;
+mod members;
 mod nodes;
 mod numbers;
 mod readable;
@@ -21,6 +22,7 @@ mod writing;
 
 pub use error::ReadError;
 pub use laws::{hashes_make_blocks, texts_are_told};
+pub use members::Members;
 pub use nodes::NamedParts;
 pub use numbers::{Nanoseconds, Sequence, Whole};
 pub use readable::{Readable, has, may_have, member, member_or};

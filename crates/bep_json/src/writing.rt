@@ -13,6 +13,7 @@ ghost use Rattle.bep_json.specs.Nodes.{is_node, read_node};
 ghost use Rattle.bep_json.specs.Says.{Says};
 ghost use Rattle.bep_json.specs.Written.{whole, signed, number_of, counter_written, version_written, hex_written, hashes_written, record_written, node_written};
 
+use crate::Members;
 use bep_record::{Block, DeviceId, Entry, Kind, Name, Node, NodeParts, Record, Target, Vector};
 use serde_json::{Value, json};
 use std::alloc::{AllocError, Global};
@@ -42,21 +43,21 @@ fn record_tree(
     requires version { view version ≡ version_written entry.now.version }
     ensures { IfOk result (λ v. view v ≡ record_written entry.now) }
 {
-    json!(in alloc; {
-        "block_size": entry.block_size,
-        "blocks": blocks,
-        "deleted": entry.deleted,
-        "invalid": entry.invalid,
-        "modified_by": entry.modified_by.number(),
-        "modified_ns": entry.modified_ns,
-        "modified_s": entry.modified_s,
-        "name": entry.name.as_str(),
-        "sequence": entry.sequence,
-        "size": entry.size,
-        "target": entry.target.as_str(),
-        "type": number_of(entry.kind),
-        "version": version
-    })
+    let members = Members::new(alloc)
+        .with("blocks", blocks)?
+        .with("version", version)?
+        .with_number("block_size", u64::from(entry.block_size))?
+        .with_flag("deleted", entry.deleted)?
+        .with_flag("invalid", entry.invalid)?
+        .with_number("modified_by", entry.modified_by.number())?
+        .with_number("modified_ns", u64::from(entry.modified_ns))?
+        .with_signed("modified_s", entry.modified_s)?
+        .with_text("name", entry.name.as_str())?
+        .with_number("sequence", entry.sequence)?
+        .with_number("size", entry.size)?
+        .with_text("target", entry.target.as_str())?
+        .with_number("type", u64::from(number_of(entry.kind)))?;
+    Ok(members.into_value())
 }
 
 // That what is written of a record's fields is read again.
@@ -106,14 +107,14 @@ fn node_tree(
     requires { view bytes ≡ hex_written parts.now.bytes }
     ensures { IfOk result (λ v. view v ≡ node_written name.now parts.now) }
 {
-    json!(in alloc; {
-        "hex": bytes,
-        "modified_ns": parts.modified_ns,
-        "modified_s": parts.modified_s,
-        "name": name.as_str(),
-        "target": parts.target.as_str(),
-        "type": number_of(parts.kind)
-    })
+    let members = Members::new(alloc)
+        .with("hex", bytes)?
+        .with_number("modified_ns", u64::from(parts.modified_ns))?
+        .with_signed("modified_s", parts.modified_s)?
+        .with_text("name", name.as_str())?
+        .with_text("target", parts.target.as_str())?
+        .with_number("type", u64::from(number_of(parts.kind)))?;
+    Ok(members.into_value())
 }
 
 // What the type of a name keeps.
