@@ -1,9 +1,10 @@
-//! A module for each crate; of `bep_record` there are two.
+//! A module for each crate, of `bep_record` two; and the records that some of them make.
 mod blocks;
 mod choice;
 mod config;
 mod index;
 mod links;
+mod made;
 mod map;
 mod record;
 mod store;

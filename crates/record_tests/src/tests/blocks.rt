@@ -1,11 +1,12 @@
-//! Block lists of small files, with hashes from outside.
+//! Block lists and their limits, with hashes from outside. The blocks of small files and of two blocks, and those that
+//! hashes make, `examples/` shows.
 use bep_blocks::{
     BlocksError, blocks, blocks_of_hashes, hashes_tell_blocks, matches, plain_blocks_match,
 };
 use bep_record::{Block, BlockSize};
 use std::alloc::Global;
 
-// The SHA-256 of no bytes and of `abc` (FIPS 180-4), and by `sha256sum` of a zero byte and of 131072 of them.
+// The SHA-256 of no bytes and of `abc` (FIPS 180-4), and by `sha256sum` of a zero byte.
 const OF_NOTHING: [u8; 32] = [
     0xe3, 0xb0, 0xc4, 0x42, 0x98, 0xfc, 0x1c, 0x14, 0x9a, 0xfb, 0xf4, 0xc8, 0x99, 0x6f, 0xb9, 0x24,
     0x27, 0xae, 0x41, 0xe4, 0x64, 0x9b, 0x93, 0x4c, 0xa4, 0x95, 0x99, 0x1b, 0x78, 0x52, 0xb8, 0x55,
@@ -21,39 +22,8 @@ const OF_ZERO: [u8; 32] = [
     0x78, 0x90, 0x1d, 0x3f, 0xb3, 0x37, 0x38, 0x76, 0x85, 0x11, 0xa3, 0x06, 0x17, 0xaf, 0xa0, 0x1d,
 ];
 
-const OF_ZEROS: [u8; 32] = [
-    0xfa, 0x43, 0x23, 0x9b, 0xce, 0xe7, 0xb9, 0x7c, 0xa6, 0x2f, 0x00, 0x7c, 0xc6, 0x84, 0x87, 0x56,
-    0x0a, 0x39, 0xe1, 0x9f, 0x74, 0xf3, 0xdd, 0xe7, 0x48, 0x6d, 0xb3, 0xf9, 0x8d, 0xf8, 0xe4, 0x71,
-];
-
 fn block(offset: u64, size: u32, hash: [u8; 32]) -> Block {
     Block { offset, size, hash }
-}
-
-// Whether these are the blocks of the bytes.
-fn are_cut(alloc: Global, bytes: &[u8], wanted: &[Block]) -> bool {
-    match blocks(alloc, bytes, BlockSize::base()) {
-        Ok(made) => made.as_slice() == wanted,
-        Err(_) => false,
-    }
-}
-
-// Whether these are the blocks of a file of this many zero bytes.
-fn are_of_zeros(alloc: Global, len: usize, wanted: &[Block]) -> bool {
-    match vec![in alloc; 0; len] {
-        Ok(bytes) => are_cut(alloc, &bytes, wanted),
-        Err(_) => false,
-    }
-}
-
-#[test]
-fn cuts_into_plain_blocks(rt: HostRuntime) {
-    let alloc = rt.alloc();
-    let whole = block(0, 131072, OF_ZEROS);
-    assert!(rt; are_cut(alloc, &[], &[block(0, 0, OF_NOTHING)]));
-    assert!(rt; are_cut(alloc, b"abc", &[block(0, 3, OF_ABC)]));
-    assert!(rt; are_of_zeros(alloc, 131072, &[whole]));
-    assert!(rt; are_of_zeros(alloc, 131073, &[whole, block(131072, 1, OF_ZERO)]));
 }
 
 // How many blocks a file of this many zero bytes has.
@@ -76,60 +46,45 @@ fn matches_only_whole_cuts(rt: HostRuntime) {
     let first = block(0, 3, OF_ABC);
     let last = block(3, 3, OF_ABC);
     let empty = block(6, 0, OF_NOTHING);
-    assert!(rt; matches(b"abcabc", &[first, last]));
-    assert!(rt;
-        !matches(b"abcabc", &[first, block(3, 3, OF_ZERO)]),
-        "a wrong hash"
+    let matching = [
+        matches(b"abcabc", &[first, last]),
+        matches(b"abcabc", &[first, block(3, 3, OF_ZERO)]), // a wrong hash
+        matches(b"abcxabc", &[first, block(4, 3, OF_ABC)]), // a gap
+        matches(b"abcabc", &[first, block(2, 3, OF_ABC)]), // a place before the end
+        matches(b"abcabc", &[first]), // the last piece is missing
+        matches(b"abcabc", &[first, last, empty]), // an empty piece at the end
+        matches(b"abcabc", &[block(0, 0, OF_NOTHING), first, last]), // one in front
+        matches(b"abcab", &[first, last]), // past the end
+        matches(b"abcabc", &[last, first]), // out of order
+    ];
+    assert_eq!(rt;
+        matching,
+        [true, false, false, false, false, false, false, false, false]
     );
-    assert!(rt;
-        !matches(b"abcxabc", &[first, block(4, 3, OF_ABC)]),
-        "a gap"
-    );
-    assert!(rt;
-        !matches(b"abcabc", &[first, block(2, 3, OF_ABC)]),
-        "a place before the end"
-    );
-    assert!(rt; !matches(b"abcabc", &[first]), "the last piece is missing");
-    assert!(rt;
-        !matches(b"abcabc", &[first, last, empty]),
-        "an empty piece at the end"
-    );
-    assert!(rt;
-        !matches(b"abcabc", &[block(0, 0, OF_NOTHING), first, last]),
-        "one in front"
-    );
-    assert!(rt; !matches(b"abcab", &[first, last]), "past the end");
-    assert!(rt; !matches(b"abcabc", &[last, first]), "out of order");
 }
 
 #[test]
 fn matches_no_bytes_by_one_block(rt: HostRuntime) {
     let empty = block(0, 0, OF_NOTHING);
-    assert!(rt; matches(b"", &[empty]));
-    assert!(rt; !matches(b"", &[]));
-    assert!(rt; !matches(b"", &[empty, empty]));
-    assert!(rt; !matches(b"abc", &[]));
+    let matching = [
+        matches(b"", &[empty]),
+        matches(b"", &[]),
+        matches(b"", &[empty, empty]),
+        matches(b"abc", &[]),
+    ];
+    assert_eq!(rt; matching, [true, false, false, false]);
 }
 
-// Whether the hashes make these blocks of a file of this size; where they are to make none, `wanted` is `None`.
-fn are_made(alloc: Global, hashes: &[[u8; 32]], size: u64, wanted: Option<&[Block]>) -> bool {
-    match blocks_of_hashes(alloc, hashes, size, BlockSize::base()) {
-        Ok(Some(made)) => wanted == Some(made.as_slice()),
-        Ok(None) => wanted.is_none(),
-        Err(_) => false,
-    }
+// Whether the one hash makes the blocks of a file of this size, where memory is there.
+fn makes(alloc: Global, size: u64) -> Option<bool> {
+    let made = blocks_of_hashes(alloc, &[OF_ZERO], size, BlockSize::base()).ok()?;
+    Some(made.is_some())
 }
 
 #[test]
-fn makes_blocks_of_hashes(rt: HostRuntime) {
-    let alloc = rt.alloc();
-    let two = [block(0, 131072, OF_ZEROS), block(131072, 1, OF_ZERO)];
-    assert!(rt; are_made(alloc, &[OF_ZEROS, OF_ZERO], 131073, Some(&two)));
-    let nothing = [block(0, 0, OF_NOTHING)];
-    assert!(rt; are_made(alloc, &[OF_NOTHING], 0, Some(&nothing)));
-    assert!(rt; are_made(alloc, &[OF_ZEROS], 131073, None), "one too few");
-    assert!(rt; are_made(alloc, &[], 0, None), "none for an empty file");
-    assert!(rt; are_made(alloc, &[OF_ZERO], u64::MAX, None), "a huge file");
+fn makes_no_blocks_of_a_huge_file(rt: HostRuntime) {
+    assert_eq!(rt; makes(rt.alloc(), 1), Some(true));
+    assert_eq!(rt; makes(rt.alloc(), u64::MAX), Some(false));
 }
 
 #[test]

@@ -1,8 +1,8 @@
-//! Links, by hand after what they are to do: each expected number is that of the message that was sent.
+//! Links, by hand after what they are to do: each expected number is that of the message that was sent. Links that are
+//! lost or full, `examples/` shows.
 use bep_links::{Code, Link, LinkError, Message, Response, Side};
-use bep_record::{DeviceId, Items, MAX_MESSAGES};
+use bep_record::{DeviceId, Items};
 use std::alloc::Global;
-use std::test::Fail;
 
 // A response with this number, by which messages are told apart.
 fn numbered(alloc: Global, id: u32) -> Message {
@@ -82,80 +82,4 @@ fn messages_arrive_in_order(rt: HostRuntime) {
     let after = [(Some(2), None), (Some(3), None)];
     let wanted = (Ok(()), before, taken, after);
     assert_eq!(rt; arrived_anew(rt.alloc()), Some(wanted));
-}
-
-// Whether the link is up, its epoch, and what waits at an end.
-type State = (bool, u64, Waiting);
-
-fn state(link: &Link, side: Side) -> State {
-    (link.is_up(), link.epoch(), waits(link, side))
-}
-
-// The answers to carrying, connecting again and losing the link; then to losing it and sending over it.
-fn lost(alloc: Global, link: &mut Link) -> ([Answer; 3], State, [Answer; 2]) {
-    let answers = [carry(alloc, link), link.connect(), link.lose()];
-    let state = state(link, Side::Upper);
-    let sent = [link.lose(), link.push(Side::Upper, numbered(alloc, 4))];
-    (answers, state, sent)
-}
-
-// All that, and then the link is connected once more.
-type Lost = (([Answer; 3], State, [Answer; 2]), Answer, State);
-
-fn lost_and_connected(alloc: Global) -> Option<Lost> {
-    let mut link = link_between(alloc, 1, 2)?;
-    let lost = lost(alloc, &mut link);
-    let again = link.connect();
-    Some((lost, again, state(&link, Side::Lower)))
-}
-
-#[test]
-fn a_lost_link_loses_its_messages(rt: HostRuntime) {
-    let answers = [Ok(()), Err(LinkError::NothingToDo), Ok(())];
-    let down = (false, 1, (None, None));
-    let refused = [Err(LinkError::LinkDown), Err(LinkError::LinkDown)];
-    let up = (true, 2, (None, None));
-    let wanted = ((answers, down, refused), Ok(()), up);
-    assert_eq!(rt; lost_and_connected(rt.alloc()), Some(wanted));
-}
-
-// Sends the messages from one number to another to the upper end.
-fn send(alloc: Global, link: &mut Link, from: u32, to: u32) -> Answer {
-    for id in from..to {
-        link.push(Side::Upper, numbered(alloc, id))?;
-    }
-    Ok(())
-}
-
-// The answers to carrying and to filling the upper end, its last message, which ends are full, and the answers to one more
-// message for each.
-type Filled = ([Answer; 2], Option<u32>, [bool; 2], [Answer; 2]);
-
-fn filled(alloc: Global, link: &mut Link) -> Filled {
-    let answers = [carry(alloc, link), send(alloc, link, 4, 1026)];
-    let last = number_of(link.waiting(Side::Upper, MAX_MESSAGES - 1));
-    let full = [link.is_full(Side::Upper), link.is_full(Side::Lower)];
-    let more = send(alloc, link, 1026, 1027);
-    let other = link.push(Side::Lower, numbered(alloc, 1026));
-    (answers, last, full, [more, other])
-}
-
-fn filled_anew(alloc: Global) -> Option<Filled> {
-    let mut link = link_between(alloc, 1, 2)?;
-    Some(filled(alloc, &mut link))
-}
-
-#[test]
-fn an_end_takes_1024_messages(rt: HostRuntime) {
-    let more = [Err(LinkError::LinkFull), Ok(())];
-    let wanted = ([Ok(()), Ok(())], Some(1025), [true, false], more);
-    assert_eq!(rt; filled_anew(rt.alloc()), Some(wanted));
-}
-
-#[test]
-fn the_smaller_device_comes_first(rt: HostRuntime) {
-    let alloc = rt.alloc();
-    assert!(rt; link_between(alloc, 1, 2).is_some());
-    assert!(rt; link_between(alloc, 2, 1).is_none());
-    assert!(rt; link_between(alloc, 2, 2).is_none());
 }

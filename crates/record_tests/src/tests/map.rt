@@ -1,17 +1,8 @@
 //! Maps by names and by folders, call after call.
 use bep_map::{FolderMap, NameMap};
-use bep_record::{Duplicate, FolderName, Name};
-use std::alloc::{AllocError, Global};
+use bep_record::{FolderName, Name};
+use std::alloc::Global;
 use std::test::Fail;
-
-#[derive(Clone, Copy, Debug, PartialEq)]
-struct Count(u64);
-
-impl Duplicate for Count {
-    fn duplicate(&self, _alloc: Global) -> Result<Self, AllocError> {
-        Ok(*self)
-    }
-}
 
 #[derive(Clone, Copy)]
 enum Call {
@@ -22,60 +13,53 @@ enum Call {
 }
 
 // What the call answers of the name of this one letter: the value that it has, or had.
-fn answer(
-    alloc: Global,
-    map: &mut NameMap<Count>,
-    letter: u8,
-    call: Call,
-) -> Option<Option<Count>> {
+fn answer(alloc: Global, map: &mut NameMap<u64>, letter: u8, call: Call) -> Option<Option<u64>> {
     let name = Name::read(alloc, &[letter]).ok()?;
     match call {
         Call::Get => Some(map.get(&name).copied()),
-        Call::Insert(count) => map.insert(name, Count(count)).ok(),
-        Call::Replace(count) => Some(map.replace(&name, Count(count)).ok()),
+        Call::Insert(count) => map.insert(name, count).ok(),
+        Call::Replace(count) => Some(map.replace(&name, count).ok()),
         Call::Remove => Some(map.remove(&name)),
     }
 }
 
-// The number of names, and the values.
-fn listed(map: &NameMap<Count>) -> (usize, [Option<Count>; 3]) {
+// The number of names, and the values in order.
+fn listed(map: &NameMap<u64>) -> (usize, [Option<u64>; 3]) {
     let mut values = map.values().copied();
     let first = [values.next(), values.next(), values.next()];
     (map.iter().count(), first)
 }
 
-// What a removal answers, and what a copy from before it has.
-type Copied = (Option<Option<Count>>, (usize, [Option<Count>; 3]));
-
-fn copied(alloc: Global, map: &mut NameMap<Count>) -> Option<Copied> {
-    let copy = map.copy(alloc).ok()?;
-    let removed = answer(alloc, map, b'a', Call::Remove);
-    Some((removed, listed(&copy)))
+// The first of these calls that answers otherwise than stands beside it, or leaves another number of names.
+fn misanswered(
+    alloc: Global,
+    map: &mut NameMap<u64>,
+    calls: &[(u8, Call, Option<u64>, usize)],
+) -> Option<usize> {
+    for (place, (letter, call, wanted, len)) in calls.iter().enumerate() {
+        if answer(alloc, map, *letter, *call) != Some(*wanted) || map.len() != *len {
+            return Some(place);
+        }
+    }
+    None
 }
 
 #[test]
 fn names_have_values(rt: HostRuntime) {
-    let alloc = rt.alloc();
-    let mut map = NameMap::new(alloc);
-    for (letter, call, wanted, len) in [
+    let mut map = NameMap::new(rt.alloc());
+    let calls = [
         (b'b', Call::Insert(2), None, 1),
         (b'a', Call::Insert(1), None, 2),
-        (b'a', Call::Insert(5), Some(Count(1)), 2),
-        (b'a', Call::Replace(3), Some(Count(5)), 2),
-        (b'a', Call::Get, Some(Count(3)), 2),
+        (b'a', Call::Insert(5), Some(1), 2),
+        (b'a', Call::Replace(3), Some(5), 2),
+        (b'a', Call::Get, Some(3), 2),
         (b'c', Call::Insert(6), None, 3),
-        (b'c', Call::Remove, Some(Count(6)), 2),
+        (b'c', Call::Remove, Some(6), 2),
         (b'c', Call::Replace(4), None, 2),
         (b'c', Call::Get, None, 2),
-    ] {
-        assert_eq!(rt;
-            (answer(alloc, &mut map, letter, call), map.len()),
-            (Some(wanted), len)
-        );
-    }
-    let values = [Some(Count(3)), Some(Count(2)), None];
-    let wanted = (Some(Some(Count(3))), (2, values));
-    assert_eq!(rt; copied(alloc, &mut map), Some(wanted));
+    ];
+    assert_eq!(rt; misanswered(rt.alloc(), &mut map, &calls), None);
+    assert_eq!(rt; listed(&map), (2, [Some(3), Some(2), None]));
 }
 
 #[test]
@@ -84,12 +68,13 @@ fn folders_have_values(rt: HostRuntime) -> Result<(), Fail> {
     let docs = FolderName::read(alloc, b"docs")?;
     let pictures = FolderName::read(alloc, b"pictures")?;
     let mut places = FolderMap::new(alloc);
-    assert!(rt; places.insert(docs.copy(alloc)?, 1)?.is_none());
-    assert_eq!(rt; places.replace(&docs, 2), Ok(1));
-    assert_eq!(rt; places.replace(&pictures, 3), Err(3));
-    assert_eq!(rt;
-        (places.get(&docs).copied(), places.get(&pictures).copied()),
-        (Some(2), None)
+    let first = places.insert(docs.copy(alloc)?, 1)?;
+    let answers = (
+        places.replace(&docs, 2),
+        places.replace(&pictures, 3),
+        places.get(&docs).copied(),
+        places.get(&pictures).copied(),
     );
+    assert_eq!(rt; (first, answers), (None, (Ok(1), Err(3), Some(2), None)));
     Ok(())
 }
