@@ -1,5 +1,5 @@
 -- The end of a pull makes its row, from part to part.
-use Rattle.std.proofs.Common.{◌≡◌, ℕ, ◌+◌, ◌<◌, length, Option, Some, None, Result, Ok, Err, inl, inr, refl, sym, ap, subst, ◌∙◌, ⊎_elim, arith}
+use Rattle.std.proofs.Common.{◌≡◌, ℕ, Bool, true, false, ◌+◌, ◌<◌, length, Option, Some, None, Result, Ok, Err, inl, inr, refl, sym, ap, subst, ◌∙◌, ⊎_elim, arith}
 use Rattle.std.specs.Prelude.{IsSome, ◌≢◌}
 use Rattle.bep_record.specs.declared.entry.Entry.{Entry}
 use Rattle.bep_record.specs.declared.node.NodeParts.{NodeParts}
@@ -18,6 +18,7 @@ use Rattle.bep_folder.specs.declared.error.FolderError.TheVariants as errors
 use Rattle.bep_folder.specs.Ending.{CleanRow, IsIncomplete, PulledRow, RoomyRow, WritingRow}
 use Rattle.bep_folder.specs.Finish.{FailsLater, IfPulled, Looks}
 use Rattle.bep_folder.specs.Held.{Held}
+use Rattle.bep_folder.specs.Kept.{IsKeptAt}
 use Rattle.bep_folder.specs.Makes.{Makes}
 use Rattle.bep_folder.specs.Trace.{next_call}
 
@@ -201,6 +202,48 @@ module _ (name copy : FileName) (old mid new : Held) (beside : Beside name copy 
       Makes (λ t. PulledRow name (λ pull. RoomyRow name pull None (mid.made + 1) new.trace.failed t) t) mid new result →
       Makes (λ t. PulledRow name (λ pull. CopyingRow name pull new.trace.failed (own_at t name) (node_at t name) t) t) old new result
   ends_without result there same made = ends_beside result None (λ other. other.1 same) (λ pull answer rest. inr (there, rest)) made
+
+-- the node is kept there, or nothing stands there
+pub kept_there : (copy : FileName) (held : Option NodeParts) (old new : Held) (kept : Bool) → kept ≡ true → IsKeptAt copy held old new (Ok kept) →
+    (new ≡ record old { made = next_call old.made }) × (node_at old.tables copy ≢ None) × IsCopy (node_at old.tables copy) held
+kept_there copy held old new true is (inl found) = (found.0, found.1.0, found.1.1)
+kept_there copy held old new true is (inr (error, gives, looked)) = absurd (cc)
+kept_there copy held old new false is found = absurd (cc)
+
+pub nothing_there : (copy : FileName) (held : Option NodeParts) (old new : Held) (kept : Bool) → kept ≡ false → IsKeptAt copy held old new (Ok kept) →
+    (new ≡ record old { made = next_call old.made }) × (node_at old.tables copy ≡ None)
+nothing_there copy held old new true is found = absurd (cc)
+nothing_there copy held old new false is (inl found) = found
+nothing_there copy held old new false is (inr (error, gives, looked)) = absurd (cc)
+
+-- the store doesn't tell what stands there, or another node does
+pub ends_unkept : (name copy : FileName) (old new : Held) (node : Option NodeParts) (error : FolderError) → IsSome (pull_at old.tables name) → copy ≡ copy_name (own_at old.tables name) →
+    ¬ (max_name_len < length copy) → node_at old.tables name ≡ node → old.made ≡ 1 → old.trace.failed ≡ None → IsKeptAt copy node old new (Err error) →
+    Makes (λ t. PulledRow name (λ pull. CopyingRow name pull new.trace.failed (own_at t name) (node_at t name) t) t) old new (Err error)
+ends_unkept name copy old new node error pulled named short held one untroubled found = by_end found where
+  ends : (answer : Answer) → ((pull : Pull) → CopyingAt copy name pull new.trace.failed old.tables new.tables answer) →
+      PulledRow name (λ pull. CopyingRow name pull new.trace.failed (own_at old.tables name) (node_at old.tables name) old.tables) old.tables new.tables answer
+  ends answer row = each (pull_at old.tables name) refl pulled where
+    each : (found : Option Pull) → pull_at old.tables name ≡ found → IsSome found →
+        PulledRow name (λ pull. CopyingRow name pull new.trace.failed (own_at old.tables name) (node_at old.tables name) old.tables) old.tables new.tables answer
+    each None is none = absurd (cc)
+    each (Some pull) is some = (pull, is, subst (λ n. CopyingAt n name pull new.trace.failed old.tables new.tables answer) named (row pull))
+
+  by_end : IsKeptAt copy node old new (Err error) →
+      Makes (λ t. PulledRow name (λ pull. CopyingRow name pull new.trace.failed (own_at t name) (node_at t name) t) t) old new (Err error)
+  by_end (inl found) =
+      subst (λ (e : FolderError). Makes (λ t. PulledRow name (λ pull. CopyingRow name pull new.trace.failed (own_at t name) (node_at t name) t) t) old new (Err e)) (sym found.1.0)
+      (ends (Refused refusals.CopyExists) (λ pull. inr (
+        short,
+        inr (
+          (λ fails. absurd (let e : Some 2 ≡ None = sym fails ∙ ap (λ (h : Held). h.trace.failed) found.0 ∙ untroubled in cc)),
+          inl ((found.1.1, subst (λ (n : Option NodeParts). ¬ IsCopy (node_at old.tables copy) n) (sym held) found.1.2), (ap (λ (h : Held). h.tables) found.0, refl)),
+        ),
+      )))
+  by_end (inr (failed, is, looked)) =
+      let same : error ≡ failed = cc in
+      look_makes (λ t. PulledRow name (λ pull. CopyingRow name pull new.trace.failed (own_at t name) (node_at t name) t) t) old new error (subst (λ (e : FolderError). Looks {A = Option NodeParts} old new (Err e)) (sym same) looked)
+      (λ same fails. ends (Refused refusals.StoreFault) (λ pull. inr (short, inl (subst (λ call. Fails call new.trace.failed) (ap next_call one) fails, (same, refl)))))
 
 -- ---- the whole
 

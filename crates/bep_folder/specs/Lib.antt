@@ -4,6 +4,7 @@ pub mod Ending
 pub mod Finish
 pub mod FolderError
 pub mod Held
+pub mod Kept
 pub mod Known
 pub mod Makes
 pub mod Names

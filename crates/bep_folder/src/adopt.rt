@@ -13,6 +13,7 @@ ghost use Rattle.bep_folder.specs.Ending.{HasRoom, LacksRoom};
 use crate::FolderError;
 use crate::beside::version_of;
 use crate::error::index_error;
+use crate::record_of::record_of;
 use bep_index::{Index, Undo};
 use bep_record::{Name, Record, Vector};
 use std::alloc::Global;
@@ -47,10 +48,7 @@ pub(crate) fn adopted(
     let mut entry = target.copy(alloc)?.into_entry();
     entry.version = version;
     entry.invalid = false;
-    match Record::read(entry) {
-        Ok(record) => Ok(record),
-        Err(_) => unreachable!(),
-    }
+    Ok(record_of(entry))
 }
 
 // Puts the record that the target gives into the index, and answers how that is taken back.

@@ -2,6 +2,7 @@
 ghost use Rattle.std.specs.Prelude.{◌≡◌};
 ghost use Rattle.bep_machine.specs.Local.{deletion_of};
 
+use crate::record_of::record_of;
 use bep_record::{DeviceId, Entry, Items, Name, Record, Target, Vector};
 use std::alloc::Global;
 
@@ -16,7 +17,7 @@ pub(crate) fn deletion(
     ensures { result ≡ deletion_of device name old.now version }
 {
     let old = old.entry();
-    let made = Record::read(Entry {
+    record_of(Entry {
         name,
         kind: old.kind,
         size: 0,
@@ -31,9 +32,5 @@ pub(crate) fn deletion(
         block_size: 0,
         blocks: Items::new(Vec::new(alloc)),
         target: Target::empty(alloc),
-    });
-    match made {
-        Ok(deletion) => deletion,
-        Err(_) => unreachable!(),
-    }
+    })
 }

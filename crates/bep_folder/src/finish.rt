@@ -8,6 +8,7 @@ ghost use Rattle.bep_machine.specs.Replica.{own_at, node_at, pull_at, without_pu
 ghost use Rattle.bep_machine.specs.Pull.{CopyingRow, EndingRow, FinishRow, IsConflictDue, IsStillWanted, copy_name};
 ghost use Rattle.bep_folder.specs.Ending.{CleanRow, IsIncomplete, PulledRow};
 ghost use Rattle.bep_folder.specs.Finish.{FailsLater, GainsCopy, IfPulled, Looks, TellsOfCopy};
+ghost use Rattle.bep_folder.specs.Kept.{IsKeptAs, IsKeptAt};
 ghost use Rattle.bep_folder.specs.Makes.{Makes, Stays, CountsFaults};
 ghost use Rattle.bep_folder.specs.Views.{unchanged};
 
@@ -183,16 +184,25 @@ impl<S: Store> Replica<S> {
         ensures counted { CountsFaults self.old self.new result }
     {
         let copy = self.name_of_copy(alloc, name)?;
-        let there = self.read_node(alloc, &copy)?;
-        match there {
-            None => self.settle(alloc, name, Some(&copy), node),
-            Some(there) => {
-                if !is_copy(Some(&there), node) {
-                    return Err(FolderError::CopyExists);
-                }
-                self.settle(alloc, name, None, node)
-            }
+        let kept = self.is_kept(alloc, &copy, node)?;
+        if kept {
+            return self.settle(alloc, name, None, node);
         }
+        self.settle(alloc, name, Some(&copy), node)
+    }
+
+    // Whether the conflict name has a copy of the node already; the call is counted. Refuses `CopyExists` where another
+    // node stands there.
+    fn is_kept(
+        &mut self,
+        alloc: Global,
+        copy: &Name,
+        node: Option<&Node>,
+    ) -> Result<bool, FolderError>
+        ensures { IsKeptAt copy.now (option_copied node.entry) self.old self.new result }
+    {
+        let there = self.read_node(alloc, copy)?;
+        is_kept_as(there.as_ref(), node)
     }
 
     // The conflict name of the own record. Refuses `NameBad` where that has over 1024 bytes.
@@ -211,4 +221,17 @@ impl<S: Store> Replica<S> {
             Err(_) => Err(FolderError::Memory),
         }
     }
+}
+
+// Whether what stands there is a copy of the node. Refuses `CopyExists` where it is another node.
+fn is_kept_as(there: Option<&Node>, node: Option<&Node>) -> Result<bool, FolderError>
+    ensures { IsKeptAs (option_copied there.entry) (option_copied node.entry) result }
+{
+    if there.is_none() {
+        return Ok(false);
+    }
+    if !is_copy(there, node) {
+        return Err(FolderError::CopyExists);
+    }
+    Ok(true)
 }

@@ -9,6 +9,7 @@ ghost use Rattle.bep_folder.specs.declared.error.FolderError.TheVariants.{Counte
 
 use crate::beside::version_of;
 use crate::deletion::deletion;
+use crate::record_of::record_of;
 use crate::{FolderError, ScanResult};
 use bep_blocks::plain_blocks_match;
 use bep_record::{
@@ -93,7 +94,7 @@ fn of_node(
 {
     plain_blocks_match();
     let parts = node.into_parts();
-    let made = Record::read(Entry {
+    record_of(Entry {
         name,
         kind: parts.kind,
         size: parts.bytes.as_slice().len() as u64,
@@ -108,11 +109,7 @@ fn of_node(
         block_size: block_size_of(parts.kind),
         blocks,
         target: parts.target,
-    });
-    match made {
-        Ok(found) => found,
-        Err(_) => unreachable!(),
-    }
+    })
 }
 
 // The number of bytes in each block but the last.
@@ -131,8 +128,5 @@ fn local_only(found: Record) -> Record
 {
     let mut entry = found.into_entry();
     entry.invalid = true;
-    match Record::read(entry) {
-        Ok(marked) => marked,
-        Err(_) => unreachable!(),
-    }
+    record_of(entry)
 }

@@ -31,6 +31,7 @@ mod overriding;
 mod pull;
 mod pulled;
 mod readers;
+mod record_of;
 mod replica;
 mod reverting;
 mod scan_result;

@@ -11,6 +11,7 @@ use crate::adopt::merged;
 use crate::beside::version_of;
 use crate::commit::put_record;
 use crate::deletion::deletion;
+use crate::record_of::record_of;
 use crate::{FolderError, Replica};
 use bep_machine::Moved;
 use bep_record::{DeviceId, FolderKind, Name, Record, Vector};
@@ -152,8 +153,5 @@ pub(crate) fn overriding(
     let mut entry = own.copy(alloc)?.into_entry();
     entry.modified_by = device;
     entry.version = version;
-    match Record::read(entry) {
-        Ok(made) => Ok(made),
-        Err(_) => unreachable!(),
-    }
+    Ok(record_of(entry))
 }

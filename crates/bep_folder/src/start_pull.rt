@@ -84,25 +84,8 @@ impl<S: Store> Replica<S> {
     }
 }
 
-// Puts the pull under the name. A name that has one needs no memory.
+// Puts the pull under the name, in place of any other.
 fn put_in(
-    pulls: &mut NameMap<Pull>,
-    alloc: Global,
-    name: &Name,
-    pull: Pull,
-) -> Result<(), FolderError>
-    ensures ok { OnOk result (pulls.new ≡ map.insert pulls.old name.now pull) }
-    ensures only { IfErr result (λ e. e ≡ FolderError.Memory) }
-    ensures err { OnErr result (pulls.new ≡ pulls.old) }
-{
-    match pulls.replace(name, pull) {
-        Ok(_replaced) => Ok(()),
-        Err(pull) => put_first(pulls, alloc, name, pull),
-    }
-}
-
-// Puts the pull under the name, which has none.
-fn put_first(
     pulls: &mut NameMap<Pull>,
     alloc: Global,
     name: &Name,

@@ -1,5 +1,5 @@
 //! What the device takes of what others send of their indexes.
-ghost use Rattle.std.specs.Prelude.{◌≡◌, ◌⊎◌, ◌↔◌, IfOk, IfErr, IsErrOf, OnErr, OnOk, Some, None};
+ghost use Rattle.std.specs.Prelude.{◌≡◌, ◌⊎◌, ◌↔◌, Contains, IfOk, IfErr, IsErrOf, IsTrue, OnErr, OnOk, Some, None};
 ghost use Rattle.std.specs.FinMap as map;
 ghost use Rattle.bep_index.specs.View.{IsOld, cleared, replaced, amended};
 ghost use Rattle.bep_machine.specs.Replica.{view_of};
@@ -25,8 +25,7 @@ impl<S: Store> Replica<S> {
         ensures only { IfErr result (λ e. (e ≡ FolderError.NotShared) ⊎ (e ≡ FolderError.Memory)) }
         ensures err { OnErr result (self.new ≡ unchanged self.old) }
     {
-        self.store.begin();
-        if !self.others.as_slice().contains(&device) {
+        if !self.begin_with(device) {
             return Err(FolderError::NotShared);
         }
         replace_in(&mut self.views, self.alloc, device, batch)
@@ -47,8 +46,7 @@ impl<S: Store> Replica<S> {
         ensures only { IfErr result (λ e. (e ≡ FolderError.NotShared) ⊎ (e ≡ FolderError.BatchOld) ⊎ (e ≡ FolderError.IndexFull) ⊎ (e ≡ FolderError.Memory)) }
         ensures err { OnErr result (self.new ≡ unchanged self.old) }
     {
-        self.store.begin();
-        if !self.others.as_slice().contains(&device) {
+        if !self.begin_with(device) {
             return Err(FolderError::NotShared);
         }
         amend_in(&mut self.views, self.alloc, device, batch)
@@ -65,8 +63,7 @@ impl<S: Store> Replica<S> {
         ensures only { IfErr result (λ e. (e ≡ FolderError.NotShared) ⊎ (e ≡ FolderError.Memory)) }
         ensures err { OnErr result (self.new ≡ unchanged self.old) }
     {
-        self.store.begin();
-        if !self.others.as_slice().contains(&device) {
+        if !self.begin_with(device) {
             return Err(FolderError::NotShared);
         }
         let mut view = View::empty(self.alloc);
@@ -91,14 +88,22 @@ impl<S: Store> Replica<S> {
         ensures only { IfErr result (λ e. (e ≡ FolderError.NotShared) ⊎ ((e ≡ FolderError.Memory) × (map.get self.old.tables.views device ≡ None))) }
         ensures err { OnErr result (self.new ≡ unchanged self.old) }
     {
-        self.store.begin();
-        if !self.others.as_slice().contains(&device) {
+        if !self.begin_with(device) {
             return Err(FolderError::NotShared);
         }
         match view {
             Some(view) => put_view(&mut self.views, device, view),
             None => Ok(self.views.remove(device)),
         }
+    }
+
+    // Begins a call that is about the device, and tells whether it is another one that shares the folder.
+    fn begin_with(&mut self, device: DeviceId) -> bool
+        ensures begun { self.new ≡ unchanged self.old }
+        ensures shared { IsTrue result ↔ Contains self.old.tables.others device }
+    {
+        self.store.begin();
+        self.others.as_slice().contains(&device)
     }
 }
 

@@ -1,5 +1,5 @@
 //! A link as a device at one of its ends sees it, and what the device sends over it.
-ghost use Rattle.std.specs.Prelude.{◌≡◌, true, false, IfOk, IfErr, OnOk, OnErr};
+ghost use Rattle.std.specs.Prelude.{◌≡◌, true, false, IfOk, IfErr, OnErr};
 ghost use Rattle.bep_links.specs.Side.{end_at};
 ghost use Rattle.bep_machine.specs.Link.{end_of, sight_of, sending, after_deed};
 ghost use Rattle.bep_peer.specs.declared.error.PeerError.TheVariants.{Memory};
@@ -28,16 +28,17 @@ pub(crate) fn is_full(link: &Link, side: Side) -> bool
     link.is_full(side.opposite())
 }
 
-// Sends the message from this end. It fails only for want of memory, and then all is as before.
-fn send(link: &mut Link, side: Side, message: Message) -> Result<(), PeerError>
+// Sends the message from this end, and answers what is told of it then. It fails only for want of memory, and then all is
+// as before.
+fn send<T: Drop>(link: &mut Link, side: Side, message: Message, told: T) -> Result<T, PeerError>
     requires up { link.old.link.up ≡ true }
     requires room { (sight_of (end_at side) link.old.link).full ≡ false }
-    ensures ok { OnOk result (link.new ≡ record link.old { link = after_deed (end_at side) (sending message) link.old.link }) }
+    ensures ok { IfOk result (λ same. (same ≡ told) × (link.new ≡ record link.old { link = after_deed (end_at side) (sending message) link.old.link })) }
     ensures only { IfErr result (λ e. e ≡ Memory) }
     ensures err { OnErr result (link.new ≡ link.old) }
 {
     match link.push(side.opposite(), message) {
-        Ok(()) => Ok(()),
+        Ok(()) => Ok(told),
         Err(LinkError::Memory) => Err(PeerError::Memory),
         Err(_) => unreachable!(),
     }
@@ -53,14 +54,12 @@ pub(crate) fn send_copied(
 ) -> Result<(Message, Message), PeerError>
     requires up { link.old.link.up ≡ true }
     requires room { (sight_of (end_at side) link.old.link).full ≡ false }
-    ensures copied { IfOk result (λ told. told ≡ (message, message)) }
-    ensures ok { OnOk result (link.new ≡ record link.old { link = after_deed (end_at side) (sending message) link.old.link }) }
+    ensures ok { IfOk result (λ told. (told ≡ (message, message)) × (link.new ≡ record link.old { link = after_deed (end_at side) (sending message) link.old.link })) }
     ensures only { IfErr result (λ e. e ≡ Memory) }
     ensures err { OnErr result (link.new ≡ link.old) }
 {
     let told = two_copies(alloc, &message)?;
-    send(link, side, message)?;
-    Ok(told)
+    send(link, side, message, told)
 }
 
 fn two_copies(alloc: Global, message: &Message) -> Result<(Message, Message), AllocError>

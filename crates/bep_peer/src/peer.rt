@@ -147,7 +147,7 @@ impl<S: Store> Peer<S> {
     pub(crate) fn tell_nothing(&mut self)
         ensures { self.new ≡ untold self.old }
     {
-        self.trace = Told::nothing();
+        self.trace.tell_of((None, false));
     }
 
     // The other end of the link, if it is one of the device's.

@@ -1,7 +1,6 @@
-use Rattle.std.proofs.Common.{◌≡◌, ◌∙◌, Err, inl, inr, refl, ap, sym, subst}
+use Rattle.std.proofs.Common.{◌∙◌, Err, inl, inr, refl, ap, sym, subst}
 use Rattle.std.specs.Option.{option_copied}
 use Rattle.bep_index.specs.Index.{IsSequenceFull}
-use Rattle.bep_index.specs.Change.{taken_back}
 use Rattle.bep_folder.specs.Revert.{PutsAndRemoves}
 use Rattle.bep_folder.proofs.RevertFacts.{not_put, not_removed, removed}
 use Rattle.bep_folder.proofs.reverting.put_and_remove.Goals as goal

@@ -1,42 +1,47 @@
-use Rattle.std.proofs.Common.{◌≡◌, ◌<◌, ◌∙◌, length, Some, None, sym, ap, subst}
+use Rattle.std.proofs.Common.{◌<◌, ◌∙◌, length, Option, ap, sym, subst}
+use Rattle.std.proofs.lemmas.Result.{err_from_is_err_and}
 use Rattle.std.specs.Option.{option_copied}
 use Rattle.bep_record.specs.Name.{max_name_len}
+use Rattle.bep_record.specs.declared.node.NodeParts.{NodeParts}
 use Rattle.bep_machine.specs.Replica.{node_at}
 use Rattle.bep_machine.specs.Pull.{IsCopy}
 use Rattle.bep_folder.specs.Held.{Held}
 use Rattle.bep_folder.specs.Trace.{next_call}
-use Rattle.bep_folder.proofs.FinishFacts.{Beside, ends_with_copy, ends_without, own_there}
+use Rattle.bep_folder.proofs.FinishFacts.{Beside, ends_unkept, ends_with_copy, ends_without, kept_there, nothing_there, own_there}
 use Rattle.bep_folder.proofs.replica.Replica.end_beside.Goals as goal
 
 pub name_of_copy-requires : goal.name_of_copy-requires
 name_of_copy-requires g c = own_there c.args.name.now c.args.self.now.tables c.requires.pulled c.requires.due
 
-pub returns-in-None-clause-made : goal.returns-in-None-clause-made
-returns-in-None-clause-made g c =
-    let looked = c.in_ok-there.ensures.looked in
-    let beside : Beside c.args.name.now c.in_ok-copy.copy c.args.self.now c.read_node.new.self c.settle.new.self = record {
+pub returns-in_err-kept-clause-made : goal.returns-in_err-kept-clause-made
+returns-in_err-kept-clause-made g c =
+    let error = err_from_is_err_and c.from_residual-in_err-kept.result c.from_residual-in_err-kept.ensures.1 in
+    rw (error.1, error.2)
+    (ends_unkept c.args.name.now c.in_ok-copy.copy c.args.self.now c.is_kept.new.self (option_copied c.args.node) c.in_err-kept.field-0.0 c.requires.pulled c.in_ok-copy.ensures.ok
+    (λ over. (let bad = c.in_ok-copy.ensures.bad.1 (subst (λ n. max_name_len < length n) c.in_ok-copy.ensures.ok over) in absurd (cc))) c.requires.node c.requires.second c.requires.untroubled c.in_err-kept.ensures)
+
+pub returns-then-kept-clause-made : goal.returns-then-kept-clause-made
+returns-then-kept-clause-made g c =
+    let found = kept_there c.in_ok-copy.copy (option_copied c.args.node) c.args.self.now c.is_kept.new.self c.in_ok-kept.kept c.if-kept.true c.in_ok-kept.ensures in
+    let beside : Beside c.args.name.now c.in_ok-copy.copy c.args.self.now c.is_kept.new.self c.settle.new.self = record {
       named = c.in_ok-copy.ensures.ok;
       short = λ over. (let bad = c.in_ok-copy.ensures.bad.1 (subst (λ n. max_name_len < length n) c.in_ok-copy.ensures.ok over) in absurd (cc));
-      same = ap (λ (h : Held). h.tables) looked;
-      two = ap (λ (h : Held). h.made) looked ∙ ap next_call c.requires.second;
+      same = ap (λ (h : Held). h.tables) found.0;
+      two = ap (λ (h : Held). h.made) found.0 ∙ ap next_call c.requires.second;
       later = c.settle.ensures.later;
     } in
-    ends_with_copy c.args.name.now c.in_ok-copy.copy c.args.self.now c.read_node.new.self c.settle.new.self beside c.settle.result
-    (sym c.in_ok-there.ensures.node ∙ c.in-None.is) c.settle.ensures.made
+    ends_without c.args.name.now c.in_ok-copy.copy c.args.self.now c.is_kept.new.self c.settle.new.self beside c.settle.result found.1
+    (subst (λ (n : Option NodeParts). IsCopy (node_at c.args.self.now.tables c.in_ok-copy.copy) n) (sym c.requires.node) found.2) c.settle.ensures.made
 
 pub returns-clause-made : goal.returns-clause-made
 returns-clause-made g c =
-    let looked = c.in_ok-there.ensures.looked in
-    let beside : Beside c.args.name.now c.in_ok-copy.copy c.args.self.now c.read_node.new.self c.settle-in-Some.new.self = record {
+    let found = nothing_there c.in_ok-copy.copy (option_copied c.args.node) c.args.self.now c.is_kept.new.self c.in_ok-kept.kept c.if-kept.false c.in_ok-kept.ensures in
+    let beside : Beside c.args.name.now c.in_ok-copy.copy c.args.self.now c.is_kept.new.self c.settle-2.new.self = record {
       named = c.in_ok-copy.ensures.ok;
       short = λ over. (let bad = c.in_ok-copy.ensures.bad.1 (subst (λ n. max_name_len < length n) c.in_ok-copy.ensures.ok over) in absurd (cc));
-      same = ap (λ (h : Held). h.tables) looked;
-      two = ap (λ (h : Held). h.made) looked ∙ ap next_call c.requires.second;
-      later = c.settle-in-Some.ensures.later;
+      same = ap (λ (h : Held). h.tables) found.0;
+      two = ap (λ (h : Held). h.made) found.0 ∙ ap next_call c.requires.second;
+      later = c.settle-2.ensures.later;
     } in
-    let found : node_at c.args.self.now.tables c.in_ok-copy.copy ≡ Some c.in-Some.there = sym c.in_ok-there.ensures.node ∙ c.in-Some.is in
-    let held : IsCopy (Some c.in-Some.there) (option_copied c.args.node) = c.is_copy.ensures.0 c.if-not-is_copy.false in
-    let same : IsCopy (node_at c.args.self.now.tables c.in_ok-copy.copy) (node_at c.args.self.now.tables c.args.name.now) =
-    subst (λ n. IsCopy n (node_at c.args.self.now.tables c.args.name.now)) (sym found) (subst (λ n. IsCopy (Some c.in-Some.there) n) (sym c.requires.node) held) in
-    ends_without c.args.name.now c.in_ok-copy.copy c.args.self.now c.read_node.new.self c.settle-in-Some.new.self beside c.settle-in-Some.result
-    (λ none. absurd (let e : None ≡ Some c.in-Some.there = sym none ∙ found in cc)) same c.settle-in-Some.ensures.made
+    ends_with_copy c.args.name.now c.in_ok-copy.copy c.args.self.now c.is_kept.new.self c.settle-2.new.self beside c.settle-2.result
+    found.1 c.settle-2.ensures.made

@@ -4,6 +4,7 @@ use Rattle.bep_links.specs.Side.{end_at}
 use Rattle.bep_machine.specs.Link.{end_of}
 use Rattle.bep_peer.specs.Member.{Member}
 use Rattle.bep_peer.proofs.DeliverFacts.{not_at_hand, not_begun, refused_first, delivered, remains_untold, remains_told, answer_told}
+use Rattle.bep_peer.proofs.StepFacts.{begun_remains}
 use Rattle.bep_peer.proofs.peer.Peer.deliver.Goals as goal
 
 pub returns-in_default-clause-step : goal.returns-in_default-clause-step
@@ -26,6 +27,13 @@ returns-in_err-effect-clause-step g c =
     (refused_first (record { member = c.args.self.now; link = c.args.link.now }) c.tell_nothing.new.self c.tell_nothing.ensures c.in-Some.other c.in-Some.ensures.some
     c.in_ok-must_be_in_session.field-0.now over (end_at c.side_of-side.result) (c.side_of-side.ensures ∙ ap (λ (m : Member). end_of m.number c.in-Some.other) c.self.view_is) c.take_first.new.self
     c.in_err-effect.field-0.0 (c.in_err-effect.ensures.step c.in_ok-must_be_in_session.field-0.now over.current.0) c.in_err-effect.ensures.err c.in_err-effect.ensures.told)
+
+pub returns-in_default-clause-rest : goal.returns-in_default-clause-rest
+returns-in_default-clause-rest g c = begun_remains c.args.self.now c.tell_nothing.new.self c.tell_nothing.ensures
+
+pub returns-in_err-must_be_in_session-clause-rest :
+    goal.returns-in_err-must_be_in_session-clause-rest
+returns-in_err-must_be_in_session-clause-rest g c = begun_remains c.args.self.now c.tell_nothing.new.self c.tell_nothing.ensures
 
 pub returns-in_err-effect-clause-rest : goal.returns-in_err-effect-clause-rest
 returns-in_err-effect-clause-rest g c = remains_untold c.args.self.now c.tell_nothing.new.self c.take_first.new.self c.tell_nothing.ensures c.in_err-effect.ensures.rest
