@@ -15,7 +15,7 @@ ghost use Rattle.bep_tables.specs.document.Told.{IsRecordTold, IsNodeTold, IsVie
 
 use crate::{Flight, LinkState, PeerView, Row, Share, SharedFolder};
 use bep_index::IndexId;
-use bep_json::{node_value, record_value, texts_are_told};
+use bep_json::{Members, node_value, record_value, texts_are_told};
 use bep_map::NameMap;
 use bep_record::{DeviceId, FolderKind, FolderName, Items, Node, Record};
 use serde_json::{Value, json};
@@ -193,16 +193,16 @@ fn share_members(
     requires views { view views ≡ list_of (map view_tree share.now.views) }
     ensures { IfOk result (λ v. view v ≡ share_tree share.now) }
 {
-    json!(in alloc; {
-        "device": share.device.number(),
-        "index_id": share.index_id.number(),
-        "kind": name_of_kind(share.kind),
-        "max": share.max_sequence,
-        "own": own,
-        "pulls": pulls,
-        "store": store,
-        "views": views
-    })
+    let members = Members::new(alloc)
+        .with("own", own)?
+        .with("pulls", pulls)?
+        .with("store", store)?
+        .with("views", views)?
+        .with_number("device", share.device.number())?
+        .with_number("index_id", share.index_id.number())?
+        .with_text("kind", name_of_kind(share.kind))?
+        .with_number("max", share.max_sequence)?;
+    Ok(members.into_value())
 }
 
 impl Written for SharedFolder {
@@ -292,14 +292,14 @@ fn link_members(
     requires to_b { view to_b ≡ list_of (map flight_tree link.now.to_b) }
     ensures { IfOk result (λ v. view v ≡ link_tree link.now) }
 {
-    json!(in alloc; {
-        "a": link.a.number(),
-        "b": link.b.number(),
-        "epoch": link.epoch,
-        "to_a": to_a,
-        "to_b": to_b,
-        "up": link.up
-    })
+    let members = Members::new(alloc)
+        .with("to_a", to_a)?
+        .with("to_b", to_b)?
+        .with_number("a", link.a.number())?
+        .with_number("b", link.b.number())?
+        .with_number("epoch", link.epoch)?
+        .with_flag("up", link.up)?;
+    Ok(members.into_value())
 }
 
 impl Written for Row {
