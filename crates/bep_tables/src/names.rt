@@ -1,11 +1,11 @@
 //! The names that are known in a folder.
 ghost use Rattle.std.specs.Prelude.{◌≡◌, fold, IfOk, OnOk};
-ghost use Rattle.std.specs.FinMap.{keys};
+ghost use Rattle.std.specs.FinMap.{insert, keys};
 ghost use Rattle.bep_tables.specs.Names.{with_names, with_valid, with_view, with_share, with_flight, with_link, known_names};
 
 use crate::{Cut, Flight, LinkState, PeerView, Share};
 use bep_map::NameMap;
-use bep_record::{FolderName, Record};
+use bep_record::{FolderName, Name, Record};
 use std::alloc::{AllocError, Global};
 
 impl Cut {
@@ -40,7 +40,7 @@ fn add_names<V>(names: &mut NameMap<()>, alloc: Global, held: &NameMap<V>) -> Re
     ensures { OnOk result (names.new ≡ with_names names.old (keys held.now)) }
 {
     for (name, _value) in held.iter() {
-        names.insert(name.copy(alloc)?, ())?;
+        add_name(names, alloc, name)?;
     }
     Ok(())
 }
@@ -107,8 +107,15 @@ fn add_valid(names: &mut NameMap<()>, alloc: Global, entry: &Record) -> Result<(
     ensures { OnOk result (names.new ≡ with_valid names.old entry.now) }
 {
     let entry = entry.entry();
-    if !entry.invalid {
-        names.insert(entry.name.copy(alloc)?, ())?;
+    if entry.invalid {
+        return Ok(());
     }
+    add_name(names, alloc, &entry.name)
+}
+
+fn add_name(names: &mut NameMap<()>, alloc: Global, name: &Name) -> Result<(), AllocError>
+    ensures { OnOk result (names.new ≡ insert names.old name.now tt) }
+{
+    names.insert(name.copy(alloc)?, ())?;
     Ok(())
 }
