@@ -16,7 +16,7 @@ use Rattle.bep_index.specs.Index.{IsIndex}
 use Rattle.bep_index.specs.Listing.{Listing}
 use Rattle.bep_model.specs.Tables.{FileName}
 use Rattle.bep_machine.specs.Replica.{Replica}
-use Rattle.bep_folder.specs.Names.{AddsRecorded, IsNameHere, one_of}
+use Rattle.bep_folder.specs.Names.{AddsRecorded, AreGathered, IsNameHere, one_of}
 
 abbrev pub Names : Type 0
 Names = ByName (Unit {0})
@@ -129,16 +129,22 @@ name_more list names one are name = (
 
 -- ---- the store's names, and the records'
 
-pub names_here : (tables : Replica) (list : List FileName) (stored names : Names) → list ≡ keys tables.store → AreNames list stored → AddsRecorded tables.index.records stored names →
+pub all_gathered : (list : List FileName) (records : ByName Entry) (stored names : Names) → AreNames list stored → AddsRecorded records stored names → AreGathered list records names
+all_gathered list records stored names are adds name = (
+  λ has. ⊎_elim (λ node. inl ((are name).0 node)) (λ own. inr own) ((adds name).0 has),
+  λ here. (adds name).1 (⊎_elim (λ node. inl ((are name).1 node)) (λ own. inr own) here),
+)
+
+pub names_here : (tables : Replica) (list : List FileName) (names : Names) → list ≡ keys tables.store → AreGathered list tables.index.records names →
     (name : FileName) → IsSome (get names name) ↔ IsNameHere tables name
-names_here tables list stored names all are adds name =
+names_here tables list names all are name =
     let has_node = key_has_value nat_list_cmp_total exact_bytes tables.store name in (
       λ has. ⊎_elim
-          (λ node. inl (has_node.0 (subst (λ (names : List FileName). Contains names name) all ((are name).0 node))))
+          (λ node. inl (has_node.0 (subst (λ (names : List FileName). Contains names name) all node)))
           (λ own. inr own)
-          ((adds name).0 has),
-      λ here. (adds name).1 (⊎_elim
-          (λ node. inl ((are name).1 (subst (λ (names : List FileName). Contains names name) (sym all) (has_node.1 node))))
+          ((are name).0 has),
+      λ here. (are name).1 (⊎_elim
+          (λ node. inl (subst (λ (names : List FileName). Contains names name) (sym all) (has_node.1 node)))
           (λ own. inr own)
           here),
     )

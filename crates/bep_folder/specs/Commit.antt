@@ -1,5 +1,5 @@
 -- What a commit of a scan's result does (this project's profile).
-use Rattle.std.specs.Prelude.{◌≡◌, ◌⊎◌, ℕ, true, List, Option, Result, Ok, Err}
+use Rattle.std.specs.Prelude.{◌≡◌, ◌⊎◌, ◌<◌, ⊤, ℕ, true, List, Option, Result, Ok, Err}
 use Rattle.std.specs.FinMap.{get}
 use Rattle.bep_record.specs.declared.entry.Entry.{Entry}
 use Rattle.bep_record.specs.declared.node.NodeParts.{NodeParts}
@@ -19,10 +19,22 @@ use Rattle.bep_folder.specs.declared.error.FolderError.TheVariants.{CounterFull,
 use Rattle.bep_folder.specs.Held.{Held}
 use Rattle.bep_folder.specs.Makes.{Makes}
 use Rattle.bep_folder.specs.ScanResult.{Scanned}
+use Rattle.bep_folder.specs.Trace.{TracedStore, failed_now, next_call}
 
 -- the node is still the one that was found
 abbrev pub IsFresh : Scanned → Replica → Type 0
 IsFresh scan tables = node_at tables scan.name ≡ scan.node
+
+-- One call of the store tells whether it is; where it isn't, that is the refusal.
+abbrev pub TellsFresh : Scanned → TracedStore → TracedStore → Result ⊤ FolderError → Type 0
+TellsFresh scan old new (Ok _) =
+    (get old.contents scan.name ≡ scan.node) × (new.made ≡ next_call old.made) × (new.faults ≡ old.faults) × (new.trace ≡ old.trace)
+TellsFresh scan old new (Err Stale) =
+    (¬ (get old.contents scan.name ≡ scan.node)) × (new.made ≡ next_call old.made) × (new.faults ≡ old.faults) × (new.trace ≡ old.trace)
+TellsFresh scan old new (Err StoreFault) =
+    (new.made ≡ next_call old.made) × (old.faults < new.faults) × (new.trace ≡ failed_now new.made old.trace)
+TellsFresh scan old new (Err Memory) = (new.made ≡ next_call old.made) × (new.faults ≡ old.faults) × (new.trace ≡ old.trace)
+TellsFresh scan old new (Err _) = ⊥
 
 -- The commit is a scan of the name. Where the store has another node than the one that was found, the commit is refused,
 -- and the tables are as before.

@@ -1,5 +1,5 @@
 -- The names of which a folder has a node or a record (this project's profile).
-use Rattle.std.specs.Prelude.{◌⊎◌, ◌↔◌, List, [], ◌∷◌, Option, Some, None, IsSome}
+use Rattle.std.specs.Prelude.{◌⊎◌, ◌↔◌, List, [], ◌∷◌, Option, Some, None, IsSome, Contains}
 use Rattle.std.specs.FinMap.{get}
 use Rattle.bep_map.specs.NameMap.{ByName}
 use Rattle.bep_record.specs.declared.entry.Entry.{Entry}
@@ -13,6 +13,10 @@ IsNameHere tables name = IsSome (node_at tables name) ⊎ IsSome (own_at tables 
 -- the names of the records were added, and no others
 abbrev pub AddsRecorded : ByName Entry → ByName (Unit {0}) → ByName (Unit {0}) → Type 0
 AddsRecorded records old new = (name : FileName) → IsSome (get new name) ↔ (IsSome (get old name) ⊎ IsSome (get records name))
+
+-- the names are those of the list, and those of the records
+abbrev pub AreGathered : List FileName → ByName Entry → ByName (Unit {0}) → Type 0
+AreGathered stored records names = (name : FileName) → IsSome (get names name) ↔ (Contains stored name ⊎ IsSome (get records name))
 
 -- the record, if there is one, as a list
 abbrev pub one_of : Option Entry → List Entry

@@ -4,7 +4,7 @@ ghost use Rattle.std.specs.Option.{option_copied};
 ghost use Rattle.std.specs.FinMap as map;
 ghost use Rattle.bep_record.specs.Node.{IsClean};
 ghost use Rattle.bep_index.specs.Index.{IsSequenceFull, IsIndexFull, after_put};
-ghost use Rattle.bep_folder.specs.Commit.{Commits, IsNotPut, PutsFound, Records};
+ghost use Rattle.bep_folder.specs.Commit.{Commits, IsNotPut, PutsFound, Records, TellsFresh};
 ghost use Rattle.bep_folder.specs.Makes.{Stays, CountsFaults};
 ghost use Rattle.bep_folder.specs.Trace.{CountsCall};
 ghost use Rattle.bep_folder.specs.declared.error.FolderError.TheVariants.{SequenceFull, IndexFull, Memory};
@@ -36,11 +36,24 @@ impl<S: Store> Replica<S> {
         ensures called { self.new.made ≡ 1 }
     {
         self.store.begin();
-        if !is_fresh(&mut self.store, self.alloc, &scan)? {
-            return Err(FolderError::Stale);
-        }
+        must_be_fresh(&mut self.store, self.alloc, &scan)?;
         record_found(&mut self.index, self.alloc, self.kind, self.device, scan)
     }
+}
+
+// Refuses `Stale` where the store has another node now than the one that was found.
+fn must_be_fresh<S: Store>(
+    store: &mut Traced<S>,
+    alloc: Global,
+    scan: &ScanResult,
+) -> Result<(), FolderError>
+    ensures fresh { TellsFresh scan.now store.old store.new result }
+    ensures same { store.new.contents ≡ store.old.contents }
+{
+    if !is_fresh(store, alloc, scan)? {
+        return Err(FolderError::Stale);
+    }
+    Ok(())
 }
 
 // Whether the store still has the node that was found.

@@ -5,7 +5,7 @@ ghost use Rattle.std.specs.FinMap as map;
 ghost use Rattle.bep_index.specs.After.{IsAfter};
 ghost use Rattle.bep_index.specs.Index.{IsIndex};
 ghost use Rattle.bep_model.specs.Tables.{FileName};
-ghost use Rattle.bep_folder.specs.Names.{AddsRecorded, IsNameHere, one_of};
+ghost use Rattle.bep_folder.specs.Names.{AddsRecorded, AreGathered, IsNameHere, one_of};
 ghost use Rattle.bep_folder.specs.Makes.{Stays, CountsFaults};
 
 use crate::{FolderError, Replica};
@@ -31,10 +31,17 @@ impl<S: Store> Replica<S> {
     {
         self.store.begin();
         let stored = self.store.names(self.alloc)?;
-        let mut names = set_of(self.alloc, stored.as_slice())?;
-        add_recorded(&mut names, self.alloc, &self.index)?;
-        Ok(names)
+        Ok(gathered(self.alloc, stored.as_slice(), &self.index)?)
     }
+}
+
+// These names, with the names of all records.
+fn gathered(alloc: Global, stored: &[Name], index: &Index) -> Result<NameMap<()>, AllocError>
+    ensures { IfOk result (AreGathered stored.now index.now.records) }
+{
+    let mut names = set_of(alloc, stored)?;
+    add_recorded(&mut names, alloc, index)?;
+    Ok(names)
 }
 
 // These names, as a set.

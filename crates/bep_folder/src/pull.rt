@@ -1,13 +1,15 @@
 //! A record that is being pulled, with the blocks of it that were received.
-ghost use Rattle.std.specs.Prelude.{◌≡◌, ◌↔◌, ◌≤◌, true, false, Some, Contains, slice_get, IfOk, OnOk, OnErr, IsTrue};
+ghost use Rattle.std.specs.Prelude.{◌≡◌, ◌↔◌, ◌≤◌, true, false, [], length, replicate, Some, Contains, slice_get, IfOk, OnOk, OnErr, IsTrue};
 ghost use Rattle.std.specs.Option.{option_copied};
+ghost use Rattle.bep_record.specs.Entry.{IsWellFormed};
 ghost use Rattle.bep_index.specs.declared.limits.TheConstants.{MAX_SEQUENCE};
 ghost use Rattle.bep_machine.specs.Pull.{new_pull, written, IsMissingBlocks};
 ghost use Rattle.bep_folder.specs.Pull.{AreOf, AreOfBlockAt, IsPull, IsReceivedAt, with_bytes};
+ghost use Rattle.bep_folder.specs.Pulled.{node_of};
 
 use crate::pulled::{copy_node, empty_node, put_bytes};
 use bep_blocks::matches;
-use bep_record::{BASE_BLOCK_SIZE, Block, Duplicate, Node, Record};
+use bep_record::{BASE_BLOCK_SIZE, Block, Duplicate, Entry, Node, Record};
 use std::alloc::{AllocError, Global};
 use std::marker::Model;
 
@@ -48,9 +50,7 @@ impl Pull {
         requires within { target.sequence ≤ MAX_SEQUENCE }
         ensures { IfOk result (λ pull. pull ≡ new_pull target) }
     {
-        let entry = target.entry();
-        let arrived = vec![in alloc; false; entry.blocks.as_slice().len()]?;
-        let node = empty_node(alloc, entry)?;
+        let (node, arrived) = nothing_received(alloc, target.entry())?;
         Ok(Pull {
             target,
             node,
@@ -120,10 +120,11 @@ impl Pull {
     pub fn copy(&self, alloc: Global) -> Result<Self, AllocError>
         ensures { IfOk result (λ pull. pull ≡ self.now) }
     {
+        let (node, arrived) = copy_received(alloc, self.node.as_ref(), self.arrived.as_slice())?;
         Ok(Pull {
             target: self.target.copy(alloc)?,
-            node: copy_node(alloc, self.node.as_ref())?,
-            arrived: Vec::from_slice(alloc, self.arrived.as_slice())?,
+            node,
+            arrived,
             alloc,
         })
     }
@@ -133,6 +134,31 @@ impl Duplicate for Pull {
     fn duplicate(&self, alloc: Global) -> Result<Self, AllocError> {
         self.copy(alloc)
     }
+}
+
+// The node of the record without bytes, and for each of its blocks that it wasn't received.
+fn nothing_received(alloc: Global, target: &Entry) -> Result<(Option<Node>, Vec<bool>), AllocError>
+    requires { IsWellFormed target.now }
+    ensures node { IfOk result (λ made. made.0 ≡ node_of target.now []) }
+    ensures flags { IfOk result (λ made. made.1.items ≡ replicate (length target.now.blocks) false) }
+{
+    let arrived = vec![in alloc; false; target.blocks.as_slice().len()]?;
+    let node = empty_node(alloc, target)?;
+    Ok((node, arrived))
+}
+
+// A copy of the node, if there is one, and of which blocks were received.
+fn copy_received(
+    alloc: Global,
+    node: Option<&Node>,
+    arrived: &[bool],
+) -> Result<(Option<Node>, Vec<bool>), AllocError>
+    ensures node { IfOk result (λ made. made.0 ≡ option_copied node.entry) }
+    ensures flags { IfOk result (λ made. made.1.items ≡ arrived.now) }
+{
+    let arrived = Vec::from_slice(alloc, arrived)?;
+    let node = copy_node(alloc, node)?;
+    Ok((node, arrived))
 }
 
 // Whether one of the blocks hasn't its flag.

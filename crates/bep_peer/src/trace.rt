@@ -35,7 +35,7 @@ impl Trace {
         let (failed, copied) = told;
         self.failed = failed;
         self.copied = copied;
-        self.put = None;
+        self.tell_sent(None);
     }
 
     // This message was sent, of which these are two copies, or none was.

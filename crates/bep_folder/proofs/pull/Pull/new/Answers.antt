@@ -8,10 +8,8 @@ use Rattle.bep_folder.proofs.pull.Pull.new.Goals as goal
 
 pub returns : goal.returns
 returns c =
-    let blocks : c.as_slice.result.now ≡ c.args.target.blocks =
-    c.as_slice.ensures ∙ ap (λ (entry : Entry). entry.blocks) c.entry-entry.ensures.value in
-    let flags : c.in_ok-arrived.arrived.items ≡ replicate (length c.args.target.blocks) false =
-    c.in_ok-arrived.ensures.items_if_clones_equal (λ y same. same) ∙ ap (λ xs. replicate (length xs) false) blocks in
+    let flags : c.in_ok-node.arrived.items ≡ replicate (length c.args.target.blocks) false =
+    c.in_ok-node.ensures.flags ∙ ap (λ (entry : Entry). replicate (length entry.blocks) false) c.entry.ensures.value in
     ap (λ received. record { target = c.args.target; received = received })
     (ap (λ xs. received_of base_block_size xs (bytes_in c.in_ok-node.node)) flags
     ∙ none_received base_block_size c.args.target.blocks (bytes_in c.in_ok-node.node))

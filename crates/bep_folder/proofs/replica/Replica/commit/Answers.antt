@@ -7,7 +7,7 @@ use Rattle.bep_folder.proofs.replica.Replica.commit.Given.{Over}
 use Rattle.bep_folder.proofs.replica.Replica.commit.Goals as goal
 
 abbrev now : (g : Over) → goal.After-record_found g → Held
-now g c = held_of c.self.inside.device c.self.inside.folder c.self.inside.kind c.self.inside.others c.record_found.new.index c.self.inside.views c.self.inside.pulls c.is_fresh.new.store
+now g c = held_of c.self.inside.device c.self.inside.folder c.self.inside.kind c.self.inside.others c.record_found.new.index c.self.inside.views c.self.inside.pulls c.must_be_fresh.new.store
 
 done : (g : Over) (c : goal.After-record_found g) → IsRecorded c.args.scan c.args.self.now (now g c) c.record_found.result
 done g c =
