@@ -4,3 +4,4 @@ pub mod Certified
 pub mod Exchange
 pub mod Explained
 pub mod Played
+pub mod Status

@@ -14,6 +14,7 @@ mod members;
 mod scenario;
 mod sentence;
 mod walk;
+mod wrong;
 
 pub use members::Expected;
 pub use sentence::hint_at;

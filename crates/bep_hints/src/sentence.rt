@@ -1,6 +1,8 @@
 //! What is said of a fault.
+use crate::members::Holds::Single;
 use crate::members::{Expected, Sort};
-use crate::walk::{Flaw, LEVELS, Step, Wrong, look};
+use crate::walk::{Flaw, LEVELS, Step, look};
+use crate::wrong::{Wrong, items_of};
 use bep_document::{MAX_BYTES, has_version};
 use bep_record::MAX_DEVICES;
 use bep_report::{Piece, push_pieces};
@@ -70,7 +72,7 @@ fn said_of_tree(alloc: Global, tree: &Value, expected: Expected) -> Result<Vec<u
     };
     for flaw in [Flaw::Shape, Flaw::Range] {
         let mut way = Vec::new(alloc);
-        if let Some(wrong) = look(alloc, flaw, &mut way, tree, sort, LEVELS)? {
+        if let Some(wrong) = look(alloc, flaw, &mut way, tree, Single(sort), LEVELS)? {
             return said_at(alloc, way.as_slice(), wrong);
         }
     }
@@ -85,15 +87,15 @@ fn said_at(alloc: Global, way: &[Step<'_>], wrong: Wrong) -> Result<Vec<u8>, All
     let mut text = Vec::new(alloc);
     let mut before = "";
     for step in way {
-        match step.name {
-            Some(name) => {
+        match *step {
+            Step::Member(name) => {
                 push_pieces(
                     &mut text,
                     &[Piece::Text(before), Piece::Name(name.as_bytes())],
                 )?;
             }
-            None => {
-                let place = Piece::Number(step.place as u64);
+            Step::Item(place) => {
+                let place = Piece::Number(place as u64);
                 push_pieces(&mut text, &[Piece::Text("["), place, Piece::Text("]")])?;
             }
         }
@@ -162,14 +164,7 @@ fn items_in<'a>(value: Option<&'a Value>, name: &str) -> &'a [Value] {
         return &[];
     };
     match value.get(name) {
-        Some(list) => list_items(list),
-        None => &[],
-    }
-}
-
-fn list_items(list: &Value) -> &[Value] {
-    match list.as_array() {
-        Some(items) => items.as_slice(),
+        Some(list) => items_of(list),
         None => &[],
     }
 }

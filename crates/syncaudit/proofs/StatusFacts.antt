@@ -1,10 +1,11 @@
 -- What comes of words where nothing was read, since memory ran out before.
 use Rattle.std.proofs.Common.{◌≡◌, ℕ, List, [], Option, Err}
 use Rattle.std.proofs.KnownBytes.{Keeps-refl}
+use Rattle.bep_answer.specs.Status.{status_of}
 use Rattle.bep_report.specs.declared.error.ReportError.TheVariants.{Memory}
 use Rattle.clap.specs.Words.{Text, fault_of}
 use Rattle.syncaudit.specs.Mode.{program}
-use Rattle.syncaudit.specs.Status.{IsDone, IsFollowed, status_of}
+use Rattle.syncaudit.specs.Status.{IsDone, IsFollowed}
 use Rattle.syncaudit.specs.declared.mode.Ending.TheVariants.{Report, Document}
 use Rattle.syncaudit.specs.declared.mode.Mode.{Mode}
 use Rattle.syncaudit.specs.declared.mode.Mode.TheVariants.{Check, Certify, Explain, Run}

@@ -1,72 +1,14 @@
--- The exit statuses of the program (this project's profile).
-use Rattle.std.specs.Prelude.{◌≡◌, ◌⊎◌, ℕ, List, Option, Result, Ok, Err, MatchResult}
+-- What came of the words of the command line (this project's profile).
+use Rattle.std.specs.Prelude.{◌≡◌, ◌⊎◌, ℕ, List, Option, Err}
 use Rattle.std.specs.Io.KnownBytes.{Keeps}
-use Rattle.bep_answer.specs.Answer.{IsAnswerOfBytes}
-use Rattle.bep_answer.specs.Certified.{IsCertifiedOfBytes}
-use Rattle.bep_answer.specs.Exchange.{IsEndedEarly, IsWhole}
-use Rattle.bep_answer.specs.Explained.{IsExplainedOfBytes}
-use Rattle.bep_answer.specs.Played.{IsEndOfBytes, IsRunOfBytes}
-use Rattle.bep_answer.specs.declared.outcome.Certified.{Certified}
-use Rattle.bep_answer.specs.declared.outcome.Certified.TheVariants as certificates
-use Rattle.bep_answer.specs.declared.outcome.Form.{Form}
-use Rattle.bep_answer.specs.declared.outcome.Outcome.{Outcome}
-use Rattle.bep_answer.specs.declared.outcome.Outcome.TheVariants.{Settled, NotSettled, Refused}
-use Rattle.bep_report.specs.declared.error.ReportError.{ReportError}
-use Rattle.bep_report.specs.declared.error.ReportError.TheVariants.{Memory, Read, Write}
+use Rattle.bep_answer.specs.Status.{IsCertificateTold, IsEndTold, IsExplanationTold, IsRunTold, IsTold, status_of, usage}
+use Rattle.bep_report.specs.declared.error.ReportError.TheVariants.{Memory}
 use Rattle.clap.specs.Words.{Text}
 use Rattle.syncaudit.specs.Mode.{Asks}
 use Rattle.syncaudit.specs.declared.mode.Ending.{Ending}
 use Rattle.syncaudit.specs.declared.mode.Ending.TheVariants.{Report, Document}
 use Rattle.syncaudit.specs.declared.mode.Mode.{Mode}
 use Rattle.syncaudit.specs.declared.mode.Mode.TheVariants.{Check, Certify, Explain, Run}
-
--- the status after an answer, or where there is none
-abbrev pub status_of : Result Outcome ReportError → ℕ
-status_of (Ok Settled) = 0
-status_of (Ok NotSettled) = 1
-status_of (Ok Refused) = 2
-status_of (Err Memory) = 4
-status_of (Err Read) = 5
-status_of (Err Write) = 5
-
--- the status after a certificate was asked for
-abbrev pub certified_status_of : Result Certified ReportError → ℕ
-certified_status_of (Ok certificates.Written) = 0
-certified_status_of (Ok certificates.NoWinner) = 1
-certified_status_of (Ok certificates.Refused) = 2
-certified_status_of (Err Memory) = 4
-certified_status_of (Err Read) = 5
-certified_status_of (Err Write) = 5
-
--- the status where the words aren't understood, or ask for help
-abbrev pub usage : ℕ
-usage = 3
-
--- what was read was answered as this says, or it was cut short, and the status tells which
-pub record IsToldAs {O : Type 0} (Says : List ℕ → O → List ℕ → Type 0) (status_after : Result O ReportError → ℕ) (unread left held now : Option (List ℕ)) (status : ℕ) : Type 0 where
-  pub answer : Result O ReportError
-  pub told : status ≡ status_after answer
-  pub done : MatchResult answer (IsWhole Says unread left held now) (IsEndedEarly Says unread left held now)
-
--- a document was answered
-abbrev pub IsTold : Option (List ℕ) → Option (List ℕ) → Option (List ℕ) → Option (List ℕ) → ℕ → Type 0
-IsTold = IsToldAs IsAnswerOfBytes status_of
-
--- a certificate was written or refused
-abbrev pub IsCertificateTold : Option (List ℕ) → Option (List ℕ) → Option (List ℕ) → Option (List ℕ) → ℕ → Type 0
-IsCertificateTold = IsToldAs IsCertifiedOfBytes certified_status_of
-
--- all that fails was written, or the document refused
-abbrev pub IsExplanationTold : Form → Option (List ℕ) → Option (List ℕ) → Option (List ℕ) → Option (List ℕ) → ℕ → Type 0
-IsExplanationTold form = IsToldAs (IsExplainedOfBytes form) status_of
-
--- a scenario was run or refused
-abbrev pub IsRunTold : Option (List ℕ) → Option (List ℕ) → Option (List ℕ) → Option (List ℕ) → ℕ → Type 0
-IsRunTold = IsToldAs IsRunOfBytes status_of
-
--- the document of a scenario's end was written or the scenario refused
-abbrev pub IsEndTold : Option (List ℕ) → Option (List ℕ) → Option (List ℕ) → Option (List ℕ) → ℕ → Type 0
-IsEndTold = IsToldAs IsEndOfBytes certified_status_of
 
 -- what came of a scenario for each ending that is asked for
 abbrev pub IsEnding : Ending → Option (List ℕ) → Option (List ℕ) → Option (List ℕ) → Option (List ℕ) → ℕ → Type 0

@@ -3,14 +3,13 @@
 
 mod mode;
 mod run;
-mod status;
 
 use crate::run::{run, run_without_words, words_of};
 pub use bep_answer::{
-    Certified, Form, Outcome, certify_text, check_text, explain_text, run_document, run_text,
+    Certified, Form, Outcome, certified_status_of, certify_text, check_text, explain_text,
+    run_document, run_text, status_of,
 };
 pub use mode::{Ending, Mode, mode_of};
-pub use status::{certified_status_of, status_of};
 use std::process::ExitCode;
 
 fn main(rt: HostRuntime) -> ExitCode {

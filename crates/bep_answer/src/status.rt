@@ -1,8 +1,8 @@
 //! The exit statuses.
 ghost use Rattle.std.specs.Prelude.{◌≡◌};
-ghost use Rattle.syncaudit.specs.Status as spec;
+ghost use Rattle.bep_answer.specs.Status as spec;
 
-use bep_answer::{Certified, Outcome};
+use crate::outcome::{Certified, Outcome};
 use bep_report::ReportError;
 
 /// The exit status for words that aren't understood, and for help.
