@@ -1,5 +1,5 @@
-//! Batches, views and plans by BEP v1, 'Index' and 'Index Update'. How an index numbers its records, sends them and is
-//! full, the scenarios of `examples/` show.
+//! Batches, views, plans and changes that are taken back, by BEP v1, 'Index' and 'Index Update'. How an index numbers its
+//! records, sends them and is full, the scenarios of `examples/` show.
 use super::made::{Said, directory, record, records};
 use bep_index::{Batch, Index, IndexError, IndexId, Plan, View, plan};
 use bep_record::Record;
@@ -163,4 +163,47 @@ fn plans_by_the_point(rt: HostRuntime) {
     ];
     assert_eq!(rt; plans_of_three(rt.alloc()), Some(wanted));
     assert_eq!(rt; IndexError::IndexFull.number(), Some(122));
+}
+
+// The greatest sequence once this record is put; that is taken back then.
+fn put_and_undo(alloc: Global, index: &mut Index, number: u32) -> Option<u64> {
+    let record = numbered(alloc, number)?;
+    match index.put_undo(record) {
+        Ok(undo) => {
+            let sequence = index.max_sequence();
+            index.undo(undo);
+            Some(sequence)
+        }
+        Err(_) => None,
+    }
+}
+
+// The sequence of the name's record, 0 where it has none.
+fn sequence_of(alloc: Global, index: &Index, number: u32) -> Option<u64> {
+    let named = numbered(alloc, number)?;
+    match index.get(&named.entry().name) {
+        Some(record) => Some(record.entry().sequence),
+        None => Some(0),
+    }
+}
+
+// The sequences of two changes that are taken back, of a name that is there and of a new one; then the greatest sequence,
+// and those of the two names.
+fn undone(alloc: Global, index: &mut Index) -> Option<[u64; 5]> {
+    fill(alloc, index)?;
+    let known = put_and_undo(alloc, index, 2)?;
+    let new = put_and_undo(alloc, index, 9)?;
+    let left = sequence_of(alloc, index, 2)?;
+    let gone = sequence_of(alloc, index, 9)?;
+    Some([known, new, index.max_sequence(), left, gone])
+}
+
+fn undone_of_three(alloc: Global) -> Option<[u64; 5]> {
+    let mut index = Index::new(alloc, IndexId::read(11)?);
+    undone(alloc, &mut index)
+}
+
+#[test]
+fn a_change_is_taken_back(rt: HostRuntime) {
+    assert_eq!(rt; undone_of_three(rt.alloc()), Some([4, 4, 3, 2, 0]));
 }
