@@ -159,6 +159,6 @@ made=$({
   file_of d "$(zeros 131073)"
 } | document_of)
 expect 'blocks' "[\"$nothing\"] [\"$(printf abc | hash_of)\"] [\"$block\"] [\"$block\",\"$zero\"]" \
-  "$(grep -o '"blocks":\[[^]]*\]' <<< "${made##*\"cut\"}" | sed 's/"blocks"://' | paste -sd ' ')"
+  "$(grep -o '"cut".*' <<< "$made" | grep -o '"blocks":\[[^]]*\]' | sed 's/"blocks"://' | paste -sd ' ')"
 # They are those of the store's files, which device 2 doesn't have.
 expect 'blocks of what is stored' 'not settled: RecordMissing docs a on 2' "$(first_line check <<< "$made")"

@@ -1,230 +1,145 @@
-//! Documents and their answers by docs/DOCUMENTS.md.
-mod cut;
-mod place;
-
-use bep_document::{DocError, DocFault, Fault, read_parts};
+//! A document's lists and its fault as values, by docs/DOCUMENTS.md. What is refused, `examples/pieces.sh` shows.
+use bep_document::{
+    CheckParts, DocError, DocFault, ShareParts, faultless_parts_are_read, read_parts,
+    readings_are_faultless, records_are_told,
+};
 use std::alloc::{AllocError, Global};
 
-const DOCUMENT: &str = r#"{"version":1,"cut":{"folders":["#;
+// A record of the directory `a` with sequence 4: the first device's own, in its view of the second, among its pulls, and
+// on its way to the second, behind an empty message to the first.
+const WHOLE: &str = r#"{"version":1,"cut":{"folders":[{"folder":"docs","devices":[
+    {"device":1,"kind":"send-receive","index_id":11,"max":9,
+    "own":[{"type":1,"modified_s":0,"modified_by":1,"version":[[1,1]],"name":"a","sequence":4}],
+    "views":[{"of":2,"index_id":12,"max":9,"records":[
+    {"type":1,"modified_s":0,"modified_by":1,"version":[[1,1]],"name":"a","sequence":4}]}],
+    "pulls":[{"type":1,"modified_s":0,"modified_by":1,"version":[[1,1]],"name":"a","sequence":4}]},
+    {"device":2,"kind":"send-only","index_id":12,"max":0}]}],"links":[{"a":1,"b":2,"up":true,"epoch":7,
+    "to_a":[{"folder":"docs","full":true,"records":[]}],
+    "to_b":[{"folder":"docs","full":false,"records":[
+    {"type":1,"modified_s":0,"modified_by":1,"version":[[1,1]],"name":"a","sequence":4}]}]}]},"certificate":[]}"#;
 
-const FOLDER: &str = r#"{"folder":"docs","devices":["#;
-
-const DEVICE: &str = r#"{"device":1,"kind":"send-receive","index_id":11,"max":9"#;
-
-const END: &str = r#"}]}]},"certificate":[]}"#;
-
-// A directory's record, without its name and sequence.
-const RECORD: &str = r#"{"type":1,"modified_s":0,"modified_by":1,"version":[[1,1]]"#;
-
-// A file of five bytes, without its blocks.
-const BLOCKLESS: &str = r#"{"type":0,"size":5,"modified_s":0,"modified_by":1,"version":[[1,1]]"#;
-
-fn push_all(text: &mut String, pieces: &[&str]) -> Result<(), AllocError> {
-    for piece in pieces {
-        text.push_str(piece)?;
-    }
-    Ok(())
+// The first device of the first folder.
+fn first_share(parts: &CheckParts) -> Option<&ShareParts> {
+    let folder = parts.folders.as_slice().first()?;
+    folder.devices.as_slice().first()
 }
 
-// The folder, device and name of a fault's place.
-fn push_place(text: &mut String, alloc: Global, fault: &DocFault) -> Result<(), AllocError> {
-    if let Some(folder) = &fault.folder {
-        push_all(text, &[" ", folder.as_str()])?;
-    }
-    if let Some(device) = &fault.device {
-        let number = format!(in alloc; " {}", device.number())?;
-        text.push_str(number.as_str())?;
-    }
-    if let Some(name) = &fault.name {
-        push_all(text, &[" ", name.as_str()])?;
-    }
-    Ok(())
+// That device: its number, index id and greatest sequence, and how much it has of its own, in
+// its store, its views and its pulls.
+fn share_of(parts: &CheckParts) -> Option<(u64, u64, u64, [usize; 4])> {
+    let share = first_share(parts)?;
+    let lists = [
+        share.own.as_slice().len(),
+        share.store.as_slice().len(),
+        share.views.as_slice().len(),
+        share.pulls.as_slice().len(),
+    ];
+    Some((
+        share.device.number(),
+        share.index_id.number(),
+        share.max,
+        lists,
+    ))
 }
 
-// What the program prints of a fault: its number and its place.
-fn shown(alloc: Global, fault: &DocFault) -> Result<String, AllocError> {
-    let mut text = format!(in alloc; "{}", fault.fault.number())?;
-    push_place(&mut text, alloc, fault)?;
-    Ok(text)
+// The first view: whose it is, its index id, its greatest sequence, and how many records it has.
+fn view_of(parts: &CheckParts) -> Option<(u64, u64, u64, usize)> {
+    let share = first_share(parts)?;
+    let view = share.views.as_slice().first()?;
+    Some((
+        view.of.number(),
+        view.index_id,
+        view.max,
+        view.records.as_slice().len(),
+    ))
 }
 
-fn is_shown(alloc: Global, fault: &DocFault, told: &str) -> Result<bool, AllocError> {
-    let text = shown(alloc, fault)?;
-    Ok(text.as_str() == told)
+// The first link: its ends, whether it is up, and its epoch.
+fn link_of(parts: &CheckParts) -> Option<(u64, u64, bool, u64)> {
+    let link = parts.links.as_slice().first()?;
+    Some((link.a.number(), link.b.number(), link.up, link.epoch))
+}
+
+// Of the first message to each end of the first link whether it is full, and how many records it has.
+fn messages_of(parts: &CheckParts) -> Option<[(bool, usize); 2]> {
+    let link = parts.links.as_slice().first()?;
+    let to_a = link.to_a.as_slice().first()?;
+    let to_b = link.to_b.as_slice().first()?;
+    Some([
+        (to_a.full, to_a.records.as_slice().len()),
+        (to_b.full, to_b.records.as_slice().len()),
+    ])
+}
+
+// All that is told of the first device, view, link and messages.
+type Told = (
+    Option<(u64, u64, u64, [usize; 4])>,
+    Option<(u64, u64, u64, usize)>,
+    Option<(u64, u64, bool, u64)>,
+    Option<[(bool, usize); 2]>,
+);
+
+fn told_of(alloc: Global, document: &str) -> Option<Told> {
+    match read_parts(alloc, document.as_bytes()) {
+        Ok(parts) => Some((
+            share_of(&parts),
+            view_of(&parts),
+            link_of(&parts),
+            messages_of(&parts),
+        )),
+        Err(_) => None,
+    }
+}
+
+#[test]
+fn a_document_is_read(rt: HostRuntime) {
+    let wanted = (
+        Some((1, 11, 9, [1, 0, 1, 1])),
+        Some((2, 12, 9, 1)),
+        Some((1, 2, true, 7)),
+        Some([(true, 0), (false, 1)]),
+    );
+    assert_eq!(rt; told_of(rt.alloc(), WHOLE), Some(wanted));
+    readings_are_faultless();
+    faultless_parts_are_read();
+    records_are_told();
+}
+
+// A directory that stands twice in a store.
+const TWICE: &str = r#"{"version":1,"cut":{"folders":[{"folder":"docs","devices":[
+    {"device":3,"kind":"send-only","index_id":11,"max":0,"store":[
+    {"name":"a","type":1,"modified_s":0},{"name":"a","type":1,"modified_s":0}]}]}]},"certificate":[]}"#;
+
+// The number, folder, device and name that a fault tells.
+fn told_of_fault(alloc: Global, fault: &DocFault) -> Result<String, AllocError> {
+    match (&fault.folder, &fault.device, &fault.name) {
+        (Some(folder), Some(device), Some(name)) => format!(in alloc;
+            "{} {} {} {}",
+            fault.fault.number(),
+            folder.as_str(),
+            device.number(),
+            name.as_str()
+        ),
+        _ => Ok(String::new(alloc)),
+    }
 }
 
 // Whether this is told by a copy of the fault.
-fn fault_tells(alloc: Global, fault: &DocFault, told: &str) -> Result<bool, AllocError> {
+fn copy_tells(alloc: Global, fault: &DocFault, told: &str) -> Result<bool, AllocError> {
     let copy = fault.copy(alloc)?;
-    is_shown(alloc, &copy, told)
+    let text = told_of_fault(alloc, &copy)?;
+    Ok(text.as_str() == told)
 }
 
-// Whether this is told of a document of these bytes: `read`, or what the program prints of its fault.
-fn is_told(alloc: Global, bytes: &[u8], told: &str) -> bool {
-    match read_parts(alloc, bytes) {
-        Ok(_) => told == "read",
-        Err(DocError::Refused(fault)) => fault_tells(alloc, &fault, told) == Ok(true),
-        Err(DocError::Memory) => false,
+// Whether this is told by a copy of the fault for which the document is refused.
+fn refusal_tells(alloc: Global, document: &str, told: &str) -> bool {
+    match read_parts(alloc, document.as_bytes()) {
+        Err(DocError::Refused(fault)) => copy_tells(alloc, &fault, told) == Ok(true),
+        _ => false,
     }
-}
-
-// Whether this is told of a document of these pieces.
-fn tells(alloc: Global, pieces: &[&str], told: &str) -> Result<bool, AllocError> {
-    let mut text = String::new(alloc);
-    push_all(&mut text, pieces)?;
-    Ok(is_told(alloc, text.as_bytes(), told))
-}
-
-// Whether this is told of a document with this row between these pieces.
-fn row_tells(
-    alloc: Global,
-    before: &[&str],
-    row: &str,
-    after: &[&str],
-    told: &str,
-) -> Result<bool, AllocError> {
-    let mut text = String::new(alloc);
-    push_all(&mut text, before)?;
-    text.push_str(row)?;
-    push_all(&mut text, after)?;
-    Ok(is_told(alloc, text.as_bytes(), told))
-}
-
-// The first row of which, between these pieces, something else is told than stands beside it.
-fn misread<'a>(
-    alloc: Global,
-    before: &[&str],
-    rows: &[(&'a str, &str)],
-    after: &[&str],
-) -> Option<&'a str> {
-    for (row, told) in rows {
-        if row_tells(alloc, before, row, after, told) != Ok(true) {
-            return Some(row);
-        }
-    }
-    None
 }
 
 #[test]
-fn documents_are_refused(rt: HostRuntime) {
-    let rows = [
-        ("", "181"),
-        (r#"{"version":1"#, "181"),
-        // Half of a surrogate pair is no character; a whole one is.
-        (r#"{"version":"\ud83d"}"#, "181"),
-        (r#"{"version":"\ud83d\ude00"}"#, "182"),
-        ("[1]", "182"),
-        ("{}", "182"),
-        (r#"{"version":1.0}"#, "182"),
-        (r#"{"version":"1"}"#, "182"),
-        (r#"{"version":1,"version":2}"#, "182"),
-        (r#"{"version":2,"version":1}"#, "183"),
-    ];
-    assert_eq!(rt; misread(rt.alloc(), &[], &rows, &[]), None);
-}
-
-#[test]
-fn cuts_and_certificates_are_refused(rt: HostRuntime) {
-    // What follows a list of folders.
-    let rests = [
-        (r#"]},"certificate":[]}"#, "read"),
-        (r#"],"links":[]},"certificate":[]}"#, "read"),
-        (r#"],"links":[1]},"certificate":[]}"#, "183"),
-        (r#"],"more":1},"certificate":[]}"#, "183"),
-        (r#"]},"certificate":[],"more":1}"#, "183"),
-        (r#"]},"certificate":[{}]}"#, "183"),
-        ("]}}", "183"),
-    ];
-    assert_eq!(rt; misread(rt.alloc(), &[DOCUMENT], &rests, &[]), None);
-}
-
-// Whether this is told of so many brackets, one in another.
-fn brackets_tell(alloc: Global, depth: u32, told: &str) -> Result<bool, AllocError> {
-    let mut text = String::new(alloc);
-    for _ in 0..depth {
-        text.push_str("[")?;
-    }
-    for _ in 0..depth {
-        text.push_str("]")?;
-    }
-    Ok(is_told(alloc, text.as_bytes(), told))
-}
-
-#[test]
-fn brackets_nest_to_127(rt: HostRuntime) {
-    assert_eq!(rt; brackets_tell(rt.alloc(), 127, "182"), Ok(true));
-    assert_eq!(rt; brackets_tell(rt.alloc(), 128, "181"), Ok(true));
-    assert_eq!(rt; brackets_tell(rt.alloc(), 200, "181"), Ok(true));
-    assert!(rt; is_told(rt.alloc(), &[b'"', 0xff, b'"'], "181"));
-}
-
-// The first of these further members of a device of which something else is told. A member that is there already takes
-// the place of the one before.
-fn misread_member<'a>(alloc: Global, members: &[&'a str], told: &str) -> Option<&'a str> {
-    for member in members {
-        if row_tells(alloc, &[DOCUMENT, FOLDER, DEVICE], member, &[END], told) != Ok(true) {
-            return Some(member);
-        }
-    }
-    None
-}
-
-#[test]
-fn devices_are_refused(rt: HostRuntime) {
-    let read = [
-        "",
-        r#","views":[],"pulls":[],"store":[]"#,
-        r#","kind":"receive-only""#,
-        r#","device":18446744073709551615"#,
-        r#","index_id":1"#,
-        r#","max":9223372036854775807"#,
-    ];
-    assert_eq!(rt; misread_member(rt.alloc(), &read, "read"), None);
-    let misshapen = [
-        r#","views":[1]"#,
-        r#","pulls":{}"#,
-        r#","more":1"#,
-        r#","kind":5,"device":0"#,
-        r#","device":18446744073709551616"#,
-        r#","device":-0"#,
-        r#","device":1.0"#,
-        r#","device":1e3"#,
-        r#","own":{}"#,
-        r#","own":[{}]"#,
-        r#","store":[{}]"#,
-    ];
-    assert_eq!(rt; misread_member(rt.alloc(), &misshapen, "183"), None);
-    let out_of_range = [
-        r#","kind":"send""#,
-        r#","device":0"#,
-        r#","index_id":0"#,
-        r#","max":9223372036854775808"#,
-    ];
-    assert_eq!(rt; misread_member(rt.alloc(), &out_of_range, "184"), None);
-}
-
-// The first of these faults that has another number or name.
-fn misnamed(faults: &[(Fault, u32, &str)]) -> Option<Fault> {
-    for (fault, number, name) in faults {
-        if fault.number() != *number || fault.name() != *name {
-            return Some(*fault);
-        }
-    }
-    None
-}
-
-#[test]
-fn faults_have_numbers_and_names(rt: HostRuntime) {
-    let faults = [
-        (Fault::NotJson, 181, "NotJson"),
-        (Fault::VersionBad, 182, "VersionBad"),
-        (Fault::Shape, 183, "Shape"),
-        (Fault::Range, 184, "Range"),
-        (Fault::Twice, 185, "Twice"),
-        (Fault::Unshared, 186, "Unshared"),
-        (Fault::RecordBad, 187, "RecordBad"),
-        (Fault::SequenceBad, 188, "SequenceBad"),
-        (Fault::LinkBad, 189, "LinkBad"),
-    ];
-    assert_eq!(rt; misnamed(&faults), None);
+fn a_fault_is_copied(rt: HostRuntime) {
+    assert!(rt; refusal_tells(rt.alloc(), TWICE, "185 docs 3 a"));
 }

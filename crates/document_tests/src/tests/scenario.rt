@@ -1,6 +1,5 @@
-//! A scenario, read by docs/DOCUMENTS.md.
+//! A scenario as values, read by docs/DOCUMENTS.md.
 use bep_config::Config;
-use bep_document::DocError;
 use bep_machine::Step;
 use bep_scenario::{Scenario, faultless_scenarios_start, read_scenario, scenarios_are_faultless};
 use bep_store::MemStore;
@@ -8,10 +7,7 @@ use std::alloc::Global;
 
 const SCENARIO: &str = r#"{"version":1,"folders":[{"folder":"docs","devices":[
 {"device":1,"kind":"send-receive","index_id":11},{"device":2,"kind":"send-receive","index_id":12}]}],"links":[[1,2]],
-"steps":[["edit",1,"docs",{"name":"hello","type":0,"modified_s":1000,"text":"hello"}],["scan",1,"docs","hello"],
-["connect",1,2],["begin",1,2],["begin",2,1],["deliver",2,1],["deliver",1,2],["announce",1,2,"docs"],["deliver",2,1],
-["pull",2,"docs","hello"],["ask",2,1,"docs","hello"],["deliver",1,2],["deliver",2,1],["finish",2,"docs","hello"],
-["finish",2,"docs","hello"]]}"#;
+"steps":[["deliver",2,1],["announce",1,2,"docs"],["ask",2,1,"docs","hello"]]}"#;
 
 // The devices of a step between two, and the texts that it names.
 fn told(step: Option<&Step>) -> Option<(u64, u64, &str, &str)> {
@@ -44,14 +40,14 @@ fn configured(config: &Config<MemStore>) -> Option<(usize, u64, u64, u64, u64)> 
     ))
 }
 
-// Whether there are so many steps, of which the sixth, eighth and eleventh are these, in this configuration.
+// Whether there are three steps, these, in this configuration.
 fn is_as_written(scenario: &Scenario) -> [bool; 5] {
     let steps = scenario.steps.as_slice();
     [
-        steps.len() == 15,
-        told(steps.get(5)) == Some((2, 1, "", "")),
-        told(steps.get(7)) == Some((1, 2, "docs", "")),
-        told(steps.get(10)) == Some((2, 1, "docs", "hello")),
+        steps.len() == 3,
+        told(steps.get(0)) == Some((2, 1, "", "")),
+        told(steps.get(1)) == Some((1, 2, "docs", "")),
+        told(steps.get(2)) == Some((2, 1, "docs", "hello")),
         configured(&scenario.config) == Some((1, 1, 11, 1, 2)),
     ]
 }
@@ -69,33 +65,4 @@ fn a_scenario_is_read(rt: HostRuntime) {
     faultless_scenarios_start();
     let wanted = [true, true, true, true, true];
     assert_eq!(rt; is_read(rt.alloc(), SCENARIO), Some(wanted));
-}
-
-// The number of the fault for which a scenario is refused, 0 where it is read.
-fn fault_of(alloc: Global, text: &str) -> Option<u32> {
-    match read_scenario(alloc, text.as_bytes()) {
-        Ok(_) => Some(0),
-        Err(DocError::Refused(fault)) => Some(fault.fault.number()),
-        Err(DocError::Memory) => None,
-    }
-}
-
-#[test]
-fn steps_are_refused(rt: HostRuntime) {
-    for (text, number) in [
-        (
-            r#"{"version":1,"folders":[],"links":[],"steps":[["connect",1,2]]}"#,
-            0,
-        ),
-        (
-            r#"{"version":1,"folders":[],"links":[],"steps":[["connect",1,2,3]]}"#,
-            183,
-        ),
-        (
-            r#"{"version":1,"folders":[],"links":[],"steps":[["connect",1,0]]}"#,
-            184,
-        ),
-    ] {
-        assert_eq!(rt; fault_of(rt.alloc(), text), Some(number), "{text}");
-    }
 }
