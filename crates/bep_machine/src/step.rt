@@ -1,5 +1,6 @@
 //! The steps of a cluster.
 ghost use Rattle.std.specs.Prelude.{◌≡◌, IfOk};
+ghost use Rattle.bep_machine.specs.Steps.{IsQuiet};
 
 use bep_record::{DeviceId, FolderName, Name, Node};
 use std::alloc::{AllocError, Global};
@@ -50,16 +51,30 @@ impl Step {
                 node.copy(alloc)?,
             ),
             Step::Remove(device, folder, name) => {
-                Step::Remove(*device, folder.copy(alloc)?, name.copy(alloc)?)
-            }
-            Step::Scan(device, folder, name) => {
-                Step::Scan(*device, folder.copy(alloc)?, name.copy(alloc)?)
+                let at = copies(alloc, folder, name)?;
+                Step::Remove(*device, at.0, at.1)
             }
             Step::Override(device, folder, name) => {
-                Step::Override(*device, folder.copy(alloc)?, name.copy(alloc)?)
+                let at = copies(alloc, folder, name)?;
+                Step::Override(*device, at.0, at.1)
             }
             Step::Revert(device, folder, name) => {
-                Step::Revert(*device, folder.copy(alloc)?, name.copy(alloc)?)
+                let at = copies(alloc, folder, name)?;
+                Step::Revert(*device, at.0, at.1)
+            }
+            quiet => return quiet.copy_of_quiet(alloc),
+        })
+    }
+
+    // The same of a step without local edits.
+    fn copy_of_quiet(&self, alloc: Global) -> Result<Self, AllocError>
+        requires { IsQuiet self.now }
+        ensures { IfOk result (λ made. made ≡ self.now) }
+    {
+        Ok(match self {
+            Step::Scan(device, folder, name) => {
+                let at = copies(alloc, folder, name)?;
+                Step::Scan(*device, at.0, at.1)
             }
             Step::Connect(one, other) => Step::Connect(*one, *other),
             Step::Lose(one, other) => Step::Lose(*one, *other),
@@ -69,15 +84,29 @@ impl Step {
                 Step::Announce(*device, *other, folder.copy(alloc)?)
             }
             Step::StartPull(device, folder, name) => {
-                Step::StartPull(*device, folder.copy(alloc)?, name.copy(alloc)?)
+                let at = copies(alloc, folder, name)?;
+                Step::StartPull(*device, at.0, at.1)
             }
             Step::Ask(device, other, folder, name) => {
-                Step::Ask(*device, *other, folder.copy(alloc)?, name.copy(alloc)?)
+                let at = copies(alloc, folder, name)?;
+                Step::Ask(*device, *other, at.0, at.1)
             }
             Step::Finish(device, folder, name) => {
-                Step::Finish(*device, folder.copy(alloc)?, name.copy(alloc)?)
+                let at = copies(alloc, folder, name)?;
+                Step::Finish(*device, at.0, at.1)
             }
             Step::Restart(device) => Step::Restart(*device),
+            Step::Edit(..) | Step::Remove(..) | Step::Override(..) | Step::Revert(..) =>
+                unreachable!(),
         })
     }
+}
+
+// A folder's and a file's name of their own.
+fn copies(alloc: Global, folder: &FolderName, name: &Name) -> Result<(FolderName, Name), AllocError>
+    ensures { IfOk result (λ made. made ≡ (folder.now, name.now)) }
+{
+    let folder = folder.copy(alloc)?;
+    let name = name.copy(alloc)?;
+    Ok((folder, name))
 }

@@ -127,11 +127,27 @@ impl<V: Duplicate> NameMap<V> {
         ensures { IfOk result (λ made. made ≡ self.now) }
     {
         let mut made = NameMap::new(alloc);
-        let mut rest = self.entries.iter();
-        // From the last name to the first, as the map's view is made of its entries.
-        while let Some((name, value)) = rest.next_back() {
-            made.insert(name.copy(alloc)?, value.duplicate(alloc)?)?;
-        }
+        made.add_copies(alloc, self.entries.iter())?;
         Ok(made)
+    }
+
+    // Gives copies of these entries, from the last name to the first, as a map's view is made of its entries.
+    fn add_copies(&mut self, alloc: Global, mut rest: Iter<'_, Name, V>) -> Result<(), AllocError>
+        requires { self.now ≡ map.empty }
+        ensures { OnOk result (self.new ≡ map.from_entries rest.entry) }
+    {
+        while let Some((name, value)) = rest.next_back() {
+            self.add_copy(alloc, name, value)?;
+        }
+        Ok(())
+    }
+
+    fn add_copy(&mut self, alloc: Global, name: &Name, value: &V) -> Result<(), AllocError>
+        ensures { OnOk result (self.new ≡ map.insert self.old name.now value.now) }
+    {
+        let name = name.copy(alloc)?;
+        let value = value.duplicate(alloc)?;
+        self.insert(name, value)?;
+        Ok(())
     }
 }
