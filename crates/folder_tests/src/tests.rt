@@ -3,3 +3,4 @@
 mod made;
 mod pulls;
 mod scans;
+mod stories;

@@ -74,12 +74,6 @@ pub(crate) fn sent(alloc: Global, docs: &mut Docs, record: Record) -> Option<()>
     docs.folder.replace_view(DeviceId::read(1)?, batch).ok()
 }
 
-/// What was sent is pulled, and these bytes are received.
-pub(crate) fn received(docs: &mut Docs, bytes: &[u8]) -> Option<()> {
-    docs.folder.start_pull(&docs.notes).ok()?;
-    docs.folder.add_block(&docs.notes, 0, bytes).ok()
-}
-
 /// A user puts a file of these bytes.
 pub(crate) fn edited(alloc: Global, docs: &mut Docs, bytes: &[u8]) -> Option<Moved> {
     let bytes = Vec::from_slice(alloc, bytes).ok()?;
@@ -101,14 +95,12 @@ pub(crate) fn seen(alloc: Global, docs: &mut Docs) -> Result<ScanResult, FolderE
 }
 
 // The first byte of the file; 0 where there is none.
-fn first_byte(docs: &mut Docs) -> u64 {
+fn first_byte(docs: &mut Docs) -> u8 {
     match docs.folder.look(&docs.notes) {
-        Ok(Some(node)) => node
-            .parts()
-            .bytes
-            .as_slice()
-            .first()
-            .map_or(0, |byte| u64::from(*byte)),
+        Ok(Some(node)) => match node.parts().bytes.as_slice() {
+            [first, ..] => *first,
+            [] => 0,
+        },
         _ => 0,
     }
 }
@@ -138,7 +130,7 @@ fn number(answer: Result<Moved, FolderError>) -> u32 {
 /// The number of a refusal, 0 for none, and which call of the store failed, 0 for none; whether a conflict copy was written;
 /// the first byte of the file; and of the own record its sequence, its counters of devices 1 and 2, and 1 where it is
 /// deleted, 2 where it is marked local-only.
-pub(crate) type Told = ((u32, u32, bool), u64, [u64; 4]);
+pub(crate) type Told = ((u32, u32, bool), u8, [u64; 4]);
 
 /// What is told of an answer, and stands then.
 pub(crate) fn told(docs: &mut Docs, answer: Result<Moved, FolderError>) -> Told {

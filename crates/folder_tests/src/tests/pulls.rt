@@ -1,23 +1,30 @@
 //! A file that another device changed, as it is pulled: into a store that fails, and by bytes that are handed to it. What each
 //! end leaves was worked out by hand, by BEP v1, 'Vector', and by this project's profile.
-use super::made::{Docs, Told, folder, received, record, sent, told};
-use bep_folder::FolderError;
+use super::made::{Docs, Told, record, sent, told};
+use super::stories::{Story, told_of};
+use bep_machine::Moved;
 use bep_record::{DeviceId, FolderKind, Record};
 use std::alloc::Global;
+
+/// Device 2 pulls this record of a file of these bytes from device 1, and receives them.
+pub(crate) fn pulled(
+    alloc: Global,
+    docs: &mut Docs,
+    record: Option<Record>,
+    bytes: &[u8],
+) -> Option<()> {
+    sent(alloc, docs, record?)?;
+    docs.folder.start_pull(&docs.notes).ok()?;
+    docs.folder.add_block(&docs.notes, 0, bytes).ok()
+}
 
 fn ended(docs: &mut Docs) -> Told {
     let answer = docs.folder.finish(&docs.notes);
     told(docs, answer)
 }
 
-// Pulls this record of a file of these bytes.
-fn pulled(alloc: Global, docs: &mut Docs, record: Option<Record>, bytes: &[u8]) -> Option<()> {
-    sent(alloc, docs, record?)?;
-    received(docs, bytes)
-}
-
-// Device 2 takes its own file `abc` back from device 1.
-fn own(alloc: Global, docs: &mut Docs) -> Option<()> {
+/// It takes its own file `abc` back so, and then pulls what device 1 changed beside it.
+pub(crate) fn conflicted(alloc: Global, docs: &mut Docs) -> Option<[Told; 2]> {
     pulled(
         alloc,
         docs,
@@ -25,78 +32,71 @@ fn own(alloc: Global, docs: &mut Docs) -> Option<()> {
         b"abc",
     )?;
     docs.folder.finish(&docs.notes).ok()?;
-    Some(())
-}
-
-// It pulls what device 1 changed beside it, and ends that twice.
-fn conflicted(alloc: Global, docs: &mut Option<Docs>) -> Option<[Told; 2]> {
-    let docs = docs.as_mut()?;
-    own(alloc, docs)?;
     pulled(alloc, docs, record(alloc, 1, &[(1, 2)], b"hello"), b"hello")?;
     Some([ended(docs), ended(docs)])
 }
 
-// The same where this call of the store fails.
 fn conflict(alloc: Global, call: u64) -> Option<[Told; 2]> {
-    let mut docs = folder(alloc, FolderKind::SendReceive, call);
-    conflicted(alloc, &mut docs)
+    told_of(alloc, FolderKind::SendReceive, call, Story::Conflict)
 }
 
-// The own file and its record, and those that were pulled.
-const BEFORE: (u64, [u64; 4]) = (b'a' as u64, [1, 1, 1, 0]);
-
-const AFTER: (u64, [u64; 4]) = (b'h' as u64, [2, 2, 1, 0]);
-
-// The own file takes the first two calls of the store; a pull reads the file, reads the conflict name, writes the copy and
-// writes the file.
+// The own file takes the first two calls of the store. The end of the pull reads the file, reads the conflict name, writes the
+// copy there and writes the file.
 #[test]
 fn a_losing_file_is_kept(rt: HostRuntime) {
-    let done = ((0, 0, true), AFTER.0, AFTER.1);
-    let again = ((142, 0, false), AFTER.0, AFTER.1);
+    let (before, after) = ([1, 1, 1, 0], [2, 2, 1, 0]);
+    let done = ((0, 0, true), b'h', after);
+    let again = ((142, 0, false), b'h', after);
     assert_eq!(rt; conflict(rt.alloc(), 0), Some([done, again]));
-    for failed in 1..4u32 {
-        let fault = ((131, failed, false), BEFORE.0, BEFORE.1);
-        assert_eq!(rt;
-            conflict(rt.alloc(), 2 + u64::from(failed)),
-            Some([fault, done])
-        );
-    }
-    let copied = ((131, 4, true), BEFORE.0, BEFORE.1);
-    let copy_found = ((0, 0, false), AFTER.0, AFTER.1);
+    let (read, looked) = (
+        ((131, 1, false), b'a', before),
+        ((131, 2, false), b'a', before),
+    );
+    assert_eq!(rt; conflict(rt.alloc(), 3), Some([read, done]));
+    assert_eq!(rt; conflict(rt.alloc(), 4), Some([looked, done]));
+    let (uncopied, copied) = (
+        ((131, 3, false), b'a', before),
+        ((131, 4, true), b'a', before),
+    );
+    assert_eq!(rt; conflict(rt.alloc(), 5), Some([uncopied, done]));
+    // the copy stands
+    let copy_found = ((0, 0, false), b'h', after);
     assert_eq!(rt; conflict(rt.alloc(), 6), Some([copied, copy_found]));
 }
 
-// Whether a copy of the pull misses a block, and the first byte of its file.
-fn copied(alloc: Global, docs: &Docs) -> Option<(bool, u8)> {
-    let copy = docs.folder.pull(&docs.notes)?.copy(alloc).ok()?;
-    let bytes = copy.node()?.parts().bytes.as_slice();
-    Some((copy.is_missing_blocks(), *bytes.first()?))
+fn handed_bytes(docs: &mut Docs, bytes: &[u8]) -> Told {
+    let answer = match docs.folder.add_block(&docs.notes, 0, bytes) {
+        Ok(()) => Ok(Moved::Changed),
+        Err(error) => Err(error),
+    };
+    told(docs, answer)
 }
 
-// How many names are wanted, the answers to bytes of another file and to the right ones, twice, and a copy of the pull.
-type Handed = (usize, [Result<(), FolderError>; 3], (bool, u8));
+// Whether memory was there for a list of what is wanted, and for a copy of the pull.
+fn is_copied(alloc: Global, docs: &Docs) -> bool {
+    match docs.folder.pull(&docs.notes) {
+        Some(pull) => pull.copy(alloc).is_ok() && docs.folder.wanted_names().is_ok(),
+        None => false,
+    }
+}
 
-fn handed(alloc: Global, docs: &mut Option<Docs>) -> Option<Handed> {
-    let docs = docs.as_mut()?;
+/// What another index told is forgotten, and the pull of a file is handed other bytes, and then its own.
+pub(crate) fn handed(alloc: Global, docs: &mut Docs) -> Option<[Told; 2]> {
     docs.folder.clear_view(DeviceId::read(1)?, 11).ok()?;
-    sent(alloc, docs, record(alloc, 1, &[(1, 2)], b"hello")?)?;
-    let wanted = docs.folder.wanted_names().ok()?.len();
+    pulled(alloc, docs, record(alloc, 1, &[(1, 2)], b"hello"), b"hello")?;
     docs.folder.start_pull(&docs.notes).ok()?;
-    let answers = [
-        docs.folder.add_block(&docs.notes, 0, b"hallo"),
-        docs.folder.add_block(&docs.notes, 0, b"hello"),
-        docs.folder.add_block(&docs.notes, 0, b"hello"),
-    ];
-    Some((wanted, answers, copied(alloc, docs)?))
-}
-
-fn hand_over(alloc: Global) -> Option<Handed> {
-    let mut docs = folder(alloc, FolderKind::SendReceive, 0);
-    handed(alloc, &mut docs)
+    let answers = [handed_bytes(docs, b"hallo"), handed_bytes(docs, b"hello")];
+    if is_copied(alloc, docs) {
+        Some(answers)
+    } else {
+        None
+    }
 }
 
 #[test]
 fn bytes_are_the_blocks(rt: HostRuntime) {
-    let answers = [Err(FolderError::HashBad), Ok(()), Ok(())];
-    assert_eq!(rt; hand_over(rt.alloc()), Some((1, answers, (false, b'h'))));
+    let bad = ((144, 0, false), 0, [0, 0, 0, 0]);
+    let good = ((0, 0, false), 0, [0, 0, 0, 0]);
+    let told = told_of(rt.alloc(), FolderKind::SendReceive, 0, Story::Bytes);
+    assert_eq!(rt; told, Some([bad, good]));
 }
