@@ -48,18 +48,13 @@ fn a_losing_file_is_kept(rt: HostRuntime) {
     let done = ((0, 0, true), b'h', after);
     let again = ((142, 0, false), b'h', after);
     assert_eq!(rt; conflict(rt.alloc(), 0), Some([done, again]));
-    let (read, looked) = (
-        ((131, 1, false), b'a', before),
-        ((131, 2, false), b'a', before),
-    );
-    assert_eq!(rt; conflict(rt.alloc(), 3), Some([read, done]));
-    assert_eq!(rt; conflict(rt.alloc(), 4), Some([looked, done]));
-    let (uncopied, copied) = (
-        ((131, 3, false), b'a', before),
-        ((131, 4, true), b'a', before),
-    );
-    assert_eq!(rt; conflict(rt.alloc(), 5), Some([uncopied, done]));
+    for failed in 1..4u32 {
+        let fault = ((131, failed, false), b'a', before);
+        let told = conflict(rt.alloc(), 2 + u64::from(failed));
+        assert_eq!(rt; told, Some([fault, done]));
+    }
     // the copy stands
+    let copied = ((131, 4, true), b'a', before);
     let copy_found = ((0, 0, false), b'h', after);
     assert_eq!(rt; conflict(rt.alloc(), 6), Some([copied, copy_found]));
 }
@@ -80,11 +75,10 @@ fn is_copied(alloc: Global, docs: &Docs) -> bool {
     }
 }
 
-/// What another index told is forgotten, and the pull of a file is handed other bytes, and then its own.
+/// What another index told is forgotten, and a pull that has its bytes is handed other ones, and its own once more.
 pub(crate) fn handed(alloc: Global, docs: &mut Docs) -> Option<[Told; 2]> {
     docs.folder.clear_view(DeviceId::read(1)?, 11).ok()?;
     pulled(alloc, docs, record(alloc, 1, &[(1, 2)], b"hello"), b"hello")?;
-    docs.folder.start_pull(&docs.notes).ok()?;
     let answers = [handed_bytes(docs, b"hallo"), handed_bytes(docs, b"hello")];
     if is_copied(alloc, docs) {
         Some(answers)

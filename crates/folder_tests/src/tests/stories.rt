@@ -9,7 +9,7 @@ use std::alloc::Global;
 pub(crate) enum Story {
     /// A file that both devices changed is pulled, and the pull is ended twice.
     Conflict,
-    /// A pull is handed the bytes of another file, and its own.
+    /// A pull that has its bytes is handed other ones, and its own once more.
     Bytes,
     /// A new file is scanned twice.
     Scans,
