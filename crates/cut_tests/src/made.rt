@@ -13,9 +13,9 @@ fn share(
     device: u64,
     call: u64,
 ) -> Option<()> {
+    let id = DeviceId::read(device)?;
     let docs = FolderName::read(alloc, b"docs").ok()?;
     let store = FaultStore::new(MemStore::new(alloc), call);
-    let id = DeviceId::read(device)?;
     config
         .add_device(&docs, id, FolderKind::SendReceive, device, store)
         .ok()

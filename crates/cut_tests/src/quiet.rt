@@ -1,8 +1,10 @@
 //! A settled cluster of three devices, two hundred steps without local edits, and stores that fail in them.
+use crate::device::{Late, late};
 use crate::made::{cluster, made};
 use bep_audit::{Certificate, Verdict, certify, check};
 use bep_core::Cluster;
 use bep_cut::{Cut, clusters_are_parts, cut_of};
+use bep_peer::PeerError;
 use bep_record::DeviceId;
 use bep_store::{FaultStore, MemStore};
 use std::alloc::Global;
@@ -51,14 +53,18 @@ fn audited(alloc: Global, cut: &Cut) -> Option<((u64, i64), bool)> {
     }
 }
 
-// The same of the cluster's cut.
-fn ended(alloc: Global, cluster: Cluster<FaultStore<MemStore>>) -> Option<((u64, i64), bool)> {
+// The same of the cluster's cut, and what its first device answers then.
+fn ended(
+    alloc: Global,
+    cluster: Cluster<FaultStore<MemStore>>,
+) -> Option<(((u64, i64), bool), Late)> {
     clusters_are_parts();
     let (mut peers, links) = cluster.into_parts();
-    match cut_of(alloc, peers.as_mut_slice(), links.as_slice()) {
+    let audited = match cut_of(alloc, peers.as_mut_slice(), links.as_slice()) {
         Ok(cut) => audited(alloc, &cut),
         Err(_) => None,
-    }
+    };
+    Some((audited?, late(alloc, peers.first_mut()?)?))
 }
 
 // What was made and what a store refused at the start and in eight rounds.
@@ -75,8 +81,10 @@ fn counted(alloc: Global, cluster: &mut Cluster<FaultStore<MemStore>>) -> Option
     Some([start, rounds])
 }
 
-// That, and what is said of the end.
-fn story(alloc: Global, call: u64) -> Option<([(u64, u64); 2], ((u64, i64), bool))> {
+// What is counted, and what is said of the end.
+type Told = ([(u64, u64); 2], (((u64, i64), bool), Late));
+
+fn story(alloc: Global, call: u64) -> Option<Told> {
     let mut cluster = cluster(alloc, call)?;
     let counted = counted(alloc, &mut cluster)?;
     Some((counted, ended(alloc, cluster)?))
@@ -84,7 +92,8 @@ fn story(alloc: Global, call: u64) -> Option<([(u64, u64); 2], ((u64, i64), bool
 
 #[test]
 fn quiet_steps_leave_a_settled_cluster_settled(rt: HostRuntime) {
-    let end = ((1, 1000), true);
+    let late = (1, Err(PeerError::Stale));
+    let end = (((1, 1000), true), late);
     assert_eq!(rt; story(rt.alloc(), 0), Some(([(25, 0), (126, 0)], end)));
     assert_eq!(rt; story(rt.alloc(), 7), Some(([(25, 0), (123, 3)], end)));
 }
