@@ -1,5 +1,9 @@
-//! Tests of the cuts of running clusters, by public calls.
+//! Tests of running clusters, of their devices and of their cuts, by public calls.
 #![tactic(auto)]
 
+#[cfg(test)]
+mod device;
+#[cfg(test)]
+mod made;
 #[cfg(test)]
 mod quiet;

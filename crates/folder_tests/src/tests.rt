@@ -1,6 +1,6 @@
-//! What comes to a folder: the indexes of others (`views`), a user's changes (`scans`), pulls, and what is in vain.
+//! What no run of the built program shows of a folder: what stands where a call of its store fails, pulls that are handed
+//! their bytes (`pulls`), and scans of what has changed meanwhile or can't be recorded (`scans`).
 mod made;
 mod pulls;
 mod scans;
-mod vain;
-mod views;
+mod stories;

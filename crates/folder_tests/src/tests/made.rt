@@ -1,57 +1,54 @@
-//! What the tests are about: a folder of device 2, which shares it with device 1, and what that one sends.
+//! What the tests are about: the folder `docs` at device 2, which shares it with device 1, and what becomes of one file.
 use bep_blocks::blocks;
-use bep_folder::Replica;
+use bep_folder::{FolderError, Replica, ScanResult};
 use bep_index::{Batch, IndexId};
+use bep_machine::Moved;
 use bep_record::{
     BASE_BLOCK_SIZE, BlockSize, DeviceId, Entry, FolderKind, FolderName, Items, Kind, Name, Node,
     NodeParts, Record, Target, Vector,
 };
-use bep_store::{MemStore, Store};
+use bep_store::{FaultStore, MemStore};
 use std::alloc::Global;
 
-/// The folder `docs` at device 2, which shares it with device 1.
-pub(crate) fn folder(alloc: Global, kind: FolderKind) -> Option<Replica<MemStore>> {
-    folder_over(alloc, kind, MemStore::new(alloc))
+/// The folder, and the name of the file.
+#[derive(Drop)]
+pub(crate) struct Docs {
+    pub(crate) folder: Replica<FaultStore<MemStore>>,
+    pub(crate) notes: Name,
 }
 
-// Device 2, its index, the folder's name, and the other devices.
-fn parts(alloc: Global) -> Option<(DeviceId, IndexId, FolderName, Vec<DeviceId>)> {
+// The folder in this kind, over a store without files of which this call fails.
+fn replica(alloc: Global, kind: FolderKind, call: u64) -> Option<Replica<FaultStore<MemStore>>> {
     let (device, other) = (DeviceId::read(2)?, DeviceId::read(1)?);
     let id = IndexId::read(12)?;
     let docs = FolderName::read(alloc, b"docs").ok()?;
     let others = Vec::from_array(alloc, [other]).ok()?;
-    Some((device, id, docs, others))
-}
-
-/// That folder over any store.
-pub(crate) fn folder_over<S: Store>(
-    alloc: Global,
-    kind: FolderKind,
-    store: S,
-) -> Option<Replica<S>> {
-    let (device, id, docs, others) = parts(alloc)?;
+    let store = FaultStore::new(MemStore::new(alloc), call);
     Replica::new(alloc, device, docs, kind, id, others, store)
 }
 
-/// The name of a directory.
-pub(crate) fn lettered(alloc: Global, letter: u8) -> Option<Name> {
-    Name::read(alloc, &[letter]).ok()
+/// That folder, and the name.
+pub(crate) fn folder(alloc: Global, kind: FolderKind, call: u64) -> Option<Docs> {
+    let notes = Name::read(alloc, b"notes.txt").ok()?;
+    let folder = replica(alloc, kind, call)?;
+    Some(Docs { folder, notes })
 }
 
-/// The name of a file.
-pub(crate) fn notes(alloc: Global) -> Option<Name> {
-    Name::read(alloc, b"notes.txt").ok()
-}
-
-// What this device says of a directory; a file has more in it.
-fn entry(alloc: Global, name: Name, device: u64, version: &[(u64, u64)]) -> Option<Entry> {
-    let modified_by = DeviceId::read(device)?;
-    let version = Vector::read(version)?;
-    Some(Entry {
+/// The record of the file with these bytes that this device made.
+pub(crate) fn record(
+    alloc: Global,
+    device: u64,
+    version: &[(u64, u64)],
+    bytes: &[u8],
+) -> Option<Record> {
+    let (modified_by, version) = (DeviceId::read(device)?, Vector::read(version)?);
+    let name = Name::read(alloc, b"notes.txt").ok()?;
+    let blocks = blocks(alloc, bytes, BlockSize::base()).ok()?;
+    let made = Record::read(Entry {
         name,
-        kind: Kind::Directory,
-        size: 0,
-        modified_s: 1000,
+        kind: Kind::File,
+        size: bytes.len() as u64,
+        modified_s: 2000,
         modified_ns: 0,
         modified_by,
         deleted: false,
@@ -59,68 +56,88 @@ fn entry(alloc: Global, name: Name, device: u64, version: &[(u64, u64)]) -> Opti
         no_permissions: true,
         version,
         sequence: 1,
-        block_size: 0,
-        blocks: Items::new(Vec::new(alloc)),
+        block_size: BASE_BLOCK_SIZE,
+        blocks,
         target: Target::empty(alloc),
-    })
+    });
+    made.ok()
 }
 
-/// Device 1's record of the directory of this one letter, under this sequence.
-pub(crate) fn directory(alloc: Global, letter: u8, sequence: u64) -> Option<Record> {
-    let name = lettered(alloc, letter)?;
-    let mut entry = entry(alloc, name, 1, &[(1, 1)])?;
-    entry.sequence = sequence;
-    Record::read(entry).ok()
+fn batch(alloc: Global, record: Record) -> Option<Batch> {
+    let records = Vec::from_array(alloc, [record]).ok()?;
+    Batch::new(records).ok()
 }
 
-/// The record of the file `notes.txt` with these bytes that this device made.
-pub(crate) fn record(
-    alloc: Global,
-    device: u64,
-    version: &[(u64, u64)],
-    bytes: &[u8],
-) -> Option<Record> {
-    let name = notes(alloc)?;
-    let mut entry = entry(alloc, name, device, version)?;
-    entry.kind = Kind::File;
-    entry.size = bytes.len() as u64;
-    entry.modified_s = 2000;
-    entry.block_size = BASE_BLOCK_SIZE;
-    entry.blocks = blocks(alloc, bytes, BlockSize::base()).ok()?;
-    Record::read(entry).ok()
+/// Device 1 sends an Index of this one record.
+pub(crate) fn sent(alloc: Global, docs: &mut Docs, record: Record) -> Option<()> {
+    let batch = batch(alloc, record)?;
+    docs.folder.replace_view(DeviceId::read(1)?, batch).ok()
 }
 
-/// The file of these bytes.
-pub(crate) fn file(alloc: Global, bytes: &[u8], modified_s: i64) -> Option<Node> {
+/// A user puts a file of these bytes.
+pub(crate) fn edited(alloc: Global, docs: &mut Docs, bytes: &[u8]) -> Option<Moved> {
     let bytes = Vec::from_slice(alloc, bytes).ok()?;
     let made = Node::read(NodeParts {
         kind: Kind::File,
         bytes: Items::new(bytes),
         target: Target::empty(alloc),
-        modified_s,
+        modified_s: 999,
         modified_ns: 0,
     });
-    made.ok()
+    docs.folder.edit(&docs.notes, &made.ok()?).ok()
 }
 
-/// A batch of this one record.
-pub(crate) fn batch(alloc: Global, entry: Record) -> Option<Batch> {
-    let records = Vec::from_array(alloc, [entry]).ok()?;
-    Batch::new(records).ok()
+/// What stands at the name.
+pub(crate) fn seen(alloc: Global, docs: &mut Docs) -> Result<ScanResult, FolderError> {
+    let name = docs.notes.copy(alloc)?;
+    let node = docs.folder.look(&docs.notes)?;
+    ScanResult::plain(alloc, name, node)
 }
 
-/// Device 1 sends an Index of this one record.
-pub(crate) fn sent<S: Store>(alloc: Global, replica: &mut Replica<S>, entry: Record) -> Option<()> {
-    let batch = batch(alloc, entry)?;
-    replica.replace_view(DeviceId::read(1)?, batch).ok()
-}
-
-/// Pulls what was sent of the name, a directory or a file of these bytes.
-pub(crate) fn pulled<S: Store>(replica: &mut Replica<S>, name: &Name, bytes: &[u8]) -> Option<()> {
-    replica.start_pull(name).ok()?;
-    if !bytes.is_empty() {
-        replica.add_block(name, 0, bytes).ok()?;
+// The first byte of the file; 0 where there is none.
+fn first_byte(docs: &mut Docs) -> u8 {
+    match docs.folder.look(&docs.notes) {
+        Ok(Some(node)) => match node.parts().bytes.as_slice() {
+            [first, ..] => *first,
+            [] => 0,
+        },
+        _ => 0,
     }
-    replica.finish(name).ok()?;
-    Some(())
+}
+
+// The own record's sequence, its counters of devices 1 and 2, and 1 where it is deleted, 2 where it is marked local-only.
+fn own(docs: &Docs) -> Option<[u64; 4]> {
+    let (one, two) = (DeviceId::read(1)?, DeviceId::read(2)?);
+    let entry = docs.folder.index().get(&docs.notes)?.entry();
+    let mark = u64::from(entry.deleted) + 2 * u64::from(entry.invalid);
+    Some([
+        entry.sequence,
+        entry.version.get(one),
+        entry.version.get(two),
+        mark,
+    ])
+}
+
+// The number of a refusal; 0 where something changed.
+fn number(answer: Result<Moved, FolderError>) -> u32 {
+    match answer {
+        Ok(Moved::Changed) => 0,
+        Ok(_) => 1,
+        Err(error) => error.number().unwrap_or(2),
+    }
+}
+
+/// The number of a refusal, 0 for none, and which call of the store failed, 0 for none; whether a conflict copy was written;
+/// the first byte of the file; and of the own record its sequence, its counters of devices 1 and 2, and 1 where it is
+/// deleted, 2 where it is marked local-only.
+pub(crate) type Told = ((u32, u32, bool), u8, [u64; 4]);
+
+/// What is told of an answer, and stands then.
+pub(crate) fn told(docs: &mut Docs, answer: Result<Moved, FolderError>) -> Told {
+    let (failed, copied) = docs.folder.trace();
+    (
+        (number(answer), failed.unwrap_or(0), copied),
+        first_byte(docs),
+        own(docs).unwrap_or([0, 0, 0, 0]),
+    )
 }

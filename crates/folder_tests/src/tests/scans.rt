@@ -1,158 +1,129 @@
-//! A name that a user changes, and what a scan and a revert record of it: worked out by hand, by BEP v1, 'Vector', and by
-//! this project's profile.
-use super::made::{directory, file, folder, folder_over, lettered, pulled, sent};
-use bep_folder::{FolderError, Replica, ScanResult};
+//! Scans, reverts and readings that come to nothing: the store fails, the file was changed meanwhile, or the version has no
+//! next counter. Worked out by hand, by BEP v1, 'Vector', and by this project's profile.
+use super::made::{Docs, Told, edited, record, seen, told};
+use super::pulls::pulled;
+use super::stories::{Story, told_of};
+use bep_folder::FolderError;
 use bep_machine::Moved;
-use bep_record::{DeviceId, FolderKind};
-use bep_store::{FaultStore, MemStore, Store};
+use bep_record::{FolderKind, Record};
 use std::alloc::Global;
 
-// The own record's sequence, its time, its counters of devices 1 and 2, and whether it is deleted or marked local-only.
-type Own = (u64, i64, [u64; 2], bool, bool);
-
-// The own record of `a` becomes device 1's first one.
-fn begun<S: Store>(alloc: Global, replica: &mut Replica<S>) -> Option<()> {
-    sent(alloc, replica, directory(alloc, b'a', 1)?)?;
-    pulled(replica, &lettered(alloc, b'a')?, b"")
+fn committed(alloc: Global, docs: &mut Docs) -> Result<Moved, FolderError> {
+    let scan = seen(alloc, docs)?;
+    docs.folder.commit(scan)
 }
 
-// Gives `a` a file of one byte, as a user does.
-fn edited<S: Store>(alloc: Global, replica: &mut Replica<S>) -> Option<Moved> {
-    let name = lettered(alloc, b'a')?;
-    replica.edit(&name, &file(alloc, b"7", 999)?).ok()
+fn scanned(alloc: Global, docs: &mut Docs) -> Told {
+    let answer = committed(alloc, docs);
+    told(docs, answer)
 }
 
-fn removed(alloc: Global, replica: &mut Replica<MemStore>) -> Option<Moved> {
-    let name = lettered(alloc, b'a')?;
-    replica.remove(&name).ok()
+/// A file with these new bytes is scanned.
+pub(crate) fn scanned_twice(alloc: Global, docs: &mut Docs, bytes: &[u8]) -> Option<[Told; 2]> {
+    edited(alloc, docs, bytes)?;
+    Some([scanned(alloc, docs), scanned(alloc, docs)])
 }
 
-fn scanned<S: Store>(alloc: Global, replica: &mut Replica<S>) -> Option<Moved> {
-    let name = lettered(alloc, b'a')?;
-    let node = replica.look(&name).ok()?;
-    let scan = ScanResult::plain(alloc, name, node).ok()?;
-    replica.commit(scan).ok()
-}
-
-fn own<S: Store>(alloc: Global, replica: &Replica<S>) -> Option<Own> {
-    let name = lettered(alloc, b'a')?;
-    let (one, two) = (DeviceId::read(1)?, DeviceId::read(2)?);
-    let entry = replica.index().get(&name)?.entry();
-    let counters = [entry.version.get(one), entry.version.get(two)];
-    Some((
-        entry.sequence,
-        entry.modified_s,
-        counters,
-        entry.deleted,
-        entry.invalid,
-    ))
-}
-
-// What is recorded of an edit, and then of a removal.
-fn recorded(alloc: Global, replica: &mut Replica<MemStore>) -> Option<[(Moved, Own); 2]> {
-    begun(alloc, replica)?;
-    edited(alloc, replica)?;
-    let first = (scanned(alloc, replica)?, own(alloc, replica)?);
-    removed(alloc, replica)?;
-    let second = (scanned(alloc, replica)?, own(alloc, replica)?);
-    Some([first, second])
-}
-
-fn scans(alloc: Global) -> Option<[(Moved, Own); 2]> {
-    let mut replica = folder(alloc, FolderKind::SendReceive)?;
-    recorded(alloc, &mut replica)
-}
-
-// The device's counter goes up by 1, and a deletion keeps the record's time.
+// The edit is the store's first call, the look the second, and what is put reads once more.
 #[test]
-fn scans_record_what_changed(rt: HostRuntime) {
-    let wanted = [
-        (Moved::Changed, (2, 999, [1, 1], false, false)),
-        (Moved::Changed, (3, 999, [1, 2], true, false)),
-    ];
-    assert_eq!(rt; scans(rt.alloc()), Some(wanted));
+fn a_scan_that_cannot_read_records_nothing(rt: HostRuntime) {
+    let fault = ((131, 1, false), b'h', [0, 0, 0, 0]);
+    let done = ((0, 0, false), b'h', [1, 0, 1, 0]);
+    let look = told_of(rt.alloc(), FolderKind::SendReceive, 2, Story::Scans);
+    assert_eq!(rt; look, Some([fault, done]));
+    let put = told_of(rt.alloc(), FolderKind::SendReceive, 3, Story::Scans);
+    assert_eq!(rt; put, Some([fault, done]));
 }
 
-fn count_nodes<S: Store>(replica: &mut Replica<S>) -> Result<usize, FolderError> {
-    Ok(replica.contents()?.len())
+fn late(alloc: Global, docs: &mut Docs) -> Result<Moved, FolderError> {
+    let scan = seen(alloc, docs)?;
+    let _edited = edited(alloc, docs, b"abc");
+    docs.folder.commit(scan)
 }
 
-// The names of a folder with a file that wasn't scanned yet.
-fn names(alloc: Global) -> Option<usize> {
-    let mut replica = folder(alloc, FolderKind::SendReceive)?;
-    named(alloc, &mut replica)
-}
-
-fn named(alloc: Global, replica: &mut Replica<MemStore>) -> Option<usize> {
-    edited(alloc, replica)?;
-    let names = replica.names().ok()?;
-    Some(names.len())
+/// A file is changed after it was looked at.
+pub(crate) fn scanned_late(alloc: Global, docs: &mut Docs) -> Option<[Told; 2]> {
+    edited(alloc, docs, b"hello")?;
+    let answer = late(alloc, docs);
+    Some([told(docs, answer), scanned(alloc, docs)])
 }
 
 #[test]
-fn names_are_those_of_files_too(rt: HostRuntime) {
-    assert_eq!(rt; names(rt.alloc()), Some(1));
+fn a_scan_of_an_earlier_node_is_stale(rt: HostRuntime) {
+    let stale = ((148, 0, false), b'a', [0, 0, 0, 0]);
+    let done = ((0, 0, false), b'a', [1, 0, 1, 0]);
+    let told = told_of(rt.alloc(), FolderKind::SendReceive, 0, Story::LateScan);
+    assert_eq!(rt; told, Some([stale, done]));
 }
 
-// A store with one file is read out twice.
-fn counted<S: Store>(
-    alloc: Global,
-    replica: &mut Replica<S>,
-) -> Option<[Result<usize, FolderError>; 2]> {
-    edited(alloc, replica)?;
-    Some([count_nodes(replica), count_nodes(replica)])
+fn read_out(docs: &mut Docs) -> Told {
+    let answer = match docs.folder.contents() {
+        Ok(_) => Ok(Moved::Changed),
+        Err(error) => Err(error),
+    };
+    told(docs, answer)
 }
 
-// This call of the store fails, of which the edit is the first.
-fn contents(alloc: Global, call: u64) -> Option<[Result<usize, FolderError>; 2]> {
-    let store = FaultStore::new(MemStore::new(alloc), call);
-    let mut replica = folder_over(alloc, FolderKind::SendReceive, store)?;
-    counted(alloc, &mut replica)
+/// A store with one file is read out, as a cut reads it.
+pub(crate) fn read_twice(alloc: Global, docs: &mut Docs) -> Option<[Told; 2]> {
+    edited(alloc, docs, b"hello")?;
+    Some([read_out(docs), read_out(docs)])
 }
 
+// The names are the second call of the store, and the file the third.
 #[test]
 fn contents_are_all_or_a_fault(rt: HostRuntime) {
-    let fault = Err(FolderError::StoreFault);
-    for (call, counts) in [
-        (2, [fault, Ok(1)]),
-        (3, [fault, Ok(1)]),
-        (4, [Ok(1), fault]),
-    ] {
-        assert_eq!(rt; contents(rt.alloc(), call), Some(counts));
-    }
+    let (names, file) = (
+        ((131, 1, false), b'h', [0, 0, 0, 0]),
+        ((131, 2, false), b'h', [0, 0, 0, 0]),
+    );
+    let done = ((0, 0, false), b'h', [0, 0, 0, 0]);
+    let unnamed = told_of(rt.alloc(), FolderKind::SendReceive, 2, Story::Reading);
+    assert_eq!(rt; unnamed, Some([names, done]));
+    let unread = told_of(rt.alloc(), FolderKind::SendReceive, 3, Story::Reading);
+    assert_eq!(rt; unread, Some([file, done]));
 }
 
-// What a local change in a receive-only folder is, the answer to its revert, and what that leaves.
-fn reverted<S: Store>(
-    alloc: Global,
-    replica: &mut Replica<S>,
-) -> Option<(Own, Result<Moved, FolderError>, Own)> {
-    begun(alloc, replica)?;
-    edited(alloc, replica)?;
-    scanned(alloc, replica)?;
-    let changed = own(alloc, replica)?;
-    let name = lettered(alloc, b'a')?;
-    let answer = replica.revert_one(&name);
-    Some((changed, answer, own(alloc, replica)?))
+// Device 2 takes over this record of a file `hello` of device 1.
+fn taken(alloc: Global, docs: &mut Docs, record: Option<Record>) -> Option<Moved> {
+    pulled(alloc, docs, record, b"hello")?;
+    docs.folder.finish(&docs.notes).ok()
 }
 
-// This call of the store fails, of which the edit is the third.
-fn reverts(alloc: Global, call: u64) -> Option<(Own, Result<Moved, FolderError>, Own)> {
-    let store = FaultStore::new(MemStore::new(alloc), call);
-    let mut replica = folder_over(alloc, FolderKind::ReceiveOnly, store)?;
-    reverted(alloc, &mut replica)
+// The greatest counter of a version.
+const LAST: u64 = 9223372036854775807;
+
+/// The own record has that counter, and the file is changed.
+pub(crate) fn counted_out(alloc: Global, docs: &mut Docs) -> Option<[Told; 2]> {
+    taken(alloc, docs, record(alloc, 2, &[(2, LAST)], b"hello"))?;
+    scanned_twice(alloc, docs, b"abc")
 }
 
-// A local change keeps the old version and is marked; its revert is a deletion under the empty version. Where the file can't
-// be removed, the record is as before.
 #[test]
-fn a_revert_gives_up_a_local_change(rt: HostRuntime) {
-    let changed = (2, 999, [1, 0], false, true);
-    let deleted = (3, 999, [0, 0], true, false);
-    for (call, answer, left) in [
-        (0, Ok(Moved::Changed), deleted),
-        (7, Err(FolderError::StoreFault), changed),
-    ] {
-        assert_eq!(rt; reverts(rt.alloc(), call), Some((changed, answer, left)));
-    }
+fn the_last_counter_is_not_passed(rt: HostRuntime) {
+    let full = ((101, 0, false), b'a', [1, 0, LAST, 0]);
+    let told = told_of(rt.alloc(), FolderKind::SendReceive, 0, Story::LastCounter);
+    assert_eq!(rt; told, Some([full, full]));
+}
+
+fn reverted(docs: &mut Docs) -> Told {
+    let answer = docs.folder.revert_one(&docs.notes);
+    told(docs, answer)
+}
+
+/// A local change is taken back.
+pub(crate) fn reverted_twice(alloc: Global, docs: &mut Docs) -> Option<[Told; 2]> {
+    taken(alloc, docs, record(alloc, 1, &[(1, 1)], b"hello"))?;
+    edited(alloc, docs, b"7")?;
+    committed(alloc, docs).ok()?;
+    Some([reverted(docs), reverted(docs)])
+}
+
+// The seventh call of the store removes the file.
+#[test]
+fn a_revert_that_cannot_remove_leaves_all(rt: HostRuntime) {
+    let fault = ((131, 2, false), b'7', [2, 1, 0, 2]);
+    let gone = ((0, 0, false), 0, [3, 0, 0, 1]);
+    let told = told_of(rt.alloc(), FolderKind::ReceiveOnly, 7, Story::Revert);
+    assert_eq!(rt; told, Some([fault, gone]));
 }
