@@ -40,6 +40,8 @@ read | ],"links":[]},"certificate":[]}
 183 Shape | ]}}
 END
 
+expect 'no folders and no rows' 'settled' "$({ "$program" check 2> /dev/null || true; } <<< "$begin"']},"certificate":[]}')"
+
 # Further members; one that is there already takes the place of the one before.
 each_row "$begin$folder$device" "$end" << 'END'
 read |

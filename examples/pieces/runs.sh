@@ -88,14 +88,19 @@ told=$({
   grep -oE '"send-receive","max":[0-9]+|"[a-z]":[0-9]+,"size"|"to_b"' | sed 's/"send-receive",//; s/,"size"//' | paste -sd ' ')
 expect 'records in order' '"max":4 "a":3 "b":2 "c":4 "max":0 "to_b" "b":2 "a":3 "c":4' "$told"
 
-# A full index takes a change of a name that it has.
+# A full index takes a change of a name that it has; so device 2 has a full view after five messages.
 told=$({
   for name in $(seq 4096); do
     put "$name" 1
   done
   put 7 2
-} | document_of | grep -oE '"max":[0-9]+' | paste -sd ' ')
-expect 'a full index' '"max":4097 "max":0' "$told"
+  echo '["connect",1,2],["begin",1,2],["begin",2,1],["deliver",2,1],["deliver",1,2]'
+  for _ in 1 2 3 4 5; do
+    echo '["announce",1,2,"docs"],["deliver",2,1]'
+  done
+} | document_of)
+expect 'a full index' '"max":4097 "max":0 "max":0 "max":4097' "$(grep -oE '"max":[0-9]+' <<< "$told" | paste -sd ' ')"
+expect 'a full view' 4096 "$(sed 's/.*"views":\[{//' <<< "$told" | grep -o '"sequence"' | wc -l)"
 
 # A view begins with what an Index brings, and an Index Update adds to it.
 view_then() {
@@ -143,6 +148,17 @@ told=$({
 } | document_of | sed 's/.*"cut"//' | grep -oE '"store":\[[^]]*\]')
 expect 'what is stored' '"store":[{"hex":"41","modified_ns":0,"modified_s":1,"name":"a","target":"","type":0},{"hex":"43","modified_ns":0,"modified_s":1,"name":"b","target":"","type":0}] "store":[]' \
   "$(paste -sd ' ' <<< "$told")"
+
+# Of equal bytes the time alone is taken over.
+taken=$({
+  file_of a 41
+  echo '["connect",1,2],["begin",1,2],["begin",2,1],["deliver",2,1],["deliver",1,2],["announce",1,2,"docs"],["deliver",2,1]'
+  echo '["pull",2,"docs","a"],["ask",2,1,"docs","a"],["deliver",1,2],["deliver",2,1],["finish",2,"docs","a"]'
+  echo '["edit",1,"docs",{"name":"a","type":0,"modified_s":-7,"modified_ns":999999999,"hex":"41"}],["scan",1,"docs","a"]'
+  echo '["announce",1,2,"docs"],["deliver",2,1],["pull",2,"docs","a"],["finish",2,"docs","a"]'
+} | document_of | sed 's/.*"cut"//' | grep -oE '"store":\[[^]]*\]' | paste -sd ' ')
+late='"store":[{"hex":"41","modified_ns":999999999,"modified_s":-7,"name":"a","target":"","type":0}]'
+expect 'another time' "$late $late" "$taken"
 
 # ---- what is on its way
 
