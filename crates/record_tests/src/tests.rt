@@ -5,5 +5,4 @@ mod index;
 mod links;
 mod made;
 mod record;
-mod store;
 mod vector;

@@ -4,28 +4,22 @@ use bep_tables::Cut;
 use serde_json::Value;
 use std::alloc::Global;
 
-// Each member, and members in the order of their names.
+// Each member, as it is written.
 const WRITTEN: &str =
     r#"{"folders":[{"devices":[{"device":2,"index_id":12,"kind":"send-receive","max":0,"own":[],"pulls":[],"store":[{"hex":"0a","modified_ns":8,"modified_s":5,"name":"c","target":"","type":0}],"views":[]}],"folder":"docs"}],"links":[]}"#;
 
-fn is_text(alloc: Global, tree: &Value) -> bool {
-    match tree.to_string(alloc) {
-        Ok(text) => text.as_str() == WRITTEN,
-        Err(_) => false,
-    }
-}
-
-fn is_written(alloc: Global, cut: &Cut) -> bool {
+// Whether the cut's tree is this one.
+fn is_written(alloc: Global, cut: &Cut, tree: &Value) -> bool {
     match cut.to_value(alloc) {
-        Ok(tree) => is_text(alloc, &tree),
+        Ok(written) => written == *tree,
         Err(_) => false,
     }
 }
 
-// Whether the cut that is read of the tree is written as the text.
+// Whether the cut that is read of the tree is written as the tree.
 fn is_read(alloc: Global, tree: &Value) -> bool {
     match Cut::from_value(alloc, tree) {
-        Ok(cut) => is_written(alloc, &cut),
+        Ok(cut) => is_written(alloc, &cut, tree),
         Err(_) => false,
     }
 }

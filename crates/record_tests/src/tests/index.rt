@@ -2,7 +2,7 @@
 //! sends them and is full, and what a view has of them, the scenarios of `examples/` show.
 use super::made::numbered;
 use bep_index::{Batch, Index, IndexError, IndexId, Plan, View, plan};
-use bep_record::Record;
+use bep_record::{Name, Record};
 use std::alloc::Global;
 
 fn batch(alloc: Global, letter: u8, sequence: u64) -> Option<Batch> {
@@ -35,6 +35,11 @@ fn point_of_copy(alloc: Global, view: &View) -> Option<(u64, u64)> {
     }
 }
 
+fn has(alloc: Global, view: &View, letter: u8) -> Option<bool> {
+    let name = Name::read(alloc, &[letter]).ok()?;
+    Some(view.get(&name).is_some())
+}
+
 #[test]
 fn a_view_takes_batches(rt: HostRuntime) {
     let alloc = rt.alloc();
@@ -45,8 +50,10 @@ fn a_view_takes_batches(rt: HostRuntime) {
     let old = Some(Some(IndexError::BatchOld));
     assert_eq!(rt; refusal(alloc, &mut view, b'b', 7), old);
     assert_eq!(rt; point_of_copy(alloc, &view), Some((11, 7)));
+    assert_eq!(rt; has(alloc, &view, b'c'), Some(true));
     view.clear(12);
     assert_eq!(rt; view.point(), (12, 0));
+    assert_eq!(rt; has(alloc, &view, b'c'), Some(false));
 }
 
 fn put(alloc: Global, index: &mut Index, letter: u8) -> Option<u64> {
