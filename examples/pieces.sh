@@ -61,7 +61,7 @@ letters() {
   printf "n%.0s" $(seq "$1")
 }
 
-for part in documents records lists cuts runs devices; do
+for part in documents records lists cuts choices runs devices; do
   # shellcheck source=/dev/null
   source "examples/pieces/$part.sh"
 done

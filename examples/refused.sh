@@ -1,8 +1,9 @@
 #!/usr/bin/env bash
 # refused.sh PROGRAM: refuses the program one call after the other, each growth of its memory, each read and each write of
 # standard output, until none is left to refuse. Without memory it must end with status 4, after a refused read or write
-# with status 5, and it must have written nothing; or it made do without the call, and then answers as ever. The last line is
-# 'N passed, M failed', a run each.
+# with status 5, and it must have written nothing; or it made do without the call, and then answers as ever. An interrupted
+# read or write isn't tried again, nor one that takes nothing. Where each read gives and each write takes a few bytes alone it
+# answers as ever. The last line is 'N passed, M failed', a run each.
 set -euo pipefail
 program=$(readlink -m "$1")
 cd "$(dirname "$0")"
@@ -75,6 +76,21 @@ cut_off() {
   done
 }
 
+# in_pieces BYTES DOCUMENT WORDS..: lets each read give, and each write take, so many bytes at most.
+in_pieces() {
+  local bytes=$1 document=$2
+  shift
+  answer "$@"
+  shift
+  run_refused PIECE "$bytes" "$document" "$@"
+  if is_as_ever; then
+    passed=$((passed + 1))
+  else
+    failed=$((failed + 1))
+    echo "refused: $* < $document: in pieces of $bytes bytes it ended with $status"
+  fi
+}
+
 # refuse_all DOCUMENT WORDS..: refuses each call of each kind.
 refuse_all() {
   answer "$@"
@@ -87,6 +103,12 @@ refuse_all one-equal-file.json check
 refuse_all cut-alone.json certify
 refuse_all scenarios/conflict.json run
 cut_off one-equal-file.json check
+REFUSE_WITH=interruption refuse READ 5 one-equal-file.json check
+REFUSE_WITH=interruption refuse WRITE 5 one-equal-file.json check
+REFUSE_WITH=nothing refuse WRITE 5 one-equal-file.json check
+for bytes in 1 2 3 50; do
+  in_pieces "$bytes" one-equal-file.json check
+done
 
 echo "$passed passed, $failed failed"
 [ "$failed" = 0 ] && [ "$passed" -gt 0 ]

@@ -18,6 +18,70 @@ expect 'names in order' 'settled' "$(in_order a.d/b b)"
 expect 'names in another order' 'not settled: CertificateOrder docs a.d/b' "$(in_order b a.d/b)"
 expect 'a name twice' 'not settled: CertificateOrder docs a.d/b' "$(in_order a.d/b a.d/b)"
 
+# ---- names as they are printed
+
+# printed NAME: how a report prints the name of a directory that no device recorded, which JSON writes so.
+printed() {
+  first_line check <<< "$begin$folder$device"',"store":[{"name":"'"$1"'","type":1,"modified_s":0}]'"$end" |
+    sed 's/^not settled: NameMissing docs //'
+}
+
+# What is not visible, and a backslash, by two digits each.
+expect 'a space' 'a\x20b' "$(printed 'a b')"
+expect 'the first and the last visible letter' '!~' "$(printed '!~')"
+expect 'control characters' '\x01\x0a\x1f\x7f' "$(printed '\u0001\n\u001f\u007f')"
+expect 'a backslash' 'a\x5cb/c' "$(printed 'a\\b/c')"
+expect 'what is no ASCII' $'\xc3\xa9\xc2\x80' "$(printed '\u00e9\u0080')"
+
+# ---- what knows a name
+
+# One name for each thing that a cut can have of it, b for two; a folder without devices has none.
+known='{"version":1,"cut":{"folders":[{"folder":"music","devices":[]},{"folder":"docs","devices":[
+  {"device":2,"kind":"send-receive","index_id":12,"max":0,
+    "views":[{"of":7,"index_id":17,"max":9,"records":[
+      {"name":"b","type":1,"modified_s":5,"modified_by":7,"version":[[7,1]],"sequence":4},
+      {"name":"a","type":1,"modified_s":5,"modified_by":7,"version":[[7,2]],"sequence":9},
+      {"name":"h","type":1,"modified_s":5,"modified_by":7,"version":[[7,2]],"sequence":8,"invalid":true}]}],
+    "pulls":[{"name":"b","type":1,"modified_s":5,"modified_by":7,"version":[[7,1]],"sequence":4}]},
+  {"device":5,"kind":"send-receive","index_id":15,"max":1,
+    "own":[{"name":"f","type":1,"modified_s":5,"modified_by":5,"version":[[5,1]],"sequence":1}],
+    "store":[{"name":"g","type":1,"modified_s":5}]},
+  {"device":7,"kind":"send-receive","index_id":17,"max":10}]}],
+  "links":[{"a":2,"b":7,"up":true,"epoch":3,
+    "to_a":[{"folder":"docs","full":false,"records":[
+      {"name":"c","type":1,"modified_s":5,"modified_by":7,"version":[[7,3]],"sequence":10}]}],
+    "to_b":[{"folder":"docs","full":true,"records":[
+      {"name":"e","type":1,"modified_s":5,"modified_by":2,"version":[[2,1]],"sequence":1},
+      {"name":"d","type":1,"modified_s":5,"modified_by":2,"version":[[2,2]],"sequence":2}]}]}]},"certificate":[]}'
+
+expect 'how many names are known' 'folder docs: 7 names, 6 deleted, 3 devices folder music: 0 names, 0 deleted, 0 devices' \
+  "$({ "$program" check 2> /dev/null <<< "$known" || true; } | grep '^folder' | paste -sd ' ')"
+expect 'what knows each name' "$(paste -sd ' ' << 'END'
+NameMissing docs a
+winner: none
+view of 7 at 2: version [[7,2]], directory, time 5 s 0 ns
+NameMissing docs b
+winner: none
+view of 7 at 2: version [[7,1]], directory, time 5 s 0 ns
+pull at 2: version [[7,1]], directory, time 5 s 0 ns
+NameMissing docs c
+winner: none
+on its way from 7 to 2: version [[7,3]], directory, time 5 s 0 ns
+NameMissing docs d
+winner: none
+on its way from 2 to 7: version [[2,2]], directory, time 5 s 0 ns
+NameMissing docs e
+winner: none
+on its way from 2 to 7: version [[2,1]], directory, time 5 s 0 ns
+NameMissing docs f
+winner: device 5, version [[5,1]], directory, time 5 s 0 ns
+record of 5: version [[5,1]], directory, time 5 s 0 ns
+NameMissing docs g
+winner: none
+store of 5: directory, time 5 s 0 ns
+END
+)" "$({ "$program" explain 2> /dev/null <<< "$known" || true; } | sed 's/^ *//' | paste -sd ' ')"
+
 # ---- what a scan sees of a file that was put beside its record, and misses
 
 hash=2cf24dba5fb0a30e26e83b2ac5b9e29e1b161e5c1fa7425e73043362938b9824

@@ -28,6 +28,7 @@ expect '200 brackets' '181 NotJson' "$(nested 200 | answer)"
 expect 'what is no UTF-8' '181 NotJson' "$(printf '"\xff"' | answer)"
 expect 'a document of the greatest length' '181 NotJson' "$(head -c 67108864 /dev/zero | tr '\0' x | answer)"
 expect 'a longer document' '184 Range' "$(head -c 67108865 /dev/zero | tr '\0' x | answer)"
+expect 'what is left of a much longer one' '5' "$({ "$program" check > /dev/null 2>&1 || true; wc -c; } < <(head -c 67108870 /dev/zero))"
 
 each_row "$begin" '' << 'END'
 read | ]},"certificate":[]}
@@ -38,6 +39,8 @@ read | ],"links":[]},"certificate":[]}
 183 Shape | ]},"certificate":[{}]}
 183 Shape | ]}}
 END
+
+expect 'no folders and no rows' 'settled' "$({ "$program" check 2> /dev/null || true; } <<< "$begin"']},"certificate":[]}')"
 
 # Further members; one that is there already takes the place of the one before.
 each_row "$begin$folder$device" "$end" << 'END'

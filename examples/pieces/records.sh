@@ -39,6 +39,7 @@ each_row "$begin$folder$device"',"own":[{"name":"hello","type":0,"modified_s":10
 184 Range | ,"version":[[0,1]]
 184 Range | ,"version":[[1,0]]
 184 Range | ,"version":[[1,9223372036854775808]]
+184 Range | ,"version":[[1,1],[1,1]]
 184 Range | ,"blocks":["2c"]
 END
 
@@ -73,7 +74,33 @@ read | ,"type":4,"target":"there"
 187 RecordBad docs 1 hello | ,"type":1,"block_size":131072
 187 RecordBad docs 1 hello | ,"type":4,"target":""
 187 RecordBad docs 1 hello | ,"type":4
+read | ,"type":1,"version":[]
 END
+
+# counted COUNT: what is told of a version with as many counters.
+counted() {
+  answer <<< "$begin$folder$device"',"own":[{"name":"a","type":1,"modified_s":0,"modified_by":1,"sequence":1,"version":['"$(
+    seq "$1" | sed 's/.*/[&,1]/' | paste -sd,
+  )]}]$end"
+}
+
+expect '16 counters' 'read' "$(counted 16)"
+expect '17 counters' '184 Range' "$(counted 17)"
+
+# ---- how long a file may be
+
+# sized COUNT TYPE: what is told of a node of this type with as many bytes.
+sized() {
+  {
+    printf '%s' "$begin$folder$device"',"store":[{"name":"a","type":'"$2"',"modified_s":0,"text":"'
+    head -c "$1" /dev/zero | tr '\0' x
+    printf '%s' "\"}]$end"
+  } | answer
+}
+
+expect 'a file of the greatest length' 'read' "$(sized 16777216 0)"
+expect 'a longer file' '184 Range' "$(sized 16777217 0)"
+expect 'a directory with more bytes than a file has' '184 Range' "$(sized 16777217 1)"
 
 # ---- what is a name, a target and the name of a folder
 
@@ -92,7 +119,7 @@ is a/b/c read read 184
 is ..b read read 184
 is ... read read 184
 is .profile read read 184
-is $'\u00e9/\U0001f600' read read 184
+is $'\xc3\xa9/\xf0\x9f\x98\x80' read read 184
 is ../a//b/. 184 read 184
 is '' 184 187 184
 is / 184 read 184

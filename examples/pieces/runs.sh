@@ -72,6 +72,11 @@ put() {
   echo '["edit",1,"docs",{"name":"'"$1"'","type":0,"modified_s":'"$2"'}],["scan",1,"docs","'"$1"'"]'
 }
 
+# file_of NAME HEX: device 1 puts a file of these bytes and scans it.
+file_of() {
+  echo '["edit",1,"docs",{"name":"'"$1"'","type":0,"modified_s":1,"hex":"'"$2"'"}],["scan",1,"docs","'"$1"'"]'
+}
+
 # A name that is put again gets the next sequence, and is sent behind those put before.
 told=$({
   put a 1
@@ -83,14 +88,77 @@ told=$({
   grep -oE '"send-receive","max":[0-9]+|"[a-z]":[0-9]+,"size"|"to_b"' | sed 's/"send-receive",//; s/,"size"//' | paste -sd ' ')
 expect 'records in order' '"max":4 "a":3 "b":2 "c":4 "max":0 "to_b" "b":2 "a":3 "c":4' "$told"
 
-# A full index takes a change of a name that it has.
+# A full index takes a change of a name that it has; so device 2 has a full view after five messages.
 told=$({
   for name in $(seq 4096); do
     put "$name" 1
   done
   put 7 2
-} | document_of | grep -oE '"max":[0-9]+' | paste -sd ' ')
-expect 'a full index' '"max":4097 "max":0' "$told"
+  echo '["connect",1,2],["begin",1,2],["begin",2,1],["deliver",2,1],["deliver",1,2]'
+  for _ in 1 2 3 4 5; do
+    echo '["announce",1,2,"docs"],["deliver",2,1]'
+  done
+} | document_of)
+expect 'a full index' '"max":4097 "max":0 "max":0 "max":4097' "$(grep -oE '"max":[0-9]+' <<< "$told" | paste -sd ' ')"
+expect 'a full view' 4096 "$(sed 's/.*"views":\[{//' <<< "$told" | grep -o '"sequence"' | wc -l)"
+
+# A view begins with what an Index brings, and an Index Update adds to it.
+view_then() {
+  {
+    put c 1
+    put c 2
+    put c 3
+    put c 4
+    put c 5
+    echo '["connect",1,2],["begin",1,2],["begin",2,1],["deliver",2,1],["deliver",1,2],["announce",1,2,"docs"],["deliver",2,1]'
+    printf '%s\n' "$@"
+  } | sed '/^$/d' | document_of | grep -oE '"views":\[\{"index_id".*"links"' | sed 's/"name"://g; s/,"sequence"//g' |
+    grep -oE '"index_id":[0-9]+,"max":[0-9]+,"of":1|"[a-z]":[0-9]+,"size"' | sed 's/,"size"//' | paste -sd ' '
+}
+
+expect 'a view of an Index' '"index_id":11,"max":5,"of":1 "c":5' "$(view_then '')"
+expect 'a view of more' '"index_id":11,"max":7,"of":1 "a":7 "c":5' \
+  "$(view_then "$(put a 1)" "$(put a 2)" '["announce",1,2,"docs"]' '["deliver",2,1]')"
+
+# sent_after STEP..: what device 1 sends anew, once the link was lost after it announced its first three records and these
+# steps were made.
+sent_after() {
+  {
+    put a 1
+    put b 1
+    put c 1
+    echo '["connect",1,2],["begin",1,2],["begin",2,1],["deliver",2,1],["deliver",1,2],["announce",1,2,"docs"]'
+    printf '%s\n' "$@"
+    echo '["lose",1,2],["connect",1,2],["begin",1,2],["begin",2,1],["deliver",2,1],["deliver",1,2],["announce",1,2,"docs"]'
+  } | sed '/^$/d' | document_of | sed 's/.*"links"//' | grep -oE '"full":[a-z]+|"sequence":[0-9]+|"up":true' | paste -sd ' '
+}
+
+expect 'all, where nothing had arrived' '"full":true "sequence":1 "sequence":2 "sequence":3 "up":true' "$(sent_after '')"
+expect 'what is new, where all had arrived' '"full":false "sequence":4 "up":true' "$(sent_after '["deliver",2,1]' "$(put d 1)")"
+expect 'nothing, where nothing is new' '"up":true' "$(sent_after '["deliver",2,1]')"
+
+# ---- what is stored
+
+# Under each name stands what was put there last, and the names rise; nothing is left of what was removed.
+told=$({
+  file_of b 42
+  file_of a 41
+  file_of b 43
+  echo '["edit",1,"docs",{"name":"c","type":0,"modified_s":1,"hex":"44"}],["remove",1,"docs","c"],["remove",1,"docs","c"]'
+} | document_of | sed 's/.*"cut"//' | grep -oE '"store":\[[^]]*\]')
+expect 'what is stored' '"store":[{"hex":"41","modified_ns":0,"modified_s":1,"name":"a","target":"","type":0},{"hex":"43","modified_ns":0,"modified_s":1,"name":"b","target":"","type":0}] "store":[]' \
+  "$(paste -sd ' ' <<< "$told")"
+
+# Of equal bytes the time alone is taken over.
+taken=$({
+  file_of a 41
+  echo '["connect",1,2],["begin",1,2],["begin",2,1],["deliver",2,1],["deliver",1,2],["announce",1,2,"docs"],["deliver",2,1]'
+  echo '["pull",2,"docs","a"],["ask",2,1,"docs","a"],["deliver",1,2],["deliver",2,1],["finish",2,"docs","a"]'
+  echo '["edit",1,"docs",{"name":"a","type":0,"modified_s":-7,"modified_ns":999999999,"hex":"41"}],["scan",1,"docs","a"]'
+  echo '["announce",1,2,"docs"],["deliver",2,1],["pull",2,"docs","a"],["finish",2,"docs","a"]'
+} | document_of | sed 's/.*"cut"//' | grep -oE '"store":\[[^]]*\]' | paste -sd ' ')
+late='"store":[{"hex":"41","modified_ns":999999999,"modified_s":-7,"name":"a","target":"","type":0}]'
+expect 'another time' "$late $late" "$taken"
 
 # ---- what is on its way
 
@@ -133,12 +201,33 @@ expect 'a link of one device' 'refused: 189 LinkBad - 2 -' "$(linked '[2,2]')"
 expect 'a link to a text' 'refused: 183 Shape' "$(linked '[1,"2"]')"
 expect 'a link to no device' 'refused: 184 Range' "$(linked '[1,0]')"
 
-# ---- the blocks of files
+# How many devices and folders there may be, and that none stands twice.
 
-# file_of NAME HEX: device 1 puts a file of these bytes and scans it.
-file_of() {
-  echo '["edit",1,"docs",{"name":"'"$1"'","type":0,"modified_s":1,"hex":"'"$2"'"}],["scan",1,"docs","'"$1"'"]'
+# shared DEVICES: what is told of a scenario whose folder has these devices.
+shared() {
+  first_line run <<< '{"version":1,"folders":[{"folder":"docs","devices":['"$1"']}],"links":[],"steps":[]}'
 }
+
+# devices_to NUMBER: the devices from 1 to this one.
+devices_to() {
+  seq "$1" | sed 's/.*/{"device":&,"kind":"send-only","index_id":1}/' | paste -sd,
+}
+
+# folders_to NUMBER: what is told of a scenario with as many folders, which no device shares.
+folders_to() {
+  first_line run <<< '{"version":1,"folders":['"$(seq "$1" | sed 's/.*/{"folder":"f&","devices":[]}/' | paste -sd,)"'],
+    "links":[],"steps":[]}'
+}
+
+expect '16 devices' 'settled' "$(shared "$(devices_to 16)")"
+expect '17 devices' 'refused: 184 Range' "$(shared "$(devices_to 17)")"
+expect 'a device twice' 'refused: 185 Twice docs 2 -' "$(shared "$(devices_to 2),$(devices_to 2 | sed 's/.*},//')")"
+expect '16 folders' 'settled' "$(folders_to 16)"
+expect '17 folders' 'refused: 184 Range' "$(folders_to 17)"
+expect 'a link twice' 'refused: 185 Twice - 1 -' "$(linked '[1,2],[1,2]')"
+expect 'a link to a device that is not there' 'refused: 189 LinkBad - 1 -' "$(linked '[1,3]')"
+
+# ---- the blocks of files
 
 # zeros COUNT: the digits of as many zero bytes.
 zeros() {

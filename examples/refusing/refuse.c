@@ -1,12 +1,15 @@
 // Loaded before a program, this refuses one of its calls: the one whose number, from 1, the variable REFUSE_GROWTH,
 // REFUSE_READ or REFUSE_WRITE gives. Where the call came, it leaves the file that REFUSED names. REFUSE_ROOM refuses all
-// bytes on standard output from that one on.
+// bytes on standard output from that one on. Where REFUSE_WITH is 'interruption' a refused read or write says that it was
+// interrupted; where it is 'nothing' a refused write takes nothing, and tells no error. With REFUSE_PIECE no read gives, and
+// no write takes, more bytes than that at once.
 #define _GNU_SOURCE
 #include <dlfcn.h>
 #include <errno.h>
 #include <fcntl.h>
 #include <stddef.h>
 #include <stdlib.h>
+#include <string.h>
 #include <sys/uio.h>
 #include <unistd.h>
 
@@ -42,9 +45,19 @@ static void *no_room(void) {
   return NULL;
 }
 
+static int is_refused_with(const char *word) {
+  const char *with = getenv("REFUSE_WITH");
+  return with && strcmp(with, word) == 0;
+}
+
 static ssize_t no_transfer(void) {
-  errno = EIO;
+  errno = is_refused_with("interruption") ? EINTR : EIO;
   return -1;
+}
+
+static size_t piece_of(size_t size) {
+  long piece = number_in("REFUSE_PIECE");
+  return piece > 0 && (size_t)piece < size ? (size_t)piece : size;
 }
 
 void *malloc(size_t size) { return is_due(&growth) ? no_room() : __libc_malloc(size); }
@@ -56,14 +69,16 @@ void *realloc(void *old, size_t size) { return is_due(&growth) ? no_room() : __l
 ssize_t read(int file, void *into, size_t size) {
   static ssize_t (*other)(int, void *, size_t);
   if (!other) other = dlsym(RTLD_NEXT, "read");
-  return is_due(&reads) ? no_transfer() : other(file, into, size);
+  return is_due(&reads) ? no_transfer() : other(file, into, piece_of(size));
 }
 
 ssize_t write(int file, const void *from, size_t size) {
   static ssize_t (*other)(int, const void *, size_t);
   if (!other) other = dlsym(RTLD_NEXT, "write");
   if (file != 1) return other(file, from, size);
-  if (is_due(&writes) || (room == 1 && size > 0)) return no_transfer();
+  if (is_due(&writes)) return is_refused_with("nothing") ? 0 : no_transfer();
+  if (room == 1 && size > 0) return no_transfer();
+  size = piece_of(size);
   if (room == 0) return other(file, from, size);
   size_t most = room - 1;
   ssize_t taken = other(file, from, size < most ? size : most);

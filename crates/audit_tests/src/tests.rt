@@ -1,6 +1,5 @@
-//! A module for each crate; of `bep_report` there is one more for its streams. What is told of each reason, and explained,
-//! is compared on the examples.
+//! A module for each crate, the report with the auditor. What is told of each reason, and explained, is compared on the
+//! examples.
 mod answer;
 mod audit;
-mod report;
-mod streams;
+mod document;

@@ -1,11 +1,8 @@
 //! A module for each crate, of `bep_record` two; and the records that some of them make.
 mod blocks;
 mod choice;
-mod config;
 mod index;
 mod links;
 mod made;
-mod map;
 mod record;
-mod store;
 mod vector;
