@@ -43,23 +43,25 @@ impl Step {
         ensures { IfOk result (λ made. made ≡ self.now) }
     {
         Ok(match self {
-            Step::Edit(device, folder, name, node) => Step::Edit(
-                *device,
-                folder.copy(alloc)?,
-                name.copy(alloc)?,
-                node.copy(alloc)?,
-            ),
+            Step::Edit(device, folder, name, node) => {
+                let (folder, name, node) = copy_file(alloc, folder, name, node)?;
+                Step::Edit(*device, folder, name, node)
+            }
             Step::Remove(device, folder, name) => {
-                Step::Remove(*device, folder.copy(alloc)?, name.copy(alloc)?)
+                let (folder, name) = copy_names(alloc, folder, name)?;
+                Step::Remove(*device, folder, name)
             }
             Step::Scan(device, folder, name) => {
-                Step::Scan(*device, folder.copy(alloc)?, name.copy(alloc)?)
+                let (folder, name) = copy_names(alloc, folder, name)?;
+                Step::Scan(*device, folder, name)
             }
             Step::Override(device, folder, name) => {
-                Step::Override(*device, folder.copy(alloc)?, name.copy(alloc)?)
+                let (folder, name) = copy_names(alloc, folder, name)?;
+                Step::Override(*device, folder, name)
             }
             Step::Revert(device, folder, name) => {
-                Step::Revert(*device, folder.copy(alloc)?, name.copy(alloc)?)
+                let (folder, name) = copy_names(alloc, folder, name)?;
+                Step::Revert(*device, folder, name)
             }
             Step::Connect(one, other) => Step::Connect(*one, *other),
             Step::Lose(one, other) => Step::Lose(*one, *other),
@@ -69,15 +71,48 @@ impl Step {
                 Step::Announce(*device, *other, folder.copy(alloc)?)
             }
             Step::StartPull(device, folder, name) => {
-                Step::StartPull(*device, folder.copy(alloc)?, name.copy(alloc)?)
+                let (folder, name) = copy_names(alloc, folder, name)?;
+                Step::StartPull(*device, folder, name)
             }
             Step::Ask(device, other, folder, name) => {
-                Step::Ask(*device, *other, folder.copy(alloc)?, name.copy(alloc)?)
+                let (folder, name) = copy_names(alloc, folder, name)?;
+                Step::Ask(*device, *other, folder, name)
             }
             Step::Finish(device, folder, name) => {
-                Step::Finish(*device, folder.copy(alloc)?, name.copy(alloc)?)
+                let (folder, name) = copy_names(alloc, folder, name)?;
+                Step::Finish(*device, folder, name)
             }
             Step::Restart(device) => Step::Restart(*device),
         })
     }
+}
+
+// Copies of the names of a folder and of a file in it.
+fn copy_names(
+    alloc: Global,
+    folder: &FolderName,
+    name: &Name,
+) -> Result<(FolderName, Name), AllocError>
+    ensures folder { IfOk result (λ made. made.0 ≡ folder.now) }
+    ensures name { IfOk result (λ made. made.1 ≡ name.now) }
+{
+    let folder = folder.copy(alloc)?;
+    let name = name.copy(alloc)?;
+    Ok((folder, name))
+}
+
+// Copies of the names of a folder and of a file in it, and of the file's node.
+fn copy_file(
+    alloc: Global,
+    folder: &FolderName,
+    name: &Name,
+    node: &Node,
+) -> Result<(FolderName, Name, Node), AllocError>
+    ensures folder { IfOk result (λ made. made.0 ≡ folder.now) }
+    ensures name { IfOk result (λ made. made.1 ≡ name.now) }
+    ensures node { IfOk result (λ made. made.2 ≡ node.now) }
+{
+    let (folder, name) = copy_names(alloc, folder, name)?;
+    let node = node.copy(alloc)?;
+    Ok((folder, name, node))
 }
