@@ -1,11 +1,12 @@
 //! The configuration of a cluster.
-ghost use Rattle.std.specs.Prelude.{◌≡◌, OnOk, OnErr, IsErrOf};
+ghost use Rattle.std.specs.Prelude.{◌≡◌, ◌↔◌, IfOk, IsTrue, OnOk, OnErr, IsErrOf};
 ghost use Rattle.std.specs.Option.{option_copied};
 ghost use Rattle.std.specs.Ordering.{nat_cmp};
 ghost use Rattle.std.specs.Map.{lookup, keys_of};
 ghost use Rattle.std.specs.BTreeMap.{is_at};
 ghost use Rattle.std.specs.List.Sorted.{IsStrictlySortedBy};
-ghost use Rattle.bep_config.specs.Config.{nothing, by_name, by_share, by_ends, has_folder, has_device, has_link, IsConfig, IsNewFolder, with_folder, IsNewShare, with_share, IsNewLink, with_link, said_by};
+ghost use Rattle.bep_record.specs.FolderName.{IsFolderName};
+ghost use Rattle.bep_config.specs.Config.{nothing, by_name, by_share, by_ends, has_folder, has_device, has_link, Joins, IsConfig, IsNewFolder, with_folder, IsNewShare, with_share, IsNewLink, with_link, said_by};
 
 use crate::growth::{add_share, has_room};
 use crate::{ConfigError, Sharing};
@@ -78,16 +79,22 @@ impl<S> Config<S> {
         ensures bad { IsErrOf result ConfigError.ConfigBad → ¬ IsNewFolder self.old name.now }
         ensures err { OnErr result (self.new ≡ self.old) }
     {
-        let folder = match FolderName::read(self.alloc, name) {
-            Ok(folder) => folder,
-            Err(RecordError::Memory) => return Err(ConfigError::Memory),
-            Err(_) => return Err(ConfigError::ConfigBad),
-        };
+        let folder = self.new_folder(name)?;
+        self.folders.insert(folder)?;
+        Ok(())
+    }
+
+    // The folder of these bytes, where it may be added. Refuses what `add_folder` refuses.
+    fn new_folder(&self, name: &[u8]) -> Result<FolderName, ConfigError>
+        ensures name { IfOk result (λ folder. folder ≡ name.now) }
+        ensures new { OnOk result (IsNewFolder self.now name.now) }
+        ensures bad { IsErrOf result ConfigError.ConfigBad → ¬ IsNewFolder self.now name.now }
+    {
+        let folder = read_folder(self.alloc, name)?;
         if self.folders.len() >= MAX_FOLDERS || self.folders.contains(&folder) {
             return Err(ConfigError::ConfigBad);
         }
-        self.folders.insert(folder)?;
-        Ok(())
+        Ok(folder)
     }
 
     /// Adds a link between two devices, which is down. Refuses `ConfigBad` where they aren't two devices of the
@@ -99,13 +106,20 @@ impl<S> Config<S> {
         ensures bad { IsErrOf result ConfigError.ConfigBad → ¬ IsNewLink self.old a b }
         ensures err { OnErr result (self.new ≡ self.old) }
     {
-        if a >= b || !self.devices.contains(&a) || !self.devices.contains(&b) {
+        if !self.joins(a, b) {
             return Err(ConfigError::ConfigBad);
         }
         if !self.links.insert((a, b))? {
             return Err(ConfigError::ConfigBad);
         }
         Ok(())
+    }
+
+    // Whether these are two of the devices, the smaller first.
+    fn joins(&self, a: DeviceId, b: DeviceId) -> bool
+        ensures { IsTrue result ↔ Joins self.now.devices (a, b) }
+    {
+        a < b && self.devices.contains(&a) && self.devices.contains(&b)
     }
 
     /// The folders, names rising.
@@ -176,19 +190,7 @@ impl<S: Drop> Config<S> {
         ensures bad { IsErrOf result ConfigError.ConfigBad → ¬ IsNewShare self.old folder.now device index_id }
         ensures err { OnErr result (self.new ≡ self.old) }
     {
-        let Some(index_id) = IndexId::read(index_id) else {
-            return Err(ConfigError::ConfigBad);
-        };
-        if !self.folders.contains(folder) {
-            return Err(ConfigError::ConfigBad);
-        }
-        if !has_room(&self.devices, device) {
-            return Err(ConfigError::ConfigBad);
-        }
-        let key = (folder.copy(self.alloc)?, device);
-        if self.shares.contains_key(&key) {
-            return Err(ConfigError::ConfigBad);
-        }
+        let (key, index_id) = self.new_share(folder, device, index_id)?;
         let sharing = Sharing {
             kind,
             index_id,
@@ -196,6 +198,31 @@ impl<S: Drop> Config<S> {
         };
         self.put_share(key, sharing)?;
         Ok(())
+    }
+
+    // The folder with the device, and the index id, where they may be added. Refuses what `add_device` refuses.
+    fn new_share(
+        &self,
+        folder: &FolderName,
+        device: DeviceId,
+        index_id: u64,
+    ) -> Result<((FolderName, DeviceId), IndexId), ConfigError>
+        ensures key { IfOk result (λ share. share.0 ≡ (folder.now, device)) }
+        ensures index { IfOk result (λ share. share.1 ≡ index_id) }
+        ensures new { OnOk result (IsNewShare self.now folder.now device index_id) }
+        ensures bad { IsErrOf result ConfigError.ConfigBad → ¬ IsNewShare self.now folder.now device index_id }
+    {
+        let Some(index_id) = IndexId::read(index_id) else {
+            return Err(ConfigError::ConfigBad);
+        };
+        if !self.folders.contains(folder) || !has_room(&self.devices, device) {
+            return Err(ConfigError::ConfigBad);
+        }
+        let key = (folder.copy(self.alloc)?, device);
+        if self.shares.contains_key(&key) {
+            return Err(ConfigError::ConfigBad);
+        }
+        Ok((key, index_id))
     }
 
     // Adds what the device has of the folder, where it is new; without memory all is as before.
@@ -211,5 +238,17 @@ impl<S: Drop> Config<S> {
         let _number = key.1.number();
         add_share(&mut self.devices, &mut self.shares, key, sharing)?;
         Ok(())
+    }
+}
+
+// The folder of these bytes. Refuses `ConfigBad` where they aren't its name.
+fn read_folder(alloc: Global, name: &[u8]) -> Result<FolderName, ConfigError>
+    ensures ok { IfOk result (λ folder. (folder ≡ name.now) × IsFolderName name.now) }
+    ensures bad { IsErrOf result ConfigError.ConfigBad → ¬ IsFolderName name.now }
+{
+    match FolderName::read(alloc, name) {
+        Ok(folder) => Ok(folder),
+        Err(RecordError::Memory) => Err(ConfigError::Memory),
+        Err(_) => Err(ConfigError::ConfigBad),
     }
 }

@@ -37,11 +37,24 @@ pub(crate) fn add_share<S: Drop>(
 {
     let device = key.1;
     let is_new = devices.insert(device)?;
-    if shares.insert(key, sharing).is_err() {
+    if put(shares, key, sharing).is_err() {
         if is_new {
             devices.remove(&device);
         }
         return Err(AllocError);
     }
+    Ok(())
+}
+
+// Adds what the device has of the folder, or puts it in place of what it had.
+fn put<S: Drop>(
+    shares: &mut BTreeMap<(FolderName, DeviceId), Sharing<S>>,
+    key: (FolderName, DeviceId),
+    sharing: Sharing<S>,
+) -> Result<(), AllocError>
+    ensures ok { OnOk result (shares.new.entries ≡ insert_entry by_share shares.old.entries key sharing) }
+    ensures err { OnErr result (shares.new.entries ≡ shares.old.entries) }
+{
+    drop(shares.insert(key, sharing)?);
     Ok(())
 }

@@ -9,3 +9,4 @@ pub mod PlaceFacts
 pub mod PutFacts
 pub mod MoveFacts
 pub mod UndoFacts
+pub mod ResultFacts

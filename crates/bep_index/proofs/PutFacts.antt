@@ -220,10 +220,11 @@ module _ (es : List Entry) (place : ℕ) (x : Entry) (below : place < length es)
       let later = later_than_front 0 (take place es) x (drop (place + 1) es) (subst (Rises 0) (sym whole) order.rises) in
       record { above = later.0; within = later.1 }
 
-  pub next_put : without x.name (take place es) ++ x ∷ [] ≡ take (place + 1) es
-  next_put =
-      ap (λ front. front ++ x ∷ []) (without_none x.name (take place es) (new_to_front (take place es) x (drop (place + 1) es) (subst NamesDiffer (sym whole) order.names)))
-      ∙ sym (done_with es place x below is)
+  pub next_is_new : HasNo x.name (take place es)
+  next_is_new = new_to_front (take place es) x (drop (place + 1) es) (subst NamesDiffer (sym whole) order.names)
+
+  pub next_added : take place es ++ x ∷ [] ≡ take (place + 1) es
+  next_added = sym (done_with es place x below is)
 
 -- ---- the last one's number
 

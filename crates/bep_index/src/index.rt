@@ -2,7 +2,7 @@
 ghost use Rattle.std.specs.Prelude.{◌≡◌, ◌↔◌, ◌+◌, ◌≤◌, ℕ, take, drop, slice_get, IfOk, IfErr, OnOk, OnErr, IsErrOf};
 ghost use Rattle.std.specs.Option.{option_copied};
 ghost use Rattle.std.specs.FinMap as map;
-ghost use Rattle.bep_index.specs.Index.{IsIndex, IsSequenceFull, IsIndexFull, IsPutError, after_put};
+ghost use Rattle.bep_index.specs.Index.{IsIndex, IsSequenceFull, IsIndexFull, IsPutError, after_put, numbered};
 ghost use Rattle.bep_index.specs.After.{IsAfter};
 ghost use Rattle.bep_index.specs.declared.limits.TheConstants.{MAX_NAMES, MAX_RECORDS};
 ghost use Rattle.bep_index.specs.Batch.{IsBatch};
@@ -130,7 +130,7 @@ impl Index {
         ensures only { IfErr result IsPutError }
         ensures err { OnErr result (self.new ≡ self.old) }
     {
-        self.put_undo(entry)?;
+        drop(self.put_undo(entry)?);
         Ok(self.sequence)
     }
 
@@ -145,22 +145,46 @@ impl Index {
         ensures only { IfErr result IsPutError }
         ensures err { OnErr result (self.new ≡ self.old) }
     {
-        if self.sequence == MAX_SEQUENCE {
-            return Err(IndexError::SequenceFull);
-        }
-        if self.records.len() >= MAX_NAMES && self.records.get(&entry.entry().name).is_none() {
-            return Err(IndexError::IndexFull);
-        }
-        let sequence = self.sequence + 1;
-        let name = entry.entry().name.copy(self.alloc)?;
-        let old = self.records.put(self.alloc, renumber(entry, sequence))?;
-        self.sequence = sequence;
+        let (name, entry) = self.next_record(entry)?;
+        let old = self.records.put(self.alloc, entry)?;
+        self.sequence += 1;
         Ok(Undo {
             id: self.id,
-            given: sequence,
+            given: self.sequence,
             name,
             old,
         })
+    }
+
+    // The record under the next number, with a copy of its name before it. Refuses what `put` refuses.
+    fn next_record(&self, entry: Record) -> Result<(Name, Record), IndexError>
+        ensures name { IfOk result (λ next. next.0 ≡ entry.name) }
+        ensures numbered { IfOk result (λ next. next.1 ≡ numbered entry (self.now.sequence + 1)) }
+
+        ensures sequence_full { IsErrOf result IndexError.SequenceFull ↔ IsSequenceFull self.now }
+        ensures index_full { IsErrOf result IndexError.IndexFull ↔ ((¬ IsSequenceFull self.now) × IsIndexFull self.now entry.name) }
+        ensures only { IfErr result IsPutError }
+    {
+        let name = self.copy_to_put(&entry.entry().name)?;
+        let sequence = self.sequence + 1;
+        Ok((name, renumber(entry, sequence)))
+    }
+
+    // A copy of the name, for which there is room and a number. Refuses what `put` refuses.
+    fn copy_to_put(&self, name: &Name) -> Result<Name, IndexError>
+        ensures copy { IfOk result (λ made. made ≡ name.now) }
+
+        ensures sequence_full { IsErrOf result IndexError.SequenceFull ↔ IsSequenceFull self.now }
+        ensures index_full { IsErrOf result IndexError.IndexFull ↔ ((¬ IsSequenceFull self.now) × IsIndexFull self.now name.now) }
+        ensures only { IfErr result IsPutError }
+    {
+        if self.sequence == MAX_SEQUENCE {
+            return Err(IndexError::SequenceFull);
+        }
+        if self.records.len() >= MAX_NAMES && self.records.get(name).is_none() {
+            return Err(IndexError::IndexFull);
+        }
+        Ok(name.copy(self.alloc)?)
     }
 
     /// Takes the index's last change back, so that the index is as before it. The caller sees to it that the change is

@@ -150,8 +150,7 @@ impl Records {
         ensures ok { OnOk result (self.new ≡ self.old ++ entry ∷ []) }
         ensures err { OnErr result (self.new ≡ self.old) }
     {
-        let key = entry.entry().name.copy(alloc)?;
-        let slot = Slot::new(alloc, entry)?;
+        let (key, slot) = slot_under_name(alloc, entry)?;
         self.entries.insert(key, slot)?;
         Ok(())
     }
@@ -188,7 +187,7 @@ impl Records {
     {
         let place = self.place_above(old.entry().sequence);
         let last = self.len() - 1;
-        self.entries[last].replace(old);
+        drop(self.entries[last].replace(old));
         self.entries.move_index(last, place);
     }
 
@@ -205,10 +204,29 @@ impl Records {
         ensures { IfOk result (λ made. made ≡ self.now) }
     {
         let mut made = Records::new(alloc);
-        let records = self.as_slice();
-        for slot in records {
-            made.put(alloc, slot.record().copy(alloc)?)?;
-        }
+        made.add_copies(alloc, self.as_slice())?;
         Ok(made)
     }
+
+    // Adds a copy of each of these, where there were no records.
+    fn add_copies(&mut self, alloc: Global, records: &[Slot]) -> Result<(), AllocError>
+        requires none { self.old ≡ [] }
+        requires in_order { AreInOrder records.now }
+        ensures { OnOk result (self.new ≡ records.now) }
+    {
+        for slot in records {
+            self.add(alloc, slot.record().copy(alloc)?)?;
+        }
+        Ok(())
+    }
+}
+
+// The record in a slot, with a copy of its name before it.
+fn slot_under_name(alloc: Global, entry: Record) -> Result<(Name, Slot), AllocError>
+    ensures name { IfOk result (λ made. made.0 ≡ entry.name) }
+    ensures slot { IfOk result (λ made. made.1 ≡ entry) }
+{
+    let key = entry.entry().name.copy(alloc)?;
+    let slot = Slot::new(alloc, entry)?;
+    Ok((key, slot))
 }

@@ -2,11 +2,11 @@
 ghost use Rattle.std.specs.Prelude.{◌≡◌, ◌↔◌, ◌⊎◌, ◌<◌, ◌≤◌, [], IsTrue, IsOk, IfErr, OnOk, OnErr, IfOk, IsErrOf};
 ghost use Rattle.std.specs.Option.{option_copied};
 ghost use Rattle.std.specs.FinMap as map;
-ghost use Rattle.bep_index.specs.Batch.{with_all};
+ghost use Rattle.bep_index.specs.Batch.{last_sequence, with_all};
 ghost use Rattle.bep_index.specs.View.{IsView, IsOld, cleared, replaced, amended};
 ghost use Rattle.bep_index.specs.declared.error.IndexError.TheVariants.{Memory};
 
-use crate::all::{count_new, last_sequence_of, put_all};
+use crate::all::{count_new, last_sequence_of, put_batch};
 use crate::{Batch, IndexError, MAX_NAMES};
 use bep_map::NameMap;
 use bep_record::{Name, Record};
@@ -98,7 +98,7 @@ impl View {
     {
         let sequence = last_sequence_of(0, batch.as_slice());
         let mut records = NameMap::new(self.alloc);
-        put_all(&mut records, self.alloc, &mut batch.into_vec().into_iter())?;
+        put_batch(&mut records, self.alloc, batch)?;
         self.records = records;
         self.sequence = sequence;
         Ok(())
@@ -117,20 +117,28 @@ impl View {
         ensures only { IfErr result (λ e. (e ≡ IndexError.BatchOld) ⊎ (e ≡ IndexError.IndexFull) ⊎ (e ≡ IndexError.Memory)) }
         ensures err { OnErr result (self.new ≡ self.old) }
     {
-        if is_old(self.sequence, &batch) {
-            return Err(IndexError::BatchOld);
-        }
-        let sequence = last_sequence_of(self.sequence, batch.as_slice());
-        if !has_room(&self.records, &batch) {
-            return Err(IndexError::IndexFull);
-        }
-        if batch.as_slice().is_empty() {
-            return Ok(());
-        }
-        let mut records = batch.into_vec().into_iter();
-        put_all(&mut self.records, self.alloc, &mut records)?;
+        let sequence = self.sequence_with(&batch)?;
+        put_batch(&mut self.records, self.alloc, batch)?;
         self.sequence = sequence;
         Ok(())
+    }
+
+    // The view's sequence once the batch is added. Refuses what `amend` refuses.
+    fn sequence_with(&self, batch: &Batch) -> Result<u64, IndexError>
+        ensures value { IfOk result (λ sequence. sequence ≡ last_sequence self.now.sequence batch.now) }
+        ensures empty { batch.now ≡ [] → IsOk result }
+
+        ensures old { IsErrOf result IndexError.BatchOld ↔ IsOld self.now.sequence batch.now }
+        ensures full { IsErrOf result IndexError.IndexFull ↔ ((¬ IsOld self.now.sequence batch.now) × (MAX_NAMES < map.len (with_all self.now.records batch.now))) }
+        ensures only { IfErr result (λ e. (e ≡ IndexError.BatchOld) ⊎ (e ≡ IndexError.IndexFull)) }
+    {
+        if is_old(self.sequence, batch) {
+            return Err(IndexError::BatchOld);
+        }
+        if !has_room(&self.records, batch) {
+            return Err(IndexError::IndexFull);
+        }
+        Ok(last_sequence_of(self.sequence, batch.as_slice()))
     }
 
     /// An equal view of its own, or want of memory.

@@ -144,13 +144,29 @@ impl Message {
         match self {
             Message::ClusterConfig(named) => Ok(Message::ClusterConfig(named.duplicate(alloc)?)),
             Message::Index(folder, batch) => {
-                Ok(Message::Index(folder.copy(alloc)?, batch.copy(alloc)?))
+                let (folder, batch) = copy_records(alloc, folder, batch)?;
+                Ok(Message::Index(folder, batch))
             }
             Message::IndexUpdate(folder, batch) => {
-                Ok(Message::IndexUpdate(folder.copy(alloc)?, batch.copy(alloc)?))
+                let (folder, batch) = copy_records(alloc, folder, batch)?;
+                Ok(Message::IndexUpdate(folder, batch))
             }
             Message::Request(request) => Ok(Message::Request(request.copy(alloc)?)),
             Message::Response(response) => Ok(Message::Response(response.copy(alloc)?)),
         }
     }
+}
+
+// Copies of a folder's name and of a batch of its records.
+fn copy_records(
+    alloc: Global,
+    folder: &FolderName,
+    batch: &Batch,
+) -> Result<(FolderName, Batch), AllocError>
+    ensures folder { IfOk result (λ made. made.0 ≡ folder.now) }
+    ensures batch { IfOk result (λ made. made.1 ≡ batch.now) }
+{
+    let folder = folder.copy(alloc)?;
+    let batch = batch.copy(alloc)?;
+    Ok((folder, batch))
 }

@@ -1,6 +1,5 @@
 //! The steps of a cluster.
 ghost use Rattle.std.specs.Prelude.{◌≡◌, IfOk};
-ghost use Rattle.bep_machine.specs.Steps.{IsQuiet};
 
 use bep_record::{DeviceId, FolderName, Name, Node};
 use std::alloc::{AllocError, Global};
@@ -44,37 +43,25 @@ impl Step {
         ensures { IfOk result (λ made. made ≡ self.now) }
     {
         Ok(match self {
-            Step::Edit(device, folder, name, node) => Step::Edit(
-                *device,
-                folder.copy(alloc)?,
-                name.copy(alloc)?,
-                node.copy(alloc)?,
-            ),
+            Step::Edit(device, folder, name, node) => {
+                let (folder, name, node) = copy_file(alloc, folder, name, node)?;
+                Step::Edit(*device, folder, name, node)
+            }
             Step::Remove(device, folder, name) => {
-                let at = copies(alloc, folder, name)?;
-                Step::Remove(*device, at.0, at.1)
+                let (folder, name) = copy_names(alloc, folder, name)?;
+                Step::Remove(*device, folder, name)
+            }
+            Step::Scan(device, folder, name) => {
+                let (folder, name) = copy_names(alloc, folder, name)?;
+                Step::Scan(*device, folder, name)
             }
             Step::Override(device, folder, name) => {
-                let at = copies(alloc, folder, name)?;
-                Step::Override(*device, at.0, at.1)
+                let (folder, name) = copy_names(alloc, folder, name)?;
+                Step::Override(*device, folder, name)
             }
             Step::Revert(device, folder, name) => {
-                let at = copies(alloc, folder, name)?;
-                Step::Revert(*device, at.0, at.1)
-            }
-            quiet => return quiet.copy_of_quiet(alloc),
-        })
-    }
-
-    // The same of a step without local edits.
-    fn copy_of_quiet(&self, alloc: Global) -> Result<Self, AllocError>
-        requires { IsQuiet self.now }
-        ensures { IfOk result (λ made. made ≡ self.now) }
-    {
-        Ok(match self {
-            Step::Scan(device, folder, name) => {
-                let at = copies(alloc, folder, name)?;
-                Step::Scan(*device, at.0, at.1)
+                let (folder, name) = copy_names(alloc, folder, name)?;
+                Step::Revert(*device, folder, name)
             }
             Step::Connect(one, other) => Step::Connect(*one, *other),
             Step::Lose(one, other) => Step::Lose(*one, *other),
@@ -84,29 +71,48 @@ impl Step {
                 Step::Announce(*device, *other, folder.copy(alloc)?)
             }
             Step::StartPull(device, folder, name) => {
-                let at = copies(alloc, folder, name)?;
-                Step::StartPull(*device, at.0, at.1)
+                let (folder, name) = copy_names(alloc, folder, name)?;
+                Step::StartPull(*device, folder, name)
             }
             Step::Ask(device, other, folder, name) => {
-                let at = copies(alloc, folder, name)?;
-                Step::Ask(*device, *other, at.0, at.1)
+                let (folder, name) = copy_names(alloc, folder, name)?;
+                Step::Ask(*device, *other, folder, name)
             }
             Step::Finish(device, folder, name) => {
-                let at = copies(alloc, folder, name)?;
-                Step::Finish(*device, at.0, at.1)
+                let (folder, name) = copy_names(alloc, folder, name)?;
+                Step::Finish(*device, folder, name)
             }
             Step::Restart(device) => Step::Restart(*device),
-            Step::Edit(..) | Step::Remove(..) | Step::Override(..) | Step::Revert(..) =>
-                unreachable!(),
         })
     }
 }
 
-// A folder's and a file's name of their own.
-fn copies(alloc: Global, folder: &FolderName, name: &Name) -> Result<(FolderName, Name), AllocError>
-    ensures { IfOk result (λ made. made ≡ (folder.now, name.now)) }
+// Copies of the names of a folder and of a file in it.
+fn copy_names(
+    alloc: Global,
+    folder: &FolderName,
+    name: &Name,
+) -> Result<(FolderName, Name), AllocError>
+    ensures folder { IfOk result (λ made. made.0 ≡ folder.now) }
+    ensures name { IfOk result (λ made. made.1 ≡ name.now) }
 {
     let folder = folder.copy(alloc)?;
     let name = name.copy(alloc)?;
     Ok((folder, name))
+}
+
+// Copies of the names of a folder and of a file in it, and of the file's node.
+fn copy_file(
+    alloc: Global,
+    folder: &FolderName,
+    name: &Name,
+    node: &Node,
+) -> Result<(FolderName, Name, Node), AllocError>
+    ensures folder { IfOk result (λ made. made.0 ≡ folder.now) }
+    ensures name { IfOk result (λ made. made.1 ≡ name.now) }
+    ensures node { IfOk result (λ made. made.2 ≡ node.now) }
+{
+    let (folder, name) = copy_names(alloc, folder, name)?;
+    let node = node.copy(alloc)?;
+    Ok((folder, name, node))
 }

@@ -1,4 +1,4 @@
-use Rattle.std.proofs.Common.{rules}
+use Rattle.std.proofs.Common.{sym, subst}
 use Rattle.std.proofs.lemmas.Map.Views.{All-insert_key}
 use Rattle.bep_config.specs.Config.{by_ends, Joins}
 use Rattle.bep_config.proofs.config.Config.add_link.Goals as goal
@@ -11,7 +11,7 @@ invariant_of-self-2 g c = record {
   of_folders = c.self.invariant.of_folders;
   of_devices = c.self.invariant.of_devices;
   sharing = c.self.invariant.sharing;
-  joined = rw c.in_ok-insert.ensures.keys (All-insert_key by_ends (c.args.a, c.args.b) (Joins c.self.inside.devices.keys) c.self.inside.links.keys c.self.invariant.joined (search rules, search rules, search rules));
+  joined = rw c.in_ok-insert.ensures.keys (All-insert_key by_ends (c.args.a, c.args.b) (Joins c.self.inside.devices.keys) c.self.inside.links.keys c.self.invariant.joined (subst (λ config. Joins config.devices (c.args.a, c.args.b)) (sym c.self.view_is) (c.joins.ensures.0 c.if-not-joins.false)));
   numbered = c.self.invariant.numbered;
   indexed = c.self.invariant.indexed;
 }

@@ -8,5 +8,5 @@ pub invariant_of-self : goal.invariant_of-self
 invariant_of-self c =
     IsView-equal c.self.inside.id _ _ _ _
     (c.last_sequence_of-sequence.ensures ∙ ap (last_sequence 0) c.as_slice.ensures.value)
-    (c.in_ok-put_all.ensures.ok ∙ ap (with_all c.new-records.result) (c.into_iter.ensures.rest ∙ c.into_vec.ensures.value) ∙ ap (λ m. with_all m c.args.batch) c.new-records.ensures)
+    (c.in_ok-put_batch.ensures.ok ∙ ap (λ m. with_all m c.args.batch) c.new-records.ensures)
     (IsView-replaced (record { id = c.self.inside.id; sequence = 0; records = empty }) c.args.batch c.as_slice.ensures.a_batch)
