@@ -4,6 +4,4 @@
 #[cfg(test)]
 mod device;
 #[cfg(test)]
-mod made;
-#[cfg(test)]
 mod quiet;
