@@ -100,7 +100,7 @@ told=$({
   done
 } | document_of)
 expect 'a full index' '"max":4097 "max":0 "max":0 "max":4097' "$(grep -oE '"max":[0-9]+' <<< "$told" | paste -sd ' ')"
-expect 'a full view' 4096 "$(grep -o '"sequence"' <<< "${told##*'"views":[{'}" | wc -l)"
+expect 'a full view' 4096 "$(sed 's/.*"views":\[{//' <<< "$told" | grep -o '"sequence"' | wc -l)"
 
 # A view begins with what an Index brings, and an Index Update adds to it.
 view_then() {
