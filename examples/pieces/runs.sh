@@ -60,11 +60,9 @@ expect '1024 letters' 'step 16: 103 NameBad' "$(kept "$(letters 1024)" 2000 2)"
 
 # ---- what an index has, and in what order it is sent
 
-# The document of the end of these steps of two devices.
+# document_of: the document alone.
 document_of() {
-  { "$program" run --document 2> /dev/null || true; } <<< '{"version":1,"folders":[{"folder":"docs","devices":[
-    {"device":1,"kind":"send-receive","index_id":11},{"device":2,"kind":"send-receive","index_id":12}]}],"links":[[1,2]],
-    "steps":['"$(paste -sd,)"']}'
+  ended | { grep '"cut"' || true; }
 }
 
 # put NAME SECONDS: device 1 puts an empty file and scans it.
@@ -83,7 +81,8 @@ told=$({
   put b 1
   put a 2
   put c 1
-  echo '["connect",1,2],["begin",1,2],["begin",2,1],["deliver",2,1],["deliver",1,2],["announce",1,2,"docs"]'
+  meet
+  echo '["announce",1,2,"docs"]'
 } | document_of | sed 's/.*"cut"//; s/"name"://g; s/,"sequence"//g' |
   grep -oE '"send-receive","max":[0-9]+|"[a-z]":[0-9]+,"size"|"to_b"' | sed 's/"send-receive",//; s/,"size"//' | paste -sd ' ')
 expect 'records in order' '"max":4 "a":3 "b":2 "c":4 "max":0 "to_b" "b":2 "a":3 "c":4' "$told"
@@ -94,9 +93,9 @@ told=$({
     put "$name" 1
   done
   put 7 2
-  echo '["connect",1,2],["begin",1,2],["begin",2,1],["deliver",2,1],["deliver",1,2]'
+  meet
   for _ in 1 2 3 4 5; do
-    echo '["announce",1,2,"docs"],["deliver",2,1]'
+    tell
   done
 } | document_of)
 expect 'a full index' '"max":4097 "max":0 "max":0 "max":4097' "$(grep -oE '"max":[0-9]+' <<< "$told" | paste -sd ' ')"
@@ -110,9 +109,10 @@ view_then() {
     put c 3
     put c 4
     put c 5
-    echo '["connect",1,2],["begin",1,2],["begin",2,1],["deliver",2,1],["deliver",1,2],["announce",1,2,"docs"],["deliver",2,1]'
+    meet
+    tell
     printf '%s\n' "$@"
-  } | sed '/^$/d' | document_of | grep -oE '"views":\[\{"index_id".*"links"' | sed 's/"name"://g; s/,"sequence"//g' |
+  } | document_of | grep -oE '"views":\[\{"index_id".*"links"' | sed 's/"name"://g; s/,"sequence"//g' |
     grep -oE '"index_id":[0-9]+,"max":[0-9]+,"of":1|"[a-z]":[0-9]+,"size"' | sed 's/,"size"//' | paste -sd ' '
 }
 
@@ -127,10 +127,13 @@ sent_after() {
     put a 1
     put b 1
     put c 1
-    echo '["connect",1,2],["begin",1,2],["begin",2,1],["deliver",2,1],["deliver",1,2],["announce",1,2,"docs"]'
+    meet
+    echo '["announce",1,2,"docs"]'
     printf '%s\n' "$@"
-    echo '["lose",1,2],["connect",1,2],["begin",1,2],["begin",2,1],["deliver",2,1],["deliver",1,2],["announce",1,2,"docs"]'
-  } | sed '/^$/d' | document_of | sed 's/.*"links"//' | grep -oE '"full":[a-z]+|"sequence":[0-9]+|"up":true' | paste -sd ' '
+    echo '["lose",1,2]'
+    meet
+    echo '["announce",1,2,"docs"]'
+  } | document_of | sed 's/.*"links"//' | grep -oE '"full":[a-z]+|"sequence":[0-9]+|"up":true' | paste -sd ' '
 }
 
 expect 'all, where nothing had arrived' '"full":true "sequence":1 "sequence":2 "sequence":3 "up":true' "$(sent_after '')"
@@ -152,8 +155,9 @@ expect 'what is stored' '"store":[{"hex":"41","modified_ns":0,"modified_s":1,"na
 # Of equal bytes the time alone is taken over.
 taken=$({
   file_of a 41
-  echo '["connect",1,2],["begin",1,2],["begin",2,1],["deliver",2,1],["deliver",1,2],["announce",1,2,"docs"],["deliver",2,1]'
-  echo '["pull",2,"docs","a"],["ask",2,1,"docs","a"],["deliver",1,2],["deliver",2,1],["finish",2,"docs","a"]'
+  meet
+  tell
+  take a
   echo '["edit",1,"docs",{"name":"a","type":0,"modified_s":-7,"modified_ns":999999999,"hex":"41"}],["scan",1,"docs","a"]'
   echo '["announce",1,2,"docs"],["deliver",2,1],["pull",2,"docs","a"],["finish",2,"docs","a"]'
 } | document_of | sed 's/.*"cut"//' | grep -oE '"store":\[[^]]*\]' | paste -sd ' ')
@@ -170,12 +174,13 @@ link_of() {
 on_its_way() {
   {
     put hello 1
-    echo '["connect",1,2],["begin",1,2],["begin",2,1],["deliver",2,1],["deliver",1,2],["announce",1,2,"docs"]'
+    meet
+    echo '["announce",1,2,"docs"]'
     put todo 1
     echo '["announce",1,2,"docs"],["edit",2,"docs",{"name":"other","type":0,"modified_s":1}],["scan",2,"docs","other"]'
     echo '["announce",2,1,"docs"]'
     printf '%s\n' "$@"
-  } | sed '/^$/d' | document_of | link_of
+  } | document_of | link_of
 }
 
 expect 'what is sent' '"epoch":1 "to_a": "other" "to_b": "hello" "todo" "up":true' "$(on_its_way)"
