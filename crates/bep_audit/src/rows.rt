@@ -11,9 +11,15 @@ use std::cmp::Ordering;
 use std::marker::Model;
 
 /// The rows by which a cut is said to be settled, in the order in which they were given.
-#[derive(Debug, Drop)]
+#[derive(Debug)]
 pub struct Certificate {
     rows: Items<Row>,
+}
+
+impl Drop for Certificate {
+    fn drop(self) {
+        let Certificate { rows: _ } = self;
+    }
 }
 
 impl Model for Certificate {

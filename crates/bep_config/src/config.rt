@@ -37,13 +37,24 @@ pub struct ConfigParts<S> {
 /// At most 16 folders and 16 devices; each device shares some folder; a link joins two of the devices, and stands once.
 ///
 /// BEP v1, 'Cluster Config'; the limits are this project's profile.
-#[derive(Drop)]
 pub struct Config<S> {
     folders: BTreeSet<FolderName>,
     devices: BTreeSet<DeviceId>,
     shares: BTreeMap<(FolderName, DeviceId), Sharing<S>>,
     links: BTreeSet<(DeviceId, DeviceId)>,
     alloc: Global,
+}
+
+impl<S: Drop> Drop for Config<S> {
+    fn drop(self) {
+        let Config {
+            folders: _,
+            devices: _,
+            shares: _,
+            links: _,
+            alloc: _,
+        } = self;
+    }
 }
 
 impl<S> Model for Config<S> {
@@ -163,11 +174,18 @@ impl<S> Config<S> {
         ensures value { said_by result ≡ self }
         ensures a_config { IsConfig self }
     {
+        let Config {
+            folders,
+            devices,
+            shares,
+            links,
+            alloc: _,
+        } = self;
         ConfigParts {
-            folders: self.folders,
-            devices: self.devices,
-            shares: self.shares,
-            links: self.links,
+            folders,
+            devices,
+            shares,
+            links,
         }
     }
 }

@@ -23,11 +23,20 @@ use std::marker::Model;
 /// Devices that share folders, and the links between them.
 ///
 /// BEP v1, 'Cluster Config'; at most 16 devices, and one link a pair, are this project's profile.
-#[derive(Drop)]
 pub struct Cluster<S: Store> {
     pub(crate) peers: Vec<Peer<S>>,
     pub(crate) links: Vec<Link>,
     pub(crate) alloc: Global,
+}
+
+impl<S: Store> Drop for Cluster<S> {
+    fn drop(self) {
+        let Cluster {
+            peers: _,
+            links: _,
+            alloc: _,
+        } = self;
+    }
 }
 
 impl<S: Store> Model for Cluster<S> {
@@ -114,6 +123,11 @@ impl<S: Store> Cluster<S> {
         ensures links { result.1.items ≡ self.links }
         ensures a_network { IsNetwork self }
     {
-        (self.peers, self.links)
+        let Cluster {
+            peers,
+            links,
+            alloc: _,
+        } = self;
+        (peers, links)
     }
 }

@@ -61,7 +61,7 @@ impl Fault {
 }
 
 /// The fault for which a document is refused, with its place as far as it has one.
-#[derive(Debug, Drop)]
+#[derive(Debug)]
 pub struct DocFault {
     /// What the fault is.
     pub fault: Fault,
@@ -71,6 +71,17 @@ pub struct DocFault {
     pub device: Option<DeviceId>,
     /// The name that it is about.
     pub name: Option<Name>,
+}
+
+impl Drop for DocFault {
+    fn drop(self) {
+        let DocFault {
+            fault: _,
+            folder: _,
+            device: _,
+            name: _,
+        } = self;
+    }
 }
 
 impl DocFault {

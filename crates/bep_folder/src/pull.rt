@@ -16,12 +16,22 @@ use std::marker::Model;
 /// A record that is being pulled, with the bytes of each of its blocks that were received.
 ///
 /// The bytes are kept in the node that the pull will write, so that a file is in memory once.
-#[derive(Drop)]
 pub struct Pull {
     target: Record,
     node: Option<Node>,
     arrived: Vec<bool>,
     alloc: Global,
+}
+
+impl Drop for Pull {
+    fn drop(self) {
+        let Pull {
+            target: _,
+            node: _,
+            arrived: _,
+            alloc: _,
+        } = self;
+    }
 }
 
 impl Model for Pull {

@@ -16,7 +16,6 @@ use std::marker::Model;
 /// files.
 ///
 /// BEP v1, 'Index'; Syncthing, 'Folder Types'; pulls and stores are this project's profile.
-#[derive(Drop)]
 pub struct Replica<S: Store> {
     pub(crate) device: DeviceId,
     pub(crate) folder: FolderName,
@@ -27,6 +26,22 @@ pub struct Replica<S: Store> {
     pub(crate) pulls: NameMap<Pull>,
     pub(crate) store: Traced<S>,
     pub(crate) alloc: Global,
+}
+
+impl<S: Store> Drop for Replica<S> {
+    fn drop(self) {
+        let Replica {
+            device: _,
+            folder: _,
+            kind: _,
+            others: _,
+            index: _,
+            views: _,
+            pulls: _,
+            store: _,
+            alloc: _,
+        } = self;
+    }
 }
 
 impl<S: Store> Model for Replica<S> {

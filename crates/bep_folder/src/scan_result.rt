@@ -15,11 +15,21 @@ use std::marker::Model;
 /// What a scan found at a name: the node, if there was one, with the block list of its bytes.
 ///
 /// The type keeps that the blocks are the node's, so that a file is hashed once, before its folder is touched.
-#[derive(Debug, Drop)]
+#[derive(Debug)]
 pub struct ScanResult {
     name: Name,
     node: Option<Node>,
     blocks: Items<Block>,
+}
+
+impl Drop for ScanResult {
+    fn drop(self) {
+        let ScanResult {
+            name: _,
+            node: _,
+            blocks: _,
+        } = self;
+    }
 }
 
 impl Model for ScanResult {
@@ -68,7 +78,8 @@ impl ScanResult {
     pub(crate) fn into_parts(self) -> (Name, Option<Node>, Items<Block>)
         ensures { result ≡ (self.name, self.node, blocks_found self.node) }
     {
-        (self.name, self.node, self.blocks)
+        let ScanResult { name, node, blocks } = self;
+        (name, node, blocks)
     }
 }
 

@@ -15,12 +15,22 @@ use std::marker::Model;
 
 // A store, and what is known of the calls that the current action made of it. None of these failed where no store of its
 // kind ever fails.
-#[derive(Drop)]
 pub(crate) struct Traced<S: Store> {
     store: S,
     made: u32,
     failed: Option<u32>,
     copied: bool,
+}
+
+impl<S: Store> Drop for Traced<S> {
+    fn drop(self) {
+        let Traced {
+            store: _,
+            made: _,
+            failed: _,
+            copied: _,
+        } = self;
+    }
 }
 
 impl<S: Store> Model for Traced<S> {

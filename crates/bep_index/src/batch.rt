@@ -11,9 +11,15 @@ use std::marker::Model;
 /// and each name at most once.
 ///
 /// BEP v1, 'Index' and 'Index Update'; the limits are this project's profile.
-#[derive(Debug, Drop)]
+#[derive(Debug)]
 pub struct Batch {
     records: Items<Record>,
+}
+
+impl Drop for Batch {
+    fn drop(self) {
+        let Batch { records: _ } = self;
+    }
 }
 
 impl Model for Batch {
@@ -57,7 +63,8 @@ impl Batch {
         ensures value { result.items ≡ self }
         ensures a_batch { IsBatch self }
     {
-        self.records.into_vec()
+        let Batch { records } = self;
+        records.into_vec()
     }
 
     /// An equal batch of its own, or want of memory.

@@ -20,12 +20,22 @@ use std::marker::Model;
 /// the numbers tell in which order names were changed.
 ///
 /// BEP v1, 'Index' and 'FileInfo', field 'sequence'; at most 4096 names, by this project's profile.
-#[derive(Drop)]
 pub struct Index {
     id: IndexId,
     sequence: u64,
     records: Records,
     alloc: Global,
+}
+
+impl Drop for Index {
+    fn drop(self) {
+        let Index {
+            id: _,
+            sequence: _,
+            records: _,
+            alloc: _,
+        } = self;
+    }
 }
 
 impl Model for Index {

@@ -12,9 +12,14 @@ use std::alloc::{AllocError, Global};
 use std::marker::Model;
 
 /// Records by rising sequence, each of another name, by which it is found.
-#[derive(Drop)]
 pub struct Records {
     entries: IndexMap<Name, Slot>,
+}
+
+impl Drop for Records {
+    fn drop(self) {
+        let Records { entries: _ } = self;
+    }
 }
 
 impl Model for Records {

@@ -7,9 +7,14 @@ use std::marker::Model;
 use std::mem;
 
 /// A record behind one pointer, so that moving it within a list shifts no more than that.
-#[derive(Drop)]
 pub struct Slot {
     held: Box<Record>,
+}
+
+impl Drop for Slot {
+    fn drop(self) {
+        let Slot { held: _ } = self;
+    }
 }
 
 impl Model for Slot {

@@ -18,12 +18,22 @@ use std::marker::Model;
 /// the point up to which it was sent them, an index id and a sequence number.
 ///
 /// BEP v1, 'Index' and 'Index Update'; at most 4096 names, by this project's profile.
-#[derive(Drop)]
 pub struct View {
     id: u64,
     sequence: u64,
     records: NameMap<Record>,
     alloc: Global,
+}
+
+impl Drop for View {
+    fn drop(self) {
+        let View {
+            id: _,
+            sequence: _,
+            records: _,
+            alloc: _,
+        } = self;
+    }
 }
 
 impl Model for View {

@@ -20,7 +20,6 @@ use std::marker::Model;
 /// A link between two devices. It comes up and goes down; what is on its way arrives in order, or is lost with the link.
 ///
 /// BEP v1; epochs, and at most 1024 messages on their way to each end, are this project's profile.
-#[derive(Drop)]
 pub struct Link {
     lower: DeviceId,
     upper: DeviceId,
@@ -28,6 +27,19 @@ pub struct Link {
     epoch: u64,
     to_lower: Queue,
     to_upper: Queue,
+}
+
+impl Drop for Link {
+    fn drop(self) {
+        let Link {
+            lower: _,
+            upper: _,
+            up: _,
+            epoch: _,
+            to_lower: _,
+            to_upper: _,
+        } = self;
+    }
 }
 
 impl Model for Link {

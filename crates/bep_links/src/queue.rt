@@ -13,9 +13,14 @@ use std::collections::VecDeque;
 use std::marker::Model;
 
 /// The messages on their way to one end of a link, the first to arrive first; at most 1024.
-#[derive(Drop)]
 pub(crate) struct Queue {
     messages: VecDeque<Message>,
+}
+
+impl Drop for Queue {
+    fn drop(self) {
+        let Queue { messages: _ } = self;
+    }
 }
 
 impl Model for Queue {

@@ -8,7 +8,7 @@ use std::alloc::{AllocError, Global};
 /// What a ClusterConfig says of a folder that both ends share.
 ///
 /// BEP v1, 'Cluster Config' and 'Fields (ClusterConfig)'.
-#[derive(Debug, Drop)]
+#[derive(Debug)]
 pub struct Announced {
     /// The folder.
     pub folder: FolderName,
@@ -20,6 +20,18 @@ pub struct Announced {
     pub known_id: u64,
     /// The greatest sequence of the receiver's index that the sender has seen.
     pub known_sequence: u64,
+}
+
+impl Drop for Announced {
+    fn drop(self) {
+        let Announced {
+            folder: _,
+            index_id: _,
+            sequence: _,
+            known_id: _,
+            known_sequence: _,
+        } = self;
+    }
 }
 
 impl Announced {
@@ -46,7 +58,7 @@ impl Duplicate for Announced {
 /// A request for one block of a file.
 ///
 /// BEP v1, 'Request'.
-#[derive(Debug, Drop)]
+#[derive(Debug)]
 pub struct Request {
     /// The number of the request within its session, from 1.
     pub id: u32,
@@ -60,6 +72,19 @@ pub struct Request {
     pub size: u32,
     /// The SHA-256 of these bytes.
     pub hash: [u8; 32],
+}
+
+impl Drop for Request {
+    fn drop(self) {
+        let Request {
+            id: _,
+            folder: _,
+            name: _,
+            offset: _,
+            size: _,
+            hash: _,
+        } = self;
+    }
 }
 
 impl Request {
@@ -96,7 +121,7 @@ pub enum Code {
 /// The answer to a request.
 ///
 /// BEP v1, 'Response'.
-#[derive(Debug, Drop)]
+#[derive(Debug)]
 pub struct Response {
     /// The number of the request.
     pub id: u32,
@@ -104,6 +129,16 @@ pub struct Response {
     pub code: Code,
     /// The block's bytes; none unless the code is `NoError`.
     pub bytes: Items<u8>,
+}
+
+impl Drop for Response {
+    fn drop(self) {
+        let Response {
+            id: _,
+            code: _,
+            bytes: _,
+        } = self;
+    }
 }
 
 impl Response {

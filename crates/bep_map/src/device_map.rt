@@ -12,9 +12,14 @@ use std::marker::Model;
 use std::mem;
 
 /// A finite map from devices to values of `V`. Two maps with the same values at the same devices are equal in contracts.
-#[derive(Drop)]
 pub struct DeviceMap<V> {
     entries: BTreeMap<DeviceId, V>,
+}
+
+impl<V: Drop> Drop for DeviceMap<V> {
+    fn drop(self) {
+        let DeviceMap { entries: _ } = self;
+    }
 }
 
 impl<V> Model for DeviceMap<V> {

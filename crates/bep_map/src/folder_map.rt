@@ -15,9 +15,14 @@ use std::mem;
 
 /// A finite map from folder names to values of `V`. Two maps with the same values at the same names are equal in
 /// contracts.
-#[derive(Drop)]
 pub struct FolderMap<V> {
     entries: BTreeMap<FolderName, V>,
+}
+
+impl<V: Drop> Drop for FolderMap<V> {
+    fn drop(self) {
+        let FolderMap { entries: _ } = self;
+    }
 }
 
 impl<V> Model for FolderMap<V> {

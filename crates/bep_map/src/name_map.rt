@@ -13,9 +13,14 @@ use std::marker::Model;
 use std::mem;
 
 /// A finite map from names to values of `V`. Two maps with the same values at the same names are equal in contracts.
-#[derive(Drop)]
 pub struct NameMap<V> {
     entries: BTreeMap<Name, V>,
+}
+
+impl<V: Drop> Drop for NameMap<V> {
+    fn drop(self) {
+        let NameMap { entries: _ } = self;
+    }
 }
 
 impl<V> Model for NameMap<V> {

@@ -22,7 +22,6 @@ use std::marker::Model;
 /// A device of a cluster: its folders, its sessions with other devices, and which devices it has links with.
 ///
 /// BEP v1, 'Cluster Config'; sessions are this project's profile.
-#[derive(Drop)]
 pub struct Peer<S: Store> {
     pub(crate) number: DeviceId,
     pub(crate) folders: FolderMap<Replica<S>>,
@@ -30,6 +29,19 @@ pub struct Peer<S: Store> {
     pub(crate) linked: Items<DeviceId>,
     pub(crate) trace: Told<S>,
     pub(crate) alloc: Global,
+}
+
+impl<S: Store> Drop for Peer<S> {
+    fn drop(self) {
+        let Peer {
+            number: _,
+            folders: _,
+            sessions: _,
+            linked: _,
+            trace: _,
+            alloc: _,
+        } = self;
+    }
 }
 
 impl<S: Store> Model for Peer<S> {

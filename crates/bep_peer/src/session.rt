@@ -19,13 +19,24 @@ use std::marker::Model;
 /// A device's session with another one, over one connection of their link.
 ///
 /// BEP v1, 'Cluster Config' and 'Request'; sessions and their limits are this project's profile.
-#[derive(Drop)]
 pub struct Session {
     epoch: u64,
     configured: bool,
     cursors: FolderMap<Plan>,
     outstanding: Vec<Request>,
     next: u32,
+}
+
+impl Drop for Session {
+    fn drop(self) {
+        let Session {
+            epoch: _,
+            configured: _,
+            cursors: _,
+            outstanding: _,
+            next: _,
+        } = self;
+    }
 }
 
 impl Model for Session {

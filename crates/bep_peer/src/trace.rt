@@ -6,7 +6,7 @@ ghost use Rattle.bep_peer.specs.Within.{told_of};
 use bep_machine::Message;
 
 /// What the last action of a device did to the store of its folder, and what it sent.
-#[derive(Debug, Drop)]
+#[derive(Debug)]
 pub struct Trace {
     /// Which of its calls of the store failed, counted from 1.
     pub failed: Option<u32>,
@@ -14,6 +14,16 @@ pub struct Trace {
     pub copied: bool,
     /// Two copies of the message that it sent.
     pub put: Option<(Message, Message)>,
+}
+
+impl Drop for Trace {
+    fn drop(self) {
+        let Trace {
+            failed: _,
+            copied: _,
+            put: _,
+        } = self;
+    }
 }
 
 impl Trace {

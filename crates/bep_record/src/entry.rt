@@ -9,7 +9,7 @@ use std::alloc::{AllocError, Global};
 /// The fields of a record, well formed or not.
 ///
 /// BEP v1, 'FileInfo'.
-#[derive(Debug, Drop)]
+#[derive(Debug)]
 pub struct Entry {
     /// What the record is about.
     pub name: Name,
@@ -39,6 +39,27 @@ pub struct Entry {
     pub blocks: Items<Block>,
     /// Where a symlink leads; empty for all else.
     pub target: Target,
+}
+
+impl Drop for Entry {
+    fn drop(self) {
+        let Entry {
+            name: _,
+            kind: _,
+            size: _,
+            modified_s: _,
+            modified_ns: _,
+            modified_by: _,
+            deleted: _,
+            invalid: _,
+            no_permissions: _,
+            version: _,
+            sequence: _,
+            block_size: _,
+            blocks: _,
+            target: _,
+        } = self;
+    }
 }
 
 impl Entry {

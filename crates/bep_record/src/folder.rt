@@ -11,9 +11,15 @@ use std::marker::Model;
 /// The name by which devices speak of a folder: 1 to 64 ASCII letters, digits, `-` and `_`. Compared by bytes.
 ///
 /// BEP v1, 'Folder', field 'id'; the limits are this project's profile.
-#[derive(Debug, Drop, PartialEq, Eq, PartialOrd, Ord, Hash)]
+#[derive(Debug, PartialEq, Eq, PartialOrd, Ord, Hash)]
 pub struct FolderName {
     name: Name,
+}
+
+impl Drop for FolderName {
+    fn drop(self) {
+        let FolderName { name: _ } = self;
+    }
 }
 
 impl Model for FolderName {

@@ -5,9 +5,15 @@ use std::alloc::{AllocError, Global};
 use std::marker::Model;
 
 /// A list in memory, which contracts compare by its elements alone.
-#[derive(Debug, Drop)]
+#[derive(Debug)]
 pub struct Items<T> {
     items: Vec<T>,
+}
+
+impl<T: Drop> Drop for Items<T> {
+    fn drop(self) {
+        let Items { items: _ } = self;
+    }
 }
 
 impl<T> Model for Items<T> {
@@ -37,7 +43,8 @@ impl<T> Items<T> {
     pub fn into_vec(self) -> Vec<T>
         ensures { result.items ≡ self }
     {
-        self.items
+        let Items { items } = self;
+        items
     }
 }
 

@@ -22,9 +22,14 @@ use std::marker::Model;
 /// nor `.` nor `..`. Names are compared by their bytes.
 ///
 /// BEP v1, 'FileInfo', field 'name'; the limits are this project's profile.
-#[derive(Drop)]
 pub struct Name {
     text: String,
+}
+
+impl Drop for Name {
+    fn drop(self) {
+        let Name { text: _ } = self;
+    }
 }
 
 impl Model for Name {

@@ -60,9 +60,15 @@ impl NodeParts {
 }
 
 /// What a store holds at a name: a file with its bytes, a directory, or a symlink with its target.
-#[derive(Debug, Drop)]
+#[derive(Debug)]
 pub struct Node {
     parts: NodeParts,
+}
+
+impl Drop for Node {
+    fn drop(self) {
+        let Node { parts: _ } = self;
+    }
 }
 
 impl Model for Node {
@@ -107,7 +113,8 @@ impl Node {
         ensures value { result ≡ self }
         ensures is_node { IsNode self }
     {
-        self.parts
+        let Node { parts } = self;
+        parts
     }
 
     /// An equal node of its own, or want of memory.

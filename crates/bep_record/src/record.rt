@@ -10,9 +10,15 @@ use std::marker::Model;
 /// What an index says of one name; its fields are well formed.
 ///
 /// BEP v1, 'FileInfo'; the limits are this project's profile.
-#[derive(Debug, Drop)]
+#[derive(Debug)]
 pub struct Record {
     entry: Entry,
+}
+
+impl Drop for Record {
+    fn drop(self) {
+        let Record { entry: _ } = self;
+    }
 }
 
 impl Model for Record {
@@ -53,7 +59,8 @@ impl Record {
         ensures value { result ≡ self }
         ensures well_formed { IsWellFormed self }
     {
-        self.entry
+        let Record { entry } = self;
+        entry
     }
 
     /// An equal record of its own, or want of memory.

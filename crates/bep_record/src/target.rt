@@ -15,9 +15,14 @@ use std::marker::Model;
 /// Where a symlink points: at most 1024 bytes of UTF-8 without NUL. What is no symlink has the empty target.
 ///
 /// BEP v1, 'FileInfo', field 'symlink_target'; the limit is this project's profile.
-#[derive(Drop)]
 pub struct Target {
     text: String,
+}
+
+impl Drop for Target {
+    fn drop(self) {
+        let Target { text: _ } = self;
+    }
 }
 
 impl Model for Target {

@@ -10,11 +10,20 @@ use std::alloc::Global;
 use std::marker::Model;
 
 /// A store that fails one call, which doesn't reach the store inside, and passes every other call on to that store.
-#[derive(Drop)]
 pub struct FaultStore<S> {
     inner: S,
     left: u64,
     failed: bool,
+}
+
+impl<S: Drop> Drop for FaultStore<S> {
+    fn drop(self) {
+        let FaultStore {
+            inner: _,
+            left: _,
+            failed: _,
+        } = self;
+    }
 }
 
 impl<S> Model for FaultStore<S> {

@@ -10,10 +10,15 @@ use std::alloc::{AllocError, Global};
 use std::marker::Model;
 
 /// A store in memory, which never fails.
-#[derive(Drop)]
 pub struct MemStore {
     nodes: NameMap<Node>,
     alloc: Global,
+}
+
+impl Drop for MemStore {
+    fn drop(self) {
+        let MemStore { nodes: _, alloc: _ } = self;
+    }
 }
 
 impl Model for MemStore {

@@ -9,12 +9,20 @@ use bep_record::{FolderName, Items};
 use std::marker::Model;
 
 /// The parts of a cut.
-#[derive(Drop)]
 pub struct CutParts {
     /// The folders, names rising.
     pub folders: Items<SharedFolder>,
     /// The links, by their two devices, rising.
     pub links: Items<LinkState>,
+}
+
+impl Drop for CutParts {
+    fn drop(self) {
+        let CutParts {
+            folders: _,
+            links: _,
+        } = self;
+    }
 }
 
 /// One moment of a cluster: which devices share which folder, in which kind; for each its own records, what its store
@@ -23,9 +31,14 @@ pub struct CutParts {
 /// At most 16 folders and 16 devices; folders, devices and links rise; each device's records, and each view's, are those
 /// of an index; views and messages are of devices that share the folder, and no view is empty; at most 1024 messages are
 /// on their way to either end of a link, and none over a link that is down.
-#[derive(Drop)]
 pub struct Cut {
     parts: CutParts,
+}
+
+impl Drop for Cut {
+    fn drop(self) {
+        let Cut { parts: _ } = self;
+    }
 }
 
 impl Model for Cut {

@@ -4,7 +4,6 @@ use bep_record::{DeviceId, Items};
 
 /// The link between two devices: whether it is up, and the messages on their way that carry records of folders which
 /// both ends share.
-#[derive(Drop)]
 pub struct LinkState {
     /// The smaller of the two devices.
     pub a: DeviceId,
@@ -18,4 +17,17 @@ pub struct LinkState {
     pub to_a: Items<Flight>,
     /// What is on its way to `b`, the first to arrive first.
     pub to_b: Items<Flight>,
+}
+
+impl Drop for LinkState {
+    fn drop(self) {
+        let LinkState {
+            a: _,
+            b: _,
+            up: _,
+            epoch: _,
+            to_a: _,
+            to_b: _,
+        } = self;
+    }
 }

@@ -4,7 +4,6 @@ use bep_map::NameMap;
 use bep_record::{DeviceId, FolderKind, FolderName, Items, Node, Record};
 
 /// What a device has of a folder that it shares.
-#[derive(Drop)]
 pub struct Share {
     /// The device.
     pub device: DeviceId,
@@ -24,8 +23,22 @@ pub struct Share {
     pub pulls: NameMap<Record>,
 }
 
+impl Drop for Share {
+    fn drop(self) {
+        let Share {
+            device: _,
+            kind: _,
+            index_id: _,
+            max_sequence: _,
+            own: _,
+            store: _,
+            views: _,
+            pulls: _,
+        } = self;
+    }
+}
+
 /// What a device knows of another device's index of a folder.
-#[derive(Drop)]
 pub struct PeerView {
     /// The device whose index it is.
     pub of: DeviceId,
@@ -37,11 +50,30 @@ pub struct PeerView {
     pub records: NameMap<Record>,
 }
 
+impl Drop for PeerView {
+    fn drop(self) {
+        let PeerView {
+            of: _,
+            index_id: _,
+            max_sequence: _,
+            records: _,
+        } = self;
+    }
+}
+
 /// A folder, and the devices that share it.
-#[derive(Drop)]
 pub struct SharedFolder {
     /// The folder.
     pub folder: FolderName,
     /// What each device has of it, devices rising.
     pub shares: Items<Share>,
+}
+
+impl Drop for SharedFolder {
+    fn drop(self) {
+        let SharedFolder {
+            folder: _,
+            shares: _,
+        } = self;
+    }
 }

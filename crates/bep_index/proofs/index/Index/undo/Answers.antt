@@ -16,20 +16,20 @@ give_back-requires c =
     (subst (λ change. IsLastChange change (record { id = c.self.inside.id; sequence = c.self.inside.sequence; records = with_all empty c.self.inside.records })) (sym c.undo.view_is)
     (subst (IsLastChange c.args.undo) (sym c.self.view_is) c.requires))
 
-abbrev change : goal.After-drop-name-inside → Change
+abbrev change : goal.After-drop-name → Change
 change c = record { id = c.undo.inside.id; sequence = c.undo.inside.given; name = c.undo.inside.name; before = c.undo.inside.old }
 
-abbrev index : goal.After-drop-name-inside → Listing
+abbrev index : goal.After-drop-name → Listing
 index c = record { id = c.self.inside.id; sequence = c.self.inside.sequence; records = with_all empty c.self.inside.records }
 
-last : (c : goal.After-drop-name-inside) → IsLastChange (change c) (index c)
+last : (c : goal.After-drop-name) → IsLastChange (change c) (index c)
 last c = subst (λ one. IsLastChange one (index c)) (sym c.undo.view_is) (subst (IsLastChange c.args.undo) (sym c.self.view_is) c.requires)
 
-back : (c : goal.After-drop-name-inside) → IsGivenBack c.self.inside.records c.undo.inside.name c.undo.inside.old
+back : (c : goal.After-drop-name) → IsGivenBack c.self.inside.records c.undo.inside.name c.undo.inside.old
 back c = is_given_back (change c) c.self.inside.id c.self.inside.sequence c.self.inside.records c.self.invariant.1 c.self.invariant.0 (last c)
 
 -- the records are those before the change
-records : (c : goal.After-drop-name-inside) → with_all empty c.give_back.new.self ≡ given_back (with_all empty c.self.inside.records) c.undo.inside.name c.undo.inside.old
+records : (c : goal.After-drop-name) → with_all empty c.give_back.new.self ≡ given_back (with_all empty c.self.inside.records) c.undo.inside.name c.undo.inside.old
 records c =
     ap (with_all empty) c.give_back.ensures ∙ with_all-back c.self.inside.records c.undo.inside.name c.undo.inside.old c.self.invariant.1.names (back c).before
 
