@@ -1,8 +1,10 @@
 -- What words ask the program for.
 use Rattle.std.specs.Prelude.{◌≡◌, Bool, List, Option, Some, None, true, false, option_map, codes, if◌then◌else◌}
 use Rattle.std.specs.Str.{bytes_eq}
-use Rattle.clap.specs.Words.{App, Row, Rule, Text, first_of, new_app, new_rule, with_rule, with_subcommand, subcommand_of}
+use Rattle.clap.specs.Words.{App, Row, Rule, Text, app_of, first_of, new_app, new_rule, with_rule, with_subcommand, subcommand_of}
 use Rattle.clap.specs.declared.builder.action.ArgAction.TheVariants.{SetTrue}
+use Rattle.clap.specs.declared.builder.command.Command.{Command}
+use Rattle.clap.specs.declared.builder.command.Command.TheViews.{out-Command as fields_of}
 use Rattle.bep_answer.specs.declared.outcome.Form.{Form}
 use Rattle.bep_answer.specs.declared.outcome.Form.TheVariants as forms
 use Rattle.syncaudit.specs.declared.mode.Ending.{Ending}
@@ -11,7 +13,7 @@ use Rattle.syncaudit.specs.declared.mode.Mode.{Mode}
 use Rattle.syncaudit.specs.declared.mode.Mode.TheVariants.{Check, Certify, Explain, Run}
 
 -- the program's own level: it has a version, and wants a subcommand
-abbrev top_level : App
+abbrev pub top_level : App
 top_level =
     let new = new_app (codes "syncaudit") in
     record new { top = record new.top { has_version = true; subcommand_required = true; arg_required_else_help = true } }
@@ -20,13 +22,25 @@ top_level =
 abbrev pub flag : Text → Rule
 flag name = record (new_rule name) { long = Some name; action = Some SetTrue }
 
+-- the subcommands that take a flag
+abbrev pub explain_app : App
+explain_app = with_rule (new_app (codes "explain")) (flag (codes "json"))
+
+abbrev pub run_app : App
+run_app = with_rule (new_app (codes "run")) (flag (codes "document"))
+
 -- what the command line of the program is
 abbrev pub program : App
 program =
     let check = with_subcommand top_level (new_app (codes "check")).top in
     let certify = with_subcommand check (new_app (codes "certify")).top in
-    let explain = with_subcommand certify (with_rule (new_app (codes "explain")) (flag (codes "json"))).top in
-    with_subcommand explain (with_rule (new_app (codes "run")) (flag (codes "document"))).top
+    let explain = with_subcommand certify explain_app.top in
+    with_subcommand explain run_app.top
+
+-- a command of this shape, none of whose words its subcommands take too
+pub record IsCommand (app : App) (command : Command) : Type 0 where
+  pub shape : app_of command ≡ app
+  pub local : (fields_of command).has_globals ≡ false
 
 -- the name of the subcommand in the words
 abbrev pub named : List Text → Option Text

@@ -1,7 +1,7 @@
 //! What the words of the command line ask for.
 ghost use Rattle.std.specs.Prelude.{◌≡◌, IfOk, false, map};
-ghost use Rattle.clap.specs.Words.{FailsBy, app_of, fault_of, first_value, found_of, rule_of, subcommand_rows_of};
-ghost use Rattle.syncaudit.specs.Mode.{Asks, ending_of, flag, form_of, is_set, is_true, program};
+ghost use Rattle.clap.specs.Words.{FailsBy, app_of, fault_of, first_value, found_of, new_app, rule_of, subcommand_rows_of};
+ghost use Rattle.syncaudit.specs.Mode.{Asks, IsCommand, ending_of, explain_app, flag, form_of, is_set, is_true, program, run_app, top_level};
 
 use bep_answer::Form;
 use clap::{Arg, ArgAction, ArgMatches, Command, Error};
@@ -66,37 +66,86 @@ const RUN_HELP: &str =
 fn command<'a>(alloc: Global) -> Result<Command<'a>, AllocError>
     ensures { IfOk result (λ made. app_of made ≡ program) }
 {
-    let check = Command::new(alloc, "check")
-        .about("Audits the check document on standard input")
-        .override_usage("syncaudit check < FILE")
-        .after_help(CHECK_HELP);
-    let certify = Command::new(alloc, "certify")
-        .about("Writes the check document on standard input with the certificate of its cut")
-        .override_usage("syncaudit certify < FILE")
-        .after_help(CERTIFY_HELP);
+    let top = top_command(alloc)?;
+    let check = plain_command(
+        alloc,
+        "check",
+        "Audits the check document on standard input",
+        "syncaudit check < FILE",
+        CHECK_HELP,
+    );
+    let checks = top.subcommand(check)?;
+    let certify = plain_command(
+        alloc,
+        "certify",
+        "Writes the check document on standard input with the certificate of its cut",
+        "syncaudit certify < FILE",
+        CERTIFY_HELP,
+    );
+    let certifies = checks.subcommand(certify)?;
+    let explain = explain_command(alloc)?;
+    let explains = certifies.subcommand(explain)?;
+    let run = run_command(alloc)?;
+    explains.subcommand(run)
+}
+
+// The program's own level.
+fn top_command<'a>(alloc: Global) -> Result<Command<'a>, AllocError>
+    ensures { IfOk result (λ made. app_of made ≡ top_level) }
+{
+    let named = Command::new(alloc, "syncaudit").bin_name("syncaudit")?;
+    Ok(
+        named
+            .version("0.1.0")
+            .about("Says whether a Syncthing cluster is settled, and if not, why")
+            .after_help(COMMANDS_HELP)
+            .subcommand_required(true)
+            .arg_required_else_help(true),
+    )
+}
+
+// A subcommand without a flag: what it does, how it is called, and how its help ends.
+fn plain_command<'a>(
+    alloc: Global,
+    name: &'a str,
+    about: &'a str,
+    usage: &'a str,
+    end: &'a str,
+) -> Command<'a>
+    ensures { IsCommand (new_app name.now) result }
+{
+    Command::new(alloc, name)
+        .about(about)
+        .override_usage(usage)
+        .after_help(end)
+}
+
+fn explain_command<'a>(alloc: Global) -> Result<Command<'a>, AllocError>
+    ensures { IfOk result (IsCommand explain_app) }
+{
     let json = flag(alloc, "json", "Writes one JSON document");
-    let explain = Command::new(alloc, "explain")
-        .about("Tells all that keeps the check document on standard input from being settled")
-        .override_usage("syncaudit explain [--json] < FILE")
-        .after_help(EXPLAIN_HELP)
-        .arg(json)?;
+    plain_command(
+        alloc,
+        "explain",
+        "Tells all that keeps the check document on standard input from being settled",
+        "syncaudit explain [--json] < FILE",
+        EXPLAIN_HELP,
+    )
+    .arg(json)
+}
+
+fn run_command<'a>(alloc: Global) -> Result<Command<'a>, AllocError>
+    ensures { IfOk result (IsCommand run_app) }
+{
     let document = flag(alloc, "document", "Writes the check document of the end");
-    let run = Command::new(alloc, "run")
-        .about("Makes the steps of the scenario on standard input, and audits where they lead")
-        .override_usage("syncaudit run [--document] < FILE")
-        .after_help(RUN_HELP)
-        .arg(document)?;
-    Command::new(alloc, "syncaudit")
-        .bin_name("syncaudit")?
-        .version("0.1.0")
-        .about("Says whether a Syncthing cluster is settled, and if not, why")
-        .after_help(COMMANDS_HELP)
-        .subcommand_required(true)
-        .arg_required_else_help(true)
-        .subcommand(check)?
-        .subcommand(certify)?
-        .subcommand(explain)?
-        .subcommand(run)
+    plain_command(
+        alloc,
+        "run",
+        "Makes the steps of the scenario on standard input, and audits where they lead",
+        "syncaudit run [--document] < FILE",
+        RUN_HELP,
+    )
+    .arg(document)
 }
 
 // A flag of this name.
