@@ -10,9 +10,10 @@ ghost use Rattle.bep_answer.specs.declared.outcome.Form.TheVariants.{Json};
 use crate::outcome::Outcome;
 use bep_audit::Certificate;
 use bep_explain::{Annotated, annotate, device_tree, explanation_json, json_line};
+use bep_json::Members;
 use bep_record::{FolderName, Name};
 use bep_tables::{Cut, DocFault};
-use serde_json::{Value, json};
+use serde_json::Value;
 use std::alloc::{AllocError, Global};
 
 /// The outcome for a cut and its certificate, and all that fails as one JSON document.
@@ -60,16 +61,14 @@ fn refusal_tree(
     requires name { view name ≡ text_tree fault.now.name }
     ensures { IfOk result (λ v. view v ≡ refusal_tree fault.now) }
 {
-    let device = device_tree(fault.device);
-    json!(in alloc; {
-        "refused": {
-            "device": device,
-            "fault": fault.fault.name(),
-            "folder": folder,
-            "name": name,
-            "number": fault.fault.number()
-        }
-    })
+    let refused = Members::new(alloc)
+        .with("folder", folder)?
+        .with("name", name)?
+        .with("device", device_tree(fault.device))?
+        .with_text("fault", fault.fault.name())?
+        .with_number("number", u64::from(fault.fault.number()))?;
+    let members = Members::new(alloc).with("refused", refused.into_value())?;
+    Ok(members.into_value())
 }
 
 // The folder, null where there is none.

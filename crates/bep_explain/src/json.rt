@@ -7,6 +7,7 @@ ghost use Rattle.bep_explain.specs.Annotated.{IsJsonLine, annotated_of, device_t
 
 use crate::Annotated;
 use bep_audit::Failure;
+use bep_json::Members;
 use bep_record::DeviceId;
 use bep_report::word_of;
 use serde_json::{Value, json};
@@ -67,14 +68,13 @@ fn failure_trees(alloc: Global, told: Vec<Annotated<'_>>) -> Result<Value, Alloc
 fn failure_tree(alloc: Global, failure: &Failure<'_>, details: Value) -> Result<Value, AllocError>
     ensures { IfOk result (λ v. view v ≡ failure_tree (record { failure = failure_shown failure.now; details = view details })) }
 {
-    let device = device_tree(failure.spot.device);
-    json!(in alloc; {
-        "details": details,
-        "device": device,
-        "folder": failure.spot.folder.as_str(),
-        "name": failure.spot.name.as_str(),
-        "reason": word_of(failure.reason)
-    })
+    let members = Members::new(alloc)
+        .with("details", details)?
+        .with("device", device_tree(failure.spot.device))?
+        .with_text("folder", failure.spot.folder.as_str())?
+        .with_text("name", failure.spot.name.as_str())?
+        .with_text("reason", word_of(failure.reason))?;
+    Ok(members.into_value())
 }
 
 /// The number of a device as JSON, null where there is none.

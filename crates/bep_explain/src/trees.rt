@@ -2,9 +2,9 @@
 use crate::detail::{Detail, What};
 use crate::json::device_tree;
 use bep_blocks::blocks;
-use bep_json::record_value;
+use bep_json::{Members, record_value};
 use bep_record::{Block, BlockSize, Kind, Node, Record};
-use serde_json::{Value, json};
+use serde_json::Value;
 use std::alloc::{AllocError, Global};
 
 /// A tree for each of these, as a list.
@@ -18,22 +18,32 @@ pub(crate) fn trees_of(alloc: Global, details: &[Detail<'_>]) -> Result<Value, A
 }
 
 fn tree_of(alloc: Global, detail: &Detail<'_>) -> Result<Value, AllocError> {
-    let (what, device) = (word_of(detail.what), device_tree(detail.device));
-    if detail.what == What::Store {
-        let node = node_or_null(alloc, detail.node)?;
-        return json!(in alloc; {"device": device, "node": node, "what": what});
-    }
-    let record = record_or_null(alloc, detail.record)?;
+    let members = Members::new(alloc)
+        .with("device", device_tree(detail.device))?
+        .with_text("what", word_of(detail.what))?;
+    let members = match detail.what {
+        What::Store => with_node(alloc, members, detail.node)?,
+        _ => with_record(alloc, members, detail)?,
+    };
+    Ok(members.into_value())
+}
+
+fn with_node(alloc: Global, members: Members, node: Option<&Node>) -> Result<Members, AllocError> {
+    let tree = node_or_null(alloc, node)?;
+    members.with("node", tree)
+}
+
+// These with the record, and with the device from which it is, where that is another one.
+fn with_record(
+    alloc: Global,
+    members: Members,
+    detail: &Detail<'_>,
+) -> Result<Members, AllocError> {
+    let tree = record_or_null(alloc, detail.record)?;
+    let members = members.with("record", tree)?;
     match detail.from {
-        None => json!(in alloc; {"device": device, "record": record, "what": what}),
-        Some(from) => {
-            json!(in alloc; {
-                "device": device,
-                "from": from.number(),
-                "record": record,
-                "what": what
-            })
-        }
+        Some(from) => members.with_number("from", from.number()),
+        None => Ok(members),
     }
 }
 
@@ -71,18 +81,18 @@ fn node_tree(alloc: Global, node: &Node) -> Result<Value, AllocError> {
         Kind::File => hashes_of(alloc, bytes)?,
         Kind::Directory | Kind::Symlink => Value::Array(Vec::new(alloc)),
     };
-    json!(in alloc; {
-        "blocks": hashes,
-        "modified_ns": parts.modified_ns,
-        "modified_s": parts.modified_s,
-        "size": bytes.len() as u64,
-        "target": parts.target.as_str(),
-        "type": number_of(parts.kind)
-    })
+    let members = Members::new(alloc)
+        .with("blocks", hashes)?
+        .with_number("modified_ns", u64::from(parts.modified_ns))?
+        .with_signed("modified_s", parts.modified_s)?
+        .with_number("size", bytes.len() as u64)?
+        .with_text("target", parts.target.as_str())?
+        .with_number("type", number_of(parts.kind))?;
+    Ok(members.into_value())
 }
 
 // The number of a kind (BEP v1, 'FileInfo').
-fn number_of(kind: Kind) -> u32 {
+fn number_of(kind: Kind) -> u64 {
     match kind {
         Kind::File => 0,
         Kind::Directory => 1,
