@@ -28,12 +28,13 @@ fn tree_of(alloc: Global, detail: &Detail<'_>) -> Result<Value, AllocError> {
     Ok(members.into_value())
 }
 
+// The members so far with the node, null where there is none.
 fn with_node(alloc: Global, members: Members, node: Option<&Node>) -> Result<Members, AllocError> {
     let tree = node_or_null(alloc, node)?;
     members.with("node", tree)
 }
 
-// These with the record, and with the device from which it is, where that is another one.
+// The members so far with the record, and with the device from which it is, where that is another one.
 fn with_record(
     alloc: Global,
     members: Members,

@@ -1,6 +1,6 @@
 -- What the parser finds in words at which nothing is at fault: the program's subcommand.
-use Rattle.std.proofs.Common.{◌≡◌, ◌⊎◌, inl, inr, ℕ, Bool, true, false, cond, not, ◌&&◌, List, [], ◌∷◌, Option, None, Some, IfSome, fold, find, option_map, is_some, codes, refl, sym, ap, subst, ◌∙◌}
-use Rattle.clap.specs.Words.{App, HasMatchesOf, Rule, Shape, Text, fault_of, subcommand_name_of, subcommand_rows_of, is_simple, subcommand_of, is_simple_and_free}
+use Rattle.std.proofs.Common.{◌≡◌, ◌⊎◌, inl, inr, ℕ, Bool, true, false, cond, not, ◌&&◌, List, [], ◌∷◌, Option, None, Some, IfSome, fold, find, option_map, is_some, codes, refl, sym, ap, ap₂, subst, ◌∙◌, ◌||◌}
+use Rattle.clap.specs.Words.{AddsArg, App, HasMatchesOf, Rule, Shape, Text, fault_of, subcommand_name_of, subcommand_rows_of, is_simple, subcommand_of, is_simple_and_free, rule_of, with_rule}
 use Rattle.clap.specs.Lexer.{long_of}
 use Rattle.clap.specs.Facts.{explicit_source}
 use Rattle.clap.specs.Takes.{is_given}
@@ -10,11 +10,20 @@ use Rattle.clap.specs.declared.error.kind.ErrorKind.TheVariants.{DisplayHelp, In
 use Rattle.clap.specs.Simple.{built, names_of, argument_words, entered}
 use Rattle.clap.specs.Walk.{Held, Names, Outcome, Step, Waiting, Walk, after_flag, after_step, arg_by_index, answers_to, finished, settled, Row, long_or_other, nothing_held, plain_word, short_or_plain, subcommand_met, subcommand_or_other, to_positional, walk, walk_from, walked, walked_from, word_met, next, trailing, subcommand, value, idle, option, positional, done, waits, plain, refused}
 use Rattle.clap.specs.Faults.{check_fault, defaults_fault, entered_fault, level_fault, other_fault, settle_fault, turn_fault, walk_fault, word_fault}
+use Rattle.clap.specs.declared.builder.arg.Arg.{Arg}
+use Rattle.clap.specs.declared.builder.command.Command.{Command}
 use Rattle.clap.specs.declared.parser.matches.ArgMatches.{ArgMatches}
 use Rattle.clap.specs.declared.parser.matches.ArgMatches.TheViews.{out-ArgMatches}
-use Rattle.syncaudit.specs.Mode.{Asks, ending_of, form_of, program}
+use Rattle.syncaudit.specs.Mode.{Asks, IsCommand, ending_of, form_of, program}
 use Rattle.syncaudit.specs.declared.mode.Mode.{Mode}
 use Rattle.syncaudit.specs.declared.mode.Mode.TheVariants.{Check, Certify, Explain, Run}
+
+-- a command that takes a flag of its own
+pub flagged : (app : App) (rule : Rule) (before made : Command) (arg : Arg) → IsCommand app before → rule_of arg ≡ rule → arg.global ≡ false → AddsArg before arg made → IsCommand (with_rule app rule) made
+flagged app rule before made arg is takes local added = record {
+  shape = added.shape local ∙ ap₂ with_rule is.shape takes;
+  local = added.globals ∙ ap₂ (λ x y. x || y) is.local local;
+}
 
 -- a parse of the program's words in which nothing is at fault
 pub no_fault : (app : App) (words : List Text) → app ≡ program → (is_simple_and_free app ≡ true → fault_of app words ≡ []) → fault_of program words ≡ []

@@ -37,7 +37,7 @@ program =
     let explain = with_subcommand certify explain_app.top in
     with_subcommand explain run_app.top
 
--- a command of this shape, none of whose words its subcommands take too
+-- a command of this shape, none of whose flags its subcommands take too
 pub record IsCommand (app : App) (command : Command) : Type 0 where
   pub shape : app_of command ≡ app
   pub local : (fields_of command).has_globals ≡ false
