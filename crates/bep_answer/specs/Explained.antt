@@ -16,8 +16,8 @@ use Rattle.bep_explain.specs.Found.{AreFailures, verdict_of}
 use Rattle.bep_explain.specs.Annotated.{Annotated, IsJsonLine, device_tree, explanation_tree, failures_in}
 use Rattle.bep_explain.specs.Told.{Told, failures_of, explanation_text}
 use Rattle.bep_answer.specs.Answer.{fault_text, outcome_of}
-use Rattle.bep_answer.specs.declared.outcome.Form.{Form}
-use Rattle.bep_answer.specs.declared.outcome.Form.TheVariants.{Text, Json}
+use Rattle.bep_report.specs.declared.form.Form.{Form}
+use Rattle.bep_report.specs.declared.form.Form.TheVariants.{Text, Json}
 use Rattle.bep_answer.specs.declared.outcome.Outcome.{Outcome}
 use Rattle.bep_answer.specs.declared.outcome.Outcome.TheVariants as outcomes
 

@@ -9,7 +9,7 @@ use Rattle.bep_answer.specs.Explained.{IsExplainedOfBytes}
 use Rattle.bep_answer.specs.Played.{IsEndOfBytes, IsRunOfBytes}
 use Rattle.bep_answer.specs.declared.outcome.Certified.{Certified}
 use Rattle.bep_answer.specs.declared.outcome.Certified.TheVariants as certificates
-use Rattle.bep_answer.specs.declared.outcome.Form.{Form}
+use Rattle.bep_report.specs.declared.form.Form.{Form}
 use Rattle.bep_answer.specs.declared.outcome.Outcome.{Outcome}
 use Rattle.bep_answer.specs.declared.outcome.Outcome.TheVariants.{Settled, NotSettled, Refused}
 

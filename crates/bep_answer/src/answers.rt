@@ -5,14 +5,14 @@ ghost use Rattle.bep_answer.specs.Certified.{IsCertifiedOfBytes};
 ghost use Rattle.bep_answer.specs.Exchange.{IsEndedEarly, IsWhole};
 ghost use Rattle.bep_answer.specs.Explained.{IsExplainedOfBytes};
 ghost use Rattle.bep_answer.specs.Played.{EndsSettled, IsEndOfBytes, IsRunOfBytes};
-ghost use Rattle.bep_answer.specs.declared.outcome.Form.TheVariants.{Text};
+ghost use Rattle.bep_report.specs.declared.form.Form.TheVariants.{Text};
 ghost use Rattle.bep_answer.specs.declared.outcome.Outcome.TheVariants as outcomes;
 
 use crate::exchange::{Hinted, exchange};
-use crate::outcome::{Certified, Form, Outcome};
+use crate::outcome::{Certified, Outcome};
 use crate::questions::{AuditOf, CertificateOf};
 use bep_machine::{settled_stays_put, settled_stays_settled};
-use bep_report::ReportError;
+use bep_report::{Form, ReportError};
 use std::alloc::Global;
 use std::io::{Read, Write};
 

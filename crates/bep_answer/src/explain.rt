@@ -7,11 +7,12 @@ ghost use Rattle.bep_answer.specs.Explained.{IsExplainedOfBytes, IsExplanation};
 
 use crate::exchange::Answer;
 use crate::json::explain_in_json;
-use crate::outcome::{Form, Outcome};
+use crate::outcome::Outcome;
 use crate::refusal::refusal_in;
 use bep_audit::Certificate;
 use bep_explain::{Explained, explain, explanation};
 use bep_hints::{Expected, hint_at};
+use bep_report::Form;
 use bep_tables::{Cut, DocError, read_check};
 use std::alloc::{AllocError, Global};
 

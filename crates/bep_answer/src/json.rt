@@ -5,7 +5,7 @@ ghost use Rattle.bep_explain.specs.Annotated.{IsJsonLine, annotated_of, failures
 ghost use Rattle.bep_explain.specs.Found.{verdict_of};
 ghost use Rattle.bep_answer.specs.Answer.{outcome_of};
 ghost use Rattle.bep_answer.specs.Explained.{IsExplanation, refusal_tree, text_tree};
-ghost use Rattle.bep_answer.specs.declared.outcome.Form.TheVariants.{Json};
+ghost use Rattle.bep_report.specs.declared.form.Form.TheVariants.{Json};
 
 use crate::outcome::Outcome;
 use bep_audit::Certificate;

@@ -34,7 +34,7 @@ pub use answers::{
     run_text,
 };
 pub use exchange::Hinted;
-pub use outcome::{Certified, Form, Outcome};
+pub use outcome::{Certified, Outcome};
 pub use status::{USAGE, certified_status_of, status_of};
 pub use told::{
     certify_and_tell, check_and_tell, end, explain_and_tell, run_and_tell, run_document_and_tell,

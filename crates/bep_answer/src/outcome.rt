@@ -21,12 +21,3 @@ pub enum Certified {
     /// The document couldn't be read as a cut.
     Refused,
 }
-
-/// The form in which an explanation is written.
-#[derive(Clone, Copy, Debug, PartialEq, Eq)]
-pub enum Form {
-    /// Lines for a person.
-    Text,
-    /// One JSON document on a line.
-    Json,
-}

@@ -2,8 +2,9 @@
 ghost use Rattle.bep_answer.specs.Asked.{IsAuditAnswer, IsCertificateAnswer};
 
 use crate::exchange::{Answer, Question};
-use crate::outcome::{Certified, Form, Outcome};
+use crate::outcome::{Certified, Outcome};
 use crate::{certify, check, document, explain, run};
+use bep_report::Form;
 use std::alloc::{AllocError, Global};
 
 /// Whether a cut is settled, and what is written of that.

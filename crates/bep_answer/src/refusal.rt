@@ -5,8 +5,8 @@ ghost use Rattle.bep_answer.specs.Explained.{IsRefusal};
 ghost use Rattle.bep_answer.specs.declared.outcome.Outcome.TheVariants as outcomes;
 
 use crate::json::refusal_json;
-use crate::outcome::{Form, Outcome};
-use bep_report::push_refused;
+use crate::outcome::Outcome;
+use bep_report::{Form, push_refused};
 use bep_tables::DocFault;
 use std::alloc::{AllocError, Global};
 

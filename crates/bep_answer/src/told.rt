@@ -6,9 +6,9 @@ ghost use Rattle.bep_answer.specs.Status.{IsCertificateTold, IsEndTold, IsExplan
 ghost use Rattle.bep_answer.specs.Status as spec;
 
 use crate::answers::{certified, checked, explained, ran, run_document};
-use crate::outcome::{Certified, Form, Outcome};
+use crate::outcome::{Certified, Outcome};
 use crate::status::{certified_status_of, status_of};
-use bep_report::ReportError;
+use bep_report::{Form, ReportError};
 use std::io::{Read, Write};
 
 /// Audits a document as `checked` does, tells the hint or why there is no answer on standard error, and answers the exit

@@ -9,6 +9,7 @@
 
 mod certificate;
 mod error;
+mod form;
 mod input;
 mod lines;
 mod output;
@@ -19,6 +20,7 @@ mod written;
 
 pub use certificate::push_certificate;
 pub use error::ReportError;
+pub use form::Form;
 pub use input::read_document;
 pub use lines::{
     push_failure, push_folder, push_not_settled, push_refused, push_settled, push_step,

@@ -1,2 +1,1 @@
-pub mod ModeFacts
 pub mod StatusFacts

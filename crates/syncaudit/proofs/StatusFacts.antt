@@ -4,12 +4,11 @@ use Rattle.std.proofs.KnownBytes.{Keeps-refl}
 use Rattle.bep_answer.specs.Status.{status_of}
 use Rattle.bep_report.specs.declared.error.ReportError.TheVariants.{Memory}
 use Rattle.clap.specs.Words.{Text, fault_of}
-use Rattle.syncaudit.specs.Mode.{program}
+use Rattle.bep_words.specs.Mode.{FaultlessWordsAsk, program}
 use Rattle.syncaudit.specs.Status.{IsDone, IsFollowed}
-use Rattle.syncaudit.specs.declared.mode.Ending.TheVariants.{Report, Document}
-use Rattle.syncaudit.specs.declared.mode.Mode.{Mode}
-use Rattle.syncaudit.specs.declared.mode.Mode.TheVariants.{Check, Certify, Explain, Run}
-use Rattle.syncaudit.proofs.ModeFacts.{asked_mode}
+use Rattle.bep_words.specs.declared.mode.Ending.TheVariants.{Report, Document}
+use Rattle.bep_words.specs.declared.mode.Mode.{Mode}
+use Rattle.bep_words.specs.declared.mode.Mode.TheVariants.{Check, Certify, Explain, Run}
 
 done_without_memory : (mode : Mode) (unread held : Option (List ℕ)) (status : ℕ) → status ≡ status_of (Err Memory) → IsDone mode unread unread held held status
 done_without_memory Check unread held status told = record { answer = Err Memory; told = told; done = Keeps-refl held }
@@ -19,8 +18,8 @@ done_without_memory (Run Report) unread held status told = record { answer = Err
 done_without_memory (Run Document) unread held status told = record { answer = Err Memory; told = told; done = Keeps-refl held }
 
 -- words at which nothing is at fault are followed, also where memory ran out first
-pub followed_without_memory : (words : List Text) (unread held : Option (List ℕ)) (status : ℕ) → status ≡ status_of (Err Memory) → fault_of program words ≡ []
+pub followed_without_memory : FaultlessWordsAsk → (words : List Text) (unread held : Option (List ℕ)) (status : ℕ) → status ≡ status_of (Err Memory) → fault_of program words ≡ []
     → IsFollowed words unread unread held held status
-followed_without_memory words unread held status told none =
-    let asked = asked_mode words none in
+followed_without_memory ask words unread held status told none =
+    let asked = ask words none in
     (asked.0, asked.1, done_without_memory asked.0 unread held status told)

@@ -4,11 +4,11 @@ use Rattle.std.specs.Io.KnownBytes.{Keeps}
 use Rattle.bep_answer.specs.Status.{IsCertificateTold, IsEndTold, IsExplanationTold, IsRunTold, IsTold, status_of, usage}
 use Rattle.bep_report.specs.declared.error.ReportError.TheVariants.{Memory}
 use Rattle.clap.specs.Words.{Text}
-use Rattle.syncaudit.specs.Mode.{Asks}
-use Rattle.syncaudit.specs.declared.mode.Ending.{Ending}
-use Rattle.syncaudit.specs.declared.mode.Ending.TheVariants.{Report, Document}
-use Rattle.syncaudit.specs.declared.mode.Mode.{Mode}
-use Rattle.syncaudit.specs.declared.mode.Mode.TheVariants.{Check, Certify, Explain, Run}
+use Rattle.bep_words.specs.Mode.{Asks}
+use Rattle.bep_words.specs.declared.mode.Ending.{Ending}
+use Rattle.bep_words.specs.declared.mode.Ending.TheVariants.{Report, Document}
+use Rattle.bep_words.specs.declared.mode.Mode.{Mode}
+use Rattle.bep_words.specs.declared.mode.Mode.TheVariants.{Check, Certify, Explain, Run}
 
 -- what came of a scenario for each ending that is asked for
 abbrev pub IsEnding : Ending → Option (List ℕ) → Option (List ℕ) → Option (List ℕ) → Option (List ℕ) → ℕ → Type 0

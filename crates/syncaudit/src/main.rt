@@ -1,15 +1,15 @@
 //! `syncaudit`: says whether a Syncthing cluster is settled, and why not, at first or in full; and makes the certificate that this rests on.
 #![tactic(auto)]
 
-mod mode;
 mod run;
 
 use crate::run::{run, run_without_words, words_of};
 pub use bep_answer::{
-    Certified, Form, Outcome, certified_status_of, certify_text, check_text, explain_text,
-    run_document, run_text, status_of,
+    Certified, Outcome, certified_status_of, certify_text, check_text, explain_text, run_document,
+    run_text, status_of,
 };
-pub use mode::{Ending, Mode, mode_of};
+pub use bep_report::Form;
+pub use bep_words::{Ending, Mode, mode_of};
 use std::process::ExitCode;
 
 fn main(rt: HostRuntime) -> ExitCode {

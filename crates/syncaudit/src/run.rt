@@ -4,18 +4,18 @@ ghost use Rattle.clap.specs.Words.{fault_of};
 ghost use Rattle.bep_answer.specs.Answer.{SaysSettled};
 ghost use Rattle.bep_answer.specs.Played.{EndsSettled};
 ghost use Rattle.bep_report.specs.declared.error.ReportError.TheVariants.{Memory};
-ghost use Rattle.syncaudit.specs.Mode.{Asks, program};
+ghost use Rattle.bep_words.specs.Mode.{Asks, program};
 ghost use Rattle.bep_answer.specs.Status.{status_of, usage};
 ghost use Rattle.syncaudit.specs.Status.{IsEnd, IsEnding, IsFollowed};
-ghost use Rattle.syncaudit.specs.declared.mode.Ending.TheVariants.{Report};
-ghost use Rattle.syncaudit.specs.declared.mode.Mode.TheVariants.{Check, Run};
+ghost use Rattle.bep_words.specs.declared.mode.Ending.TheVariants.{Report};
+ghost use Rattle.bep_words.specs.declared.mode.Mode.TheVariants.{Check, Run};
 
-use crate::mode::{Ending, Mode, mode_of};
 use bep_answer::{
     USAGE, certify_and_tell, check_and_tell, end, explain_and_tell, run_and_tell,
     run_document_and_tell,
 };
 use bep_report::ReportError;
+use bep_words::{Ending, Mode, faultless_words_ask, mode_of};
 use clap::error::ErrorKind;
 use std::convert::AsStr;
 use std::env::{self, Env};
@@ -40,6 +40,7 @@ pub fn run<P: AllocGlobal + Eprint, R: Read, W: Write, S: AsStr>(
     ensures ends_settled { Asks (map S.text words.entry.now) (Run Report)
         → result ≡ 0 → EndsSettled (R.remaining reader.old) (R.remaining reader.new) }
 {
+    faultless_words_ask();
     match mode_of(rt.alloc(), words) {
         Ok(Mode::Check) => check_and_tell(rt, reader, writer),
         Ok(Mode::Certify) => certify_and_tell(rt, reader, writer),

@@ -1,9 +1,9 @@
 //! What the words of the command line ask for.
 ghost use Rattle.std.specs.Prelude.{◌≡◌, IfOk, false, map};
 ghost use Rattle.clap.specs.Words.{FailsBy, app_of, fault_of, first_value, found_of, new_app, rule_of, subcommand_rows_of};
-ghost use Rattle.syncaudit.specs.Mode.{Asks, IsCommand, ending_of, explain_app, flag, form_of, is_set, is_true, program, run_app, top_level};
+ghost use Rattle.bep_words.specs.Mode.{Asks, FaultlessWordsAsk, IsCommand, ending_of, explain_app, flag, form_of, is_set, is_true, program, run_app, top_level};
 
-use bep_answer::Form;
+use bep_report::Form;
 use clap::{Arg, ArgAction, ArgMatches, Command, Error};
 use std::alloc::{AllocError, Global};
 use std::convert::AsStr;
@@ -176,6 +176,11 @@ pub fn mode_of<'a, S: AsStr>(alloc: Global, words: &'a [S]) -> Result<Mode, Erro
         _ => unreachable!(),
     }
 }
+
+/// Words in which clap finds nothing at fault ask for a mode.
+pub fn faultless_words_ask()
+    ensures { FaultlessWordsAsk }
+{}
 
 // The form that the subcommand's words ask for.
 fn form_of(matches: &ArgMatches<'_>) -> Form

@@ -14,9 +14,9 @@ use Rattle.clap.specs.declared.builder.arg.Arg.{Arg}
 use Rattle.clap.specs.declared.builder.command.Command.{Command}
 use Rattle.clap.specs.declared.parser.matches.ArgMatches.{ArgMatches}
 use Rattle.clap.specs.declared.parser.matches.ArgMatches.TheViews.{out-ArgMatches}
-use Rattle.syncaudit.specs.Mode.{Asks, IsCommand, ending_of, form_of, program}
-use Rattle.syncaudit.specs.declared.mode.Mode.{Mode}
-use Rattle.syncaudit.specs.declared.mode.Mode.TheVariants.{Check, Certify, Explain, Run}
+use Rattle.bep_words.specs.Mode.{Asks, IsCommand, ending_of, form_of, program}
+use Rattle.bep_words.specs.declared.mode.Mode.{Mode}
+use Rattle.bep_words.specs.declared.mode.Mode.TheVariants.{Check, Certify, Explain, Run}
 
 -- a command that takes a flag of its own
 pub flagged : (app : App) (rule : Rule) (before made : Command) (arg : Arg) → IsCommand app before → rule_of arg ≡ rule → arg.global ≡ false → AddsArg before arg made → IsCommand (with_rule app rule) made

@@ -1,8 +1,8 @@
 use Rattle.std.proofs.Common.{option_map, sym, ap, ◌∙◌}
 use Rattle.clap.proofs.WalkLemmas.{first_value-rows}
 use Rattle.clap.specs.Words.{found_of, rows_of}
-use Rattle.syncaudit.specs.Mode.{is_set_under, is_true}
-use Rattle.syncaudit.proofs.mode.is_set.Goals as goal
+use Rattle.bep_words.specs.Mode.{is_set_under, is_true}
+use Rattle.bep_words.proofs.mode.is_set.Goals as goal
 
 pub returns-in-Some : goal.returns-in-Some
 returns-in-Some c =

@@ -1,8 +1,8 @@
 use Rattle.std.proofs.Common.{◌≡◌, inl, inr, Some, option_map, codes, sym, ap, subst, ◌∙◌, rules}
-use Rattle.syncaudit.specs.Mode.{ending_of, form_of}
-use Rattle.syncaudit.proofs.ModeFacts.{no_fault, name_told, rows_told, tells_mode, NamesMode, not_named}
-use Rattle.syncaudit.proofs.mode.mode_of.Goals as goal
-use Rattle.syncaudit.proofs.mode.mode_of.Goals.{in_default-via-in-Some+in_default, in_default-via-in_default}
+use Rattle.bep_words.specs.Mode.{ending_of, form_of}
+use Rattle.bep_words.proofs.ModeFacts.{no_fault, name_told, rows_told, tells_mode, NamesMode, not_named}
+use Rattle.bep_words.proofs.mode.mode_of.Goals as goal
+use Rattle.bep_words.proofs.mode.mode_of.Goals.{in_default-via-in-Some+in_default, in_default-via-in_default}
 
 pub returns-in-Some-check-clause-faults : goal.returns-in-Some-check-clause-faults
 returns-in-Some-check-clause-faults g c = no_fault _ _ c.in_ok-command.ensures c.in_ok-matches.ensures.kinds

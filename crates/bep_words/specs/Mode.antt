@@ -1,16 +1,16 @@
 -- What words ask the program for.
-use Rattle.std.specs.Prelude.{◌≡◌, Bool, List, Option, Some, None, true, false, option_map, codes, if◌then◌else◌}
+use Rattle.std.specs.Prelude.{◌≡◌, Bool, List, [], Option, Some, None, true, false, option_map, codes, if◌then◌else◌}
 use Rattle.std.specs.Str.{bytes_eq}
-use Rattle.clap.specs.Words.{App, Row, Rule, Text, app_of, first_of, new_app, new_rule, with_rule, with_subcommand, subcommand_of}
+use Rattle.clap.specs.Words.{App, Row, Rule, Text, app_of, fault_of, first_of, new_app, new_rule, with_rule, with_subcommand, subcommand_of}
 use Rattle.clap.specs.declared.builder.action.ArgAction.TheVariants.{SetTrue}
 use Rattle.clap.specs.declared.builder.command.Command.{Command}
 use Rattle.clap.specs.declared.builder.command.Command.TheViews.{out-Command as fields_of}
-use Rattle.bep_answer.specs.declared.outcome.Form.{Form}
-use Rattle.bep_answer.specs.declared.outcome.Form.TheVariants as forms
-use Rattle.syncaudit.specs.declared.mode.Ending.{Ending}
-use Rattle.syncaudit.specs.declared.mode.Ending.TheVariants.{Report, Document}
-use Rattle.syncaudit.specs.declared.mode.Mode.{Mode}
-use Rattle.syncaudit.specs.declared.mode.Mode.TheVariants.{Check, Certify, Explain, Run}
+use Rattle.bep_report.specs.declared.form.Form.{Form}
+use Rattle.bep_report.specs.declared.form.Form.TheVariants as forms
+use Rattle.bep_words.specs.declared.mode.Ending.{Ending}
+use Rattle.bep_words.specs.declared.mode.Ending.TheVariants.{Report, Document}
+use Rattle.bep_words.specs.declared.mode.Mode.{Mode}
+use Rattle.bep_words.specs.declared.mode.Mode.TheVariants.{Check, Certify, Explain, Run}
 
 -- the program's own level: it has a version, and wants a subcommand
 abbrev pub top_level : App
@@ -74,3 +74,7 @@ Asks words Check = named words ≡ Some (codes "check")
 Asks words Certify = named words ≡ Some (codes "certify")
 Asks words (Explain form) = (named words ≡ Some (codes "explain")) × (form ≡ form_of (subcommand_of program words))
 Asks words (Run ending) = (named words ≡ Some (codes "run")) × (ending ≡ ending_of (subcommand_of program words))
+
+-- words in which nothing is at fault ask for some mode
+abbrev pub FaultlessWordsAsk : Type 0
+FaultlessWordsAsk = (words : List Text) → fault_of program words ≡ [] → (mode : Mode) × Asks words mode

@@ -1,0 +1,16 @@
+//! What the words of the command line ask the program for.
+//!
+//! The program's one use of clap stands apart from what is done of the words, so that neither waits for the other to be
+//! proved:
+//!
+//!     match mode_of(alloc, &words)? {
+//!         Mode::Check => ..,
+//!         Mode::Certify => ..,
+//!         Mode::Explain(form) => ..,
+//!         Mode::Run(ending) => ..,
+//!     }
+#![tactic(auto)]
+
+mod mode;
+
+pub use mode::{Ending, Mode, faultless_words_ask, mode_of};
