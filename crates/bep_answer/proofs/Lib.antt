@@ -1,3 +1,1 @@
 mod SettledSaid
-mod PlayFacts
-mod SettledEnd

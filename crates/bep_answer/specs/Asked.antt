@@ -1,23 +1,12 @@
 -- What each question of a document says of the answer.
 use Rattle.std.specs.Prelude.{ℕ, List}
-use Rattle.bep_answer.specs.declared.outcome.Certified.{Certified}
 use Rattle.bep_answer.specs.declared.outcome.Outcome.{Outcome}
 use Rattle.bep_answer.specs.declared.questions.AuditOf.{AuditOf}
 use Rattle.bep_answer.specs.declared.questions.AuditOf.TheVariants as audits
-use Rattle.bep_answer.specs.declared.questions.CertificateOf.{CertificateOf}
-use Rattle.bep_answer.specs.declared.questions.CertificateOf.TheVariants as certificates
 use Rattle.bep_answer.specs.Answer.{IsAnswerOfBytes}
-use Rattle.bep_answer.specs.Certified.{IsCertifiedOfBytes}
 use Rattle.bep_answer.specs.Explained.{IsExplainedOfBytes}
-use Rattle.bep_answer.specs.Played.{IsEndOfBytes, IsRunOfBytes}
 
 -- whether a cut is settled is answered
 abbrev pub IsAuditAnswer : AuditOf → List ℕ → Outcome → List ℕ → Type 0
 IsAuditAnswer audits.Cut = IsAnswerOfBytes
 IsAuditAnswer (audits.Reasons form) = IsExplainedOfBytes form
-IsAuditAnswer audits.Run = IsRunOfBytes
-
--- a certificate is answered
-abbrev pub IsCertificateAnswer : CertificateOf → List ℕ → Certified → List ℕ → Type 0
-IsCertificateAnswer certificates.Cut = IsCertifiedOfBytes
-IsCertificateAnswer certificates.Run = IsEndOfBytes

@@ -3,5 +3,4 @@ pub mod Asked
 pub mod Certified
 pub mod Exchange
 pub mod Explained
-pub mod Played
 pub mod Status

@@ -6,7 +6,6 @@ use Rattle.bep_answer.specs.Answer.{IsAnswerOfBytes}
 use Rattle.bep_answer.specs.Certified.{IsCertifiedOfBytes}
 use Rattle.bep_answer.specs.Exchange.{IsEndedEarly, IsWhole}
 use Rattle.bep_answer.specs.Explained.{IsExplainedOfBytes}
-use Rattle.bep_answer.specs.Played.{IsEndOfBytes, IsRunOfBytes}
 use Rattle.bep_answer.specs.declared.outcome.Certified.{Certified}
 use Rattle.bep_answer.specs.declared.outcome.Certified.TheVariants as certificates
 use Rattle.bep_report.specs.declared.form.Form.{Form}
@@ -52,11 +51,3 @@ IsCertificateTold = IsToldAs IsCertifiedOfBytes certified_status_of
 -- all that fails was written, or the document refused
 abbrev pub IsExplanationTold : Form → Option (List ℕ) → Option (List ℕ) → Option (List ℕ) → Option (List ℕ) → ℕ → Type 0
 IsExplanationTold form = IsToldAs (IsExplainedOfBytes form) status_of
-
--- a scenario was run or refused
-abbrev pub IsRunTold : Option (List ℕ) → Option (List ℕ) → Option (List ℕ) → Option (List ℕ) → ℕ → Type 0
-IsRunTold = IsToldAs IsRunOfBytes status_of
-
--- the document of a scenario's end was written or the scenario refused
-abbrev pub IsEndTold : Option (List ℕ) → Option (List ℕ) → Option (List ℕ) → Option (List ℕ) → ℕ → Type 0
-IsEndTold = IsToldAs IsEndOfBytes certified_status_of

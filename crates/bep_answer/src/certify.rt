@@ -10,9 +10,9 @@ ghost use Rattle.bep_tables.specs.document.Written.{check_of};
 ghost use Rattle.bep_report.specs.Lines.{verdict_line};
 ghost use Rattle.bep_answer.specs.Certified.{IsCertificate, IsCertifiedOfBytes, document_text};
 
-use crate::exchange::Answer;
+use crate::exchanging::Answer;
 use crate::outcome::Certified;
-use crate::refusal::fault_line;
+use crate::refusing::fault_line;
 use bep_audit::{Certificate, CertifyError, certify};
 use bep_hints::{Expected, hint_at};
 use bep_model::Reason;
@@ -26,7 +26,7 @@ pub(crate) fn answer_to(alloc: Global, bytes: &[u8]) -> Result<Answer<Certified>
     ensures { IfOk result (λ told. IsCertifiedOfBytes bytes.now told.0.0 told.0.1.items) }
 {
     match read_cut(alloc, bytes) {
-        Ok(cut) => Ok((answer_for(alloc, &cut)?, None)),
+        Ok(cut) => Ok((certify_cut(alloc, &cut)?, None)),
         Err(DocError::Refused(fault)) => {
             let refused = (Certified::Refused, fault_line(alloc, &fault)?);
             Ok((refused, hint_at(alloc, bytes, Expected::Cut)))
@@ -36,7 +36,7 @@ pub(crate) fn answer_to(alloc: Global, bytes: &[u8]) -> Result<Answer<Certified>
 }
 
 /// The outcome for a cut, and the text: its document with its certificate, or the line of a name without a winner.
-pub(crate) fn answer_for(alloc: Global, cut: &Cut) -> Result<(Certified, Vec<u8>), AllocError>
+pub fn certify_cut(alloc: Global, cut: &Cut) -> Result<(Certified, Vec<u8>), AllocError>
     ensures { IfOk result (λ answer. IsCertificate cut.now answer.0 answer.1.items) }
 {
     match certify(alloc, cut) {

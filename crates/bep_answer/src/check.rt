@@ -5,9 +5,9 @@ ghost use Rattle.bep_answer.specs.Answer.{IsAnswerOfBytes, IsReport};
 ghost use Rattle.bep_audit.specs.Shown.{verdict_shown};
 ghost use Rattle.bep_answer.specs.Answer as spec;
 
-use crate::exchange::Answer;
+use crate::exchanging::Answer;
 use crate::outcome::Outcome;
-use crate::refusal::refusal;
+use crate::refusing::refusal;
 use bep_audit::{Certificate, Verdict, check};
 use bep_hints::{Expected, hint_at};
 use bep_report::push_report;
@@ -57,7 +57,7 @@ fn report_of(
 }
 
 /// The outcome of a verdict.
-pub(crate) fn outcome_of(verdict: &Verdict<'_>) -> Outcome
+pub fn outcome_of(verdict: &Verdict<'_>) -> Outcome
     ensures { result ≡ spec.outcome_of (verdict_shown verdict.now) }
 {
     match *verdict {

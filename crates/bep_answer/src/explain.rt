@@ -5,10 +5,10 @@ ghost use Rattle.bep_explain.specs.Told.{failures_of, told_of};
 ghost use Rattle.bep_answer.specs.Answer.{outcome_of};
 ghost use Rattle.bep_answer.specs.Explained.{IsExplainedOfBytes, IsExplanation};
 
-use crate::exchange::Answer;
+use crate::exchanging::Answer;
 use crate::json::explain_in_json;
 use crate::outcome::Outcome;
-use crate::refusal::refusal_in;
+use crate::refusing::refusal_in;
 use bep_audit::Certificate;
 use bep_explain::{Explained, explain, explanation};
 use bep_hints::{Expected, hint_at};

@@ -8,34 +8,28 @@
 //!         Outcome::Refused => ..,
 //!     }
 //!
-//! `checked`, `certified` and `explained` do the same, and say where a refused document is at fault. `run_text`, `ran`
-//! and `run_document` answer to a scenario. `check_and_tell` and the like tell that on standard error, and answer the
-//! exit status.
+//! `certify_text` writes the document with its certificate, `explain_text` all that fails. `checked`, `certified` and
+//! `explained` are these with a hint on where a refused document is at fault; `check_and_tell` and the like tell that on
+//! standard error, and answer the exit status. `exchange` answers whatever question, for those who ask more of a document.
 #![tactic(auto)]
 
 mod answers;
 mod certify;
 mod check;
-mod document;
-mod ending;
-mod exchange;
+mod exchanging;
 mod explain;
 mod json;
 mod outcome;
-mod play;
 mod questions;
-mod refusal;
-mod run;
+mod refusing;
 mod status;
 mod told;
 
-pub use answers::{
-    certified, certify_text, check_text, checked, explain_text, explained, ran, run_document,
-    run_text,
-};
-pub use exchange::Hinted;
+pub use answers::{certified, certify_text, check_text, checked, explain_text, explained};
+pub use certify::certify_cut;
+pub use check::outcome_of;
+pub use exchanging::{Answer, Hinted, Question, exchange};
 pub use outcome::{Certified, Outcome};
+pub use refusing::{fault_line, refusal};
 pub use status::{USAGE, certified_status_of, status_of};
-pub use told::{
-    certify_and_tell, check_and_tell, end, explain_and_tell, run_and_tell, run_document_and_tell,
-};
+pub use told::{certify_and_tell, check_and_tell, end, end_certified, explain_and_tell, tell};

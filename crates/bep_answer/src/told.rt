@@ -1,11 +1,10 @@
 //! What is told on standard error beside an answer, and the exit status that says which answer it was.
 ghost use Rattle.std.specs.Prelude.{◌≡◌};
 ghost use Rattle.bep_answer.specs.Answer.{SaysSettled};
-ghost use Rattle.bep_answer.specs.Played.{EndsSettled};
-ghost use Rattle.bep_answer.specs.Status.{IsCertificateTold, IsEndTold, IsExplanationTold, IsRunTold, IsTold};
+ghost use Rattle.bep_answer.specs.Status.{IsCertificateTold, IsExplanationTold, IsTold};
 ghost use Rattle.bep_answer.specs.Status as spec;
 
-use crate::answers::{certified, checked, explained, ran, run_document};
+use crate::answers::{certified, checked, explained};
 use crate::outcome::{Certified, Outcome};
 use crate::status::{certified_status_of, status_of};
 use bep_report::{Form, ReportError};
@@ -65,43 +64,9 @@ pub fn explain_and_tell<P: AllocGlobal + Eprint, R: Read, W: Write>(
     }
 }
 
-/// The same for the audit of where a scenario's steps lead, as `ran` makes it.
-pub fn run_and_tell<P: AllocGlobal + Eprint, R: Read, W: Write>(
-    rt: &P,
-    reader: &mut R,
-    writer: &mut W,
-) -> u8
-    ensures told { IsRunTold (R.remaining reader.old) (R.remaining reader.new) (W.contents writer.old) (W.contents writer.new) result }
-    ensures settled { result ≡ 0 → EndsSettled (R.remaining reader.old) (R.remaining reader.new) }
-{
-    match ran(rt.alloc(), reader, writer) {
-        Ok((outcome, hint)) => {
-            tell(rt, hint);
-            end(rt, Ok(outcome))
-        }
-        Err(error) => end(rt, Err(error)),
-    }
-}
-
-/// The same for the document of where a scenario's steps lead, as `run_document` makes it; the refused steps are told.
-pub fn run_document_and_tell<P: AllocGlobal + Eprint, R: Read, W: Write>(
-    rt: &P,
-    reader: &mut R,
-    writer: &mut W,
-) -> u8
-    ensures { IsEndTold (R.remaining reader.old) (R.remaining reader.new) (W.contents writer.old) (W.contents writer.new) result }
-{
-    match run_document(rt.alloc(), reader, writer) {
-        Ok((outcome, told)) => {
-            tell(rt, told);
-            end_certified(rt, Ok(outcome))
-        }
-        Err(error) => end_certified(rt, Err(error)),
-    }
-}
-
-// Tells what was answered beside an outcome: where a refused document is at fault, or which steps were refused.
-fn tell<P: Eprint>(rt: &P, told: Option<String>) {
+/// Tells what was answered beside an outcome, if there is anything: where a refused document is at fault, or which steps
+/// were refused.
+pub fn tell<P: Eprint>(rt: &P, told: Option<String>) {
     if let Some(told) = told {
         let _ = eprintln!(rt; "{told}");
     }
@@ -117,8 +82,8 @@ pub fn end<P: Eprint>(rt: &P, answer: Result<Outcome, ReportError>) -> u8
     status_of(answer)
 }
 
-// The same where a certificate was asked for.
-fn end_certified<P: Eprint>(rt: &P, answer: Result<Certified, ReportError>) -> u8
+/// The same where a certificate was asked for.
+pub fn end_certified<P: Eprint>(rt: &P, answer: Result<Certified, ReportError>) -> u8
     ensures { result ≡ spec.certified_status_of answer }
 {
     if let Err(error) = answer {

@@ -5,9 +5,9 @@ mod run;
 
 use crate::run::{run, run_without_words, words_of};
 pub use bep_answer::{
-    Certified, Outcome, certified_status_of, certify_text, check_text, explain_text, run_document,
-    run_text, status_of,
+    Certified, Outcome, certified_status_of, certify_text, check_text, explain_text, status_of,
 };
+pub use bep_play::{run_document, run_text};
 pub use bep_report::Form;
 pub use bep_words::{Ending, Mode, mode_of};
 use std::process::ExitCode;

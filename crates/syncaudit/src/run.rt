@@ -2,7 +2,7 @@
 ghost use Rattle.std.specs.Prelude.{◌≡◌, ◌⊎◌, [], Err, map};
 ghost use Rattle.clap.specs.Words.{fault_of};
 ghost use Rattle.bep_answer.specs.Answer.{SaysSettled};
-ghost use Rattle.bep_answer.specs.Played.{EndsSettled};
+ghost use Rattle.bep_play.specs.Played.{EndsSettled};
 ghost use Rattle.bep_report.specs.declared.error.ReportError.TheVariants.{Memory};
 ghost use Rattle.bep_words.specs.Mode.{Asks, program};
 ghost use Rattle.bep_answer.specs.Status.{status_of, usage};
@@ -10,10 +10,8 @@ ghost use Rattle.syncaudit.specs.Status.{IsEnd, IsEnding, IsFollowed};
 ghost use Rattle.bep_words.specs.declared.mode.Ending.TheVariants.{Report};
 ghost use Rattle.bep_words.specs.declared.mode.Mode.TheVariants.{Check, Run};
 
-use bep_answer::{
-    USAGE, certify_and_tell, check_and_tell, end, explain_and_tell, run_and_tell,
-    run_document_and_tell,
-};
+use bep_answer::{USAGE, certify_and_tell, check_and_tell, end, explain_and_tell};
+use bep_play::{run_and_tell, run_document_and_tell};
 use bep_report::ReportError;
 use bep_words::{Ending, Mode, faultless_words_ask, mode_of};
 use clap::error::ErrorKind;

@@ -1,6 +1,6 @@
 use Rattle.std.proofs.lemmas.Result.{IfOk-weaker}
-use Rattle.bep_answer.proofs.SettledEnd.{settled_end}
-use Rattle.bep_answer.proofs.answers.ran.Goals as goal
+use Rattle.bep_play.proofs.SettledEnd.{settled_end}
+use Rattle.bep_play.proofs.answers.ran.Goals as goal
 
 pub returns-clause-settled : goal.returns-clause-settled
 returns-clause-settled g c =

@@ -9,7 +9,7 @@ use Rattle.bep_machine.specs.Steps.{Event, IsRun, IsStep}
 use Rattle.bep_core.specs.declared.why.Why.{Why}
 use Rattle.bep_core.specs.declared.why.Why.TheVariants as whys
 use Rattle.bep_core.specs.Why.{Gives}
-use Rattle.bep_answer.specs.Played.{AreMade, AreSure, IsTold, answer_line, refused_lines}
+use Rattle.bep_play.specs.Played.{AreMade, AreSure, IsTold, answer_line, refused_lines}
 
 -- one step more
 run_on : (old : Cluster) (events : List Event) (now new : Cluster) (event : Event) → IsRun old events now → IsStep event.step event.failed now new event.answer → IsRun old (events ++ event ∷ []) new

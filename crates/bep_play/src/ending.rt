@@ -9,12 +9,10 @@ ghost use Rattle.bep_report.specs.Certificate.{certificate_lines};
 ghost use Rattle.bep_report.specs.Report.{report_text};
 ghost use Rattle.bep_tables.specs.Cut.{tables_of};
 ghost use Rattle.bep_answer.specs.Certified.{IsCertificate};
-ghost use Rattle.bep_answer.specs.Played.{IsAudited, IsEnd};
+ghost use Rattle.bep_play.specs.Played.{IsAudited, IsEnd};
 ghost use Rattle.bep_answer.specs.declared.outcome.Outcome.TheVariants as outcomes;
 
-use crate::certify::answer_for;
-use crate::check::outcome_of;
-use crate::outcome::{Certified, Outcome};
+use bep_answer::{Certified, Outcome, certify_cut, outcome_of};
 use bep_audit::{Certificate, CertifyError, Verdict, certify, check};
 use bep_core::Cluster;
 use bep_cut::{clusters_are_parts, cut_of};
@@ -45,7 +43,7 @@ pub(crate) fn document_of_end(
     ensures { IfOk result (λ answer. IsCertificate (cut_at cluster.members cluster.links) answer.0 answer.1.items) }
 {
     let cut = end_of(alloc, cluster)?;
-    answer_for(alloc, &cut)
+    certify_cut(alloc, &cut)
 }
 
 // The cluster's cut.

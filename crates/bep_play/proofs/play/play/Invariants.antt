@@ -1,6 +1,6 @@
 use Rattle.bep_core.specs.Network.{cluster_of}
-use Rattle.bep_answer.proofs.PlayFacts.{LeadsSoFar}
-use Rattle.bep_answer.proofs.play.play.Given as goal
+use Rattle.bep_play.proofs.PlayFacts.{LeadsSoFar}
+use Rattle.bep_play.proofs.play.play.Given as goal
 
 -- the steps so far, with those that are left, are all of them
 abbrev pub invariant-loop-step : goal.invariant-loop-step

@@ -1,13 +1,11 @@
 //! A scenario's run.
 ghost use Rattle.std.specs.Prelude.{IfOk};
 ghost use Rattle.bep_scenario.specs.Scenario.{said};
-ghost use Rattle.bep_answer.specs.Played.{IsPlayed, IsRunOfBytes};
+ghost use Rattle.bep_play.specs.Played.{IsPlayed, IsRunOfBytes};
 
 use crate::ending::report_on_end;
-use crate::exchange::Answer;
-use crate::outcome::Outcome;
 use crate::play::play;
-use crate::refusal::refusal;
+use bep_answer::{Answer, Outcome, refusal};
 use bep_core::Cluster;
 use bep_hints::{Expected, hint_at};
 use bep_scenario::{Scenario, read_scenario};

@@ -11,10 +11,10 @@ use std::io::{Read, Write};
 pub type Hinted<T> = (T, Option<String>);
 
 /// An outcome and the text for it, and what is told beside them.
-pub(crate) type Answer<T> = Hinted<(T, Vec<u8>)>;
+pub type Answer<T> = Hinted<(T, Vec<u8>)>;
 
 /// What can be asked of a document, whose answer is an outcome and a text.
-pub(crate) trait Question<T: Drop>: Drop {
+pub trait Question<T: Drop>: Drop {
     /// That this is the answer to these bytes.
     ghost says: { Self → List ℕ → T → List ℕ → Type 0 };
 
@@ -24,7 +24,7 @@ pub(crate) trait Question<T: Drop>: Drop {
 }
 
 /// Reads a document, and writes the text of its answer. What is told beside it is for the caller to write.
-pub(crate) fn exchange<T: Drop, Q: Question<T>, R: Read, W: Write>(
+pub fn exchange<T: Drop, Q: Question<T>, R: Read, W: Write>(
     alloc: Global,
     question: Q,
     reader: &mut R,

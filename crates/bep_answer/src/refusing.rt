@@ -11,7 +11,7 @@ use bep_tables::DocFault;
 use std::alloc::{AllocError, Global};
 
 /// That the document is refused, and the fault's line.
-pub(crate) fn refusal(alloc: Global, fault: &DocFault) -> Result<(Outcome, Vec<u8>), AllocError>
+pub fn refusal(alloc: Global, fault: &DocFault) -> Result<(Outcome, Vec<u8>), AllocError>
     ensures { IfOk result (λ answer. (answer.0 ≡ outcomes.Refused) × (answer.1.items ≡ fault_text fault.now)) }
 {
     let text = fault_line(alloc, fault)?;
@@ -33,7 +33,7 @@ pub(crate) fn refusal_in(
 }
 
 /// The line of a fault.
-pub(crate) fn fault_line(alloc: Global, fault: &DocFault) -> Result<Vec<u8>, AllocError>
+pub fn fault_line(alloc: Global, fault: &DocFault) -> Result<Vec<u8>, AllocError>
     ensures { IfOk result (λ text. text.items ≡ fault_text fault.now) }
 {
     let mut text = Vec::new(alloc);

@@ -1,7 +1,7 @@
 //! The steps of a scenario, made one after another.
 ghost use Rattle.std.specs.Prelude.{IfOk, OnOk};
 ghost use Rattle.bep_core.specs.Network.{cluster_of};
-ghost use Rattle.bep_answer.specs.Played.{IsTold, Leads};
+ghost use Rattle.bep_play.specs.Played.{IsTold, Leads};
 
 use bep_core::{Cluster, Why};
 use bep_machine::{Moved, Step};

@@ -1,13 +1,11 @@
 //! The check document of a scenario's end.
 ghost use Rattle.std.specs.Prelude.{IfOk};
 ghost use Rattle.bep_scenario.specs.Scenario.{said};
-ghost use Rattle.bep_answer.specs.Played.{IsEndOfBytes, IsPlayedTo};
+ghost use Rattle.bep_play.specs.Played.{IsEndOfBytes, IsPlayedTo};
 
 use crate::ending::document_of_end;
-use crate::exchange::Answer;
-use crate::outcome::Certified;
 use crate::play::play;
-use crate::refusal::fault_line;
+use bep_answer::{Answer, Certified, fault_line};
 use bep_core::Cluster;
 use bep_hints::{Expected, hint_at};
 use bep_scenario::{Scenario, read_scenario};

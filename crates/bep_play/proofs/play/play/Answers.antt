@@ -2,8 +2,8 @@ use Rattle.std.proofs.Common.{rules, ◌≡◌, ◌∷◌, List, refl, subst}
 use Rattle.bep_core.specs.Applying.{failed_by}
 use Rattle.bep_core.specs.Network.{cluster_of}
 use Rattle.bep_machine.specs.declared.step.Step.{Step}
-use Rattle.bep_answer.proofs.PlayFacts.{LeadsSoFar, leads_on}
-use Rattle.bep_answer.proofs.play.play.Goals as goal
+use Rattle.bep_play.proofs.PlayFacts.{LeadsSoFar, leads_on}
+use Rattle.bep_play.proofs.play.play.Goals as goal
 
 pub loop-step-preserved : goal.loop-step-preserved
 loop-step-preserved c =

@@ -1,0 +1,2 @@
+mod PlayFacts
+mod SettledEnd
