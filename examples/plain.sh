@@ -1,0 +1,65 @@
+#!/usr/bin/env bash
+# plain.sh PROGRAM PLAIN: runs the plain checker on each document that run.sh and pieces.sh have the program audit, and
+# compares its report with the program's; of a document that is refused it writes none. The last line is 'N passed, M failed'.
+set -euo pipefail
+program=$(readlink -m "$1")
+plain=$(readlink -m "$2")
+cd "$(dirname "$0")"
+passed=0
+failed=0
+work=$(mktemp -d)
+trap 'rm -rf "$work"' EXIT
+
+for built in "$program" "$plain"; do
+  if [ ! -x "$built" ]; then
+    echo "plain: there is no program $built"
+    echo "0 passed, 1 failed"
+    exit 1
+  fi
+done
+
+# The program in its place, which keeps each document that it is to audit.
+mkdir "$work/documents"
+cat > "$work/keeper" << END
+#!/usr/bin/env bash
+if [ "\$*" = check ]; then
+  cat > "$work/\$\$"
+  exec < "$work/\$\$"
+  mv "$work/\$\$" "$work/documents/\$(sha256sum < "$work/\$\$" | cut -c 1-64)"
+fi
+exec "$program" "\$@"
+END
+chmod +x "$work/keeper"
+./run.sh "$work/keeper" > /dev/null &
+running=$!
+./pieces.sh "$work/keeper" > /dev/null || true
+wait "$running" || true
+
+# report NAME COMMAND..: keeps what is written of the document on standard input under that name, and its status.
+report() {
+  local name=$1
+  shift
+  status=0
+  "$@" > "$work/$name" 2> /dev/null || status=$?
+}
+
+for document in "$work/documents"/*; do
+  report walked "$program" check < "$document"
+  walked=$status
+  report plainly "$plain" < "$document"
+  if { [ "$walked" = 2 ] && [ "$status" = 2 ] && [ ! -s "$work/plainly" ]; } ||
+    { [ "$walked" -lt 2 ] && [ "$status" = 0 ] && cmp -s "$work/walked" "$work/plainly"; }; then
+    passed=$((passed + 1))
+  else
+    failed=$((failed + 1))
+    echo "plain: of a document that begins '$(head -c 300 "$document" | tr -d '\0\n')' the plain checker tells" \
+      "'$(head -c 200 "$work/plainly")' with status $status, and the program '$(head -c 200 "$work/walked")'"
+  fi
+done
+
+if [ "$passed" = 0 ]; then
+  failed=$((failed + 1))
+  echo "plain: no document was compared"
+fi
+echo "$passed passed, $failed failed"
+[ "$failed" = 0 ]
