@@ -217,7 +217,7 @@ builds_once() {
 
 # Of two runs one builds, which here ends once the other one waits for it.
 outdate
-export MEANWHILE="for _ in 1 2 3 4 5 6 7 8 9; do grep -q waiting $work/one.error $work/two.error && break; sleep 0.1; done"
+export MEANWHILE="left=50; until grep -q waiting $work/one.error $work/two.error || [ \$left = 0 ]; do sleep 0.1; left=\$((left - 1)); done"
 start one
 first=$started
 start two
