@@ -1,7 +1,8 @@
 #!/usr/bin/env bash
 # edits.sh [--fit] [CRATE..]: tries the wrong bodies in edits/ that the gate has no time for, of these crates or of all, on a
-# copy of the repository: the prover must refuse each. With --fit it only says whether each still fits its file, in which
-# the text that it changes must stand once, and tries none. The last line is 'N passed, M failed'.
+# clone of the repository, in which what isn't committed would be missing: the prover must refuse each. With --fit it only
+# says whether each still fits its file as it stands, in which the text that it changes must stand once, and tries none.
+# The last line is 'N passed, M failed'.
 set -euo pipefail
 cd "$(dirname "$0")/.."
 fit=false
@@ -15,16 +16,26 @@ else
   crates=("$@")
 fi
 
-# fits CRATE EDIT: whether each text that the edit changes stands once in its file.
+# fits CRATE EDIT: whether the edit changes some text, and each that it changes stands once in its file.
 fits() {
-  local line file=''
+  local line file='' changes=0
   while IFS= read -r line; do
     case $line in
       "file: "*) file=crates/$1/${line#file: } ;;
-      "old: "*) [ "$(grep -cF -- "${line#old: }" "$file")" = 1 ] || return 1 ;;
+      "old: "*)
+        [ "$(grep -cF -- "${line#old: }" "$file")" = 1 ] || return 1
+        changes=$((changes + 1))
+        ;;
     esac
   done < "$2"
+  [ "$changes" -gt 0 ]
 }
+
+if ! $fit && [ -n "$(git status --porcelain -- HANDLES crates.txt crates)" ]; then
+  echo "edits: crates/ has changes that aren't committed, and edits are tried on a clone: commit them first"
+  echo "0 passed, 1 failed"
+  exit 1
+fi
 
 passed=0
 failed=0

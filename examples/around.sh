@@ -145,28 +145,32 @@ expect "the script says something of a program that is up to date: $(cat "$work/
 
 # ---- the script ./syncaudit with a command that builds
 
-# A stand-in for 'rt', which notes where it was called and as what: it proves each crate that stands there, and builds a
-# program that says its words; a crate named 'stuck' is proved by nobody.
+# A stand-in for 'rt', which notes where it was called and as what: it proves each crate that stands there, does what
+# MEANWHILE says, and builds a program that says its words, and whether the script's lock is free by then; a crate named
+# 'stuck' is proved by nobody.
 cat > "$work/tools/rt" << 'END'
 #!/bin/sh
 echo "${PWD##*/top/} rt $*" >> "$NOTED"
 case $1 in
-  all) for crate in crates/*; do
+  all)
+    for crate in crates/*; do
       [ "${crate#crates/}" != stuck ] || exit 1
       mkdir -p "$crate/out"
       echo "== ${crate#crates/}"
-    done ;;
+    done
+    eval "${MEANWHILE:-}"
+    ;;
   run)
-    printf '#!/bin/sh\necho "built: $@"\n' > out/syncaudit
+    printf '#!/bin/sh\necho "built: $@"\nflock -n "$LOCKED" cat /dev/null && echo unlocked || true\n' > out/syncaudit
     chmod +x out/syncaudit
     ;;
 esac
 END
 chmod +x "$work/tools/rt"
-for tool in awk basename cat cp grep mkdir mktemp mv nproc rm sh tail tee touch wc chmod; do
+for tool in awk basename cat cp flock grep mkdir mktemp mv nproc rm sh sleep tail tee touch wc chmod; do
   ln -sf "$(command -v "$tool")" "$work/tools/$tool"
 done
-export NOTED=$work/noted
+export NOTED=$work/noted LOCKED=$work/top/out/lock
 printf 'apart: thiserror\nlow:\nsyncaudit: clap low\n' > "$work/top/crates.txt"
 echo 'Handles allowed: none.' > "$work/top/HANDLES"
 mkdir -p "$work/top/crates/low/src" "$work/top/crates/low/out" "$work/top/crates/apart/src"
@@ -190,6 +194,99 @@ expect "the script loses what was built where a proof fails" [ -e "$work/top/cra
 expect "the script leaves a copy where a proof fails" [ ! -e "$work/top/out/program" ]
 rm -r "$work/top/crates/stuck"
 
+# ---- what comes between while it builds
+
+printf 'low:\nsyncaudit: clap low\n' > "$work/top/crates.txt"
+
+# Makes the program older than its sources, and forgets what was noted.
+outdate() {
+  touch -d '2 days ago' "$work/top/crates/syncaudit/out/syncaudit"
+  : > "$NOTED"
+}
+
+# start NAME: runs the script beside this one, keeps what it writes under that name, and its process in 'started'.
+start() {
+  PATH=$work/tools "$work/top/syncaudit" "$1" > "$work/$1.output" 2> "$work/$1.error" &
+  started=$!
+}
+
+# builds_once: the crates were proved once since the program was outdated.
+builds_once() {
+  [ "$(grep -c 'rt all' "$NOTED")" = 1 ]
+}
+
+# Of two runs one builds, which here ends once the other one waits for it.
+outdate
+export MEANWHILE="left=50; until grep -q waiting $work/one.error $work/two.error || [ \$left = 0 ]; do sleep 0.1; left=\$((left - 1)); done"
+start one
+first=$started
+start two
+wait "$first" "$started" || true
+expect "of two runs the first doesn't run the program: $(cat "$work/one.error")" says 'built: one' "$work/one.output"
+expect "of two runs the second doesn't run the program: $(cat "$work/two.error")" says 'built: two' "$work/two.output"
+expect "of two runs not one alone builds: $(cat "$NOTED")" builds_once
+expect "neither of two runs says that it waits" grep -q waiting "$work/one.error" "$work/two.error"
+
+# Neither the program nor what outlives the script keeps the lock.
+outdate
+MEANWHILE="sleep 60 > $work/outlives 2>&1 & echo \$! > $work/outliving"
+script check it
+expect "the program, or what outlives the script, keeps its lock: $(cat "$work/error")" says unlocked "$work/output"
+kill "$(cat "$work/outliving")"
+
+# A run that is ended waits for what it ends, which may write till then.
+outdate
+MEANWHILE="trap '' PIPE; trap 'sleep 0.3; touch crates/low/out/late; exit 1' TERM; touch $work/proving; sleep 5"
+start ended
+for _ in {1..50}; do
+  [ ! -e "$work/proving" ] || break
+  sleep 0.1
+done
+kill "$started"
+wait "$started" || true
+expect "the script doesn't wait for what it ends" [ -e "$work/top/crates/low/out/late" ]
+expect "the script leaves a copy where it is ended" [ ! -e "$work/top/out/program" ]
+
+# A source that is saved while the program is built is built by the next run, and by that one alone.
+outdate
+MEANWHILE="touch $work/top/crates/low/src/lib.rt"
+script check it
+MEANWHILE=
+: > "$NOTED"
+script check it
+expect "what is saved while the program is built isn't built by the next run" builds_once
+script check it
+expect "a program that is up to date is built again: $(cat "$NOTED")" builds_once
+
+# It proves as many crates side by side as there are processors, here four, each with 3 GB of memory that is free.
+awk=$(readlink -f "$work/tools/awk")
+rm "$work/tools/awk" "$work/tools/nproc"
+cat > "$work/tools/awk" << END
+#!/bin/sh
+for word; do
+  shift
+  [ "\$word" != /proc/meminfo ] || word=$work/meminfo
+  set -- "\$@" "\$word"
+done
+exec $awk "\$@"
+END
+printf '#!/bin/sh\necho 4\n' > "$work/tools/nproc"
+chmod +x "$work/tools/awk" "$work/tools/nproc"
+for row in '2 1' '5 1' '7 2' '14 4' '60 4'; do
+  outdate
+  echo "MemAvailable: ${row% *}000000 kB" > "$work/meminfo"
+  script check it
+  expect "with ${row% *} GB free the script doesn't prove ${row#* } crates side by side: $(cat "$NOTED")" \
+    says "rt all check --jobs ${row#* }" "$NOTED"
+done
+
+# Without the command that locks it builds all the same.
+rm "$work/tools/flock"
+outdate
+script check it
+expect "without flock the script doesn't build" says 'built: check it' "$work/output"
+expect "without flock the script doesn't say that there is no lock" says "no lock without 'flock'" "$work/error"
+
 # ---- the script ./install
 
 mkdir -p "$work/top/docs"
@@ -197,10 +294,13 @@ cp install "$work/top"
 cp docs/DOCUMENTS.md docs/*.schema.json docs/syncaudit.1 "$work/top/docs"
 cp -r completions "$work/top"
 printf '#!/bin/sh\nexit 3\n' > "$work/top/crates/syncaudit/out/syncaudit"
-"$work/top/install" "$work/prefix" > "$work/output" || echo "around: install has status $?"
+status=0
+"$work/top/install" "$work/prefix" > "$work/output" || status=$?
+expect "install has status $status" [ "$status" = 0 ]
 for file in bin/syncaudit share/man/man1/syncaudit.1 share/bash-completion/completions/syncaudit \
   share/zsh/site-functions/_syncaudit share/fish/vendor_completions.d/syncaudit.fish \
-  share/doc/syncaudit/DOCUMENTS.md share/doc/syncaudit/check-document.schema.json; do
+  share/doc/syncaudit/DOCUMENTS.md share/doc/syncaudit/check-document.schema.json \
+  share/doc/syncaudit/explanation.schema.json share/doc/syncaudit/scenario.schema.json; do
   expect "install puts no $file below its prefix" [ -f "$work/prefix/$file" ]
   expect "install doesn't say that it puts $file" says "$work/prefix/$file" "$work/output"
 done

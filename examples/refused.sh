@@ -12,12 +12,14 @@ failed=0
 work=$(mktemp -d)
 trap 'rm -rf "$work"' EXIT
 
-if ! command -v cc > /dev/null 2>&1; then
-  echo "refused: calls aren't refused; missing: cc"
-  echo "0 passed, 0 failed"
-  exit 0
+# Where nothing can be refused that is a failure: what else would say that it wasn't tried is one line among many.
+compiler=$(command -v cc || command -v clang || command -v gcc || true)
+if [ -z "$compiler" ]; then
+  echo "refused: no call was refused, since there is no C compiler: neither cc nor clang nor gcc is on PATH"
+  echo "0 passed, 1 failed"
+  exit 1
 fi
-cc -O1 -shared -fPIC -o "$work/refuse.so" refusing/refuse.c -ldl
+"$compiler" -O1 -shared -fPIC -o "$work/refuse.so" refusing/refuse.c -ldl
 
 # run_refused KIND NUMBER DOCUMENT WORDS..: runs the program with that call refused, and keeps its status.
 run_refused() {
@@ -42,7 +44,8 @@ is_as_ever() {
   [ "$status" = "$ever" ] && cmp -s "$work/out" "$work/ever"
 }
 
-# refuse KIND STATUS DOCUMENT WORDS..: refuses the first, the second and each further call of the kind.
+# refuse KIND STATUS DOCUMENT WORDS..: refuses the first, the second and each further call of the kind, of which there must
+# be one.
 refuse() {
   local kind=$1 wanted=$2 document=$3 number=1
   shift 3
@@ -57,6 +60,10 @@ refuse() {
     fi
     number=$((number + 1))
   done
+  if [ "$number" = 1 ]; then
+    failed=$((failed + 1))
+    echo "refused: $* < $document: it has no $kind to refuse"
+  fi
 }
 
 # cut_off DOCUMENT WORDS..: refuses a writer that takes the first bytes alone, none, one and so on: these stand, and no more.
@@ -65,6 +72,10 @@ cut_off() {
   answer "$@"
   shift
   whole=$(wc -c < "$work/ever")
+  if [ "$whole" = 0 ]; then
+    failed=$((failed + 1))
+    echo "refused: $* < $document: it writes nothing that could be cut off"
+  fi
   for ((taken = 0; taken < whole; taken++)); do
     run_refused ROOM "$((taken + 1))" "$document" "$@"
     if [ "$status" = 5 ] && cmp -s "$work/out" <(head -c "$taken" "$work/ever"); then
