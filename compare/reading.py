@@ -188,7 +188,7 @@ def share(value):
 
 
 def message(value):
-    return {"folder": folder_name(value["folder"]), "records": records(value["records"], 1000)}
+    return {"folder": folder_name(value["folder"]), "full": value["full"], "records": records(value["records"], 1000)}
 
 
 def messages(values):
@@ -338,8 +338,8 @@ def find_bad_link(read):
             raise Fault(189, None, one["a"], None)
 
 
-def read_check(document):
-    value = tree(document)
+def read_tree(value):
+    """What the tree of a check document says, or the fault for which it is refused."""
     if not isinstance(value, dict) or not is_whole(value.get("version")) or value["version"] != 1:
         raise Fault(182)
     if not IS_CHECK(value):
@@ -348,6 +348,16 @@ def read_check(document):
     for find in (find_twice_in, find_unshared, find_bad_record, find_bad_sequence, find_bad_link):
         find(read)
     return read
+
+
+def read_check(document):
+    return read_tree(tree(document))
+
+
+def read_cut(document):
+    """What a check document says of its cut, whatever certificate stands there or none; the list of rows is empty."""
+    value = tree(document)
+    return read_tree(value | {"certificate": []} if isinstance(value, dict) else value)
 
 
 # ---- the verdict
@@ -551,11 +561,21 @@ def refusal(fault):
     return [line], 2
 
 
-def answer(document, told=report):
-    """What `syncaudit check` should write for the document, and its exit status; told `explanation`, what `syncaudit
-    explain` should write but for what is indented."""
-    try:
-        lines, status = told(read_check(document))
-    except Fault as fault:
-        lines, status = refusal(fault)
+def written(lines, status):
+    """The bytes of these lines, and the exit status."""
     return b"".join(line + b"\n" for line in lines), status
+
+
+def answers(document):
+    """What `syncaudit check` should write for the document, and its exit status; and what `syncaudit explain` should, but
+    for what is indented."""
+    try:
+        read = read_check(document)
+    except Fault as fault:
+        return (written(*refusal(fault)),) * 2
+    return written(*report(read)), written(*explanation(read))
+
+
+def answer(document):
+    """What `syncaudit check` should write, and its exit status."""
+    return answers(document)[0]
