@@ -31,6 +31,10 @@ RAW = ["-0", "0", "1.0", "1e0", "1E+2", "1e3", "1.5e1", "15e-1", "-1e1", "1e400"
        '"a\\u0000b"', '"\\u00e9\\/"', '"\\q"', '"\\u12"', '"\0"', '"\x1f"', '"\x7f"', "//", "/* */ 1", "# 1", "[1,]",
        "[,]", "[1 2]", '{"a":1,}', '{"a" 1}', "{1:2}", '{"a":1,"a":2}', '{"\\ud83d":1}', '{"a":[1e400]}', "", " 1 ",
        "\t1\r\n", "\x0c1", "\u00a01"]
+# Members whose values are of one sort.
+SORTS = [("device", "of", "a", "b", "modified_by"), ("folder",), ("name",), ("sequence", "max", "epoch", "index_id"), ("up",),
+         ("deleted", "invalid", "full"), ("type",), ("records", "own", "pulls"), ("store",), ("to_a", "to_b"), ("version",),
+         ("record",)]
 TEXT_MEMBERS = ("name", "target", "folder", "text", "hex")
 BEFORE = [b"\xef\xbb\xbf", b"\xff\xfe", b" \t\r\n", b"\0", b",", b"[", b"//\n", b"\x0c"]
 AFTER = [b"\0", b" \t\r\n", b"x", b"}", b"]", b",", b"{}", b"1", b"// end", b"\x1a", b"\xff", b"\xc2\xa0"]
@@ -152,6 +156,8 @@ class Documents:
     def with_mistake(self, document):
         """The document with a mistake at a random place."""
         made = copy.deepcopy(document)
+        if self.happens(0.2) and self.borrow(made):
+            return made
         mistake, members = self.random.choices([(self.spoil, None), (self.rename, TEXT_MEMBERS), (self.write_raw, None),
                                                 (self.write_twice, str), (self.nest, None)], [12, 2, 2, 2, 1])[0]
         paths = list(self.places(made))
@@ -160,11 +166,18 @@ class Documents:
         if members is str:
             paths = [path for path in paths if isinstance(path[-1], str)]
         path = self.random.choice(paths)
-        holder = made
-        for key in path[:-1]:
-            holder = holder[key]
-        mistake(holder, path[-1], len(path))
+        mistake(holder_of(made, path), path[-1], len(path))
         return made
+
+    def borrow(self, made):
+        """Gives a member the value of another one of its sort, if there are two."""
+        sort = self.random.choice(SORTS)
+        paths = [path for path in self.places(made) if path[-1] in sort]
+        if len(paths) < 2:
+            return False
+        here, there = ((holder_of(made, path), path[-1]) for path in self.random.sample(paths, 2))
+        here[0][here[1]] = copy.deepcopy(there[0][there[1]])
+        return True
 
     def spoil(self, holder, key, _depth):
         """Takes a value away, makes it another, or puts one beside it."""
@@ -241,6 +254,13 @@ class Documents:
             document = self.with_mistake(document)
         made = self.written(document)
         return self.with_slip(made) if self.happens(0.04) else made
+
+
+def holder_of(value, path):
+    """What the last step of the path leads from."""
+    for key in path[:-1]:
+        value = value[key]
+    return value
 
 
 def is_number(value):
