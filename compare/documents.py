@@ -118,6 +118,8 @@ class Documents:
                     if up and (names or self.happens(0.05)):
                         names = names or list(sharing)
                         link |= {"to_a": self.messages(names, base), "to_b": self.messages(names, base)}
+                    if self.happens(0.02):
+                        link |= self.random.choice([{"a": b, "b": a}, {"b": a}, {"b": 9}, {"up": False}])
                     made.append(link)
         self.random.shuffle(made)
         return made
