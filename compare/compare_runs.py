@@ -8,7 +8,6 @@ is something to do; one of ten has a mistake made somewhere. The program must be
 run. `compare/compare_runs.py 1 NUMBER` makes that one again.
 """
 
-import json
 import random
 import subprocess
 import sys
@@ -19,7 +18,8 @@ from cluster.core import Cluster, Config
 from cluster.record import Kind, Node
 from cluster.step import (Announce, Ask, Begin, Connect, Deliver, Edit, Finish, Lose, Override, Remove, Restart, Revert,
                           Scan, StartPull, Step)
-from compare import PROGRAM, Documents
+from compare import PROGRAM
+from documents import Documents
 from runs import Walk
 from settled import Making, random_config
 
@@ -70,7 +70,7 @@ def random_document(number: int) -> bytes:
                 "steps": list(map(step_value, random_steps(making, config)))}
     if making.happens(0.1):
         document = Documents(number).with_mistake(document)
-    return json.dumps(document, ensure_ascii=making.happens(0.5)).encode()
+    return Documents(number).written(document)
 
 
 def main() -> None:

@@ -2,10 +2,11 @@
 in specs/, for comparing the program's answers with."""
 
 import hashlib
-import json
+
+import json_text
+from json_text import U64
 
 MOST_BYTES = 67108864
-U64 = 2**64 - 1
 I63 = 2**63 - 1
 BLOCK = 131072
 NOTHING = hashlib.sha256(b"").digest()
@@ -22,28 +23,13 @@ class Fault(Exception):
         self.place = place
 
 
-class OtherNumber:
-    """A number with a fraction or an exponent, -0, or one beyond 64 bits."""
-
-
-# ---- the tree
-
-def whole_number(digits):
-    number = int(digits)
-    return OtherNumber() if digits == "-0" or not -(2**63) <= number <= U64 else number
-
-
-def refuse_constant(word):
-    raise ValueError(word)
-
-
 def tree(document):
+    """The value that a document's bytes are; of a longer document nothing else is looked at."""
     if len(document) > MOST_BYTES:
         raise Fault(184)
     try:
-        return json.loads(document.decode("utf-8"), parse_int=whole_number, parse_float=lambda _: OtherNumber(),
-                          parse_constant=refuse_constant)
-    except (ValueError, RecursionError):
+        return json_text.value_of(document)
+    except json_text.NotJson:
         raise Fault(181) from None
 
 
@@ -202,7 +188,7 @@ def share(value):
 
 
 def message(value):
-    return {"folder": folder_name(value["folder"]), "records": records(value["records"], 1000)}
+    return {"folder": folder_name(value["folder"]), "full": value["full"], "records": records(value["records"], 1000)}
 
 
 def messages(values):
@@ -352,8 +338,8 @@ def find_bad_link(read):
             raise Fault(189, None, one["a"], None)
 
 
-def read_check(document):
-    value = tree(document)
+def read_tree(value):
+    """What the tree of a check document says, or the fault for which it is refused."""
     if not isinstance(value, dict) or not is_whole(value.get("version")) or value["version"] != 1:
         raise Fault(182)
     if not IS_CHECK(value):
@@ -362,6 +348,16 @@ def read_check(document):
     for find in (find_twice_in, find_unshared, find_bad_record, find_bad_sequence, find_bad_link):
         find(read)
     return read
+
+
+def read_check(document):
+    return read_tree(tree(document))
+
+
+def read_cut(document):
+    """What a check document says of its cut, whatever certificate stands there or none; the list of rows is empty."""
+    value = tree(document)
+    return read_tree(value | {"certificate": []} if isinstance(value, dict) else value)
 
 
 # ---- the verdict
@@ -416,6 +412,14 @@ def choice(chooser, candidates):
     return min(left, key=rank, default=None)
 
 
+def by_name(entries):
+    """Lists of records, by their name."""
+    made = {}
+    for entry in entries:
+        made.setdefault(entry["name"], []).append(entry)
+    return made
+
+
 class Device:
     """What a device has of a folder."""
 
@@ -423,12 +427,13 @@ class Device:
         self.number = one["device"]
         self.own = {entry["name"]: entry for entry in one["own"]}
         self.store = {item["name"]: item for item in one["store"]}
-        self.viewed = [entry for item in one["views"] for entry in item["records"]]
-        self.pulls = one["pulls"]
-        self.coming = []
+        self.viewed = by_name(entry for item in one["views"] for entry in item["records"])
+        self.pulls = by_name(one["pulls"])
+        self.coming = by_name(())
 
     def known(self):
-        foreign = self.viewed + self.coming + self.pulls
+        foreign = [entry for part in (self.viewed, self.coming, self.pulls) for entries in part.values()
+                   for entry in entries]
         return set(self.own) | set(self.store) | {entry["name"] for entry in foreign if not entry["invalid"]}
 
     def is_harmless(self, entry, wanted):
@@ -436,8 +441,8 @@ class Device:
         return (entry["invalid"] or content(entry) == wanted
                 or (own is not None and is_below(entry["version"], own["version"])))
 
-    def are_harmless(self, entries, name, wanted):
-        return all(self.is_harmless(entry, wanted) for entry in entries if entry["name"] == name)
+    def are_harmless(self, part, name, wanted):
+        return all(self.is_harmless(entry, wanted) for entry in part.get(name, ()))
 
 
 DEVICE_REASONS = [
@@ -462,13 +467,17 @@ class Cut:
     def __init__(self, read):
         self.folders = {folder["folder"]: sorted(map(Device, folder["shares"]), key=lambda device: device.number)
                         for folder in sorted(read["folders"], key=lambda folder: folder["folder"])}
+        coming = {}
         for _, receiver, item in each_message(read):
-            for device in self.folders[item["folder"]]:
-                if device.number == receiver:
-                    device.coming += item["records"]
+            coming.setdefault((item["folder"], receiver), []).extend(item["records"])
+        for folder, devices in self.folders.items():
+            for device in devices:
+                device.coming = by_name(coming.get((folder, device.number), ()))
+        self.names = {folder: set().union(*(device.known() for device in devices))
+                      for folder, devices in self.folders.items()}
 
     def known(self, folder):
-        return set().union(*(device.known() for device in self.folders.get(folder, [])))
+        return self.names.get(folder, set())
 
     def winner(self, folder, name):
         devices = self.folders.get(folder, [])
@@ -481,9 +490,10 @@ class Cut:
         for before, key in zip(keys, keys[1:]):
             if not before < key:
                 return "CertificateOrder", *key, None
+        with_row = set(keys)
         for folder in self.folders:
             for name in sorted(self.known(folder)):
-                if (folder, name) not in keys:
+                if (folder, name) not in with_row:
                     return "NameMissing", folder, name, None
         for folder, name in keys:
             if name not in self.known(folder):
@@ -504,7 +514,7 @@ class Cut:
         orders = [key for before, key in zip(keys, keys[1:]) if not before < key]
         found = [("CertificateOrder", *key, None) for key in orders[:1]]
         found += [("NameMissing", folder, name, None) for folder in self.folders
-                  for name in self.known(folder) if (folder, name) not in keys]
+                  for name in self.known(folder) - {name for one, name in keys if one == folder}]
         for row, (folder, name) in zip(rows, keys):
             if name not in self.known(folder):
                 found.append(("NameUnknown", folder, name, None))
@@ -551,11 +561,21 @@ def refusal(fault):
     return [line], 2
 
 
-def answer(document, told=report):
-    """What `syncaudit check` should write for the document, and its exit status; told `explanation`, what `syncaudit
-    explain` should write but for what is indented."""
-    try:
-        lines, status = told(read_check(document))
-    except Fault as fault:
-        lines, status = refusal(fault)
+def written(lines, status):
+    """The bytes of these lines, and the exit status."""
     return b"".join(line + b"\n" for line in lines), status
+
+
+def answers(document):
+    """What `syncaudit check` should write for the document, and its exit status; and what `syncaudit explain` should, but
+    for what is indented."""
+    try:
+        read = read_check(document)
+    except Fault as fault:
+        return (written(*refusal(fault)),) * 2
+    return written(*report(read)), written(*explanation(read))
+
+
+def answer(document):
+    """What `syncaudit check` should write, and its exit status."""
+    return answers(document)[0]

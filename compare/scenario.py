@@ -172,7 +172,7 @@ def answer(document: bytes) -> tuple[bytes, int]:
         lines, status = run(*read_scenario(document))
     except Fault as fault:
         lines, status = reading.refusal(fault)
-    return b"".join(line + b"\n" for line in lines), status
+    return reading.written(lines, status)
 
 
 if __name__ == "__main__":

@@ -123,7 +123,7 @@ line_feed='{"name":"c","type":0,"modified_s":5,"modified_ns":8,"modified_by":2,"
 deleted='{"name":"d","type":1,"modified_s":5,"modified_by":2,"version":[[2,2]],"sequence":1,"deleted":true}'
 local_change='{"name":"c","type":1,"modified_s":5,"modified_by":7,"version":[[7,2]],"sequence":5,"invalid":true}'
 
-# A cut out of order, in which what has its default is left out; an empty view says as much as none.
+# A cut out of order, in which what has its default is left out; a view of index id 0 and sequence 0 says as much as none.
 told='{"cut":{"links":[
   {"b":7,"a":2,"epoch":3,"up":true,
     "to_b":[{"records":['"$deleted,$line_feed"'],"full":true,"folder":"docs"},{"folder":"docs","full":false,"records":[]}],

@@ -58,6 +58,7 @@ read | ,"max":9223372036854775807
 183 Shape | ,"device":-0
 183 Shape | ,"device":1.0
 183 Shape | ,"device":1e3
+183 Shape | ,"device":1.5e1
 183 Shape | ,"own":{}
 183 Shape | ,"own":[{}]
 183 Shape | ,"store":[{}]
@@ -66,6 +67,39 @@ read | ,"max":9223372036854775807
 184 Range | ,"index_id":0
 184 Range | ,"max":9223372036854775808
 END
+
+# A number too large for a float is no JSON, wherever it stands, in a member that is dropped too; one that a float holds is
+# of another kind.
+vast=$(printf '9%.0s' {1..310})
+held=1$(printf '0%.0s' {1..308})
+each_row "$begin$folder$device" "$end" << END
+181 NotJson | ,"device":1e400
+181 NotJson | ,"device":-1e400
+181 NotJson | ,"more":1e400
+181 NotJson | ,"device":1e400,"device":1
+181 NotJson | ,"device":$vast
+181 NotJson | ,"more":$vast
+181 NotJson | ,"device":$vast,"device":1
+183 Shape | ,"device":$held
+183 Shape | ,"more":1e3
+read | ,"device":1.5e1,"device":1
+read | ,"device":$held,"device":1
+END
+
+# So is half of a surrogate pair, and what nests too deep.
+each_row "$begin$folder$device" "$end" << 'END'
+181 NotJson | ,"kind":"\ud83d","kind":"send-only"
+181 NotJson | ,"kind":["\udc00"],"kind":"send-only"
+181 NotJson | ,"kind":{"\ud83d\ud83d\ude00":1},"kind":"send-only"
+read | ,"kind":"\ud83d\ude00","kind":"send-only"
+END
+
+# kinds DEPTH: what is told of a device whose kind is so many brackets first, and then one of the kinds. Six stand around them.
+kinds() {
+  answer <<< "$begin$folder$device,\"kind\":$(nested "$1"),\"kind\":\"send-only\"$end"
+}
+expect '127 brackets in a member that is dropped' 'read' "$(kinds 121)"
+expect '128 brackets in a member that is dropped' '181 NotJson' "$(kinds 122)"
 
 each_row "$begin$folder$device" "$device$end" << 'END'
 185 Twice docs 1 - | },
@@ -133,4 +167,6 @@ read | {"a":1,"b":3,"up":true,"epoch":9223372036854775807,"to_a":[],"to_b":[]}
 189 LinkBad - 1 - | {"a":1,"b":2,"epoch":0,"up":false,"to_b":[{"folder":"docs","full":true,"records":[]}]}
 186 Unshared other 1 - | {"a":1,"b":2,"epoch":0,"up":true,"to_a":[{"folder":"other","full":true,"records":[]}]}
 186 Unshared none 2 - | {"a":1,"b":2,"epoch":0,"up":true,"to_b":[{"folder":"none","full":true,"records":[]}]}
+186 Unshared docs 4 - | {"a":1,"b":4,"epoch":0,"up":true,"to_b":[{"folder":"docs","full":true,"records":[]}]}
+189 LinkBad - 1 - | {"a":1,"b":4,"epoch":0,"up":true,"to_b":[]}
 END
