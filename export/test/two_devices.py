@@ -89,19 +89,18 @@ class TwoDevices(Exporting):
         config = home / "config.xml"
         config.write_text(config.read_text().replace(f'path="{self.two.files}"', f'path="{files}"'))
         (files / "empty").unlink()
-        ran = subprocess.run([self.program, "--home", self.one.home, "--home", home, "--audit", "--syncaudit",
-                              self.auditor], capture_output=True, text=True)
+        ran = self.export_homes([self.one.home, home], "--audit", "--syncaudit", self.auditor)
         self.assertEqual((ran.returncode, ran.stdout.splitlines()[0]),
                          (1, self.fault("StoreDiffers", "empty", self.two)), ran.stderr)
         self.assertEqual(self.verdict(), "settled")
 
     def test_a_missing_home_is_refused(self):
-        ran = subprocess.run([self.program, "--home", self.one.home], capture_output=True, text=True)
+        ran = self.export_homes([self.one.home])
         self.assertEqual((ran.returncode, ran.stdout), (2, ""))
         self.assertIn(f"folder {FOLDER}, device {self.numbers[self.two.id]}, name -: it shares the folder", ran.stderr)
 
     def test_a_missing_home_is_left_out(self):
-        ran = subprocess.run([self.program, "--home", self.one.home, "--lenient"], capture_output=True, text=True)
+        ran = self.export_homes([self.one.home], "--lenient")
         self.assertIn("left out: 0 names, 1 devices, 0 folders", ran.stderr)
         share, = json.loads(ran.stdout)["cut"]["folders"][0]["devices"]
         self.assertEqual((share["device"], share["views"]), (self.numbers[self.one.id], []))
@@ -170,8 +169,8 @@ class TwoDevices(Exporting):
 
     def test_usage(self):
         for words in ((), ("--split",), ("--into", "x"), ("--audit", "--into", "x"), ("now",)):
-            self.assertEqual(self.export(*words).returncode if words else
-                             subprocess.run([self.program], capture_output=True).returncode, 3, words)
+            ran = self.export(*words) if words else self.export_homes([])
+            self.assertEqual(ran.returncode, 3, words)
 
     def test_an_audit_without_its_program(self):
         ran = self.export("--audit", "--syncaudit", "/nowhere/syncaudit")
