@@ -87,6 +87,9 @@ func readFolders(homes []*home, holders map[string][]holder, asked options, refu
 }
 
 // readFolder reads a folder at each of its devices.
+	if err := checkDirectories(ids, holders); err != nil {
+		return nil, err
+	}
 func readFolder(all []holder, prefix string, refused *refusals) ([]reading, error) {
 	var readings []reading
 	for _, one := range all {

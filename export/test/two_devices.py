@@ -10,7 +10,9 @@ exported. It installs nothing, and says what is missing.
 import json
 import os
 import subprocess
+import tempfile
 from contextlib import contextmanager
+from pathlib import Path
 
 from exporting import Exporting, main
 from syncthing import FOLDER, files_of, wait_until, wait_until_in_step
@@ -83,16 +85,32 @@ class TwoDevices(Exporting):
         self.assertIn("Syncthing runs on", self.while_running.stderr)
 
     def test_a_copy_of_a_home_and_its_folder(self):
-        home, files = self.room / "copied-home", self.room / "copied-files"
-        subprocess.run(["cp", "-a", self.two.home, home], check=True)
+        files = self.room / "copied-files"
         subprocess.run(["cp", "-a", self.two.files, files], check=True)
-        config = home / "config.xml"
-        config.write_text(config.read_text().replace(f'path="{self.two.files}"', f'path="{files}"'))
+        home = self.copied_home(files)
         (files / "empty").unlink()
         ran = self.export_homes([self.one.home, home], "--audit", "--syncaudit", self.auditor)
         self.assertEqual((ran.returncode, ran.stdout.splitlines()[0]),
                          (1, self.fault("StoreDiffers", "empty", self.two)), ran.stderr)
         self.assertEqual(self.verdict(), "settled")
+
+    def copied_home(self, path):
+        """A copy of the second device's home, whose folder is at this path."""
+        home = Path(tempfile.mkdtemp(dir=self.room)) / "home"
+        subprocess.run(["cp", "-a", self.two.home, home], check=True)
+        config = home / "config.xml"
+        written, changed = config.read_text(), f'path="{path}"'
+        config.write_text(written.replace(f'path="{self.two.files}"', changed))
+        self.assertIn(changed, config.read_text())
+        return home
+
+    def test_two_devices_in_one_directory_are_refused(self):
+        with self.other_bytes():
+            for path in (self.one.files, f"{self.one.files}/"):
+                for words in ((), ("--lenient", "--audit")):
+                    ran = self.export_homes([self.one.home, self.copied_home(path)], *words)
+                    self.assertEqual((ran.returncode, ran.stdout), (2, ""))
+                    self.assertIn(f"its directory {self.one.files} is that of device", ran.stderr)
 
     def test_a_missing_home_is_refused(self):
         ran = self.export_homes([self.one.home])
