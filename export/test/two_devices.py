@@ -130,6 +130,7 @@ class TwoDevices(Exporting):
             ran = self.export("--lenient")
             self.assertEqual(json.loads(ran.stdout)["cut"], {"folders": [], "links": []})
             self.assertIn("left out: 0 names, 0 devices, 1 folders", ran.stderr)
+            self.assertIn("no folder at any device is there, or left", self.refused("--lenient", "--audit"))
         finally:
             self.one.configure([self.one, self.two])
 
