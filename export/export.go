@@ -1,6 +1,7 @@
 package main
 
 import (
+	"errors"
 	"fmt"
 	"io"
 	"sort"
@@ -24,6 +25,9 @@ func export(asked options, refused *refusals, log io.Writer, take taker) error {
 	if err == nil {
 		err = refused.stop()
 	}
+	if err == nil && asked.audit && !haveDevice(folders) {
+		err = errNothingLeft
+	}
 	if err != nil {
 		return err
 	}
@@ -41,6 +45,19 @@ func export(asked options, refused *refusals, log io.Writer, take taker) error {
 		parts[next] = part{} // its bytes aren't needed any more
 	}
 	return nil
+}
+
+// errNothingLeft says that an audit would call nothing at all settled.
+var errNothingLeft = errors.New("refused: no folder at any device is there, or left, to be audited")
+
+// haveDevice says whether one of the folders is left at a device.
+func haveDevice(folders []*folder) bool {
+	for _, one := range folders {
+		if len(one.Devices) > 0 {
+			return true
+		}
+	}
+	return false
 }
 
 // write reads the bytes of a part's files and gives its document to the taker.
@@ -68,6 +85,9 @@ func (p part) write(holders map[string][]holder, refused *refusals, take taker) 
 func readFolders(homes []*home, holders map[string][]holder, asked options, refused *refusals) ([]*folder, error) {
 	ids, err := chosenFolders(holders, asked.folders)
 	if err != nil {
+		return nil, err
+	}
+	if err := checkDirectories(ids, holders); err != nil {
 		return nil, err
 	}
 	folders := []*folder{}

@@ -36,8 +36,8 @@ func (r *reader) refuse(what scope, name, reason string) {
 	r.refused.add(what, r.place(name), reason)
 }
 
-// read reads index, views and nodes, without the bytes of files. What Syncthing's packages panic with, such as a list of blocks that the index
-// lacks, is the error.
+// read reads index, views and nodes, without the bytes of files. What Syncthing's packages panic with, such as a list of
+// blocks that the index lacks, is the error.
 func (r *reader) read() (made reading, err error) {
 	defer func() {
 		if reason := recover(); reason != nil {

@@ -5,11 +5,12 @@ import os
 import shutil
 import subprocess
 import tempfile
+import time
 import unittest
 from pathlib import Path
 
 from documents import verdict
-from syncthing import FOLDER, Device, wait_until_in_step
+from syncthing import FOLDER, SECONDS_TO_WAIT, Device, wait_until_in_step
 
 SOURCES = Path(__file__).resolve().parents[1]
 GOPATH = Path("/usr/share/gocode")
@@ -18,6 +19,8 @@ NEEDED = {"golang-go": lambda: shutil.which("go"), "syncthing": lambda: shutil.w
               lambda: (GOPATH / "src/github.com/syncthing/syncthing/lib/db").is_dir()}
 BUILT = SOURCES.parent / "crates/syncaudit/out/syncaudit"
 STAND_IN = Path(__file__).with_name("stand_in.py")
+# The variable with the time, by the monotonic clock, from which on no case is begun.
+UNTIL = "SYNCTHING_CUT_UNTIL"
 
 
 def missing_packages():
@@ -40,20 +43,24 @@ def go_environment(room):
     return {**made, "GOCACHE": str(room / "go-cache")}
 
 
-def build(program, environment, seconds=None):
-    """Builds the exporter from Debian's packages alone, in so many seconds at most."""
-    subprocess.run(["go", "build", "-p", "1", "-o", program, "."], cwd=SOURCES, env=environment, check=True,
-                   timeout=seconds)
+def build_words(program):
+    """The command that builds the exporter, in the directory of its sources."""
+    return ["go", "build", "-p", "1", "-o", program, "."]
 
 
 def auditor():
-    """The program that audits: $SYNCAUDIT, the one that is built here if it can certify, or what stands for it."""
-    empty = b'{"version":1,"cut":{"folders":[]}}'
-    if os.environ.get("SYNCAUDIT"):
-        return os.environ["SYNCAUDIT"]
-    if BUILT.exists() and subprocess.run([BUILT, "certify"], input=empty, capture_output=True).returncode == 0:
-        return str(BUILT)
-    return str(STAND_IN)
+    """The program that audits: $SYNCAUDIT, the one that is built here, or where none is, what stands for it."""
+    return os.environ.get("SYNCAUDIT") or str(BUILT if BUILT.exists() else STAND_IN)
+
+
+def is_over():
+    """Whether the time is over in which cases are begun."""
+    return UNTIL in os.environ and time.monotonic() > float(os.environ[UNTIL])
+
+
+def run(words, **options):
+    """Runs a command, which fails if it takes too long, and gives what it wrote."""
+    return subprocess.run(words, capture_output=True, text=True, timeout=SECONDS_TO_WAIT, **options)
 
 
 class Exporting(unittest.TestCase):
@@ -64,13 +71,15 @@ class Exporting(unittest.TestCase):
 
     @classmethod
     def setUpClass(cls):
+        if is_over():
+            raise unittest.SkipTest("the time is over")
         os.umask(0o022)
         room = tempfile.TemporaryDirectory(prefix="syncthing-cut-test-")
         cls.addClassCleanup(room.cleanup)
         cls.room = Path(room.name)
         cls.program = os.environ.get("SYNCTHING_CUT") or cls.room / "syncthing-cut"
         if "SYNCTHING_CUT" not in os.environ:
-            build(cls.program, go_environment(cls.room))
+            subprocess.run(build_words(cls.program), cwd=SOURCES, env=go_environment(cls.room), check=True)
         cls.auditor = auditor()
         cls.devices = [Device(cls.room, name) for name in cls.names]
         cls.one, cls.two = cls.devices[:2]
@@ -82,6 +91,10 @@ class Exporting(unittest.TestCase):
         cls.while_running = cls.export()
         cls.stop()
         cls.numbers = cls.device_numbers()
+
+    def setUp(self):
+        if is_over():
+            self.skipTest("the time is over")
 
     @classmethod
     def configure(cls):
@@ -122,8 +135,12 @@ class Exporting(unittest.TestCase):
     @classmethod
     def export(cls, *words):
         """Runs the exporter on all homes."""
-        homes = [word for device in cls.devices for word in ("--home", str(device.home))]
-        return subprocess.run([cls.program, *homes, *words], capture_output=True, text=True)
+        return cls.export_homes([device.home for device in cls.devices], *words)
+
+    @classmethod
+    def export_homes(cls, homes, *words):
+        """Runs the exporter on these homes."""
+        return run([cls.program, *(word for home in homes for word in ("--home", home)), *words])
 
     @classmethod
     def device_numbers(cls):

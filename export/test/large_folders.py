@@ -6,9 +6,8 @@
 
 import json
 import os
-import subprocess
 
-from exporting import Exporting, main
+from exporting import Exporting, main, run
 from syncthing import FOLDER
 
 MEGA = 1 << 20
@@ -36,8 +35,8 @@ class LargeFolder(Exporting):
         self.assertEqual(names, [["a.bin", "b.bin"], ["c.bin", "text"]])
         for path in room.iterdir():
             with path.open("rb") as cut:
-                certified = subprocess.run([self.auditor, "certify"], stdin=cut, capture_output=True, check=True)
-            self.assertLessEqual(len(certified.stdout), 64 * MEGA)
+                certified = run([self.auditor, "certify"], stdin=cut, check=True)
+            self.assertLessEqual(len(certified.stdout.encode()), 64 * MEGA)
         self.assertIn("file exists", self.refused("--split", "--into", str(room)))
 
     def test_the_sum_of_the_answers(self):

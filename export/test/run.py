@@ -4,8 +4,9 @@ side by side. The last line is 'N passed, M failed'.
 
     export/test/run.py [SECONDS]
 
-It installs nothing. Where something is missing it says what, runs nothing and has status 0. With SECONDS, what isn't
-finished by then is ended, told, and counts as neither.
+It installs nothing. Where something is missing it says what, runs nothing and has status 0. With SECONDS, cases that
+aren't begun by then are told, and count as neither; so do all where building takes longer. What was begun goes on to
+its end, for which it has more time than a slow machine needs: what hangs fails.
 """
 
 import os
@@ -26,6 +27,9 @@ CLASSES = [("large_folders", "LargeFolder"), ("three_devices", "LeftBehind"), ("
            ("two_devices", "ReceiveOnly"), ("three_devices", "Chain"), ("three_devices", "ThreeDevices")]
 SIDE_BY_SIDE = 4
 SYNCTHING = "syncthing v1.19"
+# Go's tests take no second. One of the others fails by itself where a wait takes 300; this is for what else may hang.
+SECONDS_OF_GO = 120
+SECONDS_OF_A_CASE = 600
 
 
 def missing():
@@ -46,12 +50,13 @@ def missing():
 
 
 def count_of(text):
-    """How many cases passed and failed, by what unittest said."""
+    """How many cases passed, failed and weren't begun, by what unittest said."""
     ran = re.search(r"^Ran (\d+) tests?", text, re.MULTILINE)
     if not ran:
-        return 0, 1
+        return 0, 1, 0
     failed = sum(int(number) for number in re.findall(r"(?:failures|errors)=(\d+)", text))
-    return max(int(ran[1]) - failed, 0), failed
+    skipped = sum(int(number) for number in re.findall(r"skipped=(\d+)", text))
+    return max(int(ran[1]) - failed - skipped, 0), failed, skipped
 
 
 def end(process):
@@ -65,47 +70,72 @@ def end(process):
     process.wait()
 
 
-def run_go(environment, deadline):
+def run_until(deadline, words, **options):
+    """Runs a command, and gives its status and what it said; in place of a status nothing if it was ended at the
+    deadline."""
+    process = subprocess.Popen(words, stdout=subprocess.PIPE, stderr=subprocess.STDOUT, text=True,
+                               start_new_session=True, **options)
+    try:
+        said, _ = process.communicate(timeout=max(deadline - time.monotonic(), 0))
+        return process.returncode, said
+    except subprocess.TimeoutExpired:
+        end(process)
+        return None, process.communicate()[0]
+
+
+def build(room, environment, deadline):
+    """Builds the exporter and Go's tests, and has Go vet them; gives the status, nothing if that wasn't done by the
+    deadline."""
+    from exporting import SOURCES, build_words
+    for words in (build_words(room / "syncthing-cut"), ["go", "test", "-c", "-p", "1", "-o", room / "go-tests", "."],
+                  ["go", "vet", "-p", "1", "."]):
+        status, said = run_until(deadline, words, cwd=SOURCES, env=environment)
+        if status != 0:
+            print(said)
+            return status
+    return 0
+
+
+def run_go(room):
     """Runs Go's tests, and gives how many passed and failed."""
-    ran = subprocess.run(["go", "test", "-p", "1", "-v", "."], cwd=HERE.parent, env=environment, text=True,
-                         capture_output=True, timeout=max(deadline - time.monotonic(), 1))
-    passed = len(re.findall(r"^--- PASS", ran.stdout, re.MULTILINE))
-    failed = len(re.findall(r"^--- FAIL", ran.stdout, re.MULTILINE))
-    if ran.returncode:
-        print(ran.stdout, ran.stderr, sep="")
+    status, said = run_until(time.monotonic() + 2 * SECONDS_OF_GO,
+                             [room / "go-tests", "-test.v", f"-test.timeout={SECONDS_OF_GO}s"], cwd=HERE.parent)
+    passed = len(re.findall(r"^--- PASS", said, re.MULTILINE))
+    failed = len(re.findall(r"^--- FAIL", said, re.MULTILINE))
+    if status != 0 or not passed:
+        print("---- Go's tests", said, sep="\n")
         failed = max(failed, 1)
     return passed, failed
 
 
 def run_class(module, name, environment, deadline):
-    """Runs a class in a process of its own, and gives how many of its cases passed and failed; nothing if it wasn't
-    finished in time."""
+    """Runs a class in a process of its own, which begins no case after the deadline, and gives how many of its cases
+    passed and failed, and how many weren't begun."""
     if time.monotonic() > deadline:
-        return None
-    process = subprocess.Popen([sys.executable, HERE / f"{module}.py", "-v", name], stdout=subprocess.PIPE,
-                               stderr=subprocess.STDOUT, text=True, env=environment, start_new_session=True)
-    try:
-        said, _ = process.communicate(timeout=max(deadline - time.monotonic(), 0))
-    except subprocess.TimeoutExpired:
-        end(process)
-        return None
-    if process.returncode:
-        print(f"---- {name}", said, sep="\n")
-    return count_of(said)
+        return 0, 0, 1
+    status, said = run_until(deadline + SECONDS_OF_A_CASE, [sys.executable, HERE / f"{module}.py", "-v", name],
+                             env=environment)
+    if status == 0:
+        return count_of(said)
+    print(f"---- {name}", said, sep="\n")
+    if status is None:
+        print(f"{name} hung: it was ended {SECONDS_OF_A_CASE} seconds after its last case can have begun")
+        return 0, 1, 0
+    passed, failed, skipped = count_of(said)
+    return passed, max(failed, 1), skipped
 
 
 def run_classes(environment, deadline):
-    """Runs all classes, some side by side, and gives how many cases passed and failed, and the classes that weren't
-    finished."""
+    """Runs all classes, some side by side, and gives how many cases passed and failed, and the classes with cases that
+    weren't begun."""
     passed = failed = 0
     unfinished = []
     with ThreadPoolExecutor(SIDE_BY_SIDE) as workers:
         counts = workers.map(lambda one: run_class(*one, environment, deadline), CLASSES)
         for (_, name), count in zip(CLASSES, counts):
-            if count is None:
-                unfinished.append(name)
-                continue
             passed, failed = passed + count[0], failed + count[1]
+            if count[2]:
+                unfinished.append(f"cases of {name} that weren't begun in time")
     return passed, failed, unfinished
 
 
@@ -117,25 +147,25 @@ def main():
         return 0
     deadline = time.monotonic() + (float(sys.argv[1]) if len(sys.argv) > 1 else 3600)
     with tempfile.TemporaryDirectory(prefix="syncthing-cut-tests-") as made:
-        try:
-            passed, failed, unfinished = run_all(Path(made), deadline)
-        except subprocess.TimeoutExpired:
-            passed, failed, unfinished = 0, 0, ["all: building"]
-    for name in unfinished:
-        print(f"skipped: {name} wasn't finished in time")
+        passed, failed, unfinished = run_all(Path(made), deadline)
+    for what in unfinished:
+        print("skipped:", what)
     print(f"{passed} passed, {failed} failed")
     return int(failed > 0)
 
 
 def run_all(room, deadline):
-    """Builds the exporter and runs all tests; gives how many passed and failed, and what wasn't finished."""
-    from exporting import STAND_IN, auditor, build, go_environment
+    """Builds the exporter and runs all tests; gives how many passed and failed, and what wasn't begun."""
+    from exporting import STAND_IN, UNTIL, auditor, go_environment
     program = auditor()
     print("exporter's tests, audited by", "compare/ in place of the program" if program == str(STAND_IN) else program)
-    go = go_environment(room)
-    build(room / "syncthing-cut", go, max(deadline - time.monotonic(), 1))
-    passed, failed = run_go(go, deadline)
-    environment = {**os.environ, "SYNCTHING_CUT": str(room / "syncthing-cut"), "TMPDIR": str(room)}
+    status = build(room, go_environment(room), deadline)
+    if status is None:
+        return 0, 0, ["all; building wasn't done in time"]
+    if status != 0:
+        return 0, 1, []
+    passed, failed = run_go(room)
+    environment = {**os.environ, "SYNCTHING_CUT": str(room / "syncthing-cut"), "TMPDIR": str(room), UNTIL: str(deadline)}
     more = run_classes(environment, deadline)
     return passed + more[0], failed + more[1], more[2]
 

@@ -14,7 +14,7 @@ from reading import Fault, answer, printed, refusal
 
 
 def certify(written):
-    """What `syncaudit certify` should write for the document, and its exit status."""
+    """What `syncaudit certify` writes for the document, and its exit status."""
     try:
         made, unwon = certified(written)
     except Fault as fault:

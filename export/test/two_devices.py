@@ -10,7 +10,9 @@ exported. It installs nothing, and says what is missing.
 import json
 import os
 import subprocess
+import tempfile
 from contextlib import contextmanager
+from pathlib import Path
 
 from exporting import Exporting, main
 from syncthing import FOLDER, files_of, wait_until, wait_until_in_step
@@ -83,25 +85,40 @@ class TwoDevices(Exporting):
         self.assertIn("Syncthing runs on", self.while_running.stderr)
 
     def test_a_copy_of_a_home_and_its_folder(self):
-        home, files = self.room / "copied-home", self.room / "copied-files"
-        subprocess.run(["cp", "-a", self.two.home, home], check=True)
+        files = self.room / "copied-files"
         subprocess.run(["cp", "-a", self.two.files, files], check=True)
-        config = home / "config.xml"
-        config.write_text(config.read_text().replace(f'path="{self.two.files}"', f'path="{files}"'))
+        home = self.copied_home(files)
         (files / "empty").unlink()
-        ran = subprocess.run([self.program, "--home", self.one.home, "--home", home, "--audit", "--syncaudit",
-                              self.auditor], capture_output=True, text=True)
+        ran = self.export_homes([self.one.home, home], "--audit", "--syncaudit", self.auditor)
         self.assertEqual((ran.returncode, ran.stdout.splitlines()[0]),
                          (1, self.fault("StoreDiffers", "empty", self.two)), ran.stderr)
         self.assertEqual(self.verdict(), "settled")
 
+    def copied_home(self, path):
+        """A copy of the second device's home, whose folder is at this path."""
+        home = Path(tempfile.mkdtemp(dir=self.room)) / "home"
+        subprocess.run(["cp", "-a", self.two.home, home], check=True)
+        config = home / "config.xml"
+        written, changed = config.read_text(), f'path="{path}"'
+        config.write_text(written.replace(f'path="{self.two.files}"', changed))
+        self.assertIn(changed, config.read_text())
+        return home
+
+    def test_two_devices_in_one_directory_are_refused(self):
+        with self.other_bytes():
+            for path in (self.one.files, f"{self.one.files}/"):
+                for words in ((), ("--lenient", "--audit")):
+                    ran = self.export_homes([self.one.home, self.copied_home(path)], *words)
+                    self.assertEqual((ran.returncode, ran.stdout), (2, ""))
+                    self.assertIn(f"its directory {self.one.files} is that of device", ran.stderr)
+
     def test_a_missing_home_is_refused(self):
-        ran = subprocess.run([self.program, "--home", self.one.home], capture_output=True, text=True)
+        ran = self.export_homes([self.one.home])
         self.assertEqual((ran.returncode, ran.stdout), (2, ""))
         self.assertIn(f"folder {FOLDER}, device {self.numbers[self.two.id]}, name -: it shares the folder", ran.stderr)
 
     def test_a_missing_home_is_left_out(self):
-        ran = subprocess.run([self.program, "--home", self.one.home, "--lenient"], capture_output=True, text=True)
+        ran = self.export_homes([self.one.home], "--lenient")
         self.assertIn("left out: 0 names, 1 devices, 0 folders", ran.stderr)
         share, = json.loads(ran.stdout)["cut"]["folders"][0]["devices"]
         self.assertEqual((share["device"], share["views"]), (self.numbers[self.one.id], []))
@@ -113,6 +130,7 @@ class TwoDevices(Exporting):
             ran = self.export("--lenient")
             self.assertEqual(json.loads(ran.stdout)["cut"], {"folders": [], "links": []})
             self.assertIn("left out: 0 names, 0 devices, 1 folders", ran.stderr)
+            self.assertIn("no folder at any device is there, or left", self.refused("--lenient", "--audit"))
         finally:
             self.one.configure([self.one, self.two])
 
@@ -170,8 +188,8 @@ class TwoDevices(Exporting):
 
     def test_usage(self):
         for words in ((), ("--split",), ("--into", "x"), ("--audit", "--into", "x"), ("now",)):
-            self.assertEqual(self.export(*words).returncode if words else
-                             subprocess.run([self.program], capture_output=True).returncode, 3, words)
+            ran = self.export(*words) if words else self.export_homes([])
+            self.assertEqual(ran.returncode, 3, words)
 
     def test_an_audit_without_its_program(self):
         ran = self.export("--audit", "--syncaudit", "/nowhere/syncaudit")
