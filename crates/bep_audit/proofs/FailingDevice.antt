@@ -127,9 +127,15 @@ module _ (said : CutSays) (asked_here : ShareIsAsked) (cut : CutParts) (is_cut :
     -- what is asked of the share beside its entries is what is asked of the device
     asked_by_group : (reason : Reason) (share : Share) → Contains (shares_of row.folder cut.folders) share → AsksGroup reason row group share ↔ AsksShare (tables_of cut) reason row share.device
     unfolding AsksTables IsShare
-    asked_by_group ViewAhead share member = (λ both. (elsewhere_asked said cut is_cut row share member held group is_group View).0 both.1, λ asked. (tt, (elsewhere_asked said cut is_cut row share member held group is_group View).1 asked))
-    asked_by_group FlightAhead share member = (λ both. (elsewhere_asked said cut is_cut row share member held group is_group Flight).0 both.1, λ asked. (tt, (elsewhere_asked said cut is_cut row share member held group is_group Flight).1 asked))
-    asked_by_group PullAhead share member = (λ both. (elsewhere_asked said cut is_cut row share member held group is_group Pull).0 both.1, λ asked. (tt, (elsewhere_asked said cut is_cut row share member held group is_group Pull).1 asked))
+    asked_by_group ViewAhead share member =
+        let asks = elsewhere_asked said cut is_cut row share member held group is_group View in
+        (λ both entry known_by valid. asks.0 both.1 entry (known_by, valid), λ asked. (tt, asks.1 (λ entry has. asked entry has.0 has.1)))
+    asked_by_group FlightAhead share member =
+        let asks = elsewhere_asked said cut is_cut row share member held group is_group Flight in
+        (λ both entry known_by valid. asks.0 both.1 entry (known_by, valid), λ asked. (tt, asks.1 (λ entry has. asked entry has.0 has.1)))
+    asked_by_group PullAhead share member =
+        let asks = elsewhere_asked said cut is_cut row share member held group is_group Pull in
+        (λ both entry known_by valid. asks.0 both.1 entry (known_by, valid), λ asked. (tt, asks.1 (λ entry has. asked entry has.0 has.1)))
     asked_by_group CertificateOrder share member = alone said asked_here cut is_cut row CertificateOrder share member (omega arith)
     asked_by_group NameMissing share member = alone said asked_here cut is_cut row NameMissing share member (omega arith)
     asked_by_group NameUnknown share member = alone said asked_here cut is_cut row NameUnknown share member (omega arith)

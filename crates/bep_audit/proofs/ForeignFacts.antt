@@ -13,10 +13,10 @@ use Rattle.bep_tables.specs.Laws.{CutSays}
 
 module _ (said : CutSays) (cut : CutParts) (is_cut : IsCut cut) (row : Row) (share : Share) (member : Contains (shares_of row.folder cut.folders) share) where
   -- beside the device's own record
-  pub by_tables : (entry : Entry) → Passes row (get share.own row.entry.name) entry → Passes row ((tables_of cut).own share.device row.folder row.entry.name) entry
+  by_tables : (entry : Entry) → Passes row (get share.own row.entry.name) entry → Passes row ((tables_of cut).own share.device row.folder row.entry.name) entry
   by_tables entry passes = subst (λ (own : Option Entry). Passes row own entry) (sym (said.own cut row.folder row.entry.name share is_cut member)) passes
 
-  pub by_share : (entry : Entry) → Passes row ((tables_of cut).own share.device row.folder row.entry.name) entry → Passes row (get share.own row.entry.name) entry
+  by_share : (entry : Entry) → Passes row ((tables_of cut).own share.device row.folder row.entry.name) entry → Passes row (get share.own row.entry.name) entry
   by_share entry passes = subst (λ (own : Option Entry). Passes row own entry) (said.own cut row.folder row.entry.name share is_cut member) passes
 
   pub views_asked : ViewsPass row (get share.own row.entry.name) share.views ↔ AsksShare (tables_of cut) ViewAhead row share.device

@@ -1,36 +1,32 @@
 -- What the entries of one name say (this project's profile).
-use Rattle.std.specs.Prelude.{◌≡◌, ◌↔◌, Bool, true, not, ⊤, List, Option, Contains}
+use Rattle.std.specs.Prelude.{◌≡◌, ◌↔◌, ⊤, List, Option, Contains}
 use Rattle.std.specs.FinMap.{get}
 use Rattle.bep_record.specs.declared.entry.Entry.{Entry}
+use Rattle.bep_record.specs.Content.{content_of}
 use Rattle.bep_model.specs.declared.row.Row.{Row}
 use Rattle.bep_model.specs.declared.reason.Reason.{Reason}
 use Rattle.bep_model.specs.declared.reason.Reason.TheVariants.{ViewAhead, FlightAhead, PullAhead}
+use Rattle.bep_model.specs.Foreign.{IsHarmless}
 use Rattle.bep_model.specs.Tables.{Device, Folder, FileName}
 use Rattle.bep_tables.specs.declared.share.Share.{Share}
 use Rattle.bep_tables.specs.declared.cut.CutParts.{CutParts}
 use Rattle.bep_tables.specs.declared.table.entry.Source.{Source}
-use Rattle.bep_tables.specs.declared.table.entry.Source.TheVariants.{Own, View, Flight, Pull}
-use Rattle.bep_tables.specs.Listed.{Holding, Record, Node, Listed, key_at, cut_listed}
-use Rattle.bep_audit.specs.Foreign.{Passes}
+use Rattle.bep_tables.specs.declared.table.entry.Source.TheVariants.{View, Flight, Pull}
+use Rattle.bep_tables.specs.Listed.{Record, Listed, key_at, cut_listed}
 use Rattle.bep_audit.specs.Share.{AsksHere}
 
 -- these are the cut's entries of the folder and name
 abbrev pub IsGroupOf : CutParts → Folder × FileName → List Listed → Type 0
 IsGroupOf cut key group = (one : Listed) → Contains group one ↔ (Contains (cut_listed cut) one × (key_at one ≡ key))
 
--- whether what a device holds makes its name known: it is no invalid record of another device
-abbrev pub counts : Holding → Bool
-counts (Record Own entry) = true
-counts (Record source entry) = not entry.invalid
-counts (Node node) = true
+-- there is an entry, which makes the name known
+abbrev pub HasEntry : List Listed → Type 0
+HasEntry group = (one : Listed) × Contains group one
 
--- one of the entries makes its name known
-abbrev pub IsCountedIn : List Listed → Type 0
-IsCountedIn group = (one : Listed) × Contains group one × (counts one.holding ≡ true)
-
--- the entry's record passes beside the row and this own record, if it is this device's and from there
+-- the entry's record is harmless to the row's content beside this own record, if it is this device's and from there
 abbrev pub PassesFrom : Source → Device → Row → Option Entry → Listed → Type 0
-PassesFrom source device row own one = (entry : Entry) → one.device ≡ device → one.holding ≡ Record source entry → Passes row own entry
+PassesFrom source device row own one =
+    (entry : Entry) → one.device ≡ device → one.holding ≡ Record source entry → IsHarmless own (content_of row.entry) entry
 
 -- that of each of these entries
 abbrev pub GroupPasses : Source → Device → Row → Option Entry → List Listed → Type 0

@@ -98,8 +98,8 @@ fn passes_if_there(row: &Row, own: Option<&Record>, foreign: Option<&Record>) ->
     }
 }
 
-/// Whether the record is invalid, or harmless beside the own record.
-pub(crate) fn passes(row: &Row, own: Option<&Record>, foreign: &Record) -> bool
+// Whether the record is invalid, or harmless beside the own record.
+fn passes(row: &Row, own: Option<&Record>, foreign: &Record) -> bool
     ensures { IsTrue result ↔ Passes row.now (option_copied own.entry) foreign.now }
 {
     foreign.entry().invalid || is_harmless(own, &row.entry, foreign)

@@ -1,30 +1,19 @@
 //! What the entries of one name say: whether it is known, and what each reason asks of its devices.
-ghost use Rattle.std.specs.Prelude.{◌≡◌, ◌↔◌, IsTrue, map, true};
+ghost use Rattle.std.specs.Prelude.{◌↔◌, IsTrue, map};
 ghost use Rattle.std.specs.Option.{option_copied};
 ghost use Rattle.bep_tables.specs.Listed.{listed};
-ghost use Rattle.bep_audit.specs.Group.{counts, IsCountedIn, PassesFrom, GroupPasses, AsksElsewhere, AsksGroup};
+ghost use Rattle.bep_audit.specs.Group.{HasEntry, PassesFrom, GroupPasses, AsksElsewhere, AsksGroup};
 
-use crate::foreign::passes;
-use crate::meets_share;
+use crate::{is_harmless, meets_share};
 use bep_model::{Reason, Row};
 use bep_record::{DeviceId, Record};
 use bep_tables::{Held, Share, Source, TableEntry};
 
-/// Whether one of the entries makes its name known: any but an invalid record that isn't a device's own.
+/// Whether the name is known whose entries these are: each makes it known.
 pub(crate) fn has_known(group: &[TableEntry<'_>]) -> bool
-    ensures { IsTrue result ↔ IsCountedIn (map listed group.now) }
+    ensures { IsTrue result ↔ HasEntry (map listed group.now) }
 {
-    group.iter().any(|entry| counts(entry))
-}
-
-fn counts(entry: &TableEntry<'_>) -> bool
-    ensures { IsTrue result ↔ (counts (listed entry.now).holding ≡ true) }
-{
-    match entry.held {
-        Held::Node(_) => true,
-        Held::Record(Source::Own, _) => true,
-        Held::Record(_, found) => !found.entry().invalid,
-    }
+    !group.is_empty()
 }
 
 /// Whether the device meets what the reason asks of it beside the row, whose name's entries these are.
@@ -61,7 +50,7 @@ fn meets_elsewhere(
     }
 }
 
-/// Whether each of the device's records from there passes.
+/// Whether each of the device's records from there is harmless.
 pub(crate) fn all_pass(
     source: Source,
     row: &Row,
@@ -76,7 +65,7 @@ pub(crate) fn all_pass(
         .all(|entry| passes_from(source, row, entry, device, own))
 }
 
-// Whether the entry is of another device or from elsewhere, or its record passes.
+// Whether the entry is of another device or from elsewhere, or its record is harmless.
 fn passes_from(
     source: Source,
     row: &Row,
@@ -91,6 +80,6 @@ fn passes_from(
     }
     match entry.held {
         Held::Node(_) => true,
-        Held::Record(from, found) => from != source || passes(row, own, found),
+        Held::Record(from, found) => from != source || is_harmless(own, &row.entry, found),
     }
 }

@@ -67,8 +67,8 @@ module _ (cut : CutParts) (is_cut : IsCut cut) (rows : List Row) (entries : List
     entry_of_foreign : (device : Device) (entry : Entry) → IsForeign t device folder name entry → HasEntry
     entry_of_foreign device entry foreign =
         ⊎_elim
-        (λ viewed. entry_of device (Record View entry) viewed)
-        (⊎_elim (λ flying. entry_of device (Record Flight entry) flying) (λ target. entry_of device (Record Pull entry) target))
+        (λ viewed. entry_of device (Record View entry) (viewed, foreign.valid))
+        (⊎_elim (λ flying. entry_of device (Record Flight entry) (flying, foreign.valid)) (λ target. entry_of device (Record Pull entry) (target, foreign.valid)))
         foreign.known_by
 
     entry_of_trace : (device : Device) → HasTrace t device folder name → HasEntry

@@ -1,12 +1,12 @@
 -- The entries of a cut are what its tables say.
-use Rattle.std.proofs.Common.{◌≡◌, ◌++◌, ℕ, List, map, flat_map, Option, Some, None, Contains, option_and_then, refl, sym, ap, subst, ◌∙◌, inl, inr, ⊎_elim}
+use Rattle.std.proofs.Common.{◌≡◌, ◌++◌, ℕ, Bool, true, false, cond, List, [], ◌∷◌, map, flat_map, Option, Some, None, Contains, option_and_then, refl, sym, ap, subst, ◌∙◌, inl, inr, ⊎_elim}
 use Rattle.std.specs.Cmp.{Equal-is}
 use Rattle.std.specs.FinMap.{get, entries, nat_cmp-IsAntisymmetric}
 use Rattle.std.proofs.lemmas.List.Elements.{Contains-append_left, Contains-append_right, Contains-append_cases}
 use Rattle.std.specs.Cmp.Lexicographic.{nat_list_cmp_total}
 use Rattle.std.proofs.lemmas.Map.Lookups.{exact_bytes}
 use Rattle.bep_facts.specs.Entries.{entry_stands}
-use Rattle.bep_facts.specs.Members.{Contains-from_image, Contains-image, Contains-flat_map, Contains-from_flat_map}
+use Rattle.bep_facts.specs.Members.{Contains-from_image, Contains-image, Contains-flat_map, Contains-from_flat_map, Contains-first, Contains-one, not_in_none}
 use Rattle.bep_record.specs.declared.entry.Entry.{Entry}
 use Rattle.bep_record.specs.declared.node.NodeParts.{NodeParts}
 use Rattle.bep_map.specs.NameMap.{ByName}
@@ -18,13 +18,28 @@ use Rattle.bep_tables.specs.declared.share.PeerView.{PeerView}
 use Rattle.bep_tables.specs.declared.share.SharedFolder.{SharedFolder}
 use Rattle.bep_tables.specs.declared.link.LinkState.{LinkState}
 use Rattle.bep_tables.specs.declared.cut.CutParts.{CutParts}
+use Rattle.bep_tables.specs.declared.table.entry.Source.{Source}
 use Rattle.bep_tables.specs.declared.table.entry.Source.TheVariants as from
 use Rattle.bep_tables.specs.Cut.{IsCut, is_device, shares_of, share_of, view_of, tables_of}
 use Rattle.bep_tables.specs.Laws.{Carries}
-use Rattle.bep_tables.specs.Listed.{Holding, Record, Node, Listed, recorded, stored, flying, records_listed, nodes_listed, views_listed, share_listed, folder_listed, flight_listed, link_listed, cut_listed}
+use Rattle.bep_tables.specs.Listed.{Holding, Record, Node, Listed, recorded, stored, flying, records_listed, nodes_listed, foreign_listed, view_listed, views_listed, share_listed, folder_listed, flight_listed, link_listed, cut_listed}
 use Rattle.bep_tables.specs.Said.{Holds, EntriesAreHeld, HoldersShare}
 use Rattle.bep_tables.proofs.Found.{find_gives}
-use Rattle.bep_tables.proofs.Tables.{folder_is_found, share_has_folder, sharing_is_said, own_is_said, node_is_said, viewed_is_said, target_is_said, flying_is_said, receiver_shares}
+use Rattle.bep_tables.proofs.Tables.{folder_is_found, share_has_folder, sharing_is_said, own_is_said, node_is_said, viewed_is_said, target_is_said, flying_is_said, receiver_shares, are_pulls}
+
+-- ---- a record from elsewhere
+module _ (folder : Folder) (device : Device) (source : Source) (x : FileName × Entry) where
+  -- it has an entry only where it isn't invalid
+  from_elsewhere : (one : Listed) → Contains (foreign_listed folder device source x) one → (x.1.invalid ≡ false) × (recorded folder device source x ≡ one)
+  from_elsewhere one = cases x.1.invalid refl where
+    cases : (b : Bool) → x.1.invalid ≡ b → Contains (cond b [] (recorded folder device source x ∷ [])) one → (x.1.invalid ≡ false) × (recorded folder device source x ≡ one)
+    cases true is there = absurd (not_in_none one there)
+    cases false is there = (is, Contains-one (recorded folder device source x) one there)
+
+  -- and then it has one
+  is_elsewhere : x.1.invalid ≡ false → Contains (foreign_listed folder device source x) (recorded folder device source x)
+  is_elsewhere valid =
+      subst (λ (b : Bool). Contains (cond b [] (recorded folder device source x ∷ [])) (recorded folder device source x)) (sym valid) (Contains-first (recorded folder device source x) [])
 
 module _ (cut : CutParts) (is_cut : IsCut cut) where
   abbrev SharesOf : Folder → List Share
@@ -69,14 +84,15 @@ module _ (cut : CutParts) (is_cut : IsCut cut) where
 
   held_pull : (folder : Folder) (share : Share) (one : Listed) → Contains (SharesOf folder) share → Contains (records_listed folder share.device from.Pull share.pulls) one → IsHeldThere one
   held_pull folder share one h =
-      held_entry (recorded folder share.device from.Pull) share.pulls one (λ name entry has. (target_is_said cut folder name share is_cut h ∙ has, shares_it folder share h))
+      held_entry (recorded folder share.device from.Pull) share.pulls one (λ name entry has. ((target_is_said cut folder name share is_cut h ∙ has, ((are_pulls cut folder share is_cut h).named name entry has).1), shares_it folder share h))
 
   held_view : (folder : Folder) (share : Share) (one : Listed) → Contains (SharesOf folder) share → Contains (views_listed folder share.device share.views) one → IsHeldThere one
   held_view folder share one h there =
-      let view = Contains-from_flat_map (λ (view : PeerView). records_listed folder share.device from.View view.records) share.views one there in
-      held_entry (recorded folder share.device from.View) view.0.records one
-      (λ name entry has. ((viewed_is_said cut folder name entry share is_cut h).1 (view.0, view.1, has), shares_it folder share h))
-      view.2
+      let view = Contains-from_flat_map (view_listed folder share.device) share.views one there in
+      let found = Contains-from_flat_map (foreign_listed folder share.device from.View) (entries view.0.records) one view.2 in
+      let is = from_elsewhere folder share.device from.View found.0 one found.2 in
+      let has = (entry_stands nat_list_cmp_total exact_bytes view.0.records found.0.0 found.0.1).1 found.1 in
+      subst IsHeldThere is.1 (((viewed_is_said cut folder found.0.0 found.0.1 share is_cut h).1 (view.0, view.1, has), is.0), shares_it folder share h)
 
   held_share : (folder : Folder) (share : Share) (one : Listed) → Contains (SharesOf folder) share → Contains (share_listed folder share) one → IsHeldThere one
   unfolding share_listed
@@ -98,9 +114,10 @@ module _ (cut : CutParts) (is_cut : IsCut cut) where
   -- ---- what is listed of a link is held
   held_flight : (link : LinkState) (device : Device) (flight : Flight) (one : Listed) → Contains cut.links link → Carries link device flight → Contains (flight_listed device flight) one → IsHeldThere one
   held_flight link device flight one h carries there =
-      let found = Contains-from_image (flying flight.folder device) flight.records one there in
-      subst IsHeldThere found.2 (
-        (flying_is_said cut device flight.folder found.0.name found.0 is_cut).1 (link, flight, h, carries, (refl, found.1, refl)),
+      let found = Contains-from_flat_map (flying flight.folder device) flight.records one there in
+      let is = from_elsewhere flight.folder device from.Flight (found.0.name, found.0) one found.2 in
+      subst IsHeldThere is.1 (
+        ((flying_is_said cut device flight.folder found.0.name found.0 is_cut).1 (link, flight, h, carries, (refl, found.1, refl)), is.0),
         receiver_shares cut link device flight is_cut h carries,
       )
 
@@ -149,14 +166,15 @@ module _ (cut : CutParts) (is_cut : IsCut cut) where
       (Contains-append_right (Own folder share) (Nodes folder share) one
       (Contains-image (stored folder share.device) (entries share.store) (name, node) ((entry_stands nat_list_cmp_total exact_bytes share.store name node).0 has))))
 
-  listed_view : (folder : Folder) (name : FileName) (share : Share) (view : PeerView) (entry : Entry) → Contains (SharesOf folder) share → Contains share.views view → get view.records name ≡ Some entry → Contains (share_listed folder share) (recorded folder share.device from.View (name, entry))
+  listed_view : (folder : Folder) (name : FileName) (share : Share) (view : PeerView) (entry : Entry) → Contains (SharesOf folder) share → Contains share.views view → get view.records name ≡ Some entry → entry.invalid ≡ false → Contains (share_listed folder share) (recorded folder share.device from.View (name, entry))
   unfolding share_listed
-  listed_view folder name share view entry h there has =
+  listed_view folder name share view entry h there has valid =
       let one = recorded folder share.device from.View (name, entry) in
       Contains-append_left (Own folder share ++ Nodes folder share ++ Views folder share) (Pulls folder share) one
       (Contains-append_right (Own folder share ++ Nodes folder share) (Views folder share) one
-      (Contains-flat_map (λ (other : PeerView). records_listed folder share.device from.View other.records) share.views view one there
-      (Contains-image (recorded folder share.device from.View) (entries view.records) (name, entry) ((entry_stands nat_list_cmp_total exact_bytes view.records name entry).0 has))))
+      (Contains-flat_map (view_listed folder share.device) share.views view one there
+      (Contains-flat_map (foreign_listed folder share.device from.View) (entries view.records) (name, entry) one ((entry_stands nat_list_cmp_total exact_bytes view.records name entry).0 has)
+      (is_elsewhere folder share.device from.View (name, entry) valid))))
 
   listed_pull : (folder : Folder) (name : FileName) (share : Share) (entry : Entry) → Contains (SharesOf folder) share → get share.pulls name ≡ Some entry → Contains (share_listed folder share) (recorded folder share.device from.Pull (name, entry))
   unfolding share_listed
@@ -189,44 +207,52 @@ module _ (cut : CutParts) (is_cut : IsCut cut) where
   of_node device folder name node =
       of_share (λ share. get share.store name) device folder node (λ d. stored folder d (name, node)) (λ share. listed_node folder name share node)
 
-  of_view : (device : Device) (folder : Folder) (name : FileName) (entry : Entry) → IsViewed (tables_of cut) device folder name entry → Contains (cut_listed cut) (recorded folder device from.View (name, entry))
+  of_view : (device : Device) (folder : Folder) (name : FileName) (entry : Entry) → IsViewed (tables_of cut) device folder name entry → entry.invalid ≡ false → Contains (cut_listed cut) (recorded folder device from.View (name, entry))
   unfolding tables_of
-  of_view device folder name entry viewed =
+  of_view device folder name entry viewed valid =
       let found = found_in_share (λ share. option_and_then (λ (view : PeerView). get view.records name) (view_of viewed.0 share.views)) device folder entry viewed.1 in
       let here = subst (λ d. IsViewed (tables_of cut) d folder name entry) (sym found.2) viewed in
       let view = (viewed_is_said cut folder name entry found.0 is_cut found.1).0 here in
       subst (λ d. Contains (cut_listed cut) (recorded folder d from.View (name, entry))) found.2
-      (listed_in_share folder found.0 _ found.1 (listed_view folder name found.0 view.0 entry found.1 view.1 view.2))
+      (listed_in_share folder found.0 _ found.1 (listed_view folder name found.0 view.0 entry found.1 view.1 view.2 valid))
 
   of_pull : (device : Device) (folder : Folder) (name : FileName) (entry : Entry) → (tables_of cut).target device folder name ≡ Some entry → Contains (cut_listed cut) (recorded folder device from.Pull (name, entry))
   unfolding tables_of
   of_pull device folder name entry =
       of_share (λ share. get share.pulls name) device folder entry (λ d. recorded folder d from.Pull (name, entry)) (λ share. listed_pull folder name share entry)
 
-  listed_in_link : (link : LinkState) (device : Device) (flight : Flight) (entry : Entry) → Carries link device flight → Contains flight.records entry → Contains (link_listed link) (flying flight.folder device entry)
+  listed_in_link : (link : LinkState) (device : Device) (flight : Flight) (entry : Entry) → Carries link device flight → Contains flight.records entry → entry.invalid ≡ false → Contains (link_listed link) (recorded flight.folder device from.Flight (entry.name, entry))
   unfolding link_listed
-  listed_in_link link device flight entry (inl to_a) has =
-      subst (λ d. Contains (flat_map (flight_listed link.a) link.to_a ++ flat_map (flight_listed link.b) link.to_b) (flying flight.folder d entry)) to_a.0
-      (Contains-append_left (flat_map (flight_listed link.a) link.to_a) (flat_map (flight_listed link.b) link.to_b) (flying flight.folder link.a entry) (Contains-flat_map (flight_listed link.a) link.to_a flight (flying flight.folder link.a entry) to_a.1 (Contains-image (flying flight.folder link.a) flight.records entry has)))
-  listed_in_link link device flight entry (inr to_b) has =
-      subst (λ d. Contains (flat_map (flight_listed link.a) link.to_a ++ flat_map (flight_listed link.b) link.to_b) (flying flight.folder d entry)) to_b.0
-      (Contains-append_right (flat_map (flight_listed link.a) link.to_a) (flat_map (flight_listed link.b) link.to_b) (flying flight.folder link.b entry) (Contains-flat_map (flight_listed link.b) link.to_b flight (flying flight.folder link.b entry) to_b.1 (Contains-image (flying flight.folder link.b) flight.records entry has)))
+  listed_in_link link device flight entry carries has valid = cases carries where
+    At : Device → Listed
+    At d = recorded flight.folder d from.Flight (entry.name, entry)
 
-  of_flight : (device : Device) (folder : Folder) (name : FileName) (entry : Entry) → IsFlying (tables_of cut) device folder name entry → Contains (cut_listed cut) (recorded folder device from.Flight (name, entry))
+    in_flight : (d : Device) → Contains (flight_listed d flight) (At d)
+    in_flight d = Contains-flat_map (flying flight.folder d) flight.records entry (At d) has (is_elsewhere flight.folder d from.Flight (entry.name, entry) valid)
+
+    cases : Carries link device flight → Contains (flat_map (flight_listed link.a) link.to_a ++ flat_map (flight_listed link.b) link.to_b) (At device)
+    cases (inl to_a) =
+        subst (λ d. Contains (flat_map (flight_listed link.a) link.to_a ++ flat_map (flight_listed link.b) link.to_b) (At d)) to_a.0
+        (Contains-append_left (flat_map (flight_listed link.a) link.to_a) (flat_map (flight_listed link.b) link.to_b) (At link.a) (Contains-flat_map (flight_listed link.a) link.to_a flight (At link.a) to_a.1 (in_flight link.a)))
+    cases (inr to_b) =
+        subst (λ d. Contains (flat_map (flight_listed link.a) link.to_a ++ flat_map (flight_listed link.b) link.to_b) (At d)) to_b.0
+        (Contains-append_right (flat_map (flight_listed link.a) link.to_a) (flat_map (flight_listed link.b) link.to_b) (At link.b) (Contains-flat_map (flight_listed link.b) link.to_b flight (At link.b) to_b.1 (in_flight link.b)))
+
+  of_flight : (device : Device) (folder : Folder) (name : FileName) (entry : Entry) → IsFlying (tables_of cut) device folder name entry → entry.invalid ≡ false → Contains (cut_listed cut) (recorded folder device from.Flight (name, entry))
   unfolding cut_listed
-  of_flight device folder name entry is_flying =
+  of_flight device folder name entry is_flying valid =
       let over = (flying_is_said cut device folder name entry is_cut).0 is_flying in
-      let there : Contains (cut_listed cut) (flying over.1.folder device entry) =
-      Contains-append_right (flat_map folder_listed cut.folders) (flat_map link_listed cut.links) (flying over.1.folder device entry)
-      (Contains-flat_map link_listed cut.links over.0 (flying over.1.folder device entry) over.2 (listed_in_link over.0 device over.1 entry over.3 over.4.1)) in
+      let there : Contains (cut_listed cut) (recorded over.1.folder device from.Flight (entry.name, entry)) =
+      Contains-append_right (flat_map folder_listed cut.folders) (flat_map link_listed cut.links) (recorded over.1.folder device from.Flight (entry.name, entry))
+      (Contains-flat_map link_listed cut.links over.0 (recorded over.1.folder device from.Flight (entry.name, entry)) over.2 (listed_in_link over.0 device over.1 entry over.3 over.4.1 valid)) in
       subst (λ one. Contains (cut_listed cut) one)
       (λ i. record { folder = over.4.0 i; name = over.4.2 i; device = device; holding = Record from.Flight entry }) there
 
   of_holding : (device : Device) (folder : Folder) (name : FileName) (holding : Holding) → Holds (tables_of cut) device folder name holding → Contains (cut_listed cut) (record { folder = folder; name = name; device = device; holding = holding })
   of_holding device folder name (Record from.Own entry) has = of_own device folder name entry has
-  of_holding device folder name (Record from.View entry) has = of_view device folder name entry has
-  of_holding device folder name (Record from.Flight entry) has = of_flight device folder name entry has
-  of_holding device folder name (Record from.Pull entry) has = of_pull device folder name entry has
+  of_holding device folder name (Record from.View entry) has = of_view device folder name entry has.0 has.1
+  of_holding device folder name (Record from.Flight entry) has = of_flight device folder name entry has.0 has.1
+  of_holding device folder name (Record from.Pull entry) has = of_pull device folder name entry has.0
   of_holding device folder name (Node node) has = of_node device folder name node has
 
 pub entries_are_held : EntriesAreHeld

@@ -1,5 +1,5 @@
 -- The entries of a cut, one after the other, and a cut grouped by folder and name (this project's profile).
-use Rattle.std.specs.Prelude.{◌≡◌, ◌≢◌, ◌++◌, Bool, List, [], ◌∷◌, ⊤, map, Contains}
+use Rattle.std.specs.Prelude.{◌≡◌, ◌≢◌, ◌++◌, Bool, List, [], ◌∷◌, ⊤, map, Contains, if◌then◌else◌}
 use Rattle.std.specs.Ordering.{is_eq}
 use Rattle.std.specs.declared.cmp.Ordering.TheVariants.{Greater}
 use Rattle.std.specs.List.{filter, flat_map}
@@ -67,11 +67,19 @@ stored folder device one = listed_at folder one.0 device (Node one.1)
 abbrev pub nodes_listed : Folder → Device → ByName NodeParts → List Listed
 nodes_listed folder device store = map (stored folder device) (entries store)
 
+-- a record that it has from elsewhere: no entry, where the record is invalid
+abbrev pub foreign_listed : Folder → Device → Source → FileName × Entry → List Listed
+foreign_listed folder device source one = if one.1.invalid then [] else recorded folder device source one ∷ []
+
+-- what its view of another device has
+abbrev pub view_listed : Folder → Device → PeerView → List Listed
+view_listed folder device view = flat_map (foreign_listed folder device View) (entries view.records)
+
 -- what its views have
 abbrev pub views_listed : Folder → Device → List PeerView → List Listed
-views_listed folder device = flat_map (λ (view : PeerView). records_listed folder device View view.records)
+views_listed folder device = flat_map (view_listed folder device)
 
--- all that it has of a folder: its own records, its nodes, its views and its pulls
+-- all that it has of a folder: its own records, its nodes, its views and its pulls, of which none is invalid
 unfoldable pub share_listed : Folder → Share → List Listed
 share_listed folder share =
     records_listed folder share.device Own share.own
@@ -84,12 +92,12 @@ abbrev pub folder_listed : SharedFolder → List Listed
 folder_listed shared = flat_map (share_listed shared.folder) shared.shares
 
 -- a record of a folder on its way to a device
-abbrev pub flying : Folder → Device → Entry → Listed
-flying folder device entry = listed_at folder entry.name device (Record OnItsWay entry)
+abbrev pub flying : Folder → Device → Entry → List Listed
+flying folder device entry = foreign_listed folder device OnItsWay (entry.name, entry)
 
 -- a message's records, on their way to a device
 abbrev pub flight_listed : Device → Flight → List Listed
-flight_listed device flight = map (flying flight.folder device) flight.records
+flight_listed device flight = flat_map (flying flight.folder device) flight.records
 
 -- what is on its way over a link
 unfoldable pub link_listed : LinkState → List Listed

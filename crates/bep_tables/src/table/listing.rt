@@ -1,7 +1,7 @@
 //! The entries of a cut, one after the other.
 ghost use Rattle.std.specs.Prelude.{◌≡◌, ◌++◌, ◌∷◌, [], OnOk, map};
 ghost use Rattle.std.specs.List.{flat_map};
-ghost use Rattle.bep_tables.specs.Listed.{held, listed, listed_at, records_listed, nodes_listed, views_listed, share_listed, folder_listed, flight_listed, link_listed, cut_listed};
+ghost use Rattle.bep_tables.specs.Listed.{held, listed, listed_at, records_listed, nodes_listed, foreign_listed, view_listed, views_listed, share_listed, folder_listed, flight_listed, link_listed, cut_listed};
 
 use super::{Held, Source, TableEntry};
 use crate::{Cut, Flight, LinkState, PeerView, Share, SharedFolder};
@@ -95,7 +95,21 @@ fn add_views<'a>(
     ensures { OnOk result (map listed list.new.items ≡ map listed list.old.items ++ views_listed folder.now device views.now) }
 {
     for view in views {
-        add_records(list, folder, device, Source::View, &view.records)?;
+        add_view(list, folder, device, view)?;
+    }
+    Ok(())
+}
+
+fn add_view<'a>(
+    list: &mut Vec<TableEntry<'a>>,
+    folder: &'a FolderName,
+    device: DeviceId,
+    view: &'a PeerView,
+) -> Result<(), AllocError>
+    ensures { OnOk result (map listed list.new.items ≡ map listed list.old.items ++ view_listed folder.now device view.now) }
+{
+    for (name, found) in view.records.iter() {
+        add_foreign(list, folder, name, device, Source::View, found)?;
     }
     Ok(())
 }
@@ -132,10 +146,27 @@ fn add_flight<'a>(
     ensures { OnOk result (map listed list.new.items ≡ map listed list.old.items ++ flight_listed device flight.now) }
 {
     for found in flight.records.as_slice() {
-        let held = Held::Record(Source::Flight, found);
-        add(list, &flight.folder, &found.entry().name, device, held)?;
+        let name = &found.entry().name;
+        add_foreign(list, &flight.folder, name, device, Source::Flight, found)?;
     }
     Ok(())
+}
+
+// Adds a record that a device has from elsewhere, unless the record is invalid.
+fn add_foreign<'a>(
+    list: &mut Vec<TableEntry<'a>>,
+    folder: &'a FolderName,
+    name: &'a Name,
+    device: DeviceId,
+    source: Source,
+    found: &'a Record,
+) -> Result<(), AllocError>
+    ensures { OnOk result (map listed list.new.items ≡ map listed list.old.items ++ foreign_listed folder.now device source (name.now, found.now)) }
+{
+    if found.entry().invalid {
+        return Ok(());
+    }
+    add(list, folder, name, device, Held::Record(source, found))
 }
 
 // Adds what a device holds at a name.
