@@ -11,7 +11,7 @@ use std::cmp::Ordering;
 ///
 /// Candidates are pairs of a device and its record of one name, devices rising. An invalid record is passed over, and
 /// so is one whose version is strictly below that of another. Of the rest comes first what isn't deleted, then the
-/// later time, the smaller `modified_by`, the chooser's own, and the smaller device.
+/// later time, the smaller `modified_by`, the chooser's own, and the smaller device. This project's profile.
 pub fn choose(me: DeviceId, candidates: &[(DeviceId, &Record)]) -> Option<usize>
     requires { IsStrictlyIncreasing (map (λ one. one.0) candidates.now) }
     ensures found { IsSome result ↔ ((one : Candidate) × IsValidAmong (candidates_of candidates.now) one) }

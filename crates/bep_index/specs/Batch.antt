@@ -16,6 +16,7 @@ abbrev pub HasNo : List ℕ → List Entry → Type 0
 HasNo name [] = Unit {0}
 HasNo name (entry ∷ more) = (entry.name ≢ name) × HasNo name more
 
+-- no two of these have the same name
 abbrev pub NamesDiffer : List Entry → Type 0
 NamesDiffer [] = Unit {0}
 NamesDiffer (entry ∷ more) = HasNo entry.name more × NamesDiffer more

@@ -197,8 +197,9 @@ impl Index {
         Ok(name.copy(self.alloc)?)
     }
 
-    /// Takes the index's last change back, so that the index is as before it. The caller sees to it that the change is
-    /// the last one, as it is right after `put_undo`. Takes no memory.
+    /// Takes the index's last change back: the name has again what it had before, and the number is the next one again.
+    /// The caller sees to it that the change is the last one, as it is right after `put_undo`; the index is then as
+    /// before that call. Takes no memory.
     pub fn undo(&mut self, undo: Undo)
         requires { IsLastChange undo self.old }
         ensures { self.new ≡ taken_back undo self.old }

@@ -100,9 +100,11 @@ impl View {
     }
 
     /// Takes the batch in place of all that was known, as an Index asks. The sequence is then that of the batch's last
-    /// record, or 0. Without memory the view is as before.
+    /// record, or 0. Without memory the view is as before. An empty batch is never refused.
     pub fn replace(&mut self, batch: Batch) -> Result<(), IndexError>
         ensures ok { OnOk result (self.new ≡ replaced self.old batch) }
+        ensures empty { batch ≡ [] → IsOk result }
+
         ensures only { IfErr result (λ e. e ≡ IndexError.Memory) }
         ensures err { OnErr result (self.new ≡ self.old) }
     {

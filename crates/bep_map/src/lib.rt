@@ -1,5 +1,5 @@
-//! Finite maps whose keys are the names of files, on which indexes, views and stores stand, and maps of folders and of
-//! devices.
+//! Finite maps whose keys are the names of files, on which views and stores stand, and maps of folders and of devices. An
+//! index keeps its records in the order of their sequences; contracts see them as such a map of names too.
 //!
 //! ```rust
 //! let mut nodes = NameMap::new(alloc);

@@ -8,6 +8,7 @@ use Rattle.bep_record.specs.declared.entry.Entry.{Entry}
 use Rattle.bep_record.specs.declared.content.Content as lent
 use Rattle.bep_record.specs.declared.content.Content.TheVariants as lends
 
+-- nothing, a file of these blocks, a directory, or a symlink that leads to this target
 pub data Content : Type 0 where
   Deleted : Content
   File : List Block → Content

@@ -37,19 +37,23 @@ pub record IsWellFormed (entry : Entry) : Type 0 where
 abbrev pub SameEntry : Entry → Entry → Type 0
 SameEntry a b = record a { sequence = b.sequence } ≡ b
 
--- its parts: the kind and the marks, who changed it and when, and what it is made of
+-- ---- its parts beside the name
+
+-- the same kind, and the same marks
 pub record SameMarks (a b : Entry) : Type 0 where
   pub kind : a.kind ≡ b.kind
   pub deleted : a.deleted ≡ b.deleted
   pub invalid : a.invalid ≡ b.invalid
   pub no_permissions : a.no_permissions ≡ b.no_permissions
 
+-- changed at the same time and by the same device, with the same history
 pub record SameChange (a b : Entry) : Type 0 where
   pub modified_s : a.modified_s ≡ b.modified_s
   pub modified_ns : a.modified_ns ≡ b.modified_ns
   pub modified_by : a.modified_by ≡ b.modified_by
   pub version : a.version ≡ b.version
 
+-- made of the same: size, blocks and target
 pub record SameBody (a b : Entry) : Type 0 where
   pub size : a.size ≡ b.size
   pub block_size : a.block_size ≡ b.block_size

@@ -12,6 +12,7 @@ FitsKind File node = node.target ≡ []
 FitsKind Directory node = (node.bytes ≡ []) × (node.target ≡ [])
 FitsKind Symlink node = (node.bytes ≡ []) × (node.target ≢ [])
 
+-- a node: its bytes and its time are within their limits, and bytes and target fit its kind
 pub record IsNode (node : NodeParts) : Type 0 where
   pub size : length node.bytes ≤ MAX_FILE_SIZE
   pub nanoseconds : node.modified_ns ≤ MAX_NANOSECONDS

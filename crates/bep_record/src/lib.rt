@@ -2,11 +2,16 @@
 //! information that devices exchange about each name.
 //!
 //! ```rust
-//! // What a device that changed the name puts into its index, in place of its own record.
+//! // What a device that deleted the name puts into its index, in place of its own record.
 //! let mut entry = own.into_entry();
 //! entry.version.bump(device)?;
+//! entry.modified_by = device;
 //! entry.deleted = true;
-//! let deletion = Record::read(entry); // Err gives the fields back: those of a deletion have no blocks
+//! entry.size = 0;
+//! entry.block_size = 0;
+//! entry.blocks = Items::new(Vec::new(alloc));
+//! entry.target = Target::empty(alloc);
+//! let deletion = Record::read(entry); // Err gives the fields back, where a deletion has a block or a target
 //! ```
 #![tactic(auto)]
 

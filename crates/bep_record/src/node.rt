@@ -84,7 +84,8 @@ impl Model for Node {
 
 impl Node {
     /// The node of these parts. `FileTooLarge` above 16777216 bytes; else `NodeBad` where there are bytes
-    /// outside a file, a symlink without a target or a target outside a symlink, or 1000000000 nanoseconds or more.
+    /// outside a file, a symlink without a target or a target outside a symlink, or 1000000000 nanoseconds or more. This
+    /// project's profile.
     pub fn read(parts: NodeParts) -> Result<Self, RecordError>
         ensures is_node { IsOk result ↔ IsNode parts }
         ensures ok { IfOk result (λ node. node ≡ parts) }

@@ -52,7 +52,7 @@ impl<S> FaultStore<S> {
     }
 
     // Counts a call, and tells whether it is the one that fails.
-    fn is_due(&mut self) -> bool
+    fn count_call(&mut self) -> bool
         ensures due { result ≡ is_due self.old }
         ensures counted { self.new ≡ after_call self.old self.old.inner }
         ensures first { IsTrue result → self.old.failed ≡ false }
@@ -77,7 +77,7 @@ impl<S: Store> Store for FaultStore<S> {
         ensures due { IsTrue (is_due self.old) → IsErrOf result StoreError.Fault }
         ensures call { CountsCall self.old self.new }
     {
-        if self.is_due() {
+        if self.count_call() {
             return Err(StoreError::Fault);
         }
         self.inner.names(alloc)
@@ -91,7 +91,7 @@ impl<S: Store> Store for FaultStore<S> {
         ensures due { IsTrue (is_due self.old) → IsErrOf result StoreError.Fault }
         ensures call { CountsCall self.old self.new }
     {
-        if self.is_due() {
+        if self.count_call() {
             return Err(StoreError::Fault);
         }
         self.inner.read(alloc, name)
@@ -105,7 +105,7 @@ impl<S: Store> Store for FaultStore<S> {
         ensures due { IsTrue (is_due self.old) → IsErrOf result StoreError.Fault }
         ensures call { CountsCall self.old self.new }
     {
-        if self.is_due() {
+        if self.count_call() {
             return Err(StoreError::Fault);
         }
         self.inner.write(name, node)
@@ -120,7 +120,7 @@ impl<S: Store> Store for FaultStore<S> {
         ensures due { IsTrue (is_due self.old) → IsErr result }
         ensures call { CountsCall self.old self.new }
     {
-        if self.is_due() {
+        if self.count_call() {
             return Err(StoreFault);
         }
         self.inner.set_time(name, seconds, nanoseconds)
@@ -135,7 +135,7 @@ impl<S: Store> Store for FaultStore<S> {
         ensures due { IsTrue (is_due self.old) → IsErr result }
         ensures call { CountsCall self.old self.new }
     {
-        if self.is_due() {
+        if self.count_call() {
             return Err(StoreFault);
         }
         self.inner.remove(name)

@@ -40,14 +40,10 @@ impl MemStore {
     pub fn new(alloc: Global) -> Self
         ensures { result ≡ map.empty }
     {
-        MemStore::of(alloc, NameMap::new(alloc))
-    }
-
-    /// The store that holds these nodes.
-    pub fn of(alloc: Global, nodes: NameMap<Node>) -> Self
-        ensures { result ≡ nodes }
-    {
-        MemStore { nodes, alloc }
+        MemStore {
+            nodes: NameMap::new(alloc),
+            alloc,
+        }
     }
 }
 

@@ -12,7 +12,7 @@ use std::alloc::Global;
 /// Where a device keeps the files of a folder: a node under each name that has one.
 ///
 /// Each call but `faults` may fail. It answers a fault exactly where the count of faults rose, and after a fault or
-/// want of memory the store holds what it held.
+/// want of memory the store holds what it held. This project's profile.
 pub trait Store: Drop {
     /// What the store holds: the node of each name that has one.
     ghost contents: { Self → ByName NodeParts };

@@ -1,8 +1,8 @@
-//! What a folder needs of a record that was chosen, in this project's profile; the wanted answers were worked out by hand.
-//! Which record is chosen, `examples/pieces.sh` shows.
+//! Which record is chosen, and what a folder needs of it, in this project's profile; the wanted answers were worked out by
+//! hand. More choices, `examples/pieces.sh` shows.
 use super::made::{Said, record};
-use bep_choice::needed;
-use bep_record::{FolderKind, Record};
+use bep_choice::{choose, needed};
+use bep_record::{DeviceId, FolderKind, Record};
 use std::alloc::Global;
 
 fn version(counter: (u64, u64)) -> Said {
@@ -54,4 +54,30 @@ fn needs_go_by_the_folder_and_the_own_record(rt: HostRuntime) {
     ] {
         assert_eq!(rt; needs(rt.alloc(), own, chosen), Some(wanted));
     }
+}
+
+// The record of this version, which its device made at this time.
+fn made_at(alloc: Global, counter: (u64, u64), modified_s: i64) -> Option<Record> {
+    let mut entry = record(alloc, version(counter))?.into_entry();
+    entry.modified_s = modified_s;
+    entry.modified_by = DeviceId::read(counter.0)?;
+    Record::read(entry).ok()
+}
+
+// The place of device 9's choice among records of devices 2, 3 and 4.
+fn choice_of_three(alloc: Global) -> Option<usize> {
+    let newest = made_at(alloc, (7, 3), 5)?;
+    let older = made_at(alloc, (7, 2), 9)?;
+    let other = made_at(alloc, (2, 1), 5)?;
+    let candidates = [
+        (DeviceId::read(2)?, &newest),
+        (DeviceId::read(3)?, &older), // later, but strictly below the newest
+        (DeviceId::read(4)?, &other), // as late as the newest, by the smaller device
+    ];
+    choose(DeviceId::read(9)?, &candidates)
+}
+
+#[test]
+fn the_choice_goes_by_version_time_and_changer(rt: HostRuntime) {
+    assert_eq!(rt; choice_of_three(rt.alloc()), Some(2));
 }

@@ -1,5 +1,6 @@
-//! Views, plans and changes that are taken back, by BEP v1, 'Index' and 'Index Update'. How an index numbers its records,
-//! sends them and is full, and what a view has of them, the scenarios of `examples/` show.
+//! Views, plans, changes that are taken back and what an index tells in the order of its sequences, by BEP v1, 'Index' and
+//! 'Index Update'; the wanted answers were worked out by hand. How an index is full, and what a view has of its records, the
+//! scenarios of `examples/` show.
 use super::made::numbered;
 use bep_index::{Batch, Index, IndexError, IndexId, Plan, View, plan};
 use bep_record::{Name, Record};
@@ -100,17 +101,40 @@ fn put_and_undo(alloc: Global, index: &mut Index, letter: u8) -> Option<u64> {
     }
 }
 
-// The sequences of the index's records, in order.
-fn sequences(index: &Index) -> [Option<u64>; 3] {
+// The letter and the sequence of a record.
+type Told = Option<(u8, u64)>;
+
+fn told(record: Option<&Record>) -> Told {
+    let entry = record?.entry();
+    let letter = *entry.name.as_bytes().first()?;
+    Some((letter, entry.sequence))
+}
+
+// The index's records, in order, up to the fourth.
+fn listed(index: &Index) -> [Told; 4] {
     [
-        sequence_of(index.at(0)),
-        sequence_of(index.at(1)),
-        sequence_of(index.at(2)),
+        told(index.at(0)),
+        told(index.at(1)),
+        told(index.at(2)),
+        told(index.at(3)),
     ]
 }
 
-fn sequence_of(record: Option<&Record>) -> Option<u64> {
-    Some(record?.entry().sequence)
+// The records that are sent from above the sequence, up to the third.
+fn sent(alloc: Global, index: &Index, sequence: u64, limit: usize) -> Option<[Told; 3]> {
+    match index.after(alloc, sequence, limit) {
+        Ok(found) => Some([told(found.get(0)), told(found.get(1)), told(found.get(2))]),
+        Err(_) => None,
+    }
+}
+
+fn places(index: &Index) -> [usize; 4] {
+    [
+        index.place_above(0),
+        index.place_above(2),
+        index.place_above(3),
+        index.place_above(9),
+    ]
 }
 
 #[test]
@@ -132,5 +156,24 @@ fn an_index_plans_and_takes_back(rt: HostRuntime) {
     // A change of a name that is there, and of a new one.
     assert_eq!(rt; put_and_undo(alloc, &mut index, b'b'), Some(4));
     assert_eq!(rt; put_and_undo(alloc, &mut index, b'c'), Some(4));
-    assert_eq!(rt; sequences(&index), [Some(2), Some(3), None]);
+    let (b, a) = (Some((b'b', 2)), Some((b'a', 3)));
+    assert_eq!(rt; listed(&index), [b, a, None, None]);
+}
+
+#[test]
+fn an_index_tells_by_sequence(rt: HostRuntime) {
+    let alloc = rt.alloc();
+    let Some(id) = IndexId::read(11) else {
+        return;
+    };
+    let mut index = Index::new(alloc, id);
+    assert_eq!(rt; fill(alloc, &mut index), [Some(1), Some(2), Some(3)]);
+    // The `a` that was put first isn't there any more.
+    let (b, a) = (Some((b'b', 2)), Some((b'a', 3)));
+    assert_eq!(rt; sent(alloc, &index, 0, 10), Some([b, a, None]));
+    assert_eq!(rt; sent(alloc, &index, 0, 1), Some([b, None, None]));
+    assert_eq!(rt; sent(alloc, &index, 2, 10), Some([a, None, None]));
+    assert_eq!(rt; put(alloc, &mut index, b'c'), Some(4));
+    assert_eq!(rt; places(&index), [0, 1, 2, 3]);
+    assert_eq!(rt; listed(&index), [b, a, Some((b'c', 4)), None]);
 }
