@@ -21,7 +21,9 @@ mod SoundPull
 mod ContentDecided
 mod WholeFile
 mod EffectFacts
+mod UserEffect
 mod ScanEffect
+mod EndedNode
 mod PullEffect
 mod OverrideEffect
 mod Places

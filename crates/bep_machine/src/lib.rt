@@ -21,7 +21,8 @@ mod undone;
 
 pub use calm::{quiet_steps_keep_calm, quiet_steps_keep_records};
 pub use effects::{
-    finish_adopts, override_wins, revert_takes_back, scan_records, start_pull_begins,
+    finish_adopts, finish_drops, override_wins, revert_takes_back, scan_records, start_pull_begins,
+    users_change_files,
 };
 pub use files::{finish_keeps_files, revert_keeps_files};
 pub use finite::clusters_are_finite;
