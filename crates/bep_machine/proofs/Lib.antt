@@ -84,5 +84,6 @@ mod SessionEffect
 mod RecordsEffect
 mod RequestEffect
 mod ConfigEffect
+mod BlockPlaces
 mod ResponseEffect
 mod UndoneSteps

@@ -36,6 +36,7 @@ pub use limits::{MAX_EPOCH, MAX_OUTSTANDING, MAX_REQUEST_ID};
 pub use link_effects::{
     begin_opens_session, block_is_asked_for, block_is_received, breach_loses_link, config_is_taken,
     links_come_and_go, records_are_announced, records_reach_view, request_is_answered,
+    unasked_is_ignored,
 };
 pub use message::{Announced, Code, Message, Request, Response};
 pub use moved::Moved;
