@@ -56,6 +56,7 @@ mod PlacesKept
 mod StepsKept
 mod RowEnds
 mod LinkDeeds
+mod CallsTold
 mod HalfSteps
 mod ActedEnds
 mod Replays
