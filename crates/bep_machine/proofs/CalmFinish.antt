@@ -58,10 +58,10 @@ no_conflict_due : (own : Option Entry) (target : Entry) → HasContentOf own tar
 no_conflict_due None target has due = due
 no_conflict_due (Some own) target has due = due.3 has
 
-bytes_stay : (own : Option Entry) (node : Option NodeParts) (pull : Pull) (after : Option NodeParts) → HasContentOf own pull.target → EndsWith own node pull after → after ≡ timed node pull.target
+pub bytes_stay : (own : Option Entry) (node : Option NodeParts) (pull : Pull) (after : Option NodeParts) → HasContentOf own pull.target → EndsWith own node pull after → after ≡ timed node pull.target
 bytes_stay own held pull after has ends = ⊎_elim (λ stays. stays.1) (λ writes. absurd (writes.0 has)) ends
 
-timed_is_same_file : (node : Option NodeParts) (target : Entry) → SameFile node (timed node target)
+pub timed_is_same_file : (node : Option NodeParts) (target : Entry) → SameFile node (timed node target)
 timed_is_same_file None target = tt
 timed_is_same_file (Some node) target = (refl, refl, refl)
 

@@ -21,7 +21,9 @@ mod SoundPull
 mod ContentDecided
 mod WholeFile
 mod EffectFacts
+mod UserEffect
 mod ScanEffect
+mod EndedNode
 mod PullEffect
 mod OverrideEffect
 mod Places
@@ -54,6 +56,7 @@ mod PlacesKept
 mod StepsKept
 mod RowEnds
 mod LinkDeeds
+mod CallsTold
 mod HalfSteps
 mod ActedEnds
 mod Replays
@@ -82,5 +85,6 @@ mod SessionEffect
 mod RecordsEffect
 mod RequestEffect
 mod ConfigEffect
+mod BlockPlaces
 mod ResponseEffect
 mod UndoneSteps

@@ -16,7 +16,7 @@ use Rattle.bep_machine.specs.Exchange.{SessionRow, BeginRow, LosingRow, AskedRow
 use Rattle.bep_machine.specs.Halves.{Exchanged, Sent, Took, Broke, Traffic, deed_told, waiting_told, sight_told, IsSeen}
 
 -- a row that is done was not refused
-past : {S : Type 0} {old new : S} {why : _} {moved : Moved} {C R : Type 0} → (C × becomes old (Refused why) new (Done moved)) ⊎ ((¬ C) × R) → (¬ C) × R
+pub past : {S : Type 0} {old new : S} {why : _} {moved : Moved} {C R : Type 0} → (C × becomes old (Refused why) new (Done moved)) ⊎ ((¬ C) × R) → (¬ C) × R
 past (inl refused) = let wrong = refused.1.1 in absurd (cc)
 past (inr passed) = passed
 

@@ -1,4 +1,5 @@
 -- A pull begins and ends where nothing stands in its way.
+use Rattle.std.proofs.lemmas.Option.{same_Some}
 use Rattle.std.proofs.Common.{◌≡◌, ◌≢◌, ◌∙◌, ◌≤◌, ℕ, ◌+◌, false, List, length, Option, Some, None, refl, sym, ap, subst, subst₂, inl, inr, ⊎_elim, arith}
 use Rattle.bep_record.specs.declared.entry.Entry.{Entry}
 use Rattle.bep_record.specs.declared.node.NodeParts.{NodeParts}
@@ -8,19 +9,22 @@ use Rattle.bep_record.specs.Name.{max_name_len}
 use Rattle.bep_record.specs.Content.{content_of}
 use Rattle.bep_record.specs.Vector.{most_counters, IsMerge, ids_in_either}
 use Rattle.bep_index.specs.Index.{numbered}
+use Rattle.bep_model.specs.Calm.{SameFile}
+use Rattle.bep_model.specs.Settled.{content_of_node}
 use Rattle.bep_model.specs.Tables.{Device, FileName}
 use Rattle.bep_machine.specs.Answer.{Answer, Row, Done}
-use Rattle.bep_machine.specs.declared.moved.Moved.TheVariants.{Changed}
-use Rattle.bep_machine.specs.Replica.{Replica, Pull, own_at, node_at, pull_at, version_of, with_node, with_pull}
-use Rattle.bep_machine.specs.Pull.{FinishRow, EndingRow, CopyingRow, SettlingRow, RoomRow, IsAdopted, IsConflictDue, EndsWith, new_pull, timed, written, copy_name}
-use Rattle.bep_machine.specs.Effects.{HasRoom, CanFinish, HasFinished, StartPullBegins, FinishAdopts, FinishKeepsCopy}
+use Rattle.bep_machine.specs.declared.moved.Moved.TheVariants.{Changed, Dropped}
+use Rattle.bep_machine.specs.Replica.{Replica, Pull, own_at, node_at, pull_at, version_of, with_node, with_pull, without_pull}
+use Rattle.bep_machine.specs.Pull.{FinishRow, EndingRow, CopyingRow, SettlingRow, RoomRow, IsAdopted, IsStillWanted, IsConflictDue, EndsWith, new_pull, timed, written, copy_name}
+use Rattle.bep_machine.specs.Effects.{HasRoom, CanFinish, IsJoined, HasFinished, StartPullBegins, FinishAdopts, FinishKeepsCopy, FinishDrops}
 use Rattle.bep_machine.specs.Sound.{IsSoundReplica}
 use Rattle.bep_machine.proofs.CalmFinish.{clean_against_adopted, timed_is_clean_there}
 use Rattle.bep_machine.proofs.CalmRows.{CopiedRow}
 use Rattle.bep_machine.proofs.ContentDecided.{has_content_or_not}
 use Rattle.bep_machine.proofs.EffectFacts.{none_fails, own_version}
+use Rattle.bep_machine.proofs.EndedNode.{file_stays, none_where_deleted, has_target_content, file_is_joined}
 use Rattle.bep_machine.proofs.WholeFile.{written_is_clean}
-use Rattle.bep_machine.proofs.ReplicaFacts.{insert_here, remove_here, with_node_here, with_node_apart, ended, own_here}
+use Rattle.bep_machine.proofs.ReplicaFacts.{insert_here, remove_here, remove_apart, with_node_here, with_node_apart, ended, own_here}
 
 pub start_pull_begins_lem : StartPullBegins
 start_pull_begins_lem device name old wanted wants room = (
@@ -68,16 +72,24 @@ finished : CutIsOfOneLength → (device : Device) (name : FileName) (old start :
 finished one_length device name old start pull after entry sound can ends adopted =
     let named : entry.name ≡ name = ap (λ (e : Entry). e.name) adopted.same ∙ (sound.pulls name pull can.pulled).named in
     let number = (with_node start name after).index.sequence + 1 in
-    let clean = clean_against_adopted after pull.target adopted.version number (end_is_clean one_length device name old pull after sound can ends) in
+    let against = end_is_clean one_length device name old pull after sound can ends in
+    let clean = clean_against_adopted after pull.target adopted.version number against in
+    let here = with_node_here start name after in
     record {
       entry = numbered entry number;
       own = own_here start name after entry named;
       content = ap content_of adopted.same;
       valid = ap (λ (e : Entry). e.invalid) adopted.same;
       merge = subst (λ (v : List (ℕ × ℕ)). IsMerge (version_of (own_at old name)) pull.target.version v) (sym (ap (λ (e : Entry). e.version) adopted.same)) adopted.merge;
-      node = subst (λ (n : Option NodeParts). EndsWith (own_at old name) (node_at old name) pull n) (sym (with_node_here start name after)) ends;
+      node = subst (λ (n : Option NodeParts). EndsWith (own_at old name) (node_at old name) pull n) (sym here) ends;
+      stays = λ has. subst (λ (n : Option NodeParts). SameFile (node_at old name) n) (sym here) (file_stays (own_at old name) (node_at old name) pull after ends has);
+      removed = λ deleted. here ∙ none_where_deleted after pull.target against deleted;
+      like_target = λ no_file. ap content_of_node here ∙ has_target_content after pull.target against no_file;
+      joined = λ file differs.
+          subst (λ (n : Option NodeParts). IsJoined pull n) (sym here)
+          (file_is_joined (own_at old name) (node_at old name) pull after ends file differs (λ missing. can.received (file, differs, missing)));
       clean =
-          subst₂ (λ (n : Option NodeParts) (e : Entry). IsClean n (Some (numbered e number))) (sym (with_node_here start name after)) (sym adopted.same) clean;
+          subst₂ (λ (n : Option NodeParts) (e : Entry). IsClean n (Some (numbered e number))) (sym here) (sym adopted.same) clean;
       gone = remove_here (with_node start name after).pulls name;
     }
 
@@ -127,3 +139,19 @@ finish_keeps_copy_lem merge_exists one_length device name old pull sound can due
       finished one_length device name old start pull end.0 adopted.0 sound can end.1 adopted.1,
       with_node_apart start name end.0 copy apart ∙ with_node_here old copy node,
     )
+
+-- ---- a pull that isn't wanted any more
+
+pub finish_drops_lem : FinishDrops
+finish_drops_lem device name failed old pull is unwanted = record {
+  made = without_pull old name;
+  comes = inr ((λ none. let never = sym is ∙ none in cc), (pull, is, inr (unwanted, (refl, refl))));
+  fits = record { gone = remove_here old.pulls name; others = λ other apart. remove_apart old.pulls name other apart; rest = refl };
+  only = only;
+}
+  where
+    only : (new : Replica) (answer : Answer) → FinishRow device name failed old new answer → (new ≡ without_pull old name) × (answer ≡ Done Dropped)
+    only new answer (inl none) = let never = sym is ∙ none.0 in absurd (cc)
+    only new answer (inr (there, (found, found_is, inl wanted))) =
+        absurd (unwanted (subst (λ (p : Pull). IsStillWanted device old name p.target) (same_Some found pull (sym found_is ∙ is)) wanted.0))
+    only new answer (inr (there, (found, found_is, inr dropped))) = dropped.1

@@ -22,7 +22,7 @@ use Rattle.bep_machine.specs.Peer.{Session, Peer, Acted, with_replica, with_sess
 use Rattle.bep_machine.specs.Exchange.{IsInSession, IsNamed, ViewRow, taken_by, CursorRow, AnnounceRow, IsAllSent, sent_up_to, index_message}
 use Rattle.bep_machine.specs.LinkEffects.{IsOpen, HasTakenView, IndexBringsView, UpdateAddsToView, HasMovedOn, WholeIsAnnounced, FurtherIsAnnounced}
 use Rattle.bep_machine.proofs.BatchFound.{batch_exists}
-use Rattle.bep_machine.proofs.ReplicaFacts.{insert_here}
+use Rattle.bep_machine.proofs.ReplicaFacts.{insert_here, insert_apart}
 use Rattle.bep_machine.proofs.ViewFacts.{view_here}
 use Rattle.bep_machine.proofs.TakingFacts.{in_session, delivers}
 
@@ -97,6 +97,7 @@ module _ (other : Device) (folder : Folder) (sight : Sight) (old : Peer) (sessio
     there = get-insert_here nat_cmp_total nat_cmp-IsAntisymmetric old.sessions other (later batch);
     same = (refl, refl, refl, refl);
     cursor = insert_here session.cursors folder (Above (last_sequence (sent_up_to cursor) batch));
+    others = λ named apart. insert_apart session.cursors folder (Above (last_sequence (sent_up_to cursor) batch)) named apart;
   }
 
 pub whole_is_announced : WholeIsAnnounced

@@ -1,12 +1,12 @@
 -- Beginning and ending a pull keep a replica sound.
-use Rattle.std.proofs.Common.{◌≡◌, ◌<◌, ℕ, Option, None, sym, subst, inl, inr, ⊎_elim}
+use Rattle.std.proofs.Common.{◌<◌, ℕ, Option, sym, subst, inl, inr, ⊎_elim}
 use Rattle.bep_record.specs.declared.entry.Entry.{Entry}
 use Rattle.bep_record.specs.declared.node.NodeParts.{NodeParts}
 use Rattle.bep_record.specs.Node.{IsNode}
 use Rattle.bep_record.specs.Vector.{most_counters, ids_in_either}
 use Rattle.bep_model.specs.Tables.{Device, FileName}
 use Rattle.bep_machine.specs.Answer.{Answer, Row}
-use Rattle.bep_machine.specs.Replica.{Pull, Replica, own_at, node_at, version_of, with_node}
+use Rattle.bep_machine.specs.Replica.{Pull, Replica, own_at, node_at, version_of}
 use Rattle.bep_machine.specs.Pull.{new_pull, ChosenRow, StartPullRow, IsAdopted, SettlingRow, RoomRow, CopyingRow, EndingRow, FinishRow, copy_name}
 use Rattle.bep_machine.specs.Sound.{IsSoundPull, IsSoundReplica}
 use Rattle.bep_machine.proofs.CalmRows.{CopiedRow}

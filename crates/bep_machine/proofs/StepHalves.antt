@@ -1,5 +1,6 @@
 -- Every step changes nothing and isn't done, or an event tells of it, whose halves all devices and links make.
 use Rattle.std.proofs.Common.{◌≡◌, ◌⊎◌, ◌==◌, ◌&&◌, ◌||◌, ℕ, Bool, true, false, cond, nat_lt, if◌then◌else◌, Option, Some, None, refl, sym, ap, subst, ◌∙◌, inl, inr, ⊎_elim, eqb-true}
+use Rattle.std.specs.Prelude.{⊤}
 use Rattle.std.proofs.lemmas.Bool.{and_parts}
 use Rattle.std.specs.Ordering.{nat_cmp, eq_by_cmp}
 use Rattle.std.specs.Cmp.Lexicographic.{slice_cmp, nat_list_cmp_total}
@@ -20,17 +21,18 @@ use Rattle.bep_machine.specs.Peer.{Peer, Acted, idle, with_replica}
 use Rattle.bep_machine.specs.Exchange.{BeginRow, DeliverRow, AnnounceRow, AskRow}
 use Rattle.bep_machine.specs.Cluster.{Cluster, link_between, with_link, with_link_between, with_peer}
 use Rattle.bep_machine.specs.Steps.{IsThere, AtReplica, OverLink, AtLink, ConnectRow, LoseRow, RestartRow, restarted, StepRow}
-use Rattle.bep_machine.specs.Halves.{Traffic, Logged, failed_told, IsDone, SaysNoMore, InFolder, ByTraffic, Carries, OnlyIf}
+use Rattle.bep_machine.specs.Halves.{Traffic, Logged, has_answered, failed_told, IsDone, SaysNoMore, InFolder, ByTraffic, Carries, OnlyIf}
 use Rattle.bep_machine.specs.HalfLaws.{IsMadeBy, StepHasHalves}
 use Rattle.bep_machine.proofs.RowEnds.{Stays, StaysOrChanges, edit_stays, remove_stays, scan_stays, override_stays, revert_stays, start_pull_stays, finish_ends}
 use Rattle.bep_machine.proofs.LinkDeeds.{RowTells, begin_tells, announce_tells, ask_tells, deliver_tells}
 use Rattle.bep_machine.proofs.ActedEnds.{Rests, begin_rests, announce_rests, ask_rests, deliver_rests}
+use Rattle.bep_machine.proofs.CallsTold.{none_unless, call_is_told}
 use Rattle.bep_machine.proofs.ThereDecided.{there_decided}
 use Rattle.bep_machine.proofs.HalfSteps.{same_cluster}
 
 -- a step isn't done and changes nothing, or is of an event that all objects make
 abbrev pub HasHalves : Step → Option ℕ → Cluster → Cluster → Answer → Type 0
-HasHalves step failed old new answer = ((¬ IsDone answer) × (new ≡ old)) ⊎ ((event : Logged) × (event.step ≡ step) × (event.failed ≡ failed_told step failed) × IsThere old.config step × IsMadeBy event old new)
+HasHalves step failed old new answer = ((¬ IsDone answer) × (new ≡ old)) ⊎ ((event : Logged) × (event.step ≡ step) × (event.failed ≡ failed_told step event.traffic failed) × IsThere old.config step × IsMadeBy event old new)
 
 done_or_not : (answer : Answer) → IsDone answer ⊎ (¬ IsDone answer)
 done_or_not (Done moved) = inl tt
@@ -89,6 +91,10 @@ nothing_between old device other acted is =
         (same_peers old device (old.peer device) refl) (same_links old other device (old.link other device) refl)
 
 -- ---- what is touched
+
+only_mapped : {S : Type 0} {one other : Type 0} (old new : S) (b : Bool) → (one → other) → OnlyIf b one old new → OnlyIf b other old new
+only_mapped old new true each step = each step
+only_mapped old new false each step = step
 
 peers_made : (old : Cluster) (device : Device) (peer : Peer) (Half : Peer → Peer → Type 0) → Half (old.peer device) peer →
     (one : Device) → OnlyIf (one == device) (Half (old.peer one) (if one == device then peer else old.peer one)) (old.peer one) (if one == device then peer else old.peer one)
@@ -240,20 +246,40 @@ either : (row : Replica → Row Replica) (answer : Answer) → ((before after : 
 either row answer stays before after made undone = inl (stays before after answer made undone)
 
 module _ (old new : Cluster) (answer : Answer) where
-  of_folder : (device : Device) (folder : Folder) (row : Replica → Row Replica) (step : Step) (there : IsThere old.config step) (given failed : Option ℕ) (told : failed ≡ failed_told step given) (says : SaysNoMore step failed None)
+  of_folder : (device : Device) (folder : Folder) (row : Replica → Row Replica) (step : Step) (there : IsThere old.config step) (given failed : Option ℕ) (told : failed ≡ failed_told step None given) (says : SaysNoMore step failed None)
       → (FolderMade device folder row (SaysNoMore step failed None) says old new answer new → IsMadeBy (event_of step failed None) old new)
       → ((before after : Replica) → row before after answer → StaysOrChanges before after answer)
       → AtReplica device folder row old new answer → HasHalves step given old new answer
   of_folder device folder row step there given failed told says made ends here =
       ⊎_elim (λ stays. inl stays) (λ half. inr (event_of step failed None, refl, told, there, made half)) (folder_made device folder row (SaysNoMore step failed None) says old new answer ends here)
 
-  over_link : (device other : Device) (row : Sight → Peer → Row Acted) (tells : RowTells row) (rests : Rests row) (step : Step) (there : IsThere old.config step) (given failed : Option ℕ) (told : failed ≡ failed_told step given) (Says : Type 0) (says : Says)
+  over_link : (device other : Device) (row : Sight → Peer → Row Acted) (tells : RowTells row) (rests : Rests row) (step : Step) (there : IsThere old.config step) (given failed : Option ℕ) (told : (traffic : Option Traffic) → failed ≡ failed_told step traffic given) (Says : Type 0) (says : Says)
       → ((traffic : Option Traffic) → LinkMade device other row tells rests Says says old new answer traffic new → IsMadeBy (event_of step failed traffic) old new)
       → OverLink device other row old new answer → HasHalves step given old new answer
   over_link device other row tells rests step there given failed told Says says made here =
-      ⊎_elim (λ stays. inl stays) (λ half. inr (event_of step failed half.0, refl, told, there, made half.0 half.1)) (link_made device other row tells rests Says says old new answer here)
+      ⊎_elim (λ stays. inl stays) (λ half. inr (event_of step failed half.0, refl, told half.0, there, made half.0 half.1)) (link_made device other row tells rests Says says old new answer here)
 
-  of_link : (lower upper : Device) (row : Link → Row Link) (ends : (before after : Link) (answer : Answer) → row before after answer → ((¬ IsDone answer) × (after ≡ before)) ⊎ row before after (Done Changed)) (step : Step) (there : IsThere old.config step) (given : Option ℕ) (told : None ≡ failed_told step given) (says : SaysNoMore step None None)
+  -- a delivery that answers nothing calls no store, and its event tells of no call that failed
+  of_delivery : (device other : Device) → IsThere old.config (Deliver device other) → (failed : Option ℕ) → OverLink device other (DeliverRow other failed) old new answer → HasHalves (Deliver device other) failed old new answer
+  of_delivery device other there failed here =
+      ⊎_elim (λ stays. inl stays)
+      (λ half.
+      let traffic = half.0 in
+      let says = none_unless (has_answered traffic) failed in
+      inr (
+        event_of (Deliver device other) (failed_told (Deliver device other) traffic failed) traffic,
+        refl,
+        refl,
+        there,
+        record {
+          config = half.1.config;
+          peers = λ one. only_mapped (old.peer one) (new.peer one) (one == device) (λ both. (says, call_is_told other failed traffic (old.peer one) (new.peer one) both.1)) (half.1.peers one);
+          links = λ a b. only_mapped (old.link a b) (new.link a b) (if nat_lt device other then (a == device) && (b == other) else (a == other) && (b == device)) (λ both. (says, both.1)) (half.1.links a b);
+        },
+      ))
+      (link_made device other (DeliverRow other failed) (deliver_tells other failed) (deliver_rests other failed) ⊤ tt old new answer here)
+
+  of_link : (lower upper : Device) (row : Link → Row Link) (ends : (before after : Link) (answer : Answer) → row before after answer → ((¬ IsDone answer) × (after ≡ before)) ⊎ row before after (Done Changed)) (step : Step) (there : IsThere old.config step) (given : Option ℕ) (told : None ≡ failed_told step None given) (says : SaysNoMore step None None)
       → (OneLinkMade lower upper row ends (SaysNoMore step None None) says old new answer new → IsMadeBy (event_of step None None) old new)
       → AtLink lower upper row old new answer → HasHalves step given old new answer
   of_link lower upper row ends step there given told says made here =
@@ -299,19 +325,17 @@ module _ (old new : Cluster) (answer : Answer) where
   row_has_halves (Lose one other) there failed =
       of_link one other LoseRow lose_ends (Lose one other) there failed refl (refl, refl) (λ half. record { config = half.config; peers = half.peers; links = half.links })
   row_has_halves (Begin device other) there failed =
-      over_link device other (BeginRow other) (begin_tells other) (begin_rests other) (Begin device other) there failed None refl (SaysNoMore (Begin device other) None None) refl
+      over_link device other (BeginRow other) (begin_tells other) (begin_rests other) (Begin device other) there failed None (λ traffic. refl) (SaysNoMore (Begin device other) None None) refl
       (λ traffic half. record { config = half.config; peers = half.peers; links = half.links })
-  row_has_halves (Deliver device other) there failed =
-      over_link device other (DeliverRow other failed) (deliver_tells other failed) (deliver_rests other failed) (Deliver device other) there failed failed refl (SaysNoMore (Deliver device other) failed None) tt
-      (λ traffic half. record { config = half.config; peers = half.peers; links = half.links })
+  row_has_halves (Deliver device other) there failed = of_delivery device other there failed
   row_has_halves (Announce device other folder) there failed =
-      over_link device other (AnnounceRow other folder) (announce_tells other folder) (announce_rests other folder) (Announce device other folder) there failed None refl (SaysNoMore (Announce device other folder) None None) refl
+      over_link device other (AnnounceRow other folder) (announce_tells other folder) (announce_rests other folder) (Announce device other folder) there failed None (λ traffic. refl) (SaysNoMore (Announce device other folder) None None) refl
       (λ traffic half. record { config = half.config; peers = half.peers; links = half.links })
   row_has_halves (StartPull device folder name) there failed =
       of_folder device folder (StartPullRow device name) (StartPull device folder name) there failed None refl (refl, refl)
       (λ half. record { config = half.config; peers = half.peers; links = half.links }) (either (StartPullRow device name) answer (start_pull_stays device name))
   row_has_halves (Ask device other folder name) there failed =
-      over_link device other (AskRow other folder name) (ask_tells other folder name) (ask_rests other folder name) (Ask device other folder name) there failed None refl (SaysNoMore (Ask device other folder name) None None) refl
+      over_link device other (AskRow other folder name) (ask_tells other folder name) (ask_rests other folder name) (Ask device other folder name) there failed None (λ traffic. refl) (SaysNoMore (Ask device other folder name) None None) refl
       (λ traffic half. record { config = half.config; peers = half.peers; links = half.links })
   row_has_halves (Finish device folder name) there failed =
       of_folder device folder (FinishRow device name failed) (Finish device folder name) there failed failed refl refl

@@ -36,7 +36,7 @@ module _ (other : Device) (failed : Option ℕ) (sight : Sight) (old : Peer) (se
       in_session other sight old session taking.up taking.current (λ one. WaitingRow other failed sight.full one sight.waiting old) new answer
       (subst (λ (first : Option Message). WaitingRow other failed sight.full session first old new answer) (sym taking.waiting) made)
 
-  only_delivers : (new : Acted) (answer : Answer) → DeliverRow other failed sight old new answer → MessageRow other failed sight.full session message old new answer
+  pub only_delivers : (new : Acted) (answer : Answer) → DeliverRow other failed sight old new answer → MessageRow other failed sight.full session message old new answer
   only_delivers new answer made =
       subst (λ (first : Option Message). WaitingRow other failed sight.full session first old new answer) taking.waiting
       (only_in_session other sight old session taking.up taking.current (λ one. WaitingRow other failed sight.full one sight.waiting old) new answer made)

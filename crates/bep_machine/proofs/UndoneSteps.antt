@@ -13,7 +13,7 @@ use Rattle.bep_machine.specs.Halves.{IsDone}
 use Rattle.bep_machine.specs.Link.{Link, end_of, sight_of}
 use Rattle.bep_machine.specs.Cluster.{link_between}
 use Rattle.bep_machine.specs.Local.{EditRow, RemoveRow, ScanRow, OverrideRow, RevertRow}
-use Rattle.bep_machine.specs.Pull.{StartPullRow, SettlingRow, RoomRow, CopyingRow, EndingRow, FinishRow, copy_name}
+use Rattle.bep_machine.specs.Pull.{StartPullRow, SettlingRow, RoomRow, CopyingRow, EndingRow, FinishRow, IsStillWanted, copy_name}
 use Rattle.bep_machine.specs.Replica.{Pull, Replica, own_at, node_at, with_node}
 use Rattle.bep_machine.specs.Steps.{AtReplica, OverLink, AtLink, ConnectRow, LoseRow, StepRow}
 use Rattle.bep_machine.specs.Undone.{KeepsCopy, LeavesAll, UndoneStepsLeaveAll}
@@ -45,14 +45,14 @@ copying_left name pull failed own node old new answer row =
     (λ there undone. inl (settling_stays name pull 3 failed own node old new answer there.1 undone))
     ends))))
 
-finish_left : (device : Device) (name : FileName) (failed : Option ℕ) (old new : Replica) (answer : Answer) → FinishRow device name failed old new answer → StaysOr (KeepsCopy name old new) old new answer
-finish_left device name failed old new answer row = refused_or row (λ more. ⊎_elim (λ wanted. ending more.0 more.1 wanted.1) (λ dropped undone. inl (stays_done dropped.1 undone)) more.2)
+finish_left : (device : Device) (name : FileName) (failed : Option ℕ) (old new : Replica) (answer : Answer) → FinishRow device name failed old new answer → StaysOr (KeepsCopy device name old new) old new answer
+finish_left device name failed old new answer row = refused_or row (λ more. ⊎_elim (λ wanted. ending more.0 more.1 wanted.0 wanted.1) (λ dropped undone. inl (stays_done dropped.1 undone)) more.2)
   where
-    ending : (pull : Pull) → get old.pulls name ≡ Some pull → EndingRow name pull failed old new answer → StaysOr (KeepsCopy name old new) old new answer
-    ending pull is row =
+    ending : (pull : Pull) → get old.pulls name ≡ Some pull → IsStillWanted device old name pull.target → EndingRow name pull failed old new answer → StaysOr (KeepsCopy device name old new) old new answer
+    ending pull is wanted row =
         refused_or row (λ a. refused_or a (λ b. refused_or b (λ ends.
         ⊎_elim
-        (λ due undone. ⊎_elim (λ same. inl same) (λ copied. inr (pull, is, due.0, copied.0, copied.1)) (copying_left name pull failed (own_at old name) (node_at old name) old new answer due.1 undone))
+        (λ due undone. ⊎_elim (λ same. inl same) (λ copied. inr (pull, is, wanted, due.0, copied.0, copied.1)) (copying_left name pull failed (own_at old name) (node_at old name) old new answer due.1 undone))
         (λ free. room_or name (own_at old name) pull.target old new (SettlingRow name pull 2 failed (own_at old name) (node_at old name) old) answer free.1 (λ settles undone. inl (settling_stays name pull 2 failed (own_at old name) (node_at old name) old new answer settles undone)))
         ends)))
 

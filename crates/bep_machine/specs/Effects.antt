@@ -1,7 +1,10 @@
--- That a scan, a pull's beginning and end, an override and a revert do what they are for, where nothing stands in their
--- way. The functions of src/effects.rt have these as contracts.
-use Rattle.std.specs.Prelude.{◌≡◌, ◌≢◌, ◌≤◌, max, true, false, [], length, Option, Some, None}
+-- That an edit, a removal, a scan, a pull's beginning and end, an override and a revert do what they are for, where nothing
+-- stands in their way. The functions of src/effects.rt have these as contracts.
+use Rattle.std.specs.Prelude.{◌≡◌, ◌≢◌, ◌↔◌, ◌≤◌, ℕ, max, true, false, List, [], map, length, Option, Some, None, IsSome}
+use Rattle.std.specs.List.{concat}
 use Rattle.bep_record.specs.declared.entry.Entry.{Entry}
+use Rattle.bep_record.specs.declared.kind.Kind.TheVariants.{File}
+use Rattle.bep_record.specs.declared.node.NodeParts.{NodeParts}
 use Rattle.bep_record.specs.declared.folder_kind.FolderKind.TheVariants.{SendOnly, ReceiveOnly}
 use Rattle.bep_record.specs.Content.{Content, Deleted, content_of}
 use Rattle.bep_record.specs.Name.{max_name_len}
@@ -9,11 +12,13 @@ use Rattle.bep_record.specs.Node.{IsClean}
 use Rattle.bep_record.specs.Vector.{counter_of, greatest_counter, most_counters, IsBelow, IsMerge, IsBump, ids_in_either}
 use Rattle.bep_index.specs.Listing.{Listing}
 use Rattle.bep_index.specs.Index.{IsSequenceFull, IsIndexFull}
+use Rattle.bep_model.specs.Calm.{SameFile}
+use Rattle.bep_model.specs.Settled.{content_of_node}
 use Rattle.bep_model.specs.Tables.{Device, FileName}
-use Rattle.bep_machine.specs.Answer.{Done}
-use Rattle.bep_machine.specs.declared.moved.Moved.TheVariants.{Changed}
+use Rattle.bep_machine.specs.Answer.{Answer, Done, Row}
+use Rattle.bep_machine.specs.declared.moved.Moved.TheVariants.{Changed, Dropped}
 use Rattle.bep_machine.specs.Replica.{Pull, Replica, own_at, node_at, pull_at, version_of, HasContentOf, Chooses, Wants}
-use Rattle.bep_machine.specs.Local.{ScanRow, IsCrowded, IsOverridable, ids_with, OverrideRow, RevertRow}
+use Rattle.bep_machine.specs.Local.{EditRow, RemoveRow, ScanRow, IsCrowded, IsOverridable, ids_with, OverrideRow, RevertRow}
 use Rattle.bep_machine.specs.Pull.{StartPullRow, FinishRow, ArePullsFull, new_pull, IsFile, IsMissingBlocks, IsStillWanted, IsConflictDue, EndsWith, copy_name}
 use Rattle.bep_machine.specs.Sound.{IsSoundReplica}
 
@@ -22,13 +27,43 @@ pub record HasRoom (index : Listing) (name : FileName) : Type 0 where
   pub numbers : ¬ IsSequenceFull index
   pub names : ¬ IsIndexFull index name
 
+-- the row leads to such a state, with this answer, and nothing else can come of it
+pub record LeadsTo {S : Type 0} (row : Row S) (given : Answer) (Fits : S → Type 0) : Type 0 where
+  pub made : S
+  pub comes : row made given
+  pub fits : Fits made
+  pub only : (new : S) (answer : Answer) → row new answer → (new ≡ made) × (answer ≡ given)
+
+-- ---- the user's own changes
+
+-- the name holds this, a node or nothing, and all else is as it was
+pub record HasPut (name : FileName) (node : Option NodeParts) (old new : Replica) : Type 0 where
+  pub here : node_at new name ≡ node
+  pub others : (other : FileName) → other ≢ name → node_at new other ≡ node_at old other
+  pub rest : new ≡ record old { store = new.store }
+
+-- an edit puts the node, whatever stood at the name
+abbrev pub EditPuts : Type 0
+EditPuts = (name : FileName) (node : NodeParts) (old : Replica) →
+    LeadsTo (EditRow name node None old) (Done Changed) (HasPut name (Some node) old)
+
+-- a removal takes what stands there
+abbrev pub RemoveTakes : Type 0
+RemoveTakes = (name : FileName) (old : Replica) → node_at old name ≢ None →
+    LeadsTo (RemoveRow name None old) (Done Changed) (HasPut name None old)
+
 -- ---- scanning
 
--- the name has this record, against which the node is clean; no file changed
-pub record HasRecorded (name : FileName) (old new : Replica) (entry : Entry) : Type 0 where
+-- The name has this record, which is the device's, of what stands there, Deleted where nothing does, and against which
+-- the node is clean. No file changed, and no other record.
+pub record HasRecorded (device : Device) (name : FileName) (old new : Replica) (entry : Entry) : Type 0 where
   pub own : own_at new name ≡ Some entry
+  pub content : content_of entry ≡ content_of_node (node_at old name)
+  pub there : (entry.deleted ≡ false) ↔ IsSome (node_at old name)
+  pub by_device : entry.modified_by ≡ device
   pub clean : IsClean (node_at new name) (Some entry)
   pub store : new.store ≡ old.store
+  pub others : (other : FileName) → other ≢ name → own_at new other ≡ own_at old other
 
 -- a scan of a name that isn't clean gives it a record of what is there, with the device's counter raised
 abbrev pub ScanRaises : Type 0
@@ -37,7 +72,7 @@ ScanRaises =
     old.kind ≢ ReceiveOnly → (¬ IsClean (node_at old name) (own_at old name)) →
     counter_of (version_of (own_at old name)) device ≢ greatest_counter → (¬ IsCrowded device (version_of (own_at old name))) →
     HasRoom old.index name →
-    (new : Replica) × (entry : Entry) × ScanRow device name None old new (Done Changed) × HasRecorded name old new entry ×
+    (new : Replica) × (entry : Entry) × ScanRow device name None old new (Done Changed) × HasRecorded device name old new entry ×
     (entry.invalid ≡ false) × IsBump (version_of (own_at old name)) device entry.version
 
 -- in a receive-only folder it has the old version, and is marked local-only
@@ -45,7 +80,7 @@ abbrev pub ScanMarks : Type 0
 ScanMarks =
     (device : Device) (name : FileName) (old : Replica) →
     old.kind ≡ ReceiveOnly → (¬ IsClean (node_at old name) (own_at old name)) → HasRoom old.index name →
-    (new : Replica) × (entry : Entry) × ScanRow device name None old new (Done Changed) × HasRecorded name old new entry ×
+    (new : Replica) × (entry : Entry) × ScanRow device name None old new (Done Changed) × HasRecorded device name old new entry ×
     (entry.invalid ≡ true) × (entry.version ≡ version_of (own_at old name))
 
 -- ---- pulling
@@ -65,8 +100,15 @@ pub record CanFinish (device : Device) (name : FileName) (old : Replica) (pull :
   pub few : ids_in_either (version_of (own_at old name)) pull.target.version ≤ most_counters
   pub room : HasRoom old.index name
 
--- the name has the target's content in its record, under the merged version, and in its file, which is clean; the pull is
--- gone
+-- a file of the blocks that were received, all of them, one after the other
+abbrev pub IsJoined : Pull → Option NodeParts → Type 0
+IsJoined pull None = ⊥
+IsJoined pull (Some node) =
+    (pieces : List (List ℕ)) × (pull.received ≡ map (λ bytes. Some bytes) pieces) × (node.kind ≡ File) × (node.bytes ≡ concat pieces)
+
+-- The name has the target's content in its record, under the merged version, and the node is clean against it: the one
+-- that stood there, but for its time, where that has the content; else none, a directory, a symlink, or a file of the
+-- received blocks, as the target says. (That a block has its hash is tested when it is received.) The pull is gone.
 pub record HasFinished (name : FileName) (old : Replica) (pull : Pull) (new : Replica) : Type 0 where
   pub entry : Entry
   pub own : own_at new name ≡ Some entry
@@ -74,6 +116,10 @@ pub record HasFinished (name : FileName) (old : Replica) (pull : Pull) (new : Re
   pub valid : entry.invalid ≡ false
   pub merge : IsMerge (version_of (own_at old name)) pull.target.version entry.version
   pub node : EndsWith (own_at old name) (node_at old name) pull (node_at new name)
+  pub stays : HasContentOf (own_at old name) pull.target → SameFile (node_at old name) (node_at new name)
+  pub removed : pull.target.deleted ≡ true → node_at new name ≡ None
+  pub like_target : (¬ IsFile pull.target) → content_of_node (node_at new name) ≡ content_of pull.target
+  pub joined : IsFile pull.target → (¬ HasContentOf (own_at old name) pull.target) → IsJoined pull (node_at new name)
   pub clean : IsClean (node_at new name) (Some entry)
   pub gone : pull_at new name ≡ None
 
@@ -92,6 +138,19 @@ FinishKeepsCopy =
     node_at old (copy_name (own_at old name)) ≡ None →
     (new : Replica) × FinishRow device name None old new (Done Changed) × HasFinished name old pull new ×
     (node_at new (copy_name (own_at old name)) ≡ node_at old name)
+
+-- the pull of the name is gone, and all else is as it was
+pub record HasDropped (name : FileName) (old new : Replica) : Type 0 where
+  pub gone : pull_at new name ≡ None
+  pub others : (other : FileName) → other ≢ name → pull_at new other ≡ pull_at old other
+  pub rest : new ≡ record old { pulls = new.pulls }
+
+-- a pull whose target isn't wanted any more is given up
+abbrev pub FinishDrops : Type 0
+FinishDrops =
+    (device : Device) (name : FileName) (failed : Option ℕ) (old : Replica) (pull : Pull) →
+    pull_at old name ≡ Some pull → (¬ IsStillWanted device old name pull.target) →
+    LeadsTo (FinishRow device name failed old) (Done Dropped) (HasDropped name old)
 
 -- ---- override and revert
 

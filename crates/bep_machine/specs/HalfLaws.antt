@@ -29,7 +29,7 @@ HalvesMakeTheStep = (event : Logged) (old new : Cluster) → IsThere old.config 
 -- each link makes its half.
 abbrev pub StepHasHalves : Type 0
 StepHasHalves = (step : Step) (failed : Option ℕ) (old new : Cluster) (answer : Answer) → IsStep step failed old new answer →
-    ((¬ IsDone answer) × (new ≡ old)) ⊎ ((event : Logged) × (event.step ≡ step) × (event.failed ≡ failed_told step failed) × IsThere old.config step ×
+    ((¬ IsDone answer) × (new ≡ old)) ⊎ ((event : Logged) × (event.step ≡ step) × (event.failed ≡ failed_told step event.traffic failed) × IsThere old.config step ×
     IsMadeBy event old new)
 
 -- ---- one action
@@ -77,7 +77,7 @@ IsLogOf [] [] = ⊤
 IsLogOf [] (one ∷ logged) = ⊥
 IsLogOf (event ∷ events) [] = (¬ IsDone event.answer) × IsLogOf events []
 IsLogOf (event ∷ events) (one ∷ logged) =
-    ((¬ IsDone event.answer) × IsLogOf events (one ∷ logged)) ⊎ ((one.step ≡ event.step) × (one.failed ≡ failed_told event.step event.failed) × IsLogOf events logged)
+    ((¬ IsDone event.answer) × IsLogOf events (one ∷ logged)) ⊎ ((one.step ≡ event.step) × (one.failed ≡ failed_told event.step one.traffic event.failed) × IsLogOf events logged)
 
 -- all that the steps of a log name is there
 abbrev pub AreThere : Config → List Logged → Type 0

@@ -79,25 +79,34 @@ pub record Logged : Type 0 where
   pub failed : Option ℕ
   pub traffic : Option Traffic
 
--- the call of the store that failed, as the step's event tells it: a step that calls no store tells of none
-abbrev pub failed_told : Step → Option ℕ → Option ℕ
-failed_told (Edit device folder name node) failed = failed
-failed_told (Remove device folder name) failed = failed
-failed_told (Scan device folder name) failed = failed
-failed_told (Revert device folder name) failed = failed
-failed_told (Deliver device other) failed = failed
-failed_told (Finish device folder name) failed = failed
-failed_told step failed = None
+-- whether what was taken was answered: only then a delivery calls a store
+abbrev pub was_answered : Exchanged → Bool
+was_answered (Took message (Some answer)) = true
+was_answered done = false
 
--- An event says no more than its step has to say, so that equal events are equal: only a step over a link tells of
--- traffic, and only one that calls a store tells of a call that failed.
+abbrev pub has_answered : Option Traffic → Bool
+has_answered None = false
+has_answered (Some traffic) = was_answered traffic.done
+
+-- the call of the store that failed, as the step's event tells it: a step that calls no store tells of none
+abbrev pub failed_told : Step → Option Traffic → Option ℕ → Option ℕ
+failed_told (Edit device folder name node) traffic failed = failed
+failed_told (Remove device folder name) traffic failed = failed
+failed_told (Scan device folder name) traffic failed = failed
+failed_told (Revert device folder name) traffic failed = failed
+failed_told (Deliver device other) traffic failed = if has_answered traffic then failed else None
+failed_told (Finish device folder name) traffic failed = failed
+failed_told step traffic failed = None
+
+-- An event says no more than its step has to say: only a step over a link tells of traffic, and only one that calls a store
+-- tells of a call that failed. (Which call that is isn't asked: of one that the step doesn't make, as of none, all succeed.)
 abbrev pub SaysNoMore : Step → Option ℕ → Option Traffic → Type 0
 SaysNoMore (Edit device folder name node) failed traffic = traffic ≡ None
 SaysNoMore (Remove device folder name) failed traffic = traffic ≡ None
 SaysNoMore (Scan device folder name) failed traffic = traffic ≡ None
 SaysNoMore (Revert device folder name) failed traffic = traffic ≡ None
 SaysNoMore (Finish device folder name) failed traffic = traffic ≡ None
-SaysNoMore (Deliver device other) failed traffic = ⊤
+SaysNoMore (Deliver device other) failed traffic = has_answered traffic ≡ false → failed ≡ None
 SaysNoMore (Begin device other) failed traffic = failed ≡ None
 SaysNoMore (Announce device other folder) failed traffic = failed ≡ None
 SaysNoMore (Ask device other folder name) failed traffic = failed ≡ None

@@ -1,7 +1,10 @@
 -- That each step over a link does what it is for, where nothing stands in its way, and that what breaks the protocol loses
 -- the link. The functions of src/link_effects.rt have these as contracts (BEP v1; sessions, epochs and limits are this
 -- project's profile).
-use Rattle.std.specs.Prelude.{◌≡◌, ◌≢◌, ◌↔◌, ℕ, ◌+◌, ◌<◌, ◌≤◌, true, false, List, [], ◌∷◌, ◌++◌, take, drop, Option, Some, None, Contains, IsTrue, length}
+use Rattle.std.specs.Prelude.{◌≡◌, ◌≢◌, ◌↔◌, ℕ, ◌+◌, ◌<◌, ◌≤◌, true, false, List, [], ◌∷◌, ◌++◌, map, take, drop, Option, Some, None, Contains, IsTrue, length}
+use Rattle.std.specs.Ordering.{nat_cmp}
+use Rattle.std.specs.Cmp.Lexicographic.{slice_cmp}
+use Rattle.std.specs.List.Sorted.{IsStrictlySortedBy}
 use Rattle.std.specs.FinMap.{empty, get, len}
 use Rattle.bep_record.specs.declared.block.Block.{Block}
 use Rattle.bep_record.specs.declared.entry.Entry.{Entry}
@@ -34,6 +37,8 @@ use Rattle.bep_machine.specs.Peer.{Session, Peer, Acted, is_shared_with}
 use Rattle.bep_machine.specs.Exchange.{IsInSession, HasSession, SharesWith, NamesNot, NamesOnce, NamesShared, BeginRow, DeliverRow, AnnounceRow, AskRow, CanAsk, asked_for, without}
 use Rattle.bep_machine.specs.Cluster.{Cluster}
 use Rattle.bep_machine.specs.Steps.{ConnectRow, LoseRow, RestartRow}
+use Rattle.bep_machine.specs.Sound.{IsSoundPull}
+use Rattle.bep_machine.specs.Effects.{LeadsTo}
 
 -- ---- links
 
@@ -61,7 +66,7 @@ pub record IsRestarted (old new : Replica) : Type 0 where
   pub pulls : new.pulls ≡ empty
 
 -- a restart takes the device's sessions and pulls, and each link of it is down then, with nothing on its way; the other
--- devices stay
+-- devices, and the links between them, stay
 pub record HasRestarted (device : Device) (old new : Cluster) : Type 0 where
   pub sessions : (new.peer device).sessions ≡ empty
   pub replicas : (folder : Folder) (replica : Replica) → get (old.peer device).replicas folder ≡ Some replica →
@@ -69,6 +74,7 @@ pub record HasRestarted (device : Device) (old new : Cluster) : Type 0 where
   pub lower : (other : Device) → ((new.link device other).up ≡ false) × IsEmpty (new.link device other)
   pub upper : (other : Device) → ((new.link other device).up ≡ false) × IsEmpty (new.link other device)
   pub others : (other : Device) → other ≢ device → new.peer other ≡ old.peer other
+  pub apart : (one other : Device) → one ≢ device → other ≢ device → new.link one other ≡ old.link one other
 
 abbrev pub RestartForgets : Type 0
 RestartForgets = (device : Device) (old : Cluster) →
@@ -96,8 +102,10 @@ pub record TellsPoints (other : Device) (replica : Replica) (one : Announced) : 
   pub known_id : one.known_id ≡ (view_of replica other).id
   pub known_sequence : one.known_sequence ≡ (view_of replica other).sequence
 
--- it names the folders that both share, and no other
+-- it names the folders that both share, each once and in order, and no other
 pub record IsConfigFor (other : Device) (peer : Peer) (named : List Announced) : Type 0 where
+  pub once : NamesOnce named
+  pub rise : IsStrictlySortedBy (slice_cmp nat_cmp) (map (λ one. one.folder) named)
   pub told : (one : Announced) → Contains named one →
       (replica : Replica) × (get peer.replicas one.folder ≡ Some replica) × IsTrue (is_shared_with other replica) × TellsPoints other replica one
   pub all : (folder : Folder) → SharesWith other peer folder → (one : Announced) × Contains named one × (one.folder ≡ folder)
@@ -245,7 +253,8 @@ RequestIsAnswered =
     (response.id ≡ request.id) × (response.code ≡ NoError) × (response.bytes ≡ take block.size (drop block.offset node.bytes))
 
 -- A right response to a request of the session: the request isn't outstanding any more, and the bytes count as received at
--- the block that was asked for, with what the pull's target is and where the block stands in it as before.
+-- the block that was asked for, with what the pull's target is and where the block stands in it as before. In a sound pull
+-- no other block is asked for, and all others are as before.
 abbrev pub BlockIsReceived : Type 0
 BlockIsReceived =
     (other : Device) (failed : Option ℕ) (sight : Sight) (old : Peer) (session : Session) (response : Response) (request : Request) (replica : Replica) (pull : Pull)
@@ -257,16 +266,33 @@ BlockIsReceived =
     (new : Acted) × (next : Session) × (later : Replica) × (now : Pull) × (before after : List (Option (List ℕ))) × DeliverRow other failed sight old new (Done Changed) ×
     (get new.peer.sessions other ≡ Some next) × (next.outstanding ≡ without response.id session.outstanding) ×
     (get new.peer.replicas request.folder ≡ Some later) × (pull_at later request.name ≡ Some now) × (now.target ≡ pull.target) ×
-    (now.received ≡ before ++ (Some response.bytes ∷ after)) × (length before ≡ length front)
+    (now.received ≡ before ++ (Some response.bytes ∷ after)) × (length before ≡ length front) ×
+    (IsSoundPull request.name pull → (before ≡ had) × (after ≡ more))
+
+-- the message was taken, and that is all
+pub record HasOnlyTaken (old : Peer) (new : Acted) : Type 0 where
+  pub peer : new.peer ≡ old
+  pub takes : new.deed.takes ≡ true
+  pub silent : new.deed.sends ≡ None
+  pub keeps : new.deed.loses ≡ false
+
+-- a response to no request of the session is ignored
+abbrev pub UnaskedIsIgnored : Type 0
+UnaskedIsIgnored =
+    (other : Device) (failed : Option ℕ) (sight : Sight) (old : Peer) (session : Session) (response : Response) →
+    IsTaking other sight old session (messages.Response response) →
+    ((request : Request) → Contains session.outstanding request → request.id ≢ response.id) →
+    LeadsTo (DeliverRow other failed sight old) (Done Changed) (HasOnlyTaken old)
 
 -- ---- announcing and asking
 
--- the cursor of the folder is this one afterwards, and the session is else as it was
+-- the cursor of the folder is this one afterwards, and the session is else as it was, with the cursors of other folders
 pub record HasMovedOn (other : Device) (folder : Folder) (old : Session) (sequence : ℕ) (new : Peer) : Type 0 where
   pub session : Session
   pub there : get new.sessions other ≡ Some session
   pub same : (session.epoch ≡ old.epoch) × (session.configured ≡ old.configured) × (session.outstanding ≡ old.outstanding) × (session.next ≡ old.next)
   pub cursor : get session.cursors folder ≡ Some (Above sequence)
+  pub others : (named : Folder) → named ≢ folder → get session.cursors named ≡ get old.cursors named
 
 -- where the whole index is due, its first records go in an Index
 abbrev pub WholeIsAnnounced : Type 0

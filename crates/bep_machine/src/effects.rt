@@ -1,11 +1,18 @@
 //! That each step of a replica does what it is for, where nothing stands in its way. Each function does nothing; its
 //! contract is the law.
-ghost use Rattle.bep_machine.specs.Effects.{ScanRaises, ScanMarks, StartPullBegins, FinishAdopts, FinishKeepsCopy, OverrideWins, RevertTakesBack};
+ghost use Rattle.bep_machine.specs.Effects.{EditPuts, RemoveTakes, ScanRaises, ScanMarks, StartPullBegins, FinishAdopts, FinishKeepsCopy, FinishDrops, OverrideWins, RevertTakesBack};
 
 use bep_record::{Vector, bump_exists, cut_is_of_one_length, merge_exists};
 
-/// A scan of a name that isn't clean records what is there: with the device's counter raised, or, in a receive-only
-/// folder, marked local-only.
+/// Where no call of the store fails, an edit puts its node at the name, a removal takes what stands there, and nothing
+/// else changes.
+pub fn users_change_files()
+    ensures edit { EditPuts }
+    ensures remove { RemoveTakes }
+{}
+
+/// A scan of a name that isn't clean records what is there, and that the device found it: with the device's counter raised,
+/// or, in a receive-only folder, marked local-only.
 pub fn scan_records()
     ensures raises { ScanRaises }
     ensures marks { ScanMarks }
@@ -19,7 +26,8 @@ pub fn start_pull_begins()
 {}
 
 /// A pull whose blocks all came ends with its target in the own index, under the merged version, and with the target's
-/// file. An own file that loses against a concurrent one is kept under the conflict name.
+/// file: the one that was there, where it has the target's content, else the blocks that came. An own file that loses
+/// against a concurrent one is kept under the conflict name.
 pub fn finish_adopts()
     ensures adopts { FinishAdopts }
     ensures keeps { FinishKeepsCopy }
@@ -27,6 +35,11 @@ pub fn finish_adopts()
     merge_exists();
     cut_is_of_one_length();
 }
+
+/// A pull whose target isn't wanted any more is given up, and nothing else changes.
+pub fn finish_drops()
+    ensures { FinishDrops }
+{}
 
 /// An override puts the device's own content above the record that it would choose.
 pub fn override_wins()

@@ -21,7 +21,8 @@ mod undone;
 
 pub use calm::{quiet_steps_keep_calm, quiet_steps_keep_records};
 pub use effects::{
-    finish_adopts, override_wins, revert_takes_back, scan_records, start_pull_begins,
+    finish_adopts, finish_drops, override_wins, revert_takes_back, scan_records, start_pull_begins,
+    users_change_files,
 };
 pub use files::{finish_keeps_files, revert_keeps_files};
 pub use finite::clusters_are_finite;
@@ -35,6 +36,7 @@ pub use limits::{MAX_EPOCH, MAX_OUTSTANDING, MAX_REQUEST_ID};
 pub use link_effects::{
     begin_opens_session, block_is_asked_for, block_is_received, breach_loses_link, config_is_taken,
     links_come_and_go, records_are_announced, records_reach_view, request_is_answered,
+    unasked_is_ignored,
 };
 pub use message::{Announced, Code, Message, Request, Response};
 pub use moved::Moved;

@@ -1,11 +1,11 @@
 //! That each step over a link does what it is for, where nothing stands in its way, and what loses the link. Each function
 //! does nothing; its contract is the law.
-ghost use Rattle.bep_machine.specs.LinkEffects.{ConnectOpens, LoseEmpties, RestartForgets, BeginOpens, UnnamedLosesLink, SecondConfigLosesLink, UnsharedLosesLink, TwiceLosesLink, OldUpdateLosesLink, ConfigIsTaken, IndexBringsView, UpdateAddsToView, RequestIsAnswered, WholeIsAnnounced, FurtherIsAnnounced, AskSendsRequest, BlockIsReceived};
+ghost use Rattle.bep_machine.specs.LinkEffects.{ConnectOpens, LoseEmpties, RestartForgets, BeginOpens, UnnamedLosesLink, SecondConfigLosesLink, UnsharedLosesLink, TwiceLosesLink, OldUpdateLosesLink, ConfigIsTaken, IndexBringsView, UpdateAddsToView, RequestIsAnswered, WholeIsAnnounced, FurtherIsAnnounced, AskSendsRequest, BlockIsReceived, UnaskedIsIgnored};
 
 use bep_index::{batch_records_are_found, records_make_an_index};
 
 /// A link comes up with the next epoch and nothing on its way. A lost link has nothing on its way, and a restarted device
-/// neither sessions, pulls nor links.
+/// neither sessions, pulls nor links; other devices and their links stay.
 pub fn links_come_and_go()
     ensures connect { ConnectOpens }
     ensures lose { LoseEmpties }
@@ -13,7 +13,7 @@ pub fn links_come_and_go()
 {}
 
 /// A new session waits for the other device's ClusterConfig and has no cursor yet; its own tells of each folder that both
-/// share.
+/// share, once.
 pub fn begin_opens_session()
     ensures { BeginOpens }
 {}
@@ -60,7 +60,12 @@ pub fn block_is_asked_for()
     ensures { AskSendsRequest }
 {}
 
-/// A right response to a request of the session brings the bytes to the block that was asked for.
+/// A right response to a request of the session brings the bytes to the block that was asked for, and leaves all others.
 pub fn block_is_received()
     ensures { BlockIsReceived }
+{}
+
+/// A response to no request of the session is taken, and changes nothing else.
+pub fn unasked_is_ignored()
+    ensures { UnaskedIsIgnored }
 {}
