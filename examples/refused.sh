@@ -113,6 +113,9 @@ refuse_all() {
 refuse_all one-equal-file.json check
 refuse_all cut-alone.json certify
 refuse_all scenarios/conflict.json run
+# Without memory nothing is said of an old file in a view, where its deletion is known everywhere else.
+answer old-file-in-a-view.json check
+refuse GROWTH 4 old-file-in-a-view.json check
 cut_off one-equal-file.json check
 REFUSE_WITH=interruption refuse READ 5 one-equal-file.json check
 REFUSE_WITH=interruption refuse WRITE 5 one-equal-file.json check

@@ -23,17 +23,55 @@ fn ended(docs: &mut Docs) -> Told {
     told(docs, answer)
 }
 
-/// It takes its own file `abc` back so, and then pulls what device 1 changed beside it.
-pub(crate) fn conflicted(alloc: Global, docs: &mut Docs) -> Option<[Told; 2]> {
-    pulled(
-        alloc,
-        docs,
-        record(alloc, 2, &[(1, 1), (2, 1)], b"abc"),
-        b"abc",
-    )?;
+// It takes its own file `abc` of this version back so, and then pulls what device 1 changed beside it.
+fn beside(
+    alloc: Global,
+    docs: &mut Docs,
+    own: &[(u64, u64)],
+    other: &[(u64, u64)],
+) -> Option<[Told; 2]> {
+    pulled(alloc, docs, record(alloc, 2, own, b"abc"), b"abc")?;
     docs.folder.finish(&docs.notes).ok()?;
-    pulled(alloc, docs, record(alloc, 1, &[(1, 2)], b"hello"), b"hello")?;
+    pulled(alloc, docs, record(alloc, 1, other, b"hello"), b"hello")?;
     Some([ended(docs), ended(docs)])
+}
+
+/// Both devices changed the file.
+pub(crate) fn conflicted(alloc: Global, docs: &mut Docs) -> Option<[Told; 2]> {
+    beside(alloc, docs, &[(1, 1), (2, 1)], &[(1, 2)])
+}
+
+// As many counters as a version has.
+const SIXTEEN: [(u64, u64); 16] = [
+    (1, 1),
+    (2, 2),
+    (3, 3),
+    (4, 4),
+    (5, 5),
+    (6, 6),
+    (7, 7),
+    (8, 8),
+    (9, 9),
+    (10, 10),
+    (11, 11),
+    (12, 12),
+    (13, 13),
+    (14, 14),
+    (15, 15),
+    (16, 16),
+];
+
+/// Sixteen devices changed the file, and a seventeenth did so beside them.
+pub(crate) fn crowded(alloc: Global, docs: &mut Docs) -> Option<[Told; 2]> {
+    beside(alloc, docs, &SIXTEEN, &[(17, 1)])
+}
+
+// The conflict name is looked at, and nothing is written there.
+#[test]
+fn a_version_has_no_seventeenth_counter(rt: HostRuntime) {
+    let full = ((102, 0, false), b'a', [1, 1, 2, 0]);
+    let told = told_of(rt.alloc(), FolderKind::SendReceive, 0, Story::Crowded);
+    assert_eq!(rt; told, Some([full, full]));
 }
 
 fn conflict(alloc: Global, call: u64) -> Option<[Told; 2]> {

@@ -9,6 +9,8 @@ use std::alloc::Global;
 pub(crate) enum Story {
     /// A file that both devices changed is pulled, and the pull is ended twice.
     Conflict,
+    /// The same, where the version that both would have has too many counters.
+    Crowded,
     /// A pull that has its bytes is handed other ones, and its own once more.
     Bytes,
     /// A new file is scanned twice.
@@ -26,6 +28,7 @@ pub(crate) enum Story {
 fn tell(alloc: Global, docs: &mut Docs, story: Story) -> Option<[Told; 2]> {
     match story {
         Story::Conflict => pulls::conflicted(alloc, docs),
+        Story::Crowded => pulls::crowded(alloc, docs),
         Story::Bytes => pulls::handed(alloc, docs),
         Story::Scans => scans::scanned_twice(alloc, docs, b"hello"),
         Story::LateScan => scans::scanned_late(alloc, docs),
