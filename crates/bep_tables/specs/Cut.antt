@@ -42,7 +42,7 @@ abbrev pub HasPoint : PeerView → Type 0
 HasPoint view = ¬ ((view.index_id ≡ 0) × (view.max_sequence ≡ 0))
 
 -- a device's views are of other devices that share the folder, one of each, devices rising; what they know is of an
--- index, and empty views don't stand
+-- index, and none is at point (0, 0), where nothing is known
 pub record AreViews (devices : List Device) (device : Device) (views : List PeerView) : Type 0 where
   pub rise : IsStrictlyIncreasing (map (λ view. view.of) views)
   pub others : All (λ view. (view.of ≢ device) × Contains devices view.of) views

@@ -29,8 +29,8 @@ impl Drop for CutParts {
 /// holds, what it knows of the others' indexes and what it pulls; and which records are on their way over which link.
 ///
 /// At most 16 folders and 16 devices; folders, devices and links rise; each device's records, and each view's, are those
-/// of an index; views and messages are of devices that share the folder, and no view is empty; at most 1024 messages are
-/// on their way to either end of a link, and none over a link that is down.
+/// of an index; views and messages are of devices that share the folder, and no view is at index id 0 and sequence 0; at
+/// most 1024 messages are on their way to either end of a link, and none over a link that is down.
 pub struct Cut {
     parts: CutParts,
 }
