@@ -1,7 +1,13 @@
-//! What a cut shows of the settled cluster.
-use crate::made::{docs, name, put};
+//! What a cut shows of the settled cluster, and that none is taken where a store fails.
+ghost use Rattle.bep_cut.specs.Parts.{AreParts};
+
+use crate::made::{docs, name, put, settled};
 use bep_audit::{Certificate, Verdict, certify, check};
-use bep_cut::{Cut, CutError, Share};
+use bep_core::Cluster;
+use bep_cut::{Cut, CutError, Share, clusters_are_parts, cut_of};
+use bep_links::Link;
+use bep_peer::{Peer, tables_are_found};
+use bep_store::{FaultStore, MemStore};
 use std::alloc::Global;
 
 /// How many nodes the stores hold, how many of them are what was put last at the name, in kind, bytes and target; and how many
@@ -62,5 +68,56 @@ pub(crate) fn shown(alloc: Global, taken: Result<Cut, CutError>) -> Option<Seen>
     match taken {
         Ok(cut) => seen(alloc, &cut),
         Err(_) => None,
+    }
+}
+
+fn refused(taken: Result<Cut, CutError>) -> Option<u32> {
+    match taken {
+        Ok(_) => None,
+        Err(error) => error.number(),
+    }
+}
+
+// The number for which no cut is taken, if none is; the devices and links are such that the next one can be.
+#[tactic(auto, using(crate::proofs::Again::parts_again))]
+fn tried(alloc: Global, peers: &mut [Peer<FaultStore<MemStore>>], links: &[Link]) -> Option<u32>
+    requires { AreParts peers.old links.now }
+    ensures { AreParts peers.new links.now }
+{
+    tables_are_found();
+    refused(cut_of(alloc, peers, links))
+}
+
+// That number, and what the next cut shows.
+fn taken_twice(
+    alloc: Global,
+    cluster: Cluster<FaultStore<MemStore>>,
+) -> (Option<u32>, Option<Seen>) {
+    clusters_are_parts();
+    let (mut peers, links) = cluster.into_parts();
+    let first = tried(alloc, peers.as_mut_slice(), links.as_slice());
+    let next = cut_of(alloc, peers.as_mut_slice(), links.as_slice());
+    (first, shown(alloc, next))
+}
+
+// The same where this call of the store of the device at this place fails.
+fn taken_at(alloc: Global, place: u32, call: u64) -> Option<(Option<u32>, Option<Seen>)> {
+    let calls = match place {
+        0 => [call, 0, 0],
+        1 => [0, call, 0],
+        _ => [0, 0, call],
+    };
+    Some(taken_twice(alloc, settled(alloc, calls)?))
+}
+
+// Of each store the names are read, and then the three nodes.
+#[test]
+fn no_cut_is_taken_where_a_store_fails(rt: HostRuntime) {
+    let seen = Some((9, 9, (3, true)));
+    assert_eq!(rt; taken_at(rt.alloc(), 0, 0), Some((None, seen)));
+    for place in 0..3u32 {
+        for call in 1..5u64 {
+            assert_eq!(rt; taken_at(rt.alloc(), place, call), Some((Some(131), seen)));
+        }
     }
 }
