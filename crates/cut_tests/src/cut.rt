@@ -114,10 +114,10 @@ fn taken_at(alloc: Global, place: u32, call: u64) -> Option<(Option<u32>, Option
 #[test]
 fn no_cut_is_taken_where_a_store_fails(rt: HostRuntime) {
     let seen = Some((9, 9, (3, true)));
-    assert_eq!(rt; taken_at(rt.alloc(), 0, 0), Some((None, seen)));
+    let fault = Some(131);
     for place in 0..3u32 {
-        for call in 1..5u64 {
-            assert_eq!(rt; taken_at(rt.alloc(), place, call), Some((Some(131), seen)));
+        for (call, number) in [(0, None), (1, fault), (2, fault), (3, fault), (4, fault)] {
+            assert_eq!(rt; taken_at(rt.alloc(), place, call), Some((number, seen)));
         }
     }
 }
