@@ -1,3 +1,4 @@
+mod Again
 mod RecordsFacts
 mod FlightFacts
 mod FolderFacts

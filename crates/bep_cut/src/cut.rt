@@ -20,7 +20,8 @@ use std::alloc::Global;
 /// The caller hands over one peer of each device, and one link of each pair that they know of, both rising, of devices
 /// that agree on who shares what, as a cluster's parts are. Refuses `StoreFault` exactly where the store of some folder
 /// fails to list its names or to read one, and else only for want of memory. The devices' tables, and the devices with
-/// which each has links, are as before, whatever is answered.
+/// which each has links, are as before, whatever is answered; so they are a cluster's parts still.
+#[tactic(auto, using(crate::proofs::Again::parts_again))]
 pub fn cut_of<S: Store>(
     alloc: Global,
     peers: &mut [Peer<S>],
@@ -30,6 +31,7 @@ pub fn cut_of<S: Store>(
     ensures cut { IfOk result (λ cut. cut ≡ cut_at peers.old links.now) }
     ensures same { map seen peers.new ≡ map seen peers.old }
     ensures linked { links_of peers.new ≡ links_of peers.old }
+    ensures again { AreParts peers.new links.now }
     ensures counts { CountsAll (map faults_of peers.old) (map faults_of peers.new) result }
 {
     tables_are_found();

@@ -6,7 +6,7 @@ use bep_audit::{Certificate, Verdict, certify, check};
 use bep_core::Cluster;
 use bep_cut::{Cut, CutError, Share, clusters_are_parts, cut_of};
 use bep_links::Link;
-use bep_peer::{Peer, tables_are_found};
+use bep_peer::Peer;
 use bep_store::{FaultStore, MemStore};
 use std::alloc::Global;
 
@@ -78,13 +78,11 @@ fn refused(taken: Result<Cut, CutError>) -> Option<u32> {
     }
 }
 
-// The number for which no cut is taken, if none is; the devices and links are such that the next one can be.
-#[tactic(auto, using(crate::proofs::Again::parts_again))]
+// The number for which no cut is taken, if none is.
 fn tried(alloc: Global, peers: &mut [Peer<FaultStore<MemStore>>], links: &[Link]) -> Option<u32>
     requires { AreParts peers.old links.now }
     ensures { AreParts peers.new links.now }
 {
-    tables_are_found();
     refused(cut_of(alloc, peers, links))
 }
 
@@ -114,10 +112,10 @@ fn taken_at(alloc: Global, place: u32, call: u64) -> Option<(Option<u32>, Option
 #[test]
 fn no_cut_is_taken_where_a_store_fails(rt: HostRuntime) {
     let seen = Some((9, 9, (3, true)));
-    assert_eq!(rt; taken_at(rt.alloc(), 0, 0), Some((None, seen)));
+    let fault = Some(131);
     for place in 0..3u32 {
-        for call in 1..5u64 {
-            assert_eq!(rt; taken_at(rt.alloc(), place, call), Some((Some(131), seen)));
+        for (call, number) in [(0, None), (1, fault), (2, fault), (3, fault), (4, fault)] {
+            assert_eq!(rt; taken_at(rt.alloc(), place, call), Some((number, seen)));
         }
     }
 }

@@ -67,9 +67,8 @@ fn failed_at(alloc: Global, letter: u8, call: u64) -> Option<Failed> {
 // Each reads, and then removes the directory or gives the file its time.
 #[test]
 fn a_trace_tells_the_call_that_failed(rt: HostRuntime) {
-    for call in 1..3u32 {
-        let told = Some((Some(131), Some(call), None));
-        assert_eq!(rt; failed_at(rt.alloc(), b'd', u64::from(call)), told);
-        assert_eq!(rt; failed_at(rt.alloc(), b'f', u64::from(call)), told);
+    for (letter, call) in [(b'd', 1), (b'd', 2), (b'f', 1), (b'f', 2)] {
+        let told = failed_at(rt.alloc(), letter, u64::from(call));
+        assert_eq!(rt; told, Some((Some(131), Some(call), None)));
     }
 }

@@ -139,23 +139,26 @@ fn told(alloc: Global, letters: &[u8]) -> Option<Told> {
     }
 }
 
-// By this project's profile: 'a message that breaks the protocol loses the link'. What device 2 sent first is lost too.
+// By this project's profile: 'a message that breaks the protocol loses the link'; what device 2 sent first is lost too. These
+// are a second ClusterConfig; an Index before any, of a folder that it didn't name, and of one that there isn't; and an
+// IndexUpdate that begins where the view ends. An answer to nothing is ignored.
 #[test]
 fn what_breaks_the_protocol_loses_the_link(rt: HostRuntime) {
     let lost = (Ok(Moved::LinkLost), [false, false, false]);
-    let (nothing, known) = ([0, 0, 0], [11, 5, 5]);
-    // a second ClusterConfig
-    assert_eq!(rt; told(rt.alloc(), b"cic"), Some((lost, known)));
-    // an Index before any, and one of a folder that it didn't name or that there isn't
-    assert_eq!(rt; told(rt.alloc(), b"i"), Some((lost, nothing)));
-    assert_eq!(rt; told(rt.alloc(), b"ni"), Some((lost, nothing)));
-    assert_eq!(rt; told(rt.alloc(), b"cim"), Some((lost, known)));
-    // an IndexUpdate that begins where the view ends
-    assert_eq!(rt; told(rt.alloc(), b"ciu"), Some((lost, known)));
-}
-
-#[test]
-fn an_answer_to_nothing_is_ignored(rt: HostRuntime) {
     let taken = (Ok(Moved::Changed), [true, true, false]);
-    assert_eq!(rt; told(rt.alloc(), b"cir"), Some((taken, [11, 5, 5])));
+    let (nothing, known) = ([0, 0, 0], [11, 5, 5]);
+    for (letters, end) in [
+        ("cic", (lost, known)),
+        ("i", (lost, nothing)),
+        ("ni", (lost, nothing)),
+        ("cim", (lost, known)),
+        ("ciu", (lost, known)),
+        ("cir", (taken, known)),
+    ] {
+        assert_eq!(rt;
+            told(rt.alloc(), letters.as_bytes()),
+            Some(end),
+            "{letters}"
+        );
+    }
 }

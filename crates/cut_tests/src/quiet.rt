@@ -67,8 +67,13 @@ fn story(alloc: Global, rounds: u32, call: u64) -> Option<Told> {
 fn quiet_steps_leave_a_settled_cluster_settled(rt: HostRuntime) {
     let dropped = [Ok(Moved::Dropped), Err(Why::Refused(Refusal::NotNeeded))];
     let end = ((9, 9, (3, true)), (3, Err(PeerError::Stale)));
-    assert_eq!(rt; story(rt.alloc(), 0, 0), Some(((0, 0), dropped, end)));
-    assert_eq!(rt; story(rt.alloc(), 5, 0), Some(((154, 0), dropped, end)));
-    assert_eq!(rt; story(rt.alloc(), 5, 7), Some(((152, 2), dropped, end)));
-    assert_eq!(rt; story(rt.alloc(), 5, 10), Some(((155, 3), dropped, end)));
+    for (rounds, call, counted) in [
+        (0, 0, (0, 0)),
+        (5, 0, (154, 0)),
+        (5, 7, (152, 2)),
+        (5, 10, (155, 3)),
+    ] {
+        let told = story(rt.alloc(), rounds, call);
+        assert_eq!(rt; told, Some((counted, dropped, end)));
+    }
 }
