@@ -1,12 +1,16 @@
 //! What is answered of no folders, by the calls that tell nothing on standard error. What the program answers of all other
 //! documents, and where a stream fails, `examples/` shows.
 use bep_answer::{Certified, Outcome, certify_text, check_text, explain_text};
+use bep_play::run_text;
 use bep_report::ReportError;
 use std::alloc::Global;
 
 const DOCUMENT: &str = r#"{"version":1,"cut":{"folders":[]},"certificate":[]}"#;
 
+const SCENARIO: &str = r#"{"version":1,"folders":[],"links":[],"steps":[]}"#;
+
 const TEXT: &str = r#"settled
+settled
 settled
 {"certificate":[],"cut":{"folders":[],"links":[]},"version":1}
 "#;
@@ -23,6 +27,11 @@ fn explained(alloc: Global, text: &mut Vec<u8>) -> Answer {
     explain_text(alloc, &mut reader, text)
 }
 
+fn ran(alloc: Global, text: &mut Vec<u8>) -> Answer {
+    let mut reader = SCENARIO.as_bytes();
+    run_text(alloc, &mut reader, text)
+}
+
 fn certified(alloc: Global, text: &mut Vec<u8>) -> Result<Certified, ReportError> {
     let mut reader = DOCUMENT.as_bytes();
     certify_text(alloc, &mut reader, text)
@@ -34,6 +43,7 @@ fn each_answer_is_written(rt: HostRuntime) {
     let mut text = Vec::new(alloc);
     assert_eq!(rt; checked(alloc, &mut text), Ok(Outcome::Settled));
     assert_eq!(rt; explained(alloc, &mut text), Ok(Outcome::Settled));
+    assert_eq!(rt; ran(alloc, &mut text), Ok(Outcome::Settled));
     assert_eq!(rt; certified(alloc, &mut text), Ok(Certified::Written));
     assert!(rt; text.as_slice() == TEXT.as_bytes());
 }
