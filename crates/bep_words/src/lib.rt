@@ -12,5 +12,7 @@
 #![tactic(auto)]
 
 mod mode;
+mod told;
 
 pub use mode::{Ending, Mode, faultless_words_ask, mode_of};
+pub use told::{Unfollowed, mode_told};

@@ -13,11 +13,9 @@ ghost use Rattle.bep_words.specs.declared.mode.Mode.TheVariants.{Check, Run};
 use bep_answer::{USAGE, certify_and_tell, check_and_tell, end, explain_and_tell};
 use bep_play::{run_and_tell, run_document_and_tell};
 use bep_report::ReportError;
-use bep_words::{Ending, Mode, faultless_words_ask, mode_of};
-use clap::error::ErrorKind;
+use bep_words::{Ending, Mode, Unfollowed, faultless_words_ask, mode_told};
 use std::convert::AsStr;
 use std::env::{self, Env};
-use std::fmt::Display;
 use std::io::{self, Read, Write};
 
 /// Does what these words ask for, the program's name first, and answers the exit status. Words in which nothing is at
@@ -39,13 +37,13 @@ pub fn run<P: AllocGlobal + Eprint, R: Read, W: Write, S: AsStr>(
         → result ≡ 0 → EndsSettled (R.remaining reader.old) (R.remaining reader.new) }
 {
     faultless_words_ask();
-    match mode_of(rt.alloc(), words) {
+    match mode_told(rt, words) {
         Ok(Mode::Check) => check_and_tell(rt, reader, writer),
         Ok(Mode::Certify) => certify_and_tell(rt, reader, writer),
         Ok(Mode::Explain(form)) => explain_and_tell(rt, form, reader, writer),
         Ok(Mode::Run(ending)) => run_scenario(rt, ending, reader, writer),
-        Err(error) if error.kind() == ErrorKind::OutOfMemory => end(rt, Err(ReportError::Memory)),
-        Err(error) => refuse(rt, error),
+        Err(Unfollowed::Memory) => end(rt, Err(ReportError::Memory)),
+        Err(Unfollowed::Usage) => USAGE,
     }
 }
 
@@ -61,16 +59,9 @@ pub fn run_without_words<P: Eprint>(rt: &P, error: io::Error) -> u8
     if error.kind() == io::ErrorKind::OutOfMemory {
         end(rt, Err(ReportError::Memory))
     } else {
-        refuse(rt, "error: the words are no UTF-8\n")
+        let _ = eprint!(rt; "error: the words are no UTF-8\n");
+        USAGE
     }
-}
-
-// Tells why the words aren't followed, and answers the exit status.
-fn refuse<P: Eprint, T: Display + Drop>(rt: &P, text: T) -> u8
-    ensures { result ≡ usage }
-{
-    let _ = eprint!(rt; "{text}");
-    USAGE
 }
 
 // Makes the steps of a scenario, and writes what is asked for of where they lead.

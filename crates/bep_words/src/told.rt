@@ -1,0 +1,35 @@
+//! What the words ask for, or why they aren't followed.
+ghost use Rattle.std.specs.Prelude.{◌≡◌, [], IfErr, IfOk, map};
+ghost use Rattle.clap.specs.Words.{fault_of};
+ghost use Rattle.bep_words.specs.Mode.{Asks, program};
+ghost use Rattle.bep_words.specs.declared.told.Unfollowed.TheVariants.{Memory};
+
+use crate::mode::{Mode, mode_of};
+use clap::error::ErrorKind;
+use std::convert::AsStr;
+
+/// Why the words aren't followed.
+#[derive(Clone, Copy, Debug, PartialEq, Eq)]
+pub enum Unfollowed {
+    /// They aren't understood, or ask for help or for the version.
+    Usage,
+    /// Memory ran out.
+    Memory,
+}
+
+/// What the words ask for. Where they aren't followed for what they are, clap's text tells why on standard error.
+///
+/// Words in which nothing is at fault aren't followed only where memory runs out.
+pub fn mode_told<P: AllocGlobal + Eprint, S: AsStr>(rt: &P, words: &[S]) -> Result<Mode, Unfollowed>
+    ensures asked { IfOk result (Asks (map S.text words.entry.now)) }
+    ensures memory { fault_of program (map S.text words.entry.now) ≡ [] → IfErr result (λ why. why ≡ Memory) }
+{
+    match mode_of(rt.alloc(), words) {
+        Ok(mode) => Ok(mode),
+        Err(error) if error.kind() == ErrorKind::OutOfMemory => Err(Unfollowed::Memory),
+        Err(error) => {
+            let _ = eprint!(rt; "{error}");
+            Err(Unfollowed::Usage)
+        }
+    }
+}
