@@ -17,27 +17,15 @@ from collections import Counter
 import scenario
 from compare import PROGRAM, TOP, compare, kind_of, tell_difference
 
-KEEPER = """#!/usr/bin/env bash
-# Keeps what is read, up to what the program reads at most, and runs the program on it.
-kept=$(mktemp "$KEPT/$1.XXXXXXXX")
-head -c 67108865 > "$kept"
-exec "$PROGRAM" "$@" < "$kept"
-"""
-
 
 def put_together(folder):
     """The documents that the rows ask the program about, each with its command, each once."""
-    keeper = folder / "keeper"
-    keeper.write_text(KEEPER)
-    keeper.chmod(0o755)
-    kept = folder / "kept"
-    kept.mkdir()
-    ran = subprocess.run([TOP / "examples/pieces.sh", keeper], env=os.environ | {"KEPT": str(kept), "PROGRAM": str(PROGRAM)},
-                         capture_output=True, text=True, check=False)
+    told = os.environ | {"KEPT": str(folder), "PROGRAM": str(PROGRAM)}
+    ran = subprocess.run([TOP / "examples/pieces.sh", TOP / "examples/keeper.sh"], env=told, capture_output=True, text=True, check=False)
     print(ran.stdout.rstrip())
     if ran.returncode != 0:
         sys.exit("the rows fail")
-    documents = {("run" if path.name.startswith("run.") else "check", path.read_bytes()) for path in kept.iterdir()}
+    documents = {("run" if path.name.startswith("run.") else "check", path.read_bytes()) for path in folder.iterdir()}
     return sorted(documents)
 
 

@@ -18,22 +18,16 @@ for built in "$program" "$plain"; do
   fi
 done
 
-# The program in its place, which keeps each document that it is to audit.
-mkdir "$work/documents"
-cat > "$work/keeper" << END
-#!/usr/bin/env bash
-if [ "\$*" = check ]; then
-  cat > "$work/\$\$"
-  exec < "$work/\$\$"
-  mv "$work/\$\$" "$work/documents/\$(sha256sum < "$work/\$\$" | cut -c 1-64)"
-fi
-exec "$program" "\$@"
-END
-chmod +x "$work/keeper"
-./run.sh "$work/keeper" > /dev/null &
+# What the program is to audit, each document once.
+mkdir "$work/kept" "$work/documents"
+export PROGRAM=$program KEPT=$work/kept
+./run.sh keeper.sh > /dev/null &
 running=$!
-./pieces.sh "$work/keeper" > /dev/null || true
+./pieces.sh keeper.sh > /dev/null || true
 wait "$running" || true
+for kept in "$work"/kept/check.*; do
+  mv "$kept" "$work/documents/$(sha256sum < "$kept" | cut -c 1-64)"
+done
 
 # report NAME COMMAND..: keeps what is written of the document on standard input under that name, and its status.
 report() {
