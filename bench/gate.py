@@ -30,6 +30,13 @@ def processes():
     return found
 
 
+def stolen():
+    """The processor seconds since the start of the machine in which its host had others run, 0 where it doesn't tell."""
+    with open("/proc/stat", encoding="utf-8") as stat:
+        fields = stat.readline().split()
+    return int(fields[8]) / TICKS if len(fields) > 8 else 0.0
+
+
 def below(top, found):
     """The processes of the tree under this one."""
     children = {}
@@ -61,8 +68,8 @@ def purpose(process):
 
 def main():
     log, command = sys.argv[1], sys.argv[2:]
-    begin = time.time()
-    seen = {}
+    begin, taken = time.time(), stolen()
+    seen, proved = {}, {}
     peak = most_memory = greatest = 0
     with open(log, "wb") as out:
         gate = subprocess.Popen(command, stdin=subprocess.DEVNULL, stdout=out, stderr=subprocess.STDOUT)
@@ -76,6 +83,8 @@ def main():
                     working += 1
                     memory += found[process][2]
                     greatest = max(greatest, found[process][2])
+                    if told[1] == "proofs":
+                        proved[told[0]] = time.time() - begin
                     # a number may come again for another process, which then has other words or fewer seconds
                     key = (process, *told)
                     kept = seen.setdefault(key, [0.0, 0.0])
@@ -94,14 +103,15 @@ def main():
     for (_, crate, phase), (past, last) in seen.items():
         row = table.setdefault(crate, dict.fromkeys(PHASES, 0.0))
         row[phase] += past + last
-    print(f"\n{'crate':14}" + "".join(f"{phase:>9}" for phase in PHASES) + f"{'all':>9}   processor seconds")
+    print(f"\n{'crate':14}" + "".join(f"{phase:>9}" for phase in PHASES) + f"{'all':>9}   processor seconds; minutes until it was proved")
     for crate, row in sorted(table.items(), key=lambda it: -sum(it[1].values())):
-        print(f"{crate:14}" + "".join(f"{row[phase]:9.0f}" for phase in PHASES) + f"{sum(row.values()):9.0f}")
+        print(f"{crate:14}" + "".join(f"{row[phase]:9.0f}" for phase in PHASES) + f"{sum(row.values()):9.0f}{proved.get(crate, 0) / 60:9.1f}")
     sums = {phase: sum(row[phase] for row in table.values()) for phase in PHASES}
     print(f"{'sum':14}" + "".join(f"{sums[phase]:9.0f}" for phase in PHASES) + f"{sum(sums.values()):9.0f}")
     print(f"{'other':14}{'':27}{whole - sum(sums.values()):9.0f}   compiling, running, and what went unseen")
     print(f"{'whole':14}{'':27}{whole:9.0f}   {whole / 60:.1f} processor minutes")
     print(f"\nwall time {int(wall // 60)} min {int(wall % 60)} s, at most {peak} checks at once, status {gate.returncode}")
+    print(f"the host had others run for {(stolen() - taken) / 60:.1f} processor minutes")
     print(f"memory: at most {most_memory / 1e9:.1f} GB, {greatest / 1e9:.1f} GB in one check")
     with open(log, encoding="utf-8", errors="replace") as out:
         lines = out.read().splitlines()

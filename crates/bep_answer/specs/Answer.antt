@@ -11,7 +11,7 @@ use Rattle.bep_tables.specs.declared.cut.CutParts.{CutParts}
 use Rattle.bep_tables.specs.Cut.{tables_of}
 use Rattle.bep_tables.specs.document.Written.{check_of}
 use Rattle.bep_report.specs.Input.{IsRead}
-use Rattle.bep_report.specs.Lines.{refused_line}
+use Rattle.bep_lines.specs.Lines.{refused_line}
 use Rattle.bep_report.specs.Report.{report_text}
 use Rattle.bep_answer.specs.declared.outcome.Outcome.{Outcome}
 use Rattle.bep_answer.specs.declared.outcome.Outcome.TheVariants as outcomes

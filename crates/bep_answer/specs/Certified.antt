@@ -12,7 +12,7 @@ use Rattle.bep_tables.specs.declared.cut.CutParts.{CutParts}
 use Rattle.bep_tables.specs.Cut.{tables_of}
 use Rattle.bep_tables.specs.document.Trees.{check_text}
 use Rattle.bep_tables.specs.document.Written.{check_of, cut_of_document}
-use Rattle.bep_report.specs.Lines.{verdict_line, newline}
+use Rattle.bep_lines.specs.Lines.{verdict_line, newline}
 use Rattle.bep_answer.specs.Answer.{fault_text}
 use Rattle.bep_answer.specs.declared.outcome.Certified.{Certified}
 use Rattle.bep_answer.specs.declared.outcome.Certified.TheVariants.{Written, NoWinner}

@@ -5,10 +5,8 @@ use Rattle.bep_report.specs.declared.error.ReportError.TheVariants.{Memory, Read
 use Rattle.bep_answer.specs.Answer.{IsAnswerOfBytes}
 use Rattle.bep_answer.specs.Certified.{IsCertifiedOfBytes}
 use Rattle.bep_answer.specs.Exchange.{IsEndedEarly, IsWhole}
-use Rattle.bep_answer.specs.Explained.{IsExplainedOfBytes}
 use Rattle.bep_answer.specs.declared.outcome.Certified.{Certified}
 use Rattle.bep_answer.specs.declared.outcome.Certified.TheVariants as certificates
-use Rattle.bep_report.specs.declared.form.Form.{Form}
 use Rattle.bep_answer.specs.declared.outcome.Outcome.{Outcome}
 use Rattle.bep_answer.specs.declared.outcome.Outcome.TheVariants.{Settled, NotSettled, Refused}
 
@@ -47,7 +45,3 @@ IsTold = IsToldAs IsAnswerOfBytes status_of
 -- a certificate was written or refused
 abbrev pub IsCertificateTold : Option (List ℕ) → Option (List ℕ) → Option (List ℕ) → Option (List ℕ) → ℕ → Type 0
 IsCertificateTold = IsToldAs IsCertifiedOfBytes certified_status_of
-
--- all that fails was written, or the document refused
-abbrev pub IsExplanationTold : Form → Option (List ℕ) → Option (List ℕ) → Option (List ℕ) → Option (List ℕ) → ℕ → Type 0
-IsExplanationTold form = IsToldAs (IsExplainedOfBytes form) status_of

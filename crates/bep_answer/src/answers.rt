@@ -3,15 +3,13 @@ ghost use Rattle.std.specs.Prelude.{◌≡◌, IfOk, IfErr};
 ghost use Rattle.bep_answer.specs.Answer.{IsAnswerOfBytes, SaysSettled};
 ghost use Rattle.bep_answer.specs.Certified.{IsCertifiedOfBytes};
 ghost use Rattle.bep_answer.specs.Exchange.{IsEndedEarly, IsWhole};
-ghost use Rattle.bep_answer.specs.Explained.{IsExplainedOfBytes};
-ghost use Rattle.bep_report.specs.declared.form.Form.TheVariants.{Text};
 ghost use Rattle.bep_answer.specs.declared.outcome.Outcome.TheVariants as outcomes;
 
 use crate::exchanging::{Hinted, exchange};
 use crate::outcome::{Certified, Outcome};
-use crate::questions::{AuditOf, CertificateOfCut};
+use crate::questions::{AuditOfCut, CertificateOfCut};
 use bep_machine::{settled_stays_put, settled_stays_settled};
-use bep_report::{Form, ReportError};
+use bep_report::ReportError;
 use std::alloc::Global;
 use std::io::{Read, Write};
 
@@ -46,7 +44,7 @@ pub fn checked<R: Read, W: Write>(
 {
     settled_stays_put();
     settled_stays_settled();
-    exchange(alloc, AuditOf::Cut, reader, writer)
+    exchange(alloc, AuditOfCut, reader, writer)
 }
 
 /// Reads the cut of a check document, whose certificate may be missing and isn't looked at, and writes the check document
@@ -78,36 +76,4 @@ pub fn certified<R: Read, W: Write>(
     ensures err { IfErr result (IsEndedEarly IsCertifiedOfBytes (R.remaining reader.old) (R.remaining reader.new) (W.contents writer.old) (W.contents writer.new)) }
 {
     exchange(alloc, CertificateOfCut, reader, writer)
-}
-
-/// Reads a check document, and writes the line of each reason that fails, at each place at which it fails, with what a
-/// person asks next below it, indented; `settled` alone where nothing fails; or the line of the fault for which the
-/// document is refused. At most 67108865 bytes are read.
-///
-/// `Read` and `Write` are answered where the reader or the writer answers any error, or takes nothing; `Memory` may come
-/// in place of an answer. Only after `Write` a beginning of the text may be written, and else nothing.
-pub fn explain_text<R: Read, W: Write>(
-    alloc: Global,
-    reader: &mut R,
-    writer: &mut W,
-) -> Result<Outcome, ReportError>
-    ensures ok { IfOk result (IsWhole (IsExplainedOfBytes Text) (R.remaining reader.old) (R.remaining reader.new) (W.contents writer.old) (W.contents writer.new)) }
-    ensures err { IfErr result (IsEndedEarly (IsExplainedOfBytes Text) (R.remaining reader.old) (R.remaining reader.new) (W.contents writer.old) (W.contents writer.new)) }
-{
-    let (outcome, _) = explained(alloc, Form::Text, reader, writer)?;
-    Ok(outcome)
-}
-
-/// The same in one of two forms, with a hint on where a refused document is at fault. As JSON it is one document on a
-/// line: what fails, in the same order, and whether that is nothing; or the fault.
-pub fn explained<R: Read, W: Write>(
-    alloc: Global,
-    form: Form,
-    reader: &mut R,
-    writer: &mut W,
-) -> Result<Hinted<Outcome>, ReportError>
-    ensures ok { IfOk result (λ told. IsWhole (IsExplainedOfBytes form) (R.remaining reader.old) (R.remaining reader.new) (W.contents writer.old) (W.contents writer.new) told.0) }
-    ensures err { IfErr result (IsEndedEarly (IsExplainedOfBytes form) (R.remaining reader.old) (R.remaining reader.new) (W.contents writer.old) (W.contents writer.new)) }
-{
-    exchange(alloc, AuditOf::Reasons(form), reader, writer)
 }

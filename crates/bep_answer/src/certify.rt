@@ -7,7 +7,7 @@ ghost use Rattle.bep_tables.specs.document.Trees.{check_text};
 ghost use Rattle.bep_model.specs.declared.reason.Reason.TheVariants.{NotWinner};
 ghost use Rattle.bep_model.specs.Verdict.{Not};
 ghost use Rattle.bep_tables.specs.document.Written.{check_of};
-ghost use Rattle.bep_report.specs.Lines.{verdict_line};
+ghost use Rattle.bep_lines.specs.Lines.{verdict_line};
 ghost use Rattle.bep_answer.specs.Certified.{IsCertificate, IsCertifiedOfBytes, document_text};
 
 use crate::exchanging::Answer;
@@ -15,9 +15,9 @@ use crate::outcome::Certified;
 use crate::refusing::fault_line;
 use bep_audit::{Certificate, CertifyError, certify};
 use bep_hints::{Expected, hint_at};
+use bep_lines::push_not_settled;
 use bep_model::Reason;
 use bep_record::{FolderName, Name};
-use bep_report::push_not_settled;
 use bep_tables::{Cut, DocError, check_document, read_cut, winners_are_in_range};
 use std::alloc::{AllocError, Global};
 

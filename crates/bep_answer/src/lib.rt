@@ -8,28 +8,27 @@
 //!         Outcome::Refused => ..,
 //!     }
 //!
-//! `certify_text` writes the document with its certificate, `explain_text` all that fails. `checked`, `certified` and
-//! `explained` are these with a hint on where a refused document is at fault; `check_and_tell` and the like tell that on
-//! standard error, and answer the exit status. `exchange` answers whatever question, for those who ask more of a document.
+//! `certify_text` writes the document with its certificate. `checked` and `certified` are these with a hint on where a
+//! refused document is at fault; `check_and_tell` and `certify_and_tell` tell that on standard error, and answer the exit
+//! status. `exchange` answers whatever question, for those who ask more of a document: all that fails (`bep_reasons`), or
+//! where a scenario leads (`bep_play`).
 #![tactic(auto)]
 
 mod answers;
 mod certify;
 mod check;
 mod exchanging;
-mod explain;
-mod json;
 mod outcome;
 mod questions;
 mod refusing;
 mod status;
 mod told;
 
-pub use answers::{certified, certify_text, check_text, checked, explain_text, explained};
+pub use answers::{certified, certify_text, check_text, checked};
 pub use certify::certify_cut;
 pub use check::outcome_of;
 pub use exchanging::{Answer, Hinted, Question, exchange};
 pub use outcome::{Certified, Outcome};
 pub use refusing::{fault_line, refusal};
 pub use status::{USAGE, certified_status_of, status_of};
-pub use told::{certify_and_tell, check_and_tell, end, end_certified, explain_and_tell, tell};
+pub use told::{certify_and_tell, check_and_tell, end, end_certified, tell};

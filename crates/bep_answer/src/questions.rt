@@ -1,30 +1,21 @@
-//! What the program can be asked of a document.
-ghost use Rattle.bep_answer.specs.Asked.{IsAuditAnswer};
+//! What the program can be asked of a document, but for all that fails of it.
+ghost use Rattle.bep_answer.specs.Answer.{IsAnswerOfBytes};
 ghost use Rattle.bep_answer.specs.Certified.{IsCertifiedOfBytes};
 
 use crate::exchanging::{Answer, Question};
 use crate::outcome::{Certified, Outcome};
-use crate::{certify, check, explain};
-use bep_report::Form;
+use crate::{certify, check};
 use std::alloc::{AllocError, Global};
 
-/// Whether the document's cut is settled under its certificate, and what is written of that.
+/// Whether the document's cut is settled under its certificate: the report.
 #[derive(Drop)]
-pub(crate) enum AuditOf {
-    /// The report.
-    Cut,
-    /// All that keeps it from being settled, in this form.
-    Reasons(Form),
-}
+pub(crate) struct AuditOfCut;
 
-impl Question<Outcome> for AuditOf {
-    ghost says = { IsAuditAnswer };
+impl Question<Outcome> for AuditOfCut {
+    ghost says = { λ _. IsAnswerOfBytes };
 
     fn answer(self, alloc: Global, bytes: &[u8]) -> Result<Answer<Outcome>, AllocError> {
-        match self {
-            AuditOf::Cut => check::answer_to(alloc, bytes),
-            AuditOf::Reasons(form) => explain::answer_to(alloc, form, bytes),
-        }
+        check::answer_to(alloc, bytes)
     }
 }
 

@@ -1,13 +1,13 @@
 //! What is told on standard error beside an answer, and the exit status that says which answer it was.
 ghost use Rattle.std.specs.Prelude.{◌≡◌};
 ghost use Rattle.bep_answer.specs.Answer.{SaysSettled};
-ghost use Rattle.bep_answer.specs.Status.{IsCertificateTold, IsExplanationTold, IsTold};
+ghost use Rattle.bep_answer.specs.Status.{IsCertificateTold, IsTold};
 ghost use Rattle.bep_answer.specs.Status as spec;
 
-use crate::answers::{certified, checked, explained};
+use crate::answers::{certified, checked};
 use crate::outcome::{Certified, Outcome};
 use crate::status::{certified_status_of, status_of};
-use bep_report::{Form, ReportError};
+use bep_report::ReportError;
 use std::io::{Read, Write};
 
 /// Audits a document as `checked` does, tells the hint or why there is no answer on standard error, and answers the exit
@@ -43,24 +43,6 @@ pub fn certify_and_tell<P: AllocGlobal + Eprint, R: Read, W: Write>(
             end_certified(rt, Ok(outcome))
         }
         Err(error) => end_certified(rt, Err(error)),
-    }
-}
-
-/// The same for all that fails of a document's cut, as `explained` has it.
-pub fn explain_and_tell<P: AllocGlobal + Eprint, R: Read, W: Write>(
-    rt: &P,
-    form: Form,
-    reader: &mut R,
-    writer: &mut W,
-) -> u8
-    ensures { IsExplanationTold form (R.remaining reader.old) (R.remaining reader.new) (W.contents writer.old) (W.contents writer.new) result }
-{
-    match explained(rt.alloc(), form, reader, writer) {
-        Ok((outcome, hint)) => {
-            tell(rt, hint);
-            end(rt, Ok(outcome))
-        }
-        Err(error) => end(rt, Err(error)),
     }
 }
 

@@ -22,11 +22,11 @@ use Rattle.bep_machine.specs.Replica.{Pull, Replica, view_of}
 use Rattle.bep_machine.specs.Sound.{FitsFolder, IsSound, IsSoundLink, IsSoundPeer, IsSoundReplica, IsSoundQueue}
 use Rattle.bep_links.specs.Link.{new_link}
 use Rattle.bep_peer.specs.Member.{Member, tables_of}
-use Rattle.bep_core.specs.Network.{Network, IsNetwork, cluster_of, config_of, member_at, between_at, peer_of, link_of}
+use Rattle.bep_network.specs.Network.{Network, IsNetwork, cluster_of, config_of, member_at, between_at, peer_of, link_of}
 use Rattle.bep_core.specs.Begin.{begun, begun_member, begun_share}
 use Rattle.bep_core.specs.Reached.{HoldNodes, IsReached}
 use Rattle.bep_core.proofs.BegunJoined.{begun_network, numbers_made, replica_begun}
-use Rattle.bep_core.proofs.Sharing.{has_number, listed, sharing_there}
+use Rattle.bep_network.proofs.Members.{has_number, listed, sharing_there}
 
 -- ---- links
 

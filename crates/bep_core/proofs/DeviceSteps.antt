@@ -13,7 +13,7 @@ use Rattle.bep_peer.specs.Member.{Member}
 use Rattle.bep_peer.specs.PeerError.{Gives as GivesThere}
 use Rattle.bep_peer.specs.Within.{StepWithin}
 use Rattle.bep_core.specs.declared.why.Why.{Why}
-use Rattle.bep_core.specs.Network.{Network, IsNetwork, is_number, cluster_of, failed_at}
+use Rattle.bep_network.specs.Network.{Network, IsNetwork, is_number, cluster_of, failed_at}
 use Rattle.bep_core.specs.Why.{Gives, answer_of}
 use Rattle.bep_core.specs.Within.{row_of, step_of}
 use Rattle.bep_core.specs.declared.folder_steps.Within.{Within}

@@ -2,10 +2,8 @@ mod OthersThat
 mod FoldersAt
 mod Begun
 mod SameFolders
-mod Sharing
 mod OneDevice
 mod Lift
-mod Changed
 mod AtLinks
 mod Within
 mod DeviceSteps
@@ -15,7 +13,6 @@ mod Over
 mod SessionSteps
 mod LinkSteps
 mod BegunJoined
-mod HavingFacts
 mod Restarted
 mod ListDone
 mod Scanned

@@ -12,7 +12,7 @@ use Rattle.bep_core.specs.declared.why.Why.{Why}
 use Rattle.bep_core.specs.declared.link_steps.Between.{Between}
 use Rattle.bep_core.specs.declared.link_steps.Between.TheVariants.{Connect, Lose}
 use Rattle.bep_core.specs.Between.{row_of, step_of}
-use Rattle.bep_core.specs.Network.{Network, IsNetwork, is_between, cluster_of}
+use Rattle.bep_network.specs.Network.{Network, IsNetwork, is_between, cluster_of}
 use Rattle.bep_core.specs.Why.{Gives}
 use Rattle.bep_core.proofs.AtLinks.{FirmStepOf, at_link, no_link, none_found, passed, replaces_link}
 use Rattle.bep_core.proofs.Lift.{ReplacesLink, network_after_link, with_between}

@@ -9,15 +9,7 @@ use Rattle.bep_facts.specs.Members.{not_in_none, Contains-cons_cases}
 use Rattle.bep_model.specs.Tables.{Device}
 use Rattle.bep_folder.specs.Held.{AreOthers}
 use Rattle.bep_core.specs.Begin.{others_that}
-
-pub itself : (n : ℕ) → (n == n) ≡ true
-itself n = grind (arith, nat_tests)
-
-pub same_number : (m n : ℕ) → (m == n) ≡ true → m ≡ n
-same_number m n e = grind (arith, nat_tests, e)
-
-pub another_number : (m n : ℕ) → (m == n) ≡ false → m ≢ n
-another_number m n e same = let both : true ≡ false = sym (itself m) ∙ ap (λ k. m == k) same ∙ e in absurd (cc)
+use Rattle.bep_network.proofs.Numbers.{itself}
 
 -- what is kept by a test passes it
 pub kept_passes : {X : Type 0} (p : X → Bool) (xs : List X) (x : X) → Contains (filter p xs) x → p x ≡ true

@@ -15,7 +15,7 @@ use Rattle.bep_peer.specs.Lent.{Lent, StepOver}
 use Rattle.bep_peer.specs.Member.{Member, Remains, tables_of}
 use Rattle.bep_peer.specs.PeerError.{Gives as GivesThere}
 use Rattle.bep_core.specs.declared.why.Why.{Why}
-use Rattle.bep_core.specs.Network.{Network, IsNetwork, in_order, is_between, is_number, cluster_of, config_of, failed_at, member_at}
+use Rattle.bep_network.specs.Network.{Network, IsNetwork, in_order, is_between, is_number, cluster_of, config_of, failed_at, member_at}
 use Rattle.bep_core.specs.Over.{row_of, shares_of, step_of}
 use Rattle.bep_core.specs.declared.session_steps.Over.{Over}
 use Rattle.bep_core.specs.declared.session_steps.Over.TheVariants.{Begin, Deliver, Announce, Ask}

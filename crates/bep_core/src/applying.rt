@@ -5,7 +5,7 @@ ghost use Rattle.bep_machine.specs.Laws.{IsSoundStep};
 ghost use Rattle.bep_machine.specs.Steps.{IsStep};
 ghost use Rattle.bep_machine.specs.Undone.{LeavesAll};
 ghost use Rattle.bep_core.specs.Applying.{failed_by, failed_in, maker_of};
-ghost use Rattle.bep_core.specs.Network.{cluster_of};
+ghost use Rattle.bep_network.specs.Network.{cluster_of};
 ghost use Rattle.bep_core.specs.Reached.{IsReached};
 ghost use Rattle.bep_core.specs.Why.{Gives};
 ghost use Rattle.bep_core.specs.declared.why.Why.TheVariants.{ConfigBad};

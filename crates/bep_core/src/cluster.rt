@@ -5,7 +5,7 @@ ghost use Rattle.std.specs.List.Sorted.{IsStrictlyIncreasing, IsStrictlySortedBy
 ghost use Rattle.bep_record.specs.declared.limits.TheConstants.{MAX_DEVICES};
 ghost use Rattle.bep_config.specs.Config.{by_ends};
 ghost use Rattle.bep_core.specs.Begin.{begun};
-ghost use Rattle.bep_core.specs.Network.{IsNetwork, cluster_of, numbers_of, ends_of, member_at, between_at};
+ghost use Rattle.bep_network.specs.Network.{IsNetwork, cluster_of, numbers_of, ends_of, member_at, between_at};
 ghost use Rattle.bep_core.specs.Reached.{HoldNodes, IsReached};
 
 use crate::begin::{links_of, peers_of};
@@ -50,7 +50,7 @@ impl<S: Store> Model for Cluster<S> {
     ghost use Rattle.bep_peer.specs.Session.{session_code};
     ghost use Rattle.bep_peer.specs.Member.{member_code};
     ghost use Rattle.bep_peer.specs.contracts.trace.Trace as trace;
-    ghost use Rattle.bep_core.specs.Network.{Network, network_code, IsNetwork};
+    ghost use Rattle.bep_network.specs.Network.{Network, network_code, IsNetwork};
 
     ghost Value = { Network };
 

@@ -5,7 +5,7 @@ ghost use Rattle.bep_machine.specs.Steps.{IsStep};
 ghost use Rattle.bep_peer.specs.PeerError.{Gives as GivesThere};
 ghost use Rattle.bep_peer.specs.Within.{StepWithin};
 ghost use Rattle.bep_peer.specs.declared.error.PeerError.TheVariants.{Stale};
-ghost use Rattle.bep_core.specs.Network.{cluster_of, failed_at, is_number};
+ghost use Rattle.bep_network.specs.Network.{cluster_of, failed_at, is_number};
 ghost use Rattle.bep_core.specs.Within.{row_of, step_of};
 ghost use Rattle.bep_core.specs.Why.{Gives, answer_of};
 

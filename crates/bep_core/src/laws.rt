@@ -1,6 +1,5 @@
-//! What holds of every cluster, and of every one that steps lead to. The functions do nothing; their contracts are the laws.
+//! What holds of every cluster that steps lead to. The function does nothing; its contract is the law.
 ghost use Rattle.bep_core.specs.Reached.{ReachedIsGapless};
-ghost use Rattle.bep_core.specs.Sharing.{FoundByNumber, SharingIsHaving};
 
 use bep_machine::{runs_are_gapless, steps_keep_sound};
 
@@ -12,9 +11,3 @@ pub fn reached_is_gapless()
     steps_keep_sound();
     runs_are_gapless();
 }
-
-/// A device shares a folder exactly where it is there and has it, and each device is the one that its number finds.
-pub fn sharing_is_having()
-    ensures sharing { SharingIsHaving }
-    ensures found { FoundByNumber }
-{}

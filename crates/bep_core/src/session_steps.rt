@@ -5,7 +5,7 @@ ghost use Rattle.bep_machine.specs.Steps.{IsStep};
 ghost use Rattle.bep_peer.specs.Lent.{StepOver};
 ghost use Rattle.bep_peer.specs.Member.{Remains};
 ghost use Rattle.bep_peer.specs.PeerError.{Gives as GivesThere};
-ghost use Rattle.bep_core.specs.Network.{cluster_of, failed_at, in_order, is_between, is_number};
+ghost use Rattle.bep_network.specs.Network.{cluster_of, failed_at, in_order, is_between, is_number};
 ghost use Rattle.bep_core.specs.Over.{row_of, shares_of, step_of};
 ghost use Rattle.bep_core.specs.Why.{Gives};
 

@@ -1,7 +1,7 @@
 //! What holds of the parts of every cluster, and of their cut. The functions do nothing; their contracts are the laws.
 ghost use Rattle.bep_cut.specs.Laws.{ClustersAreParts, CutSaysCluster};
 
-use bep_core::sharing_is_having;
+use bep_network::sharing_is_having;
 use bep_peer::tables_are_found;
 
 /// The devices and the links of every cluster are such that a cut can be taken of them.

@@ -7,7 +7,7 @@ use Rattle.serde_json.specs.Written.{IsInOrder}
 use Rattle.bep_json.specs.Written.{whole, list_of}
 use Rattle.bep_model.specs.Tables.{Device}
 use Rattle.bep_audit.specs.Walk.{Failure, failure_shown}
-use Rattle.bep_report.specs.Lines.{word_of, newline}
+use Rattle.bep_lines.specs.Lines.{word_of, newline}
 use Rattle.bep_explain.specs.declared.annotated.Annotated as lends
 
 -- a failure, and the tree of what is said of it

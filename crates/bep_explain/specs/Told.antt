@@ -3,7 +3,7 @@ use Rattle.std.specs.Prelude.{◌==◌, ◌++◌, ℕ, List, [], ◌∷◌, map,
 use Rattle.std.specs.List.{flat_map}
 use Rattle.bep_model.specs.Verdict.{Settled}
 use Rattle.bep_audit.specs.Walk.{Failure, failure_shown}
-use Rattle.bep_report.specs.Lines.{failure_line, verdict_line, newline}
+use Rattle.bep_lines.specs.Lines.{failure_line, verdict_line, newline}
 use Rattle.bep_explain.specs.declared.explained.Explained as lends
 
 -- a failure, and what is said of it

@@ -8,8 +8,8 @@ ghost use Rattle.bep_explain.specs.Annotated.{IsJsonLine, annotated_of, device_t
 use crate::Annotated;
 use bep_audit::Failure;
 use bep_json::Members;
+use bep_lines::word_of;
 use bep_record::DeviceId;
-use bep_report::word_of;
 use serde_json::{Value, json};
 use std::alloc::{AllocError, Global};
 

@@ -1,8 +1,8 @@
 //! The details of a failure as lines of the text. No contract speaks of what they say.
 use crate::detail::{Detail, What};
 use bep_blocks::blocks;
+use bep_lines::{Piece, push_pieces};
 use bep_record::{Block, BlockSize, DeviceId, Entry, Kind, Node, Record};
-use bep_report::{Piece, push_pieces};
 use std::alloc::{AllocError, Global};
 
 /// A line for each of these.

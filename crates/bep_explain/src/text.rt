@@ -5,7 +5,7 @@ ghost use Rattle.bep_explain.specs.Told as spec;
 ghost use Rattle.bep_explain.specs.Told.{told_of};
 
 use crate::Explained;
-use bep_report::{push_failure, push_settled};
+use bep_lines::{push_failure, push_settled};
 use std::alloc::{AllocError, Global};
 
 /// The line of each of these, in order, with its details below it, each after two spaces; `settled` alone where there is

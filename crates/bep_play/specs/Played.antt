@@ -3,7 +3,7 @@
 use Rattle.std.specs.Prelude.{◌≡◌, ◌≢◌, ◌⊎◌, ◌++◌, suc, ℕ, ⊤, List, [], ◌∷◌, map, codes, Option, None, Result, Ok, Err}
 use Rattle.bep_audit.specs.Certifier.{IsNeverSettled}
 use Rattle.bep_core.specs.Begin.{begun}
-use Rattle.bep_core.specs.Network.{Network, cluster_of}
+use Rattle.bep_network.specs.Network.{Network, cluster_of}
 use Rattle.bep_core.specs.Why.{name_of_refusal}
 use Rattle.bep_core.specs.declared.why.Why.{Why}
 use Rattle.bep_core.specs.declared.why.Why.TheVariants as whys
@@ -21,7 +21,8 @@ use Rattle.bep_model.specs.Settled.{IsListOfWinners, IsSettled}
 use Rattle.bep_model.specs.Tables.{Folder, FileName}
 use Rattle.bep_model.specs.Verdict.{Verdict, IsVerdict, Not}
 use Rattle.bep_model.specs.WithoutWinner.{IsFirstWithoutWinner}
-use Rattle.bep_report.specs.Certificate.{certificate_lines, step_line}
+use Rattle.bep_report.specs.Certificate.{certificate_lines}
+use Rattle.bep_lines.specs.Lines.{step_line}
 use Rattle.bep_report.specs.Input.{IsRead}
 use Rattle.bep_report.specs.Report.{report_text}
 use Rattle.bep_scenario.specs.Scenario.{Said, scenario_of}

@@ -1,11 +1,11 @@
 //! The steps of a scenario, made one after another.
 ghost use Rattle.std.specs.Prelude.{IfOk, OnOk};
-ghost use Rattle.bep_core.specs.Network.{cluster_of};
+ghost use Rattle.bep_network.specs.Network.{cluster_of};
 ghost use Rattle.bep_play.specs.Played.{IsTold, Leads};
 
 use bep_core::{Cluster, Why};
+use bep_lines::push_step;
 use bep_machine::{Moved, Step};
-use bep_report::push_step;
 use bep_store::MemStore;
 use std::alloc::{AllocError, Global};
 

@@ -1,12 +1,12 @@
--- The lines of a certificate, and of a scenario's refused step (this project's profile).
+-- The lines of a certificate (this project's profile).
 use Rattle.std.specs.Prelude.{◌++◌, ℕ, List, [], ◌∷◌, Bool, true, false, codes}
 use Rattle.std.specs.List.{concat, flat_map}
 use Rattle.std.specs.Fmt.{decimal}
 use Rattle.bep_record.specs.declared.kind.Kind.{Kind}
 use Rattle.bep_record.specs.declared.kind.Kind.TheVariants.{File, Directory, Symlink}
 use Rattle.bep_model.specs.declared.row.Row.{Row}
-use Rattle.bep_report.specs.Lines.{newline}
-use Rattle.bep_report.specs.Text.{printed}
+use Rattle.bep_lines.specs.Lines.{newline}
+use Rattle.bep_lines.specs.Text.{printed}
 
 -- the number by which the protocol tells a kind (BEP v1, 'FileInfo', field 'type')
 abbrev pub type_text : Kind → List ℕ
@@ -41,7 +41,3 @@ row_line row =
 -- the lines of a certificate, a line a row
 abbrev pub certificate_lines : List Row → List ℕ
 certificate_lines rows = flat_map row_line rows
-
--- the line of a step that is refused: which one, counted from 1, and why
-abbrev pub step_line : ℕ → ℕ → List ℕ → List ℕ
-step_line place number word = concat (codes "step " ∷ decimal place ∷ codes ": " ∷ decimal number ∷ codes " " ∷ word ∷ newline ∷ [])

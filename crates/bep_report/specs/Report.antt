@@ -8,7 +8,7 @@ use Rattle.bep_tables.specs.declared.cut.CutParts.{CutParts}
 use Rattle.bep_tables.specs.declared.share.Share.{Share}
 use Rattle.bep_tables.specs.declared.share.SharedFolder.{SharedFolder}
 use Rattle.bep_tables.specs.Names.{known_names}
-use Rattle.bep_report.specs.Lines.{verdict_line, folder_line}
+use Rattle.bep_lines.specs.Lines.{verdict_line, folder_line}
 
 -- some device's store holds the name
 abbrev pub is_stored : List Share → FileName → Bool

@@ -1,10 +1,10 @@
 //! The lines of a certificate. Each function appends to a text; it fails for memory alone, and then the text is as before.
 ghost use Rattle.std.specs.Prelude.{◌≡◌};
 ghost use Rattle.bep_report.specs.Certificate as spec;
-ghost use Rattle.bep_report.specs.Text.{AppendsWhole, piece_text};
+ghost use Rattle.bep_lines.specs.Text.{AppendsWhole, piece_text};
 
-use crate::text::{Piece, or_as_before, push_pieces};
 use bep_audit::Certificate;
+use bep_lines::{Piece, or_as_before, push_pieces};
 use bep_model::Row;
 use bep_record::Kind;
 use std::alloc::AllocError;

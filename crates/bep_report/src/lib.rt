@@ -1,4 +1,5 @@
-//! The lines of the report, and the bytes that come in and go out.
+//! The report on a cut, and the bytes that come in and go out. The lines of which it is made are those of `bep_lines`,
+//! which needs no auditor; all its names but one are given on here.
 //!
 //! A text is made in memory and then written, so that no line stands half printed where memory runs out:
 //!
@@ -9,24 +10,18 @@
 
 mod certificate;
 mod error;
-mod form;
 mod input;
-mod lines;
 mod output;
 mod reporting;
-mod text;
-mod words;
 mod written;
 
+pub use bep_lines::{
+    Form, Piece, push_failure, push_folder, push_not_settled, push_pieces, push_printed,
+    push_refused, push_settled, push_step, word_of,
+};
 pub use certificate::push_certificate;
 pub use error::ReportError;
-pub use form::Form;
 pub use input::read_document;
-pub use lines::{
-    push_failure, push_folder, push_not_settled, push_refused, push_settled, push_step,
-};
 pub use output::write_all;
 pub use reporting::push_report;
-pub use text::{Piece, push_pieces, push_printed};
-pub use words::word_of;
 pub use written::{certificate_text, report};

@@ -2,13 +2,12 @@
 ghost use Rattle.std.specs.Prelude.{◌≡◌};
 ghost use Rattle.std.specs.FinMap.{keys};
 ghost use Rattle.bep_audit.specs.Shown.{verdict_shown};
-ghost use Rattle.bep_report.specs.Lines.{verdict_line};
+ghost use Rattle.bep_lines.specs.Lines.{verdict_line};
 ghost use Rattle.bep_report.specs.Report.{is_stored, count_deleted, folder_text, folders_text, report_text};
-ghost use Rattle.bep_report.specs.Text.{AppendsWhole};
+ghost use Rattle.bep_lines.specs.Text.{AppendsWhole};
 
-use crate::lines::{push_folder, push_not_settled, push_settled};
-use crate::text::or_as_before;
 use bep_audit::Verdict;
+use bep_lines::{or_as_before, push_folder, push_not_settled, push_settled};
 use bep_map::NameMap;
 use bep_record::Name;
 use bep_tables::{Cut, Share, SharedFolder};

@@ -5,8 +5,8 @@ use Rattle.clap.specs.Words.{App, Row, Rule, Text, app_of, fault_of, first_of, n
 use Rattle.clap.specs.declared.builder.action.ArgAction.TheVariants.{SetTrue}
 use Rattle.clap.specs.declared.builder.command.Command.{Command}
 use Rattle.clap.specs.declared.builder.command.Command.TheViews.{out-Command as fields_of}
-use Rattle.bep_report.specs.declared.form.Form.{Form}
-use Rattle.bep_report.specs.declared.form.Form.TheVariants as forms
+use Rattle.bep_lines.specs.declared.form.Form.{Form}
+use Rattle.bep_lines.specs.declared.form.Form.TheVariants as forms
 use Rattle.bep_words.specs.declared.mode.Ending.{Ending}
 use Rattle.bep_words.specs.declared.mode.Ending.TheVariants.{Report, Document}
 use Rattle.bep_words.specs.declared.mode.Mode.{Mode}

@@ -3,7 +3,7 @@ ghost use Rattle.std.specs.Prelude.{◌≡◌, IfOk, false, map};
 ghost use Rattle.clap.specs.Words.{FailsBy, app_of, fault_of, first_value, found_of, new_app, rule_of, subcommand_rows_of};
 ghost use Rattle.bep_words.specs.Mode.{Asks, FaultlessWordsAsk, IsCommand, ending_of, explain_app, flag, form_of, is_set, is_true, program, run_app, top_level};
 
-use bep_report::Form;
+use bep_lines::Form;
 use clap::{Arg, ArgAction, ArgMatches, Command, Error};
 use std::alloc::{AllocError, Global};
 use std::convert::AsStr;

@@ -1,8 +1,9 @@
 -- What came of the words of the command line (this project's profile).
 use Rattle.std.specs.Prelude.{◌≡◌, ◌⊎◌, ℕ, List, Option, Err}
 use Rattle.std.specs.Io.KnownBytes.{Keeps}
-use Rattle.bep_answer.specs.Status.{IsCertificateTold, IsExplanationTold, IsTold, status_of, usage}
+use Rattle.bep_answer.specs.Status.{IsCertificateTold, IsTold, status_of, usage}
 use Rattle.bep_play.specs.Told.{IsEndTold, IsRunTold}
+use Rattle.bep_reasons.specs.Told.{IsExplanationTold}
 use Rattle.bep_report.specs.declared.error.ReportError.TheVariants.{Memory}
 use Rattle.clap.specs.Words.{Text}
 use Rattle.bep_words.specs.Mode.{Asks}

@@ -5,10 +5,11 @@ mod run;
 
 use crate::run::{run, run_without_words, words_of};
 pub use bep_answer::{
-    Certified, Outcome, certified_status_of, certify_text, check_text, explain_text, status_of,
+    Certified, Outcome, certified_status_of, certify_text, check_text, status_of,
 };
+pub use bep_lines::Form;
 pub use bep_play::{run_document, run_text};
-pub use bep_report::Form;
+pub use bep_reasons::explain_text;
 pub use bep_words::{Ending, Mode, mode_of};
 use std::process::ExitCode;
 

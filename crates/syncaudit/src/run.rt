@@ -10,8 +10,9 @@ ghost use Rattle.syncaudit.specs.Status.{IsEnd, IsEnding, IsFollowed};
 ghost use Rattle.bep_words.specs.declared.mode.Ending.TheVariants.{Report};
 ghost use Rattle.bep_words.specs.declared.mode.Mode.TheVariants.{Check, Run};
 
-use bep_answer::{USAGE, certify_and_tell, check_and_tell, end, explain_and_tell};
+use bep_answer::{USAGE, certify_and_tell, check_and_tell, end};
 use bep_play::{run_and_tell, run_document_and_tell};
+use bep_reasons::explain_and_tell;
 use bep_report::ReportError;
 use bep_words::{Ending, Mode, Unfollowed, faultless_words_ask, mode_told};
 use std::convert::AsStr;

@@ -1,4 +1,4 @@
-use Rattle.bep_core.specs.Network.{failed_at}
+use Rattle.bep_network.specs.Network.{failed_at}
 use Rattle.bep_core.proofs.SessionSteps.{none_over, over_made, over_rules}
 use Rattle.bep_core.proofs.cluster.Cluster.over.Goals as goal
 

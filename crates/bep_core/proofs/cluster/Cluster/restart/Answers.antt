@@ -1,5 +1,5 @@
 use Rattle.std.proofs.Common.{set, sym, ◌∙◌}
-use Rattle.bep_core.specs.Network.{Network, failed_at, is_number}
+use Rattle.bep_network.specs.Network.{Network, failed_at, is_number}
 use Rattle.bep_core.proofs.AtLinks.{none_found}
 use Rattle.bep_core.proofs.Restarted.{none_restarts, restart_made, restart_rules}
 use Rattle.bep_core.proofs.cluster.Cluster.restart.Goals as goal

@@ -1,5 +1,0 @@
-use Rattle.bep_core.proofs.HavingFacts.{found_each, sharing_is_having}
-use Rattle.bep_core.proofs.laws.sharing_is_having.Goals as goal
-
-pub returns : goal.returns
-returns c = record { sharing = sharing_is_having; found = found_each }

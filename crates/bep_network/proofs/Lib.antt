@@ -1,0 +1,4 @@
+pub mod Numbers
+pub mod Changed
+pub mod Members
+mod HavingFacts
