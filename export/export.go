@@ -28,6 +28,9 @@ func export(asked options, refused *refusals, log io.Writer, take taker) error {
 	if err == nil && asked.audit && !haveDevice(folders) {
 		err = errNothingLeft
 	}
+	if err == nil {
+		err = checkPrefix(asked.names, folders, refused)
+	}
 	if err != nil {
 		return err
 	}
@@ -58,6 +61,31 @@ func haveDevice(folders []*folder) bool {
 		}
 	}
 	return false
+}
+
+// checkPrefix says whether a prefix is one with which no name begins: it is mostly mistyped, and all of no names is settled.
+func checkPrefix(prefix string, folders []*folder, refused *refusals) error {
+	if prefix == "" || len(refused.names) > 0 {
+		return nil
+	}
+	for _, one := range folders {
+		for _, at := range one.Devices {
+			if haveNames(at) {
+				return nil
+			}
+		}
+	}
+	return fmt.Errorf("refused: no name begins with %q", prefix)
+}
+
+// haveNames says whether a device has anything of a folder: an own record, a node, or a record in a view.
+func haveNames(at *share) bool {
+	for _, of := range at.Views {
+		if len(of.Records) > 0 {
+			return true
+		}
+	}
+	return len(at.Own) > 0 || len(at.Store) > 0
 }
 
 // write reads the bytes of a part's files and gives its document to the taker.

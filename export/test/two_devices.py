@@ -52,6 +52,9 @@ class TwoDevices(Exporting):
         share = self.document("--names", "folder/", "--folder", FOLDER)["cut"]["folders"][0]["devices"][1]
         self.assertEqual([one["name"] for one in share["own"] + share["store"]], ["folder/large"] * 2)
 
+    def test_names_of_which_there_is_none_are_refused(self):
+        self.assertIn('no name begins with "nobody"', self.refused("--names", "nobody", "--lenient"))
+
     def test_nothing_of_the_homes_changes(self):
         before = [files_of(device.home.parent) for device in (self.one, self.two)]
         self.document()

@@ -1,1 +1,1 @@
-mod SettledSaid
+pub mod SettledSaid

@@ -44,7 +44,8 @@ fn said_of_text(alloc: Global, error: &Error) -> Result<Vec<u8>, AllocError> {
     let what = match error.classify() {
         Category::Memory => return Err(AllocError),
         Category::Eof => ": the JSON ends before it is whole",
-        _ => ": this isn't JSON, or nests too deep",
+        _ =>
+            ": this isn't JSON, nests too deep, or has too large a number or half a surrogate pair",
     };
     let (line, column) = (error.line() as u64, error.column() as u64);
     said(

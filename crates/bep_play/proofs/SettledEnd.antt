@@ -5,19 +5,14 @@ use Rattle.bep_document.specs.Reading.{Reading, Read, Refused}
 use Rattle.bep_machine.specs.Laws.{SettledStaysPut, SettledStaysSettled}
 use Rattle.bep_model.specs.declared.row.Row.{Row}
 use Rattle.bep_model.specs.Settled.{IsSettled}
-use Rattle.bep_model.specs.Verdict as verdicts
 use Rattle.bep_scenario.specs.Scenario.{Said, scenario_of}
 use Rattle.bep_tables.specs.declared.cut.CutParts.{CutParts}
 use Rattle.bep_tables.specs.Cut.{tables_of}
 use Rattle.bep_answer.specs.declared.outcome.Outcome.{Outcome}
 use Rattle.bep_answer.specs.declared.outcome.Outcome.TheVariants as outcomes
-use Rattle.bep_answer.specs.Answer.{outcome_of}
 use Rattle.bep_answer.specs.Exchange.{IsWhole}
+use Rattle.bep_answer.proofs.SettledSaid.{settled_verdict}
 use Rattle.bep_play.specs.Played.{EndsSettled, IsEnd, IsRunOf, IsRunOfBytes, LeadsToSettled}
-
-settled_verdict : (cut : CutParts) (rows : List Row) (verdict : verdicts.Verdict) → verdicts.IsVerdict (tables_of cut) rows verdict → outcomes.Settled ≡ outcome_of verdict → IsSettled (tables_of cut) rows
-settled_verdict cut rows verdicts.Settled judged told = judged
-settled_verdict cut rows (verdicts.Not reason folder name device) judged told = absurd (cc)
 
 settled_rows : (cut : CutParts) (told : List ℕ) (outcome : Outcome) (text : List ℕ) → IsEnd cut told outcome text → outcome ≡ outcomes.Settled → (rows : List Row) × IsSettled (tables_of cut) rows
 settled_rows cut told outcome text end is =

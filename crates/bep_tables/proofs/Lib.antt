@@ -6,3 +6,4 @@ mod Added
 mod Known
 mod Finite
 mod Said
+mod ListingFacts

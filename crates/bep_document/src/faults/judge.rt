@@ -37,7 +37,6 @@ pub trait Judge<T> {
 }
 
 /// The first fault among the items, or want of memory.
-#[tactic(auto, using(crate::proofs::faults::JudgeFacts::first_in_next))]
 pub fn first_fault<T, J: Judge<T>>(alloc: Global, judge: &J, items: &[T]) -> Found
     ensures { IfOk result (λ found. found ≡ first_in (J.fault_at judge.now) [] items.now) }
 {
@@ -98,7 +97,6 @@ fn keys_rise<T, J: JudgeKeyed<T>>(judge: &J, items: &[T]) -> bool
 }
 
 // The first fault among items none of which has the key of an earlier one, or want of memory.
-#[tactic(auto, using(crate::proofs::faults::JudgeFacts::first_in_next))]
 fn first_of_distinct<T, J: JudgeKeyed<T>>(alloc: Global, judge: &J, items: &[T]) -> Found
     ensures { IfOk result (λ found. found ≡ first_in (λ _. J.fault_at judge.now false) [] items.now) }
 {

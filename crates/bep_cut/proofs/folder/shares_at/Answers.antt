@@ -1,7 +1,9 @@
-use Rattle.std.proofs.Common.{◌∙◌, Err, ◌≡◌, ◌<◌, length, get_or, ap, arith}
+use Rattle.std.proofs.Common.{◌∙◌, Err, ◌≡◌, ◌<◌, List, [], ◌++◌, length, get_or, drop, map, flat_map, sym, ap, subst, arith}
+use Rattle.std.specs.List.{AllByRecursion}
+use Rattle.std.proofs.lemmas.List.{append-nil, drop_all, length-map}
 use Rattle.std.proofs.lemmas.Result.{err_from_is_err_and}
 use Rattle.bep_peer.specs.Member.{Member}
-use Rattle.bep_cut.specs.Cut.{IsSoundIn, seen, share_at}
+use Rattle.bep_cut.specs.Cut.{IsSoundIn, Seen, seen, share_at}
 use Rattle.bep_cut.specs.Parts.{faults_of}
 use Rattle.bep_cut.proofs.FolderFacts.{counts_all, each_next, gathered_next, still_same}
 use Rattle.bep_cut.proofs.folder.shares_at.Goals as goal
@@ -38,4 +40,19 @@ loop-peer-preserved g c =
       counts = still_same first all place one other below is faults_of c.in_ok-add_share.ensures.counts before.counts;
       made = gathered_next first all place one other below is (share_at c.args.folder.now) c.loop-peer.shares.items c.add_share.new.shares.items _ before.same c.in_ok-add_share.ensures.share before.made;
       each = λ later. before.each (each_next first all place one other below is (IsSoundIn c.args.folder.now) before.same c.in_ok-add_share.ensures.sound later);
+    }
+
+pub returns : goal.returns
+returns g c =
+    let all = map seen c.args.peers.now in
+    let none : drop c.loop-peer.peer-index all ≡ [] = drop_all c.loop-peer.peer-index all (omega (arith, length-map c.args.peers.now seen, c.loop-peer-test.false)) in
+    record {
+      shares =
+          sym (append-nil c.loop-peer.shares.items)
+          ∙ ap (λ (left : List Seen). c.loop-peer.shares.items ++ flat_map (share_at c.args.folder.now) left) (sym none)
+          ∙ c.loop-peer.invariant.made;
+      sound = c.loop-peer.invariant.each (subst (AllByRecursion (IsSoundIn c.args.folder.now)) (sym none) tt);
+      seen = c.loop-peer.invariant.same;
+      linked = c.loop-peer.invariant.linked;
+      counts = c.loop-peer.invariant.counts;
     }

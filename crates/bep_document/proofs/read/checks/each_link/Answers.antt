@@ -1,0 +1,18 @@
+use Rattle.std.proofs.Common.{List, ◌∷◌, refl, sym, ap, ◌∙◌, arith}
+use Rattle.serde_json.specs.View.{items_view}
+use Rattle.serde_json.specs.declared.value.Value.{Value}
+use Rattle.bep_json.specs.Lists.{read_items}
+use Rattle.bep_json.proofs.ListFacts.{with_front, one_more_is_read}
+use Rattle.bep_document.specs.declared.parts.LinkParts.{LinkParts}
+use Rattle.bep_document.specs.read.Links.{read_link}
+use Rattle.bep_document.proofs.read.checks.each_link.Goals as goal
+
+pub loop-item-preserved : goal.loop-item-preserved
+loop-item-preserved c =
+    let links = c.loop-item.links.items in
+    let item = c.in-Some.item in
+    let left = c.next.new.self.rest.items in
+    ap (λ (read : List LinkParts). with_front read (read_items read_link (items_view left))) c.in_ok-push.ensures.items
+    ∙ one_more_is_read read_link (item ∷ left) 0 item links c.in_ok-link.link (omega arith) refl c.in_ok-link.ensures
+    ∙ ap (λ (values : List Value). with_front links (read_items read_link (items_view values))) (sym c.in-Some.ensures.steps.0)
+    ∙ c.loop-item.invariant
