@@ -88,3 +88,12 @@ mod ConfigEffect
 mod BlockPlaces
 mod ResponseEffect
 mod UndoneSteps
+mod OneEnd
+mod OneChoice
+mod OneBatch
+mod OneVersion
+mod OneEndLocal
+mod OneEndPull
+mod OneEndLink
+mod OneEndSteps
+mod OneEndRuns

@@ -17,3 +17,4 @@ pub mod Halves
 pub mod HalfLaws
 pub mod Files
 pub mod Undone
+pub mod Determined

@@ -4,6 +4,7 @@
 #![tactic(auto)]
 
 mod calm;
+mod determined;
 mod effects;
 mod files;
 mod finite;
@@ -20,6 +21,7 @@ mod step;
 mod undone;
 
 pub use calm::{quiet_steps_keep_calm, quiet_steps_keep_records};
+pub use determined::{runs_are_determined, steps_are_determined};
 pub use effects::{
     finish_adopts, finish_drops, override_wins, revert_takes_back, scan_records, start_pull_begins,
     users_change_files,

@@ -1,0 +1,32 @@
+-- A run is determined by its steps: each leads from a sound cluster to one cluster, with one answer, where memory isn't
+-- wanting (this project's profile).
+use Rattle.std.specs.Prelude.{◌≡◌, ◌≢◌, ℕ, ⊤, List, [], ◌∷◌, Option}
+use Rattle.bep_machine.specs.declared.step.Step.{Step}
+use Rattle.bep_machine.specs.Answer.{Answer, OutOfMemory}
+use Rattle.bep_machine.specs.Cluster.{Cluster}
+use Rattle.bep_machine.specs.Steps.{IsStep, Event, IsRun}
+use Rattle.bep_machine.specs.Sound.{IsSound}
+use Rattle.bep_machine.specs.Laws.{AreSound}
+
+-- a step with the same failing call of the store leads to one cluster, with one answer
+abbrev pub StepsAreDetermined : Type 0
+StepsAreDetermined = (step : Step) (failed : Option ℕ) (old one other : Cluster) (answer reply : Answer) →
+    IsSound old → IsStep step failed old one answer → IsStep step failed old other reply →
+    answer ≢ OutOfMemory → reply ≢ OutOfMemory → (one ≡ other) × (answer ≡ reply)
+
+-- memory was wanting in none
+abbrev pub AreMade : List Event → Type 0
+AreMade [] = ⊤
+AreMade (event ∷ more) = (event.answer ≢ OutOfMemory) × AreMade more
+
+-- the same steps, and in each the same call of the store failed, if any
+abbrev pub HaveSameSteps : List Event → List Event → Type 0
+HaveSameSteps [] [] = ⊤
+HaveSameSteps (one ∷ more) (other ∷ rest) = (one.step ≡ other.step) × (one.failed ≡ other.failed) × HaveSameSteps more rest
+HaveSameSteps _ _ = ⊥
+
+-- two runs of the same steps lead from a sound cluster to one cluster, and each step has one answer
+abbrev pub RunsAreDetermined : Type 0
+RunsAreDetermined = (old one other : Cluster) (events others : List Event) →
+    IsSound old → AreSound events → HaveSameSteps events others → AreMade events → AreMade others →
+    IsRun old events one → IsRun old others other → (one ≡ other) × (events ≡ others)

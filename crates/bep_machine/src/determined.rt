@@ -1,0 +1,25 @@
+//! A run is determined by its steps. Each function does nothing; its contract is the law.
+ghost use Rattle.bep_machine.specs.Determined.{RunsAreDetermined, StepsAreDetermined};
+
+use crate::steps_keep_sound;
+use bep_choice::laws::choice_is_unique;
+use bep_record::{bump_exists, merge_exists};
+
+/// A step of a sound cluster leads to one cluster, with one answer, where memory isn't wanting: the record that it chooses,
+/// the version that it makes and the batch that it sends are the only ones that its definition allows.
+pub fn steps_are_determined()
+    ensures { StepsAreDetermined }
+{
+    choice_is_unique();
+    merge_exists();
+    bump_exists();
+}
+
+/// Two runs of the same steps from a sound cluster, in which the same calls of the stores fail and memory is wanting in
+/// none, lead to one cluster, and each step has the same answer in both.
+pub fn runs_are_determined()
+    ensures { RunsAreDetermined }
+{
+    steps_are_determined();
+    steps_keep_sound();
+}
