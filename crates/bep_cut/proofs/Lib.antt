@@ -15,3 +15,4 @@ mod SaidDevices
 mod SaidRecords
 mod SaidFlights
 mod SaidFacts
+mod SameCut

@@ -15,3 +15,8 @@ ClustersAreParts = (network : Network) → IsNetwork network → AreParts networ
 abbrev pub CutSaysCluster : Type 0
 CutSaysCluster =
     (network : Network) → IsNetwork network → IsSound (cluster_of network) → tables_of (cut_at network.members network.links) ≡ tables_of_cluster (cluster_of network)
+
+-- devices and links that are one and the same cluster have one cut, whatever the devices told of their last actions
+abbrev pub SameClusterSameCut : Type 0
+SameClusterSameCut = (one other : Network) → IsNetwork one → IsNetwork other → cluster_of one ≡ cluster_of other →
+    cut_at one.members one.links ≡ cut_at other.members other.links

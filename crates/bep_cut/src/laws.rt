@@ -1,5 +1,5 @@
 //! What holds of the parts of every cluster, and of their cut. The functions do nothing; their contracts are the laws.
-ghost use Rattle.bep_cut.specs.Laws.{ClustersAreParts, CutSaysCluster};
+ghost use Rattle.bep_cut.specs.Laws.{ClustersAreParts, CutSaysCluster, SameClusterSameCut};
 
 use bep_network::sharing_is_having;
 use bep_peer::tables_are_found;
@@ -16,3 +16,10 @@ pub fn clusters_are_parts()
 pub fn cut_says_cluster()
     ensures { CutSaysCluster }
 {}
+
+/// Devices and links that are one and the same cluster have one cut.
+pub fn same_cluster_same_cut()
+    ensures { SameClusterSameCut }
+{
+    sharing_is_having();
+}

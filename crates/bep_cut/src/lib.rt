@@ -28,4 +28,4 @@ pub use bep_tables::{
 };
 pub use cut::cut_of;
 pub use error::CutError;
-pub use laws::{clusters_are_parts, cut_says_cluster};
+pub use laws::{clusters_are_parts, cut_says_cluster, same_cluster_same_cut};

@@ -2,3 +2,4 @@ pub mod Numbers
 pub mod Changed
 pub mod Members
 mod HavingFacts
+mod Ends
