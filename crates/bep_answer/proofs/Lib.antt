@@ -1,1 +1,2 @@
 pub mod SettledSaid
+pub mod OneAnswer

@@ -1,0 +1,55 @@
+-- The definitions of answers leave no choice.
+use Rattle.std.proofs.Common.{◌≡◌, ◌∙◌, ℕ, List, None, refl, sym, ap}
+use Rattle.bep_document.specs.Reading.{Reading, Read, Refused}
+use Rattle.bep_lines.specs.Lines.{verdict_line}
+use Rattle.bep_model.specs.declared.reason.Reason.TheVariants.{NotWinner}
+use Rattle.bep_model.specs.declared.row.Row.{Row}
+use Rattle.bep_model.specs.Laws.{FirstWithoutIsUnique, ListOfWinnersIsUnique, VerdictIsUnique, WinnersLeaveNoneOut}
+use Rattle.bep_model.specs.Tables.{Folder, FileName}
+use Rattle.bep_model.specs.Verdict.{Not}
+use Rattle.bep_report.specs.Report.{report_text}
+use Rattle.bep_tables.specs.declared.cut.CutParts.{CutParts}
+use Rattle.bep_tables.specs.document.Written.{check_of, cut_of_document}
+use Rattle.bep_tables.specs.Cut.{tables_of}
+use Rattle.bep_answer.specs.Answer.{IsAnswer, outcome_of}
+use Rattle.bep_answer.specs.Certified.{IsCertificate, IsCertified, document_text}
+use Rattle.bep_answer.specs.declared.outcome.Certified.{Certified}
+use Rattle.bep_answer.specs.declared.outcome.Certified.TheVariants.{Written, NoWinner}
+use Rattle.bep_answer.specs.declared.outcome.Certified.TheVariants as certificates
+use Rattle.bep_answer.specs.declared.outcome.Outcome.{Outcome}
+use Rattle.bep_answer.specs.Laws.{AuditIsUnique, CertificateIsDetermined, CertifiedIsUnique}
+
+-- ---- audits
+
+one_audit : VerdictIsUnique → (reading : Reading (CutParts × List Row)) (one other : Outcome) (text more : List ℕ) → IsAnswer reading one text → IsAnswer reading other more → (one ≡ other) × (text ≡ more)
+one_audit unique (Read check) one other text more is also =
+    let same = unique (tables_of check.0) check.1 is.verdict also.verdict is.judged also.judged in
+    (is.told ∙ ap outcome_of same ∙ sym also.told, is.reported ∙ ap (report_text check.0) same ∙ sym also.reported)
+one_audit unique (Refused fault) one other text more is also = (is.0 ∙ sym also.0, is.1 ∙ sym also.1)
+
+pub audit_is_unique : VerdictIsUnique → AuditIsUnique
+audit_is_unique unique bytes = one_audit unique (check_of bytes)
+
+-- ---- certificates
+
+module _ (lists : ListOfWinnersIsUnique) (none_left_out : WinnersLeaveNoneOut) (first : FirstWithoutIsUnique) where
+  pub certificate_is_determined : CertificateIsDetermined
+  certificate_is_determined cut Written Written text more is also =
+      (refl, is.written ∙ ap (document_text cut) (lists (tables_of cut) is.rows also.rows is.winners also.winners) ∙ sym also.written)
+  certificate_is_determined cut NoWinner NoWinner text more is also =
+      let same = first (tables_of cut) (is.folder, is.name) (also.folder, also.name) is.without also.without in
+      (refl, is.told ∙ ap (λ (place : Folder × FileName). verdict_line (Not NotWinner place.0 place.1 None)) same ∙ sym also.told)
+  certificate_is_determined cut Written NoWinner text more is also =
+      absurd (none_left_out (tables_of cut) is.rows also.folder also.name is.winners also.without.without)
+  certificate_is_determined cut NoWinner Written text more is also =
+      absurd (none_left_out (tables_of cut) also.rows is.folder is.name also.winners is.without.without)
+  certificate_is_determined cut certificates.Refused other text more is also = absurd is
+  certificate_is_determined cut Written certificates.Refused text more is also = absurd also
+  certificate_is_determined cut NoWinner certificates.Refused text more is also = absurd also
+
+  one_certified : (reading : Reading CutParts) (one other : Certified) (text more : List ℕ) → IsCertified reading one text → IsCertified reading other more → (one ≡ other) × (text ≡ more)
+  one_certified (Read cut) one other text more is also = certificate_is_determined cut one other text more is also
+  one_certified (Refused fault) one other text more is also = (is.0 ∙ sym also.0, is.1 ∙ sym also.1)
+
+  pub certified_is_unique : CertifiedIsUnique
+  certified_is_unique bytes = one_certified (cut_of_document bytes)

@@ -1,0 +1,22 @@
+-- What follows from the definitions of answers; the functions of src/laws.rt have these as contracts.
+use Rattle.std.specs.Prelude.{◌≡◌, ℕ, List}
+use Rattle.bep_tables.specs.declared.cut.CutParts.{CutParts}
+use Rattle.bep_answer.specs.Answer.{IsAnswerOfBytes}
+use Rattle.bep_answer.specs.Certified.{IsCertificate, IsCertifiedOfBytes}
+use Rattle.bep_answer.specs.declared.outcome.Certified.{Certified}
+use Rattle.bep_answer.specs.declared.outcome.Outcome.{Outcome}
+
+-- the bytes of a document have one audit at most: one outcome, and one text
+abbrev pub AuditIsUnique : Type 0
+AuditIsUnique = (bytes : List ℕ) (one other : Outcome) (text more : List ℕ) →
+    IsAnswerOfBytes bytes one text → IsAnswerOfBytes bytes other more → (one ≡ other) × (text ≡ more)
+
+-- a cut has one answer at most where its certificate is asked for
+abbrev pub CertificateIsDetermined : Type 0
+CertificateIsDetermined = (cut : CutParts) (one other : Certified) (text more : List ℕ) →
+    IsCertificate cut one text → IsCertificate cut other more → (one ≡ other) × (text ≡ more)
+
+-- and so have the bytes of a document
+abbrev pub CertifiedIsUnique : Type 0
+CertifiedIsUnique = (bytes : List ℕ) (one other : Certified) (text more : List ℕ) →
+    IsCertifiedOfBytes bytes one text → IsCertifiedOfBytes bytes other more → (one ≡ other) × (text ≡ more)
