@@ -28,6 +28,7 @@ impl<S: Store> Cluster<S> {
         ensures step { Gives (IsStep step (failed_by step self.new.members) (cluster_of self.old)) (cluster_of self.new) result }
         ensures err { OnErr result (LeavesAll step (cluster_of self.old) (cluster_of self.new)) }
         ensures only { result ≢ Err ConfigBad }
+        ensures node { IsSoundStep step }
         ensures sure { NeverFails S.faults → failed_by step self.new.members ≡ None }
 
         ensures reached { IsReached (cluster_of self.old) → IsReached (cluster_of self.new) }

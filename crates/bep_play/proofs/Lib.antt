@@ -1,2 +1,4 @@
 mod PlayFacts
 mod SettledEnd
+mod Begins
+mod OneEnd

@@ -5,11 +5,13 @@ use Rattle.bep_machine.specs.declared.moved.Moved.{Moved}
 use Rattle.bep_machine.specs.declared.step.Step.{Step}
 use Rattle.bep_machine.specs.Answer.{Answer, Done, OutOfMemory, Refused as Refuses}
 use Rattle.bep_machine.specs.Cluster.{Cluster}
+use Rattle.bep_machine.specs.Determined.{AreMade}
+use Rattle.bep_machine.specs.Laws.{AreSound, IsSoundStep}
 use Rattle.bep_machine.specs.Steps.{Event, IsRun, IsStep}
 use Rattle.bep_core.specs.declared.why.Why.{Why}
 use Rattle.bep_core.specs.declared.why.Why.TheVariants as whys
 use Rattle.bep_core.specs.Why.{Gives}
-use Rattle.bep_play.specs.Played.{AreMade, AreSure, IsTold, answer_line, refused_lines}
+use Rattle.bep_play.specs.Played.{AreSure, IsTold, answer_line, refused_lines}
 
 -- one step more
 run_on : (old : Cluster) (events : List Event) (now new : Cluster) (event : Event) → IsRun old events now → IsStep event.step event.failed now new event.answer → IsRun old (events ++ event ∷ []) new
@@ -23,6 +25,10 @@ made_on (first ∷ more) event made is = (made.0, made_on more event made.1 is)
 sure_on : (events : List Event) (event : Event) → AreSure events → event.failed ≡ None → AreSure (events ++ event ∷ [])
 sure_on [] event sure is = (is, tt)
 sure_on (first ∷ more) event sure is = (sure.0, sure_on more event sure.1 is)
+
+sound_on : (events : List Event) (event : Event) → AreSound events → IsSoundStep event.step → AreSound (events ++ event ∷ [])
+sound_on [] event sound is = (is, tt)
+sound_on (first ∷ more) event sound is = (sound.0, sound_on more event sound.1 is)
 
 steps_on : (events : List Event) (event : Event) → map (λ (e : Event). e.step) (events ++ event ∷ []) ≡ map (λ (e : Event). e.step) events ++ event.step ∷ []
 steps_on [] event = refl
@@ -51,12 +57,13 @@ pub record LeadsSoFar (old : Cluster) (steps : List Step) (now : Cluster) (left 
   pub events : List Event
   pub all : map (λ (event : Event). event.step) events ++ left ≡ steps
   pub run : IsRun old events now
+  pub nodes : AreSound events
   pub made : AreMade events
   pub sure : AreSure events
   pub tells : told ≡ refused_lines 1 events
   pub place_is : place ≡ length events
 
-module _ (old : Cluster) (steps : List Step) (now : Cluster) (step : Step) (left : List Step) (told : List ℕ) (place : ℕ) (so_far : LeadsSoFar old steps now (step ∷ left) told place) (failed : Option ℕ) (sure : failed ≡ None) (new : Cluster) where
+module _ (old : Cluster) (steps : List Step) (now : Cluster) (step : Step) (left : List Step) (told : List ℕ) (place : ℕ) (so_far : LeadsSoFar old steps now (step ∷ left) told place) (failed : Option ℕ) (sure : failed ≡ None) (node : IsSoundStep step) (new : Cluster) where
   one_more : (answer : Answer) (later : List ℕ) → answer ≢ OutOfMemory → IsStep step failed now new answer → later ≡ told ++ answer_line (suc place) answer → LeadsSoFar old steps new left later (suc place)
   one_more answer later made is tells =
       let event : Event = record { step = step; failed = failed; answer = answer } in
@@ -67,6 +74,7 @@ module _ (old : Cluster) (steps : List Step) (now : Cluster) (step : Step) (left
             ∙ append_assoc (map (λ (e : Event). e.step) so_far.events) (step ∷ []) left
             ∙ so_far.all;
         run = run_on old so_far.events now new event so_far.run is;
+        nodes = sound_on so_far.events event so_far.nodes node;
         made = made_on so_far.events event so_far.made made;
         sure = sure_on so_far.events event so_far.sure sure;
         tells =

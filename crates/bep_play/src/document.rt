@@ -1,14 +1,13 @@
 //! The check document of a scenario's end.
 ghost use Rattle.std.specs.Prelude.{IfOk};
-ghost use Rattle.bep_scenario.specs.Scenario.{said};
+ghost use Rattle.bep_scenario.specs.Scenario.{BeginsEmpty, said};
 ghost use Rattle.bep_play.specs.Played.{IsEndOfBytes, IsPlayedTo};
 
 use crate::ending::document_of_end;
-use crate::play::play;
+use crate::play::played;
 use bep_answer::{Answer, Certified, fault_line};
-use bep_core::Cluster;
 use bep_hints::{Expected, hint_at};
-use bep_scenario::{Scenario, read_scenario};
+use bep_scenario::{Scenario, read_scenario, scenarios_begin_empty};
 use bep_tables::DocError;
 use std::alloc::{AllocError, Global};
 
@@ -17,6 +16,7 @@ use std::alloc::{AllocError, Global};
 pub(crate) fn answer_to(alloc: Global, bytes: &[u8]) -> Result<Answer<Certified>, AllocError>
     ensures { IfOk result (λ told. IsEndOfBytes bytes.now told.0.0 told.0.1.items) }
 {
+    scenarios_begin_empty();
     match read_scenario(alloc, bytes) {
         Ok(scenario) => run(alloc, scenario),
         Err(DocError::Refused(fault)) => {
@@ -29,10 +29,10 @@ pub(crate) fn answer_to(alloc: Global, bytes: &[u8]) -> Result<Answer<Certified>
 
 // The document of where the scenario's run leads, and the lines of refused steps.
 fn run(alloc: Global, scenario: Scenario) -> Result<Answer<Certified>, AllocError>
+    requires { BeginsEmpty scenario.config }
     ensures { IfOk result (λ told. IsPlayedTo (said scenario) told.0.0 told.0.1.items) }
 {
-    let mut cluster = Cluster::new(alloc, scenario.config)?;
-    let told = play(alloc, &mut cluster, scenario.steps)?;
+    let (cluster, told) = played(alloc, scenario)?;
     let document = document_of_end(alloc, cluster)?;
     Ok((document, lines_of(told)))
 }

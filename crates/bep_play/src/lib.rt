@@ -14,10 +14,12 @@
 mod answers;
 mod document;
 mod ending;
+mod laws;
 mod play;
 mod questions;
 mod run;
 mod told;
 
 pub use answers::{ran, run_document, run_text};
+pub use laws::ends_are_unique;
 pub use told::{run_and_tell, run_document_and_tell};

@@ -1,17 +1,34 @@
 //! The steps of a scenario, made one after another.
 ghost use Rattle.std.specs.Prelude.{IfOk, OnOk};
 ghost use Rattle.bep_network.specs.Network.{cluster_of};
-ghost use Rattle.bep_play.specs.Played.{IsTold, Leads};
+ghost use Rattle.bep_scenario.specs.Scenario.{BeginsEmpty, said};
+ghost use Rattle.bep_play.specs.Played.{IsTold, Leads, LeadsTo};
 
 use bep_core::{Cluster, Why};
 use bep_lines::push_step;
 use bep_machine::{Moved, Step};
+use bep_scenario::Scenario;
 use bep_store::MemStore;
 use std::alloc::{AllocError, Global};
 
-/// Makes the steps, and answers the lines of those that are refused. Where memory is wanting the cluster is left
-/// somewhere among them.
-pub(crate) fn play(
+/// Makes the scenario's steps from where it begins, and answers the cluster to which they lead, and the lines of those that
+/// are refused.
+pub(crate) fn played(
+    alloc: Global,
+    scenario: Scenario,
+) -> Result<(Cluster<MemStore>, Vec<u8>), AllocError>
+    requires { BeginsEmpty scenario.config }
+    ensures { IfOk result (λ end. LeadsTo (said scenario) end.0 end.1.items) }
+{
+    let mut cluster = Cluster::new(alloc, scenario.config)?;
+    let told = play(alloc, &mut cluster, scenario.steps)?;
+    let _devices = cluster.peers();
+    Ok((cluster, told))
+}
+
+// Makes the steps, and answers the lines of those that are refused. Where memory is wanting the cluster is left
+// somewhere among them.
+fn play(
     alloc: Global,
     cluster: &mut Cluster<MemStore>,
     steps: Vec<Step>,

@@ -1,14 +1,13 @@
 //! A scenario's run.
 ghost use Rattle.std.specs.Prelude.{IfOk};
-ghost use Rattle.bep_scenario.specs.Scenario.{said};
+ghost use Rattle.bep_scenario.specs.Scenario.{BeginsEmpty, said};
 ghost use Rattle.bep_play.specs.Played.{IsPlayed, IsRunOfBytes};
 
 use crate::ending::report_on_end;
-use crate::play::play;
+use crate::play::played;
 use bep_answer::{Answer, Outcome, refusal};
-use bep_core::Cluster;
 use bep_hints::{Expected, hint_at};
-use bep_scenario::{Scenario, read_scenario};
+use bep_scenario::{Scenario, read_scenario, scenarios_begin_empty};
 use bep_tables::DocError;
 use std::alloc::{AllocError, Global};
 
@@ -16,6 +15,7 @@ use std::alloc::{AllocError, Global};
 pub(crate) fn answer_to(alloc: Global, bytes: &[u8]) -> Result<Answer<Outcome>, AllocError>
     ensures { IfOk result (λ told. IsRunOfBytes bytes.now told.0.0 told.0.1.items) }
 {
+    scenarios_begin_empty();
     match read_scenario(alloc, bytes) {
         Ok(scenario) => Ok((run(alloc, scenario)?, None)),
         Err(DocError::Refused(fault)) => {
@@ -28,9 +28,9 @@ pub(crate) fn answer_to(alloc: Global, bytes: &[u8]) -> Result<Answer<Outcome>, 
 
 // The outcome of the scenario's run, and the text.
 fn run(alloc: Global, scenario: Scenario) -> Result<(Outcome, Vec<u8>), AllocError>
+    requires { BeginsEmpty scenario.config }
     ensures { IfOk result (λ answer. IsPlayed (said scenario) answer.0 answer.1.items) }
 {
-    let mut cluster = Cluster::new(alloc, scenario.config)?;
-    let told = play(alloc, &mut cluster, scenario.steps)?;
+    let (cluster, told) = played(alloc, scenario)?;
     report_on_end(alloc, cluster, told)
 }

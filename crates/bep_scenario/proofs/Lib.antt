@@ -2,3 +2,4 @@ pub mod FaultlessFacts
 pub mod RangeFacts
 pub mod InsertFacts
 pub mod StartFacts
+mod EmptyStores

@@ -1,5 +1,7 @@
 -- The scenario that the bytes of a document say (this project's profile).
-use Rattle.std.specs.Prelude.{ℕ, List, map}
+use Rattle.std.specs.Prelude.{◌≡◌, ℕ, List, All, map}
+use Rattle.std.specs.FinMap.{empty}
+use Rattle.std.specs.Map.{values_of}
 use Rattle.bep_machine.specs.declared.step.Step.{Step}
 use Rattle.bep_document.specs.Reading.{Reading, Read, ◌>>=◌}
 use Rattle.bep_scenario.specs.declared.parts.ScenarioParts.{ScenarioParts}
@@ -25,3 +27,11 @@ abbrev pub scenario_of : List ℕ → Reading Said
 scenario_of bytes = do
   parts ← reading_of bytes
   Read (made_of parts)
+
+-- each store of the configuration holds nothing
+abbrev pub BeginsEmpty : Start → Type 0
+BeginsEmpty config = All (λ sharing. sharing.store ≡ empty) (values_of config.shares)
+
+-- so begins what is read
+abbrev pub ScenariosBeginEmpty : Type 0
+ScenariosBeginEmpty = (bytes : List ℕ) (scenario : Said) → scenario_of bytes ≡ Read scenario → BeginsEmpty scenario.config

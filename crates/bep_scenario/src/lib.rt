@@ -21,7 +21,7 @@ mod start;
 mod step;
 mod words;
 
-pub use laws::{faultless_scenarios_start, scenarios_are_faultless};
+pub use laws::{faultless_scenarios_start, scenarios_are_faultless, scenarios_begin_empty};
 pub use making::steps_of;
 pub use parts::{ScenarioParts, StepParts};
 pub use reading::read_scenario_parts;

@@ -1,0 +1,109 @@
+-- A scenario has one end, and one answer.
+use Rattle.std.proofs.Common.{◌≡◌, ◌++◌, ◌∙◌, ℕ, List, [], ◌∷◌, map, None, sym, ap, subst, ⊎_elim}
+use Rattle.bep_answer.specs.Answer.{outcome_of}
+use Rattle.bep_answer.specs.Certified.{IsCertificate}
+use Rattle.bep_answer.specs.Laws.{CertificateIsDetermined}
+use Rattle.bep_answer.specs.declared.outcome.Certified.{Certified}
+use Rattle.bep_answer.specs.declared.outcome.Outcome.{Outcome}
+use Rattle.bep_core.specs.Reached.{ReachedIsGapless}
+use Rattle.bep_cut.specs.Cut.{cut_at}
+use Rattle.bep_cut.specs.Laws.{SameClusterSameCut}
+use Rattle.bep_document.specs.Reading.{Reading, Read, Refused}
+use Rattle.bep_machine.specs.Determined.{HaveSameSteps, RunsAreDetermined}
+use Rattle.bep_machine.specs.Steps.{Event}
+use Rattle.bep_machine.specs.declared.step.Step.{Step}
+use Rattle.bep_model.specs.Laws.{FirstWithoutIsUnique, ListOfWinnersIsUnique, VerdictIsUnique, WinnersLeaveNoneOut}
+use Rattle.bep_model.specs.Tables.{Folder, FileName}
+use Rattle.bep_model.specs.Verdict.{IsVerdict, Not}
+use Rattle.bep_model.specs.declared.reason.Reason.TheVariants.{NotWinner}
+use Rattle.bep_model.specs.declared.row.Row.{Row}
+use Rattle.bep_network.specs.Network.{Network, cluster_of}
+use Rattle.bep_report.specs.Certificate.{certificate_lines}
+use Rattle.bep_report.specs.Report.{report_text}
+use Rattle.bep_scenario.specs.Scenario.{Said, scenario_of}
+use Rattle.bep_tables.specs.Cut.{tables_of}
+use Rattle.bep_tables.specs.declared.cut.CutParts.{CutParts}
+use Rattle.bep_play.specs.Laws.{DocumentIsUnique, EndIsUnique, RunIsUnique}
+use Rattle.bep_play.specs.Played.{AreSure, IsAudited, IsEnd, IsEndOf, IsRunOf, IsUnwon, LeadsTo, beginning_of, refused_lines}
+
+-- ---- the cut to which it leads
+
+-- in steps that are the same, and in which no call fails, the same call fails
+same_steps : (events others : List Event) → map (λ (event : Event). event.step) events ≡ map (λ (event : Event). event.step) others → AreSure events → AreSure others → HaveSameSteps events others
+same_steps [] [] same sure also = tt
+same_steps [] (other ∷ rest) same sure also = absurd (cc)
+same_steps (event ∷ more) [] same sure also = absurd (cc)
+same_steps (event ∷ more) (other ∷ rest) same sure also =
+    let step : event.step ≡ other.step = cc in
+    let later : map (λ (one : Event). one.step) more ≡ map (λ (one : Event). one.step) rest = cc in
+    (step, sure.0 ∙ sym also.0, same_steps more rest later sure.1 also.1)
+
+module _ (determined : RunsAreDetermined) (gapless : ReachedIsGapless) (same_cut : SameClusterSameCut) where
+  pub end_is_unique : EndIsUnique
+  end_is_unique scenario one other told more is also =
+      let begin = cluster_of (beginning_of scenario) in
+      let both =
+      determined begin (cluster_of one) (cluster_of other) is.leads.events also.leads.events (gapless begin is.begins).0 is.leads.nodes
+      (same_steps is.leads.events also.leads.events (is.leads.all ∙ sym also.leads.all) is.leads.sure also.leads.sure)
+      is.leads.made also.leads.made is.leads.run also.leads.run in
+      (same_cut one other is.network also.network both.0, is.leads.tells ∙ ap (refused_lines 1) both.1 ∙ sym also.leads.tells)
+
+-- ---- what is answered of a cut
+
+module _ (verdicts : VerdictIsUnique) (lists : ListOfWinnersIsUnique) (none_left_out : WinnersLeaveNoneOut) (first : FirstWithoutIsUnique) (cut : CutParts) (told : List ℕ) (one other : Outcome) (text more : List ℕ) where
+  one_audit : IsAudited cut told one text → IsAudited cut told other more → (one ≡ other) × (text ≡ more)
+  one_audit is also =
+      let rows = lists (tables_of cut) is.rows also.rows is.winners also.winners in
+      let verdict =
+      verdicts (tables_of cut) is.rows is.verdict also.verdict is.judged (subst (λ (all : List Row). IsVerdict (tables_of cut) all also.verdict) (sym rows) also.judged) in (
+        is.outcome_is ∙ ap outcome_of verdict ∙ sym also.outcome_is,
+        is.reported ∙ (λ i. (told ++ report_text cut (verdict i)) ++ certificate_lines (rows i)) ∙ sym also.reported,
+      )
+
+  one_without : IsUnwon cut told one text → IsUnwon cut told other more → (one ≡ other) × (text ≡ more)
+  one_without is also =
+      let place = first (tables_of cut) (is.folder, is.name) (also.folder, also.name) is.without also.without in (
+        is.outcome_is ∙ sym also.outcome_is,
+        is.reported ∙ ap (λ (at : Folder × FileName). told ++ report_text cut (Not NotWinner at.0 at.1 None)) place ∙ sym also.reported,
+      )
+
+  one_end : IsEnd cut told one text → IsEnd cut told other more → (one ≡ other) × (text ≡ more)
+  one_end is also =
+      ⊎_elim
+      (λ won.
+      ⊎_elim
+      (λ again. one_audit won again)
+      (λ unwon. absurd (none_left_out (tables_of cut) won.rows unwon.folder unwon.name won.winners unwon.without.without))
+      also)
+      (λ unwon.
+      ⊎_elim
+      (λ won. absurd (none_left_out (tables_of cut) won.rows unwon.folder unwon.name won.winners unwon.without.without))
+      (λ again. one_without unwon again)
+      also)
+      is
+
+-- ---- what is answered of bytes
+
+abbrev cut_of : Network → CutParts
+cut_of network = cut_at network.members network.links
+
+module _ (ends : EndIsUnique) (verdicts : VerdictIsUnique) (lists : ListOfWinnersIsUnique) (none_left_out : WinnersLeaveNoneOut) (first : FirstWithoutIsUnique) where
+  one_run : (reading : Reading Said) (one other : Outcome) (text more : List ℕ) → IsRunOf reading one text → IsRunOf reading other more → (one ≡ other) × (text ≡ more)
+  one_run (Read scenario) one other text more is also =
+      let same = ends scenario is.last also.last is.told also.told is.leads also.leads in
+      one_end verdicts lists none_left_out first (cut_of is.last) is.told one other text more is.end
+      (subst (λ (cut : CutParts). IsEnd cut is.told other more) (sym same.0) (subst (λ (told : List ℕ). IsEnd (cut_of also.last) told other more) (sym same.1) also.end))
+  one_run (Refused fault) one other text more is also = (is.0 ∙ sym also.0, is.1 ∙ sym also.1)
+
+  pub run_is_unique : RunIsUnique
+  run_is_unique bytes = one_run (scenario_of bytes)
+
+module _ (ends : EndIsUnique) (certificates : CertificateIsDetermined) where
+  one_document : (reading : Reading Said) (one other : Certified) (text more : List ℕ) → IsEndOf reading one text → IsEndOf reading other more → (one ≡ other) × (text ≡ more)
+  one_document (Read scenario) one other text more is also =
+      let same = ends scenario is.last also.last is.told also.told is.leads also.leads in
+      certificates (cut_of is.last) one other text more is.certificate (subst (λ (cut : CutParts). IsCertificate cut other more) (sym same.0) also.certificate)
+  one_document (Refused fault) one other text more is also = (is.0 ∙ sym also.0, is.1 ∙ sym also.1)
+
+  pub document_is_unique : DocumentIsUnique
+  document_is_unique bytes = one_document (scenario_of bytes)

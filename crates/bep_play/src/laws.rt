@@ -1,0 +1,24 @@
+//! What follows from the definitions of a scenario's end. The function does nothing; its contract has the laws.
+ghost use Rattle.bep_play.specs.Laws.{DocumentIsUnique, EndIsUnique, RunIsUnique};
+
+use bep_answer::answers_are_unique;
+use bep_core::reached_is_gapless;
+use bep_cut::same_cluster_same_cut;
+use bep_machine::runs_are_determined;
+use bep_model::{certificate_is_unique, verdict_is_unique, winners_or_first_without};
+
+/// A scenario leads to one cut at most, on which its report and its document are; so its bytes have one run at most, outcome
+/// and text, and one document of its end.
+pub fn ends_are_unique()
+    ensures end { EndIsUnique }
+    ensures run { RunIsUnique }
+    ensures document { DocumentIsUnique }
+{
+    runs_are_determined();
+    reached_is_gapless();
+    same_cluster_same_cut();
+    verdict_is_unique();
+    certificate_is_unique();
+    winners_or_first_without();
+    answers_are_unique();
+}
