@@ -12,7 +12,7 @@ use Rattle.bep_tables.specs.declared.cut.CutParts.{CutParts}
 use Rattle.bep_tables.specs.document.Written.{check_of, cut_of_document}
 use Rattle.bep_tables.specs.Cut.{tables_of}
 use Rattle.bep_answer.specs.Answer.{IsAnswer, outcome_of}
-use Rattle.bep_answer.specs.Certified.{IsCertificate, IsCertified, document_text}
+use Rattle.bep_answer.specs.Certified.{IsCertified, document_text}
 use Rattle.bep_answer.specs.declared.outcome.Certified.{Certified}
 use Rattle.bep_answer.specs.declared.outcome.Certified.TheVariants.{Written, NoWinner}
 use Rattle.bep_answer.specs.declared.outcome.Certified.TheVariants as certificates

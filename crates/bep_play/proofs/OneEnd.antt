@@ -11,7 +11,6 @@ use Rattle.bep_cut.specs.Laws.{SameClusterSameCut}
 use Rattle.bep_document.specs.Reading.{Reading, Read, Refused}
 use Rattle.bep_machine.specs.Determined.{HaveSameSteps, RunsAreDetermined}
 use Rattle.bep_machine.specs.Steps.{Event}
-use Rattle.bep_machine.specs.declared.step.Step.{Step}
 use Rattle.bep_model.specs.Laws.{FirstWithoutIsUnique, ListOfWinnersIsUnique, VerdictIsUnique, WinnersLeaveNoneOut}
 use Rattle.bep_model.specs.Tables.{Folder, FileName}
 use Rattle.bep_model.specs.Verdict.{IsVerdict, Not}
@@ -24,7 +23,7 @@ use Rattle.bep_scenario.specs.Scenario.{Said, scenario_of}
 use Rattle.bep_tables.specs.Cut.{tables_of}
 use Rattle.bep_tables.specs.declared.cut.CutParts.{CutParts}
 use Rattle.bep_play.specs.Laws.{DocumentIsUnique, EndIsUnique, RunIsUnique}
-use Rattle.bep_play.specs.Played.{AreSure, IsAudited, IsEnd, IsEndOf, IsRunOf, IsUnwon, LeadsTo, beginning_of, refused_lines}
+use Rattle.bep_play.specs.Played.{AreSure, IsAudited, IsEnd, IsEndOf, IsRunOf, IsUnwon, beginning_of, refused_lines}
 
 -- ---- the cut to which it leads
 

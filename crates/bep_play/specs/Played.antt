@@ -1,6 +1,6 @@
 -- What the program answers to a scenario: the steps that are refused, then the report on the cut to which they lead, and
 -- the certificate of its winners (this project's profile).
-use Rattle.std.specs.Prelude.{◌≡◌, ◌≢◌, ◌⊎◌, ◌++◌, suc, ℕ, ⊤, List, [], ◌∷◌, map, codes, Option, None, Result, Ok, Err}
+use Rattle.std.specs.Prelude.{◌≡◌, ◌⊎◌, ◌++◌, suc, ℕ, ⊤, List, [], ◌∷◌, map, codes, Option, None, Result, Ok, Err}
 use Rattle.bep_audit.specs.Certifier.{IsNeverSettled}
 use Rattle.bep_core.specs.Begin.{begun}
 use Rattle.bep_core.specs.Reached.{IsReached}

@@ -22,6 +22,7 @@ pub(crate) fn played(
 {
     let mut cluster = Cluster::new(alloc, scenario.config)?;
     let told = play(alloc, &mut cluster, scenario.steps)?;
+    // what a cluster's devices and links keep is said by whatever lends them
     let _devices = cluster.peers();
     Ok((cluster, told))
 }
