@@ -32,6 +32,11 @@ certified_status_of (Err Write) = 5
 abbrev pub usage : ℕ
 usage = 3
 
+-- an answer without what a person is told beside it
+abbrev pub without_hint : {O H : Type 0} → Result (O × H) ReportError → Result O ReportError
+without_hint (Ok told) = Ok told.0
+without_hint (Err error) = Err error
+
 -- what was read was answered as this says, or it was cut short, and the status tells which
 pub record IsToldAs {O : Type 0} (Says : List ℕ → O → List ℕ → Type 0) (status_after : Result O ReportError → ℕ) (unread left held now : Option (List ℕ)) (status : ℕ) : Type 0 where
   pub answer : Result O ReportError

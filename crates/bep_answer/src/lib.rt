@@ -33,4 +33,4 @@ pub use laws::answers_are_unique;
 pub use outcome::{Certified, Outcome};
 pub use refusing::{fault_line, refusal};
 pub use status::{USAGE, certified_status_of, status_of};
-pub use told::{certify_and_tell, check_and_tell, end, end_certified, tell};
+pub use told::{certify_and_tell, check_and_tell, end, end_certified};

@@ -1,10 +1,11 @@
 //! What is told on standard error beside an answer, and the exit status that says which answer it was.
 ghost use Rattle.std.specs.Prelude.{◌≡◌};
 ghost use Rattle.bep_answer.specs.Answer.{SaysSettled};
-ghost use Rattle.bep_answer.specs.Status.{IsCertificateTold, IsTold};
+ghost use Rattle.bep_answer.specs.Status.{IsCertificateTold, IsTold, without_hint};
 ghost use Rattle.bep_answer.specs.Status as spec;
 
 use crate::answers::{certified, checked};
+use crate::exchanging::Hinted;
 use crate::outcome::{Certified, Outcome};
 use crate::status::{certified_status_of, status_of};
 use bep_report::ReportError;
@@ -20,13 +21,7 @@ pub fn check_and_tell<P: AllocGlobal + Eprint, R: Read, W: Write>(
     ensures told { IsTold (R.remaining reader.old) (R.remaining reader.new) (W.contents writer.old) (W.contents writer.new) result }
     ensures settled { result ≡ 0 → SaysSettled (R.remaining reader.old) (R.remaining reader.new) }
 {
-    match checked(rt.alloc(), reader, writer) {
-        Ok((outcome, hint)) => {
-            tell(rt, hint);
-            end(rt, Ok(outcome))
-        }
-        Err(error) => end(rt, Err(error)),
-    }
+    end(rt, checked(rt.alloc(), reader, writer))
 }
 
 /// The same for the certificate of a document's cut, as `certified` makes it.
@@ -37,39 +32,37 @@ pub fn certify_and_tell<P: AllocGlobal + Eprint, R: Read, W: Write>(
 ) -> u8
     ensures { IsCertificateTold (R.remaining reader.old) (R.remaining reader.new) (W.contents writer.old) (W.contents writer.new) result }
 {
-    match certified(rt.alloc(), reader, writer) {
-        Ok((outcome, hint)) => {
-            tell(rt, hint);
-            end_certified(rt, Ok(outcome))
-        }
-        Err(error) => end_certified(rt, Err(error)),
-    }
+    end_certified(rt, certified(rt.alloc(), reader, writer))
 }
 
-/// Tells what was answered beside an outcome, if there is anything: where a refused document is at fault, or which steps
-/// were refused.
-pub fn tell<P: Eprint>(rt: &P, told: Option<String>) {
-    if let Some(told) = told {
-        let _ = eprintln!(rt; "{told}");
-    }
-}
-
-/// Tells why there is no answer, where there is none, and answers the exit status.
-pub fn end<P: Eprint>(rt: &P, answer: Result<Outcome, ReportError>) -> u8
-    ensures { result ≡ spec.status_of answer }
+/// Tells what was answered beside an outcome, if there is anything, or why there is no answer, and answers the exit status.
+pub fn end<P: Eprint>(rt: &P, answer: Result<Hinted<Outcome>, ReportError>) -> u8
+    ensures { result ≡ spec.status_of (without_hint answer) }
 {
-    if let Err(error) = answer {
-        let _ = eprintln!(rt; "{error}");
-    }
-    status_of(answer)
+    status_of(tell(rt, answer))
 }
 
 /// The same where a certificate was asked for.
-pub fn end_certified<P: Eprint>(rt: &P, answer: Result<Certified, ReportError>) -> u8
-    ensures { result ≡ spec.certified_status_of answer }
+pub fn end_certified<P: Eprint>(rt: &P, answer: Result<Hinted<Certified>, ReportError>) -> u8
+    ensures { result ≡ spec.certified_status_of (without_hint answer) }
 {
-    if let Err(error) = answer {
-        let _ = eprintln!(rt; "{error}");
+    certified_status_of(tell(rt, answer))
+}
+
+// Tells what was answered beside an outcome, if there is anything, or why there is no answer; the answer without it.
+fn tell<P: Eprint, T>(rt: &P, answer: Result<Hinted<T>, ReportError>) -> Result<T, ReportError>
+    ensures { result ≡ without_hint answer }
+{
+    match answer {
+        Ok((outcome, hint)) => {
+            if let Some(hint) = hint {
+                let _ = eprintln!(rt; "{hint}");
+            }
+            Ok(outcome)
+        }
+        Err(error) => {
+            let _ = eprintln!(rt; "{error}");
+            Err(error)
+        }
     }
-    certified_status_of(answer)
 }

@@ -4,7 +4,7 @@ ghost use Rattle.bep_play.specs.Played.{EndsSettled};
 ghost use Rattle.bep_play.specs.Told.{IsEndTold, IsRunTold};
 
 use crate::answers::{ran, run_document};
-use bep_answer::{end, end_certified, tell};
+use bep_answer::{end, end_certified};
 use std::io::{Read, Write};
 
 /// Makes a scenario's steps and audits where they lead, as `ran` does, tells the hint or why there is no answer on standard
@@ -17,13 +17,7 @@ pub fn run_and_tell<P: AllocGlobal + Eprint, R: Read, W: Write>(
     ensures told { IsRunTold (R.remaining reader.old) (R.remaining reader.new) (W.contents writer.old) (W.contents writer.new) result }
     ensures settled { result ≡ 0 → EndsSettled (R.remaining reader.old) (R.remaining reader.new) }
 {
-    match ran(rt.alloc(), reader, writer) {
-        Ok((outcome, hint)) => {
-            tell(rt, hint);
-            end(rt, Ok(outcome))
-        }
-        Err(error) => end(rt, Err(error)),
-    }
+    end(rt, ran(rt.alloc(), reader, writer))
 }
 
 /// The same for the document of where a scenario's steps lead, as `run_document` makes it; the refused steps are told.
@@ -34,11 +28,5 @@ pub fn run_document_and_tell<P: AllocGlobal + Eprint, R: Read, W: Write>(
 ) -> u8
     ensures { IsEndTold (R.remaining reader.old) (R.remaining reader.new) (W.contents writer.old) (W.contents writer.new) result }
 {
-    match run_document(rt.alloc(), reader, writer) {
-        Ok((outcome, told)) => {
-            tell(rt, told);
-            end_certified(rt, Ok(outcome))
-        }
-        Err(error) => end_certified(rt, Err(error)),
-    }
+    end_certified(rt, run_document(rt.alloc(), reader, writer))
 }

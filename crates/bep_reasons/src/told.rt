@@ -2,7 +2,7 @@
 ghost use Rattle.bep_reasons.specs.Told.{IsExplanationTold};
 
 use crate::answers::explained;
-use bep_answer::{end, tell};
+use bep_answer::end;
 use bep_lines::Form;
 use std::io::{Read, Write};
 
@@ -16,11 +16,5 @@ pub fn explain_and_tell<P: AllocGlobal + Eprint, R: Read, W: Write>(
 ) -> u8
     ensures { IsExplanationTold form (R.remaining reader.old) (R.remaining reader.new) (W.contents writer.old) (W.contents writer.new) result }
 {
-    match explained(rt.alloc(), form, reader, writer) {
-        Ok((outcome, hint)) => {
-            tell(rt, hint);
-            end(rt, Ok(outcome))
-        }
-        Err(error) => end(rt, Err(error)),
-    }
+    end(rt, explained(rt.alloc(), form, reader, writer))
 }
