@@ -1,5 +1,6 @@
 //! All that fails as JSON.
 ghost use Rattle.std.specs.Prelude.{◌≡◌, IfOk, map};
+ghost use Rattle.std.specs.Option.{option_copied};
 ghost use Rattle.serde_json.specs.View.{view};
 ghost use Rattle.bep_explain.specs.Annotated.{IsJsonLine, annotated_of, failures_in};
 ghost use Rattle.bep_explain.specs.Found.{verdict_of};
@@ -11,7 +12,6 @@ use bep_answer::Outcome;
 use bep_audit::Certificate;
 use bep_explain::{Annotated, annotate, device_tree, explanation_json, json_line};
 use bep_json::Members;
-use bep_record::{FolderName, Name};
 use bep_tables::{Cut, DocFault};
 use serde_json::Value;
 use std::alloc::{AllocError, Global};
@@ -44,8 +44,8 @@ fn outcome_for(told: &[Annotated<'_>]) -> Outcome
 pub(crate) fn refusal_json(alloc: Global, fault: &DocFault) -> Result<Vec<u8>, AllocError>
     ensures { IfOk result (λ text. IsJsonLine (refusal_tree fault.now) text.items) }
 {
-    let folder = folder_tree(alloc, &fault.folder)?;
-    let name = name_tree(alloc, &fault.name)?;
+    let folder = text_tree(alloc, fault.folder.as_ref().map(|folder| folder.as_str()))?;
+    let name = text_tree(alloc, fault.name.as_ref().map(|name| name.as_str()))?;
     let tree = refusal_tree(alloc, fault, folder, name)?;
     json_line(alloc, &tree)
 }
@@ -71,22 +71,12 @@ fn refusal_tree(
     Ok(members.into_value())
 }
 
-// The folder, null where there is none.
-fn folder_tree(alloc: Global, folder: &Option<FolderName>) -> Result<Value, AllocError>
-    ensures { IfOk result (λ v. view v ≡ text_tree folder.now) }
+// The text, null where there is none.
+fn text_tree(alloc: Global, text: Option<&str>) -> Result<Value, AllocError>
+    ensures { IfOk result (λ v. view v ≡ text_tree (option_copied text.entry)) }
 {
-    match folder {
-        Some(folder) => Value::try_from_str(alloc, folder.as_str()),
-        None => Ok(Value::Null),
-    }
-}
-
-// The name, null where there is none.
-fn name_tree(alloc: Global, name: &Option<Name>) -> Result<Value, AllocError>
-    ensures { IfOk result (λ v. view v ≡ text_tree name.now) }
-{
-    match name {
-        Some(name) => Value::try_from_str(alloc, name.as_str()),
+    match text {
+        Some(text) => Value::try_from_str(alloc, text),
         None => Ok(Value::Null),
     }
 }
