@@ -5,9 +5,10 @@ ghost use Rattle.bep_answer.specs.Certified.{IsCertifiedOfBytes};
 ghost use Rattle.bep_answer.specs.Exchange.{IsEndedEarly, IsWhole};
 ghost use Rattle.bep_answer.specs.declared.outcome.Outcome.TheVariants as outcomes;
 
+use crate::certify::CertificateOfCut;
+use crate::check::AuditOfCut;
 use crate::exchanging::{Hinted, exchange};
 use crate::outcome::{Certified, Outcome};
-use crate::questions::{AuditOfCut, CertificateOfCut};
 use bep_machine::{settled_stays_put, settled_stays_settled};
 use bep_report::ReportError;
 use std::alloc::Global;

@@ -10,7 +10,7 @@ ghost use Rattle.bep_tables.specs.document.Written.{check_of};
 ghost use Rattle.bep_lines.specs.Lines.{verdict_line};
 ghost use Rattle.bep_answer.specs.Certified.{IsCertificate, IsCertifiedOfBytes, document_text};
 
-use crate::exchanging::Answer;
+use crate::exchanging::{Answer, Question};
 use crate::outcome::Certified;
 use crate::refusing::fault_line;
 use bep_audit::{Certificate, CertifyError, certify};
@@ -21,17 +21,23 @@ use bep_record::{FolderName, Name};
 use bep_tables::{Cut, DocError, check_document, read_cut, winners_are_in_range};
 use std::alloc::{AllocError, Global};
 
-/// The certificate for a document's cut, and where the document is refused, a hint on where it is at fault.
-pub(crate) fn answer_to(alloc: Global, bytes: &[u8]) -> Result<Answer<Certified>, AllocError>
-    ensures { IfOk result (λ told. IsCertifiedOfBytes bytes.now told.0.0 told.0.1.items) }
-{
-    match read_cut(alloc, bytes) {
-        Ok(cut) => Ok((certify_cut(alloc, &cut)?, None)),
-        Err(DocError::Refused(fault)) => {
-            let refused = (Certified::Refused, fault_line(alloc, &fault)?);
-            Ok((refused, hint_at(alloc, bytes, Expected::Cut)))
+/// The list of the winners of the document's cut, in the document of that cut, and where the document is refused, a hint
+/// on where it is at fault.
+#[derive(Drop)]
+pub(crate) struct CertificateOfCut;
+
+impl Question<Certified> for CertificateOfCut {
+    ghost says = { λ _. IsCertifiedOfBytes };
+
+    fn answer(self, alloc: Global, bytes: &[u8]) -> Result<Answer<Certified>, AllocError> {
+        match read_cut(alloc, bytes) {
+            Ok(cut) => Ok((certify_cut(alloc, &cut)?, None)),
+            Err(DocError::Refused(fault)) => {
+                let refused = (Certified::Refused, fault_line(alloc, &fault)?);
+                Ok((refused, hint_at(alloc, bytes, Expected::Cut)))
+            }
+            Err(DocError::Memory) => Err(AllocError),
         }
-        Err(DocError::Memory) => Err(AllocError),
     }
 }
 

@@ -5,7 +5,7 @@ ghost use Rattle.bep_answer.specs.Answer.{IsAnswerOfBytes, IsReport};
 ghost use Rattle.bep_audit.specs.Shown.{verdict_shown};
 ghost use Rattle.bep_answer.specs.Answer as spec;
 
-use crate::exchanging::Answer;
+use crate::exchanging::{Answer, Question};
 use crate::outcome::Outcome;
 use crate::refusing::refusal;
 use bep_audit::{Certificate, Verdict, check};
@@ -14,17 +14,23 @@ use bep_report::push_report;
 use bep_tables::{Cut, DocError, read_check};
 use std::alloc::{AllocError, Global};
 
-/// The audit of a check document, and where the document is refused, a hint on where it is at fault.
-pub(crate) fn answer_to(alloc: Global, bytes: &[u8]) -> Result<Answer<Outcome>, AllocError>
-    ensures { IfOk result (λ told. IsAnswerOfBytes bytes.now told.0.0 told.0.1.items) }
-{
-    match read_check(alloc, bytes) {
-        Ok((cut, rows)) => Ok((report_on(alloc, &cut, &Certificate::of(rows))?, None)),
-        Err(DocError::Refused(fault)) => {
-            let refused = refusal(alloc, &fault)?;
-            Ok((refused, hint_at(alloc, bytes, Expected::Check)))
+/// Whether the document's cut is settled under its certificate: the report, and where the document is refused, a hint on
+/// where it is at fault.
+#[derive(Drop)]
+pub(crate) struct AuditOfCut;
+
+impl Question<Outcome> for AuditOfCut {
+    ghost says = { λ _. IsAnswerOfBytes };
+
+    fn answer(self, alloc: Global, bytes: &[u8]) -> Result<Answer<Outcome>, AllocError> {
+        match read_check(alloc, bytes) {
+            Ok((cut, rows)) => Ok((report_on(alloc, &cut, &Certificate::of(rows))?, None)),
+            Err(DocError::Refused(fault)) => {
+                let refused = refusal(alloc, &fault)?;
+                Ok((refused, hint_at(alloc, bytes, Expected::Check)))
+            }
+            Err(DocError::Memory) => Err(AllocError),
         }
-        Err(DocError::Memory) => Err(AllocError),
     }
 }
 

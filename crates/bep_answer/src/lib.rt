@@ -20,7 +20,6 @@ mod check;
 mod exchanging;
 mod laws;
 mod outcome;
-mod questions;
 mod refusing;
 mod status;
 mod told;

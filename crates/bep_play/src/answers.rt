@@ -4,7 +4,8 @@ ghost use Rattle.bep_answer.specs.Exchange.{IsEndedEarly, IsWhole};
 ghost use Rattle.bep_answer.specs.declared.outcome.Outcome.TheVariants as outcomes;
 ghost use Rattle.bep_play.specs.Played.{EndsSettled, IsEndOfBytes, IsRunOfBytes};
 
-use crate::questions::{DocumentOfEnd, ReportOnEnd};
+use crate::document::DocumentOfEnd;
+use crate::run::ReportOnEnd;
 use bep_answer::{Certified, Hinted, Outcome, exchange};
 use bep_machine::{settled_stays_put, settled_stays_settled};
 use bep_report::ReportError;

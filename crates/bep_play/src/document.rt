@@ -5,25 +5,30 @@ ghost use Rattle.bep_play.specs.Played.{IsEndOfBytes, IsPlayedTo};
 
 use crate::ending::document_of_end;
 use crate::play::played;
-use bep_answer::{Answer, Certified, fault_line};
+use bep_answer::{Answer, Certified, Question, fault_line};
 use bep_hints::{Expected, hint_at};
 use bep_scenario::{Scenario, read_scenario, scenarios_begin_empty};
 use bep_tables::DocError;
 use std::alloc::{AllocError, Global};
 
-/// The check document of where a scenario leads, with the lines of refused steps beside it, and where the scenario is
+/// The check document of where the scenario leads, with the lines of refused steps beside it, and where the scenario is
 /// refused, a hint on where it is at fault.
-pub(crate) fn answer_to(alloc: Global, bytes: &[u8]) -> Result<Answer<Certified>, AllocError>
-    ensures { IfOk result (λ told. IsEndOfBytes bytes.now told.0.0 told.0.1.items) }
-{
-    scenarios_begin_empty();
-    match read_scenario(alloc, bytes) {
-        Ok(scenario) => run(alloc, scenario),
-        Err(DocError::Refused(fault)) => {
-            let refused = (Certified::Refused, fault_line(alloc, &fault)?);
-            Ok((refused, hint_at(alloc, bytes, Expected::Scenario)))
+#[derive(Drop)]
+pub(crate) struct DocumentOfEnd;
+
+impl Question<Certified> for DocumentOfEnd {
+    ghost says = { λ _. IsEndOfBytes };
+
+    fn answer(self, alloc: Global, bytes: &[u8]) -> Result<Answer<Certified>, AllocError> {
+        scenarios_begin_empty();
+        match read_scenario(alloc, bytes) {
+            Ok(scenario) => run(alloc, scenario),
+            Err(DocError::Refused(fault)) => {
+                let refused = (Certified::Refused, fault_line(alloc, &fault)?);
+                Ok((refused, hint_at(alloc, bytes, Expected::Scenario)))
+            }
+            Err(DocError::Memory) => Err(AllocError),
         }
-        Err(DocError::Memory) => Err(AllocError),
     }
 }
 

@@ -16,7 +16,6 @@ mod document;
 mod ending;
 mod laws;
 mod play;
-mod questions;
 mod run;
 mod told;
 

@@ -5,24 +5,29 @@ ghost use Rattle.bep_play.specs.Played.{IsPlayed, IsRunOfBytes};
 
 use crate::ending::report_on_end;
 use crate::play::played;
-use bep_answer::{Answer, Outcome, refusal};
+use bep_answer::{Answer, Outcome, Question, refusal};
 use bep_hints::{Expected, hint_at};
 use bep_scenario::{Scenario, read_scenario, scenarios_begin_empty};
 use bep_tables::DocError;
 use std::alloc::{AllocError, Global};
 
-/// The report on where a scenario leads, and where the scenario is refused, a hint on where it is at fault.
-pub(crate) fn answer_to(alloc: Global, bytes: &[u8]) -> Result<Answer<Outcome>, AllocError>
-    ensures { IfOk result (λ told. IsRunOfBytes bytes.now told.0.0 told.0.1.items) }
-{
-    scenarios_begin_empty();
-    match read_scenario(alloc, bytes) {
-        Ok(scenario) => Ok((run(alloc, scenario)?, None)),
-        Err(DocError::Refused(fault)) => {
-            let refused = refusal(alloc, &fault)?;
-            Ok((refused, hint_at(alloc, bytes, Expected::Scenario)))
+/// The report on where the scenario leads, and where the scenario is refused, a hint on where it is at fault.
+#[derive(Drop)]
+pub(crate) struct ReportOnEnd;
+
+impl Question<Outcome> for ReportOnEnd {
+    ghost says = { λ _. IsRunOfBytes };
+
+    fn answer(self, alloc: Global, bytes: &[u8]) -> Result<Answer<Outcome>, AllocError> {
+        scenarios_begin_empty();
+        match read_scenario(alloc, bytes) {
+            Ok(scenario) => Ok((run(alloc, scenario)?, None)),
+            Err(DocError::Refused(fault)) => {
+                let refused = refusal(alloc, &fault)?;
+                Ok((refused, hint_at(alloc, bytes, Expected::Scenario)))
+            }
+            Err(DocError::Memory) => Err(AllocError),
         }
-        Err(DocError::Memory) => Err(AllocError),
     }
 }
 

@@ -4,7 +4,7 @@ ghost use Rattle.bep_answer.specs.Exchange.{IsEndedEarly, IsWhole};
 ghost use Rattle.bep_reasons.specs.Explained.{IsExplainedOfBytes};
 ghost use Rattle.bep_lines.specs.declared.form.Form.TheVariants.{Text};
 
-use crate::question::ReasonsOfCut;
+use crate::explain::ReasonsOfCut;
 use bep_answer::{Hinted, Outcome, exchange};
 use bep_lines::Form;
 use bep_report::ReportError;

@@ -7,7 +7,7 @@ ghost use Rattle.bep_reasons.specs.Explained.{IsExplainedOfBytes, IsExplanation,
 ghost use Rattle.bep_answer.specs.declared.outcome.Outcome.TheVariants as outcomes;
 
 use crate::json::{explain_in_json, refusal_json};
-use bep_answer::{Answer, Outcome, refusal};
+use bep_answer::{Answer, Outcome, Question, refusal};
 use bep_audit::Certificate;
 use bep_explain::{Explained, explain, explanation};
 use bep_hints::{Expected, hint_at};
@@ -15,25 +15,30 @@ use bep_lines::Form;
 use bep_tables::{Cut, DocError, DocFault, read_check};
 use std::alloc::{AllocError, Global};
 
-/// All that keeps a document's cut from being settled, in this form, and where the document is refused, a hint on where it
-/// is at fault.
-pub(crate) fn answer_to(
-    alloc: Global,
-    form: Form,
-    bytes: &[u8],
-) -> Result<Answer<Outcome>, AllocError>
-    ensures { IfOk result (λ told. IsExplainedOfBytes form bytes.now told.0.0 told.0.1.items) }
-{
-    match read_check(alloc, bytes) {
-        Ok((cut, rows)) => Ok((
-            explain_cut(alloc, form, &cut, &Certificate::of(rows))?,
-            None,
-        )),
-        Err(DocError::Refused(fault)) => {
-            let refused = refusal_in(alloc, form, &fault)?;
-            Ok((refused, hint_at(alloc, bytes, Expected::Check)))
+/// All that keeps a document's cut from being settled under its certificate, in this form, and where the document is
+/// refused, a hint on where it is at fault.
+#[derive(Drop)]
+pub(crate) struct ReasonsOfCut {
+    /// How it is written.
+    pub(crate) form: Form,
+}
+
+impl Question<Outcome> for ReasonsOfCut {
+    ghost says = { λ asked. IsExplainedOfBytes asked.form };
+
+    fn answer(self, alloc: Global, bytes: &[u8]) -> Result<Answer<Outcome>, AllocError> {
+        let form = self.form;
+        match read_check(alloc, bytes) {
+            Ok((cut, rows)) => Ok((
+                explain_cut(alloc, form, &cut, &Certificate::of(rows))?,
+                None,
+            )),
+            Err(DocError::Refused(fault)) => {
+                let refused = refusal_in(alloc, form, &fault)?;
+                Ok((refused, hint_at(alloc, bytes, Expected::Check)))
+            }
+            Err(DocError::Memory) => Err(AllocError),
         }
-        Err(DocError::Memory) => Err(AllocError),
     }
 }
 

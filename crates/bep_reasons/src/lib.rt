@@ -13,7 +13,6 @@
 mod answers;
 mod explain;
 mod json;
-mod question;
 mod told;
 
 pub use answers::{explain_text, explained};
