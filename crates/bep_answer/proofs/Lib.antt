@@ -1,2 +1,2 @@
 pub mod SettledSaid
-pub mod OneAnswer
+mod OneAnswer

@@ -17,7 +17,7 @@ use Rattle.bep_answer.specs.declared.outcome.Certified.{Certified}
 use Rattle.bep_answer.specs.declared.outcome.Certified.TheVariants.{Written, NoWinner}
 use Rattle.bep_answer.specs.declared.outcome.Certified.TheVariants as certificates
 use Rattle.bep_answer.specs.declared.outcome.Outcome.{Outcome}
-use Rattle.bep_answer.specs.Laws.{AuditIsUnique, CertificateIsDetermined, CertifiedIsUnique}
+use Rattle.bep_answer.specs.Laws.{AuditIsUnique, CutAnswerIsUnique, DocumentAnswerIsUnique}
 
 -- ---- audits
 
@@ -33,23 +33,23 @@ audit_is_unique unique bytes = one_audit unique (check_of bytes)
 -- ---- certificates
 
 module _ (lists : ListOfWinnersIsUnique) (none_left_out : WinnersLeaveNoneOut) (first : FirstWithoutIsUnique) where
-  pub certificate_is_determined : CertificateIsDetermined
-  certificate_is_determined cut Written Written text more is also =
+  pub cut_answer_is_unique : CutAnswerIsUnique
+  cut_answer_is_unique cut Written Written text more is also =
       (refl, is.written ∙ ap (document_text cut) (lists (tables_of cut) is.rows also.rows is.winners also.winners) ∙ sym also.written)
-  certificate_is_determined cut NoWinner NoWinner text more is also =
+  cut_answer_is_unique cut NoWinner NoWinner text more is also =
       let same = first (tables_of cut) (is.folder, is.name) (also.folder, also.name) is.without also.without in
       (refl, is.told ∙ ap (λ (place : Folder × FileName). verdict_line (Not NotWinner place.0 place.1 None)) same ∙ sym also.told)
-  certificate_is_determined cut Written NoWinner text more is also =
+  cut_answer_is_unique cut Written NoWinner text more is also =
       absurd (none_left_out (tables_of cut) is.rows also.folder also.name is.winners also.without.without)
-  certificate_is_determined cut NoWinner Written text more is also =
+  cut_answer_is_unique cut NoWinner Written text more is also =
       absurd (none_left_out (tables_of cut) also.rows is.folder is.name also.winners is.without.without)
-  certificate_is_determined cut certificates.Refused other text more is also = absurd is
-  certificate_is_determined cut Written certificates.Refused text more is also = absurd also
-  certificate_is_determined cut NoWinner certificates.Refused text more is also = absurd also
+  cut_answer_is_unique cut certificates.Refused other text more is also = absurd is
+  cut_answer_is_unique cut Written certificates.Refused text more is also = absurd also
+  cut_answer_is_unique cut NoWinner certificates.Refused text more is also = absurd also
 
   one_certified : (reading : Reading CutParts) (one other : Certified) (text more : List ℕ) → IsCertified reading one text → IsCertified reading other more → (one ≡ other) × (text ≡ more)
-  one_certified (Read cut) one other text more is also = certificate_is_determined cut one other text more is also
+  one_certified (Read cut) one other text more is also = cut_answer_is_unique cut one other text more is also
   one_certified (Refused fault) one other text more is also = (is.0 ∙ sym also.0, is.1 ∙ sym also.1)
 
-  pub certified_is_unique : CertifiedIsUnique
-  certified_is_unique bytes = one_certified (cut_of_document bytes)
+  pub document_answer_is_unique : DocumentAnswerIsUnique
+  document_answer_is_unique bytes = one_certified (cut_of_document bytes)

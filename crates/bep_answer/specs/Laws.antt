@@ -12,11 +12,11 @@ AuditIsUnique = (bytes : List ℕ) (one other : Outcome) (text more : List ℕ) 
     IsAnswerOfBytes bytes one text → IsAnswerOfBytes bytes other more → (one ≡ other) × (text ≡ more)
 
 -- a cut has one answer at most where its certificate is asked for
-abbrev pub CertificateIsDetermined : Type 0
-CertificateIsDetermined = (cut : CutParts) (one other : Certified) (text more : List ℕ) →
+abbrev pub CutAnswerIsUnique : Type 0
+CutAnswerIsUnique = (cut : CutParts) (one other : Certified) (text more : List ℕ) →
     IsCertificate cut one text → IsCertificate cut other more → (one ≡ other) × (text ≡ more)
 
 -- and so have the bytes of a document
-abbrev pub CertifiedIsUnique : Type 0
-CertifiedIsUnique = (bytes : List ℕ) (one other : Certified) (text more : List ℕ) →
+abbrev pub DocumentAnswerIsUnique : Type 0
+DocumentAnswerIsUnique = (bytes : List ℕ) (one other : Certified) (text more : List ℕ) →
     IsCertifiedOfBytes bytes one text → IsCertifiedOfBytes bytes other more → (one ≡ other) × (text ≡ more)

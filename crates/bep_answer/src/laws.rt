@@ -1,14 +1,14 @@
 //! What follows from the definitions of answers. The function does nothing; its contract has the laws.
-ghost use Rattle.bep_answer.specs.Laws.{AuditIsUnique, CertificateIsDetermined, CertifiedIsUnique};
+ghost use Rattle.bep_answer.specs.Laws.{AuditIsUnique, CutAnswerIsUnique, DocumentAnswerIsUnique};
 
 use bep_model::{certificate_is_unique, verdict_is_unique, winners_or_first_without};
 
-/// The definitions of answers leave no choice: the bytes of a document have one audit at most, outcome and text, and one
-/// answer where a certificate is asked for; so has a cut.
+/// The definitions of answers leave an answer no choice: the bytes of a document have one audit at most, outcome and text,
+/// and one answer where a certificate is asked for; and so there has a cut.
 pub fn answers_are_unique()
     ensures audit { AuditIsUnique }
-    ensures of_cut { CertificateIsDetermined }
-    ensures certified { CertifiedIsUnique }
+    ensures of_cut { CutAnswerIsUnique }
+    ensures certified { DocumentAnswerIsUnique }
 {
     verdict_is_unique();
     certificate_is_unique();

@@ -21,7 +21,8 @@ use bep_store::Store;
 impl<S: Store> Cluster<S> {
     /// Makes the step, and answers what it did. Refuses `NotShared` where something that the step names isn't there, and
     /// then what the table of steps has for it; else only for want of memory. After an error all is as before, save that
-    /// the end of a pull may have kept a conflict copy. Where no store of the kind ever fails, no call of one failed.
+    /// the end of a pull may have kept a conflict copy. Where no store of the kind ever fails, no call of one failed. What an
+    /// edit puts is a node, as its type keeps.
     ///
     /// BEP v1; the steps are this project's profile.
     pub fn apply(&mut self, step: Step) -> Result<Moved, Why>

@@ -1,6 +1,7 @@
 -- One cluster has one cut: each of its devices is found by its number, and each link by its ends, so the cut is made of
 -- nothing but what the cluster says.
 use Rattle.std.proofs.Common.{◌≡◌, ◌∙◌, List, [], ◌∷◌, map, Option, Contains, refl, sym, ap}
+use Rattle.std.proofs.lemmas.List.{map-id}
 use Rattle.bep_facts.specs.Members.{Contains-first, Contains-more}
 use Rattle.bep_model.specs.Tables.{Device}
 use Rattle.bep_machine.specs.Cluster.{Cluster}
@@ -16,10 +17,6 @@ made_of_keys : {A B C : Type 0} (key : A → B) (of_key : B → C) (of : A → C
 made_of_keys key of_key of [] same = refl
 made_of_keys key of_key of (one ∷ all) same =
     λ i. same one (Contains-first one all) i ∷ made_of_keys key of_key of all (λ more stands. same more (Contains-more one all more stands)) i
-
-unchanged : {A : Type 0} (all : List A) → map (λ (one : A). one) all ≡ all
-unchanged [] = refl
-unchanged (one ∷ all) = ap (λ more. one ∷ more) (unchanged all)
 
 -- ---- devices
 
@@ -49,7 +46,7 @@ links_are_said : FoundByEnds → (network : Network) → IsNetwork network → s
 links_are_said found network rules =
     made_of_keys (λ (between : LinkBetween). between.ends) (said_link (cluster_of network)) (λ (between : LinkBetween). between) network.links
     (λ between stands. ap (found_with between) (found network between rules stands))
-    ∙ unchanged network.links
+    ∙ map-id network.links
 
 -- ---- the cut
 

@@ -1,5 +1,5 @@
--- A run is determined by its steps: each leads from a sound cluster to one cluster, with one answer, where memory isn't
--- wanting (this project's profile).
+-- A run is determined by its steps and by which calls of stores fail in them: each leads from a sound cluster to one
+-- cluster, with one answer, where memory isn't wanting (this project's profile).
 use Rattle.std.specs.Prelude.{◌≡◌, ◌≢◌, ℕ, ⊤, List, [], ◌∷◌, Option}
 use Rattle.bep_machine.specs.declared.step.Step.{Step}
 use Rattle.bep_machine.specs.Answer.{Answer, OutOfMemory}
@@ -15,9 +15,9 @@ StepsAreDetermined = (step : Step) (failed : Option ℕ) (old one other : Cluste
     answer ≢ OutOfMemory → reply ≢ OutOfMemory → (one ≡ other) × (answer ≡ reply)
 
 -- memory was wanting in none
-abbrev pub AreMade : List Event → Type 0
-AreMade [] = ⊤
-AreMade (event ∷ more) = (event.answer ≢ OutOfMemory) × AreMade more
+abbrev pub HadMemory : List Event → Type 0
+HadMemory [] = ⊤
+HadMemory (event ∷ more) = (event.answer ≢ OutOfMemory) × HadMemory more
 
 -- the same steps, and in each the same call of the store failed, if any
 abbrev pub HaveSameSteps : List Event → List Event → Type 0
@@ -25,8 +25,8 @@ HaveSameSteps [] [] = ⊤
 HaveSameSteps (one ∷ more) (other ∷ rest) = (one.step ≡ other.step) × (one.failed ≡ other.failed) × HaveSameSteps more rest
 HaveSameSteps _ _ = ⊥
 
--- two runs of the same steps lead from a sound cluster to one cluster, and each step has one answer
+-- two runs of the same steps, whose edits put nodes, lead from a sound cluster to one cluster, and each step has one answer
 abbrev pub RunsAreDetermined : Type 0
 RunsAreDetermined = (old one other : Cluster) (events others : List Event) →
-    IsSound old → AreSound events → HaveSameSteps events others → AreMade events → AreMade others →
+    IsSound old → AreSound events → HaveSameSteps events others → HadMemory events → HadMemory others →
     IsRun old events one → IsRun old others other → (one ≡ other) × (events ≡ others)

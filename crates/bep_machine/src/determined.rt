@@ -1,12 +1,13 @@
-//! A run is determined by its steps. Each function does nothing; its contract is the law.
+//! A run is determined by its steps, and by which calls of stores fail in them. Each function does nothing; its contract is
+//! the law.
 ghost use Rattle.bep_machine.specs.Determined.{RunsAreDetermined, StepsAreDetermined};
 
 use crate::steps_keep_sound;
 use bep_choice::laws::choice_is_unique;
 use bep_record::{bump_exists, merge_exists};
 
-/// A step of a sound cluster leads to one cluster, with one answer, where memory isn't wanting: the record that it chooses,
-/// the version that it makes and the batch that it sends are the only ones that its definition allows.
+/// A step of a sound cluster leads to one cluster, with one answer, where the same call of a store fails, if any, and memory
+/// isn't wanting: whatever record, version or batch its definition lets it guess.
 pub fn steps_are_determined()
     ensures { StepsAreDetermined }
 {
@@ -15,8 +16,8 @@ pub fn steps_are_determined()
     bump_exists();
 }
 
-/// Two runs of the same steps from a sound cluster, in which the same calls of the stores fail and memory is wanting in
-/// none, lead to one cluster, and each step has the same answer in both.
+/// Two runs of the same steps from a sound cluster, whose edits put nodes, in which the same calls of the stores fail and
+/// memory is wanting in none, lead to one cluster, and each step has the same answer in both.
 pub fn runs_are_determined()
     ensures { RunsAreDetermined }
 {

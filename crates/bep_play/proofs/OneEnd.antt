@@ -2,10 +2,9 @@
 use Rattle.std.proofs.Common.{◌≡◌, ◌++◌, ◌∙◌, ℕ, List, [], ◌∷◌, map, None, sym, ap, subst, ⊎_elim}
 use Rattle.bep_answer.specs.Answer.{outcome_of}
 use Rattle.bep_answer.specs.Certified.{IsCertificate}
-use Rattle.bep_answer.specs.Laws.{CertificateIsDetermined}
+use Rattle.bep_answer.specs.Laws.{CutAnswerIsUnique}
 use Rattle.bep_answer.specs.declared.outcome.Certified.{Certified}
 use Rattle.bep_answer.specs.declared.outcome.Outcome.{Outcome}
-use Rattle.bep_core.specs.Reached.{ReachedIsGapless}
 use Rattle.bep_cut.specs.Cut.{cut_at}
 use Rattle.bep_cut.specs.Laws.{SameClusterSameCut}
 use Rattle.bep_document.specs.Reading.{Reading, Read, Refused}
@@ -37,12 +36,12 @@ same_steps (event ∷ more) (other ∷ rest) same sure also =
     let later : map (λ (one : Event). one.step) more ≡ map (λ (one : Event). one.step) rest = cc in
     (step, sure.0 ∙ sym also.0, same_steps more rest later sure.1 also.1)
 
-module _ (determined : RunsAreDetermined) (gapless : ReachedIsGapless) (same_cut : SameClusterSameCut) where
+module _ (determined : RunsAreDetermined) (same_cut : SameClusterSameCut) where
   pub end_is_unique : EndIsUnique
   end_is_unique scenario one other told more is also =
       let begin = cluster_of (beginning_of scenario) in
       let both =
-      determined begin (cluster_of one) (cluster_of other) is.leads.events also.leads.events (gapless begin is.begins).0 is.leads.nodes
+      determined begin (cluster_of one) (cluster_of other) is.leads.events also.leads.events is.begins is.leads.nodes
       (same_steps is.leads.events also.leads.events (is.leads.all ∙ sym also.leads.all) is.leads.sure also.leads.sure)
       is.leads.made also.leads.made is.leads.run also.leads.run in
       (same_cut one other is.network also.network both.0, is.leads.tells ∙ ap (refused_lines 1) both.1 ∙ sym also.leads.tells)
@@ -97,7 +96,7 @@ module _ (ends : EndIsUnique) (verdicts : VerdictIsUnique) (lists : ListOfWinner
   pub run_is_unique : RunIsUnique
   run_is_unique bytes = one_run (scenario_of bytes)
 
-module _ (ends : EndIsUnique) (certificates : CertificateIsDetermined) where
+module _ (ends : EndIsUnique) (certificates : CutAnswerIsUnique) where
   one_document : (reading : Reading Said) (one other : Certified) (text more : List ℕ) → IsEndOf reading one text → IsEndOf reading other more → (one ≡ other) × (text ≡ more)
   one_document (Read scenario) one other text more is also =
       let same = ends scenario is.last also.last is.told also.told is.leads also.leads in

@@ -5,7 +5,7 @@ use Rattle.bep_machine.specs.declared.moved.Moved.{Moved}
 use Rattle.bep_machine.specs.declared.step.Step.{Step}
 use Rattle.bep_machine.specs.Answer.{Answer, Done, OutOfMemory, Refused as Refuses}
 use Rattle.bep_machine.specs.Cluster.{Cluster}
-use Rattle.bep_machine.specs.Determined.{AreMade}
+use Rattle.bep_machine.specs.Determined.{HadMemory}
 use Rattle.bep_machine.specs.Laws.{AreSound, IsSoundStep}
 use Rattle.bep_machine.specs.Steps.{Event, IsRun, IsStep}
 use Rattle.bep_core.specs.declared.why.Why.{Why}
@@ -18,7 +18,7 @@ run_on : (old : Cluster) (events : List Event) (now new : Cluster) (event : Even
 run_on old [] now new event is step = (new, subst (λ (start : Cluster). IsStep event.step event.failed start new event.answer) is step, refl)
 run_on old (first ∷ more) now new event run step = (run.0, run.1, run_on run.0 more now new event run.2 step)
 
-made_on : (events : List Event) (event : Event) → AreMade events → event.answer ≢ OutOfMemory → AreMade (events ++ event ∷ [])
+made_on : (events : List Event) (event : Event) → HadMemory events → event.answer ≢ OutOfMemory → HadMemory (events ++ event ∷ [])
 made_on [] event made is = (is, tt)
 made_on (first ∷ more) event made is = (made.0, made_on more event made.1 is)
 
@@ -58,7 +58,7 @@ pub record LeadsSoFar (old : Cluster) (steps : List Step) (now : Cluster) (left 
   pub all : map (λ (event : Event). event.step) events ++ left ≡ steps
   pub run : IsRun old events now
   pub nodes : AreSound events
-  pub made : AreMade events
+  pub made : HadMemory events
   pub sure : AreSure events
   pub tells : told ≡ refused_lines 1 events
   pub place_is : place ≡ length events

@@ -5,13 +5,13 @@ use Rattle.bep_answer.specs.declared.outcome.Outcome.{Outcome}
 use Rattle.bep_cut.specs.Cut.{cut_at}
 use Rattle.bep_network.specs.Network.{Network}
 use Rattle.bep_scenario.specs.Scenario.{Said}
-use Rattle.bep_play.specs.Played.{IsEndOfBytes, IsRunOfBytes, LeadsTo}
+use Rattle.bep_play.specs.Played.{IsEndOfBytes, IsRunOfBytes, EndsAt}
 
 -- A scenario leads to one cut at most, and one text is told of its steps. So the report on its end (IsPlayed) and the
 -- document of its end (IsPlayedTo) are of the very same cut.
 abbrev pub EndIsUnique : Type 0
 EndIsUnique = (scenario : Said) (one other : Network) (told more : List ℕ) →
-    LeadsTo scenario one told → LeadsTo scenario other more →
+    EndsAt scenario one told → EndsAt scenario other more →
     (cut_at one.members one.links ≡ cut_at other.members other.links) × (told ≡ more)
 
 -- the bytes of a scenario have one run at most: one outcome, and one text

@@ -3,7 +3,6 @@
 use Rattle.std.specs.Prelude.{◌≡◌, ◌⊎◌, ◌++◌, suc, ℕ, ⊤, List, [], ◌∷◌, map, codes, Option, None, Result, Ok, Err}
 use Rattle.bep_audit.specs.Certifier.{IsNeverSettled}
 use Rattle.bep_core.specs.Begin.{begun}
-use Rattle.bep_core.specs.Reached.{IsReached}
 use Rattle.bep_network.specs.Network.{Network, IsNetwork, cluster_of}
 use Rattle.bep_core.specs.Why.{name_of_refusal}
 use Rattle.bep_core.specs.declared.why.Why.{Why}
@@ -12,8 +11,9 @@ use Rattle.bep_cut.specs.Cut.{cut_at}
 use Rattle.bep_document.specs.Reading.{Reading, Read, Refused}
 use Rattle.bep_machine.specs.Answer.{Answer, Done, OutOfMemory, Refused as Refuses, number_of as number_of_refusal}
 use Rattle.bep_machine.specs.Cluster.{Cluster}
-use Rattle.bep_machine.specs.Determined.{AreMade}
+use Rattle.bep_machine.specs.Determined.{HadMemory}
 use Rattle.bep_machine.specs.Laws.{AreSound, StaysPut, StaysSettled}
+use Rattle.bep_machine.specs.Sound.{IsSound}
 use Rattle.bep_machine.specs.Steps.{Event, IsRun}
 use Rattle.bep_machine.specs.declared.moved.Moved.{Moved}
 use Rattle.bep_machine.specs.declared.step.Step.{Step}
@@ -56,13 +56,13 @@ AreSure [] = ⊤
 AreSure (event ∷ more) = (event.failed ≡ None) × AreSure more
 
 -- The steps, made one after another as the definitions have each, lead from the one cluster to the other, and this is
--- told of them. What they edit are nodes. The stores are in memory, so that none of their calls fails.
+-- told of them. What edits put are nodes. The stores are in memory, so that none of their calls fails.
 pub record Leads (old : Cluster) (steps : List Step) (new : Cluster) (told : List ℕ) : Type 0 where
   pub events : List Event
   pub all : map (λ (event : Event). event.step) events ≡ steps
   pub run : IsRun old events new
   pub nodes : AreSound events
-  pub made : AreMade events
+  pub made : HadMemory events
   pub sure : AreSure events
   pub tells : told ≡ refused_lines 1 events
 
@@ -70,10 +70,10 @@ pub record Leads (old : Cluster) (steps : List Step) (new : Cluster) (told : Lis
 abbrev pub beginning_of : Said → Network
 beginning_of scenario = begun (λ store. store) (λ _. 0) scenario.config
 
--- The scenario's steps lead from where it begins, a cluster in which all is well formed, to these devices and links, which
--- are a cluster's too, and this is told of them.
-pub record LeadsTo (scenario : Said) (last : Network) (told : List ℕ) : Type 0 where
-  pub begins : IsReached (cluster_of (beginning_of scenario))
+-- The scenario's steps lead from where it begins, a sound cluster, to these devices and links, which are a cluster's, and
+-- this is told of them.
+pub record EndsAt (scenario : Said) (last : Network) (told : List ℕ) : Type 0 where
+  pub begins : IsSound (cluster_of (beginning_of scenario))
   pub leads : Leads (cluster_of (beginning_of scenario)) scenario.steps (cluster_of last) told
   pub network : IsNetwork last
 
@@ -112,7 +112,7 @@ IsEnd cut told outcome text = IsAudited cut told outcome text ⊎ IsUnwon cut to
 pub record IsPlayed (scenario : Said) (outcome : Outcome) (text : List ℕ) : Type 0 where
   pub last : Network
   pub told : List ℕ
-  pub leads : LeadsTo scenario last told
+  pub leads : EndsAt scenario last told
   pub end : IsEnd (cut_at last.members last.links) told outcome text
 
 -- the outcome and the text for what a document says: its scenario's run, or the fault for which it is refused
@@ -129,7 +129,7 @@ IsRunOfBytes bytes outcome text = IsRunOf (scenario_of bytes) outcome text
 pub record IsPlayedTo (scenario : Said) (outcome : Certified) (text : List ℕ) : Type 0 where
   pub last : Network
   pub told : List ℕ
-  pub leads : LeadsTo scenario last told
+  pub leads : EndsAt scenario last told
   pub certificate : IsCertificate (cut_at last.members last.links) outcome text
 
 -- the outcome and the text for what a document says: where its scenario's run ends, or the fault for which it is refused
@@ -150,7 +150,7 @@ pub record LeadsToSettled (reading : Reading Said) : Type 0 where
   pub says : reading ≡ Read scenario
   pub last : Network
   pub told : List ℕ
-  pub leads : LeadsTo scenario last told
+  pub leads : EndsAt scenario last told
   pub rows : List Row
   pub settled : IsSettled (tables_of (cut_at last.members last.links)) rows
   pub stays_put : StaysPut (tables_of (cut_at last.members last.links)) rows

@@ -2,20 +2,18 @@
 ghost use Rattle.bep_play.specs.Laws.{DocumentIsUnique, EndIsUnique, RunIsUnique};
 
 use bep_answer::answers_are_unique;
-use bep_core::reached_is_gapless;
 use bep_cut::same_cluster_same_cut;
 use bep_machine::runs_are_determined;
 use bep_model::{certificate_is_unique, verdict_is_unique, winners_or_first_without};
 
-/// A scenario leads to one cut at most, on which its report and its document are; so its bytes have one run at most, outcome
-/// and text, and one document of its end.
+/// A scenario leads to one cut at most, of which its report and its document both tell; so its bytes have one run at most,
+/// outcome and text, and one document of its end.
 pub fn ends_are_unique()
     ensures end { EndIsUnique }
     ensures run { RunIsUnique }
     ensures document { DocumentIsUnique }
 {
     runs_are_determined();
-    reached_is_gapless();
     same_cluster_same_cut();
     verdict_is_unique();
     certificate_is_unique();

@@ -2,9 +2,9 @@
 ghost use Rattle.std.specs.Prelude.{IfOk, OnOk};
 ghost use Rattle.bep_network.specs.Network.{cluster_of};
 ghost use Rattle.bep_scenario.specs.Scenario.{BeginsEmpty, said};
-ghost use Rattle.bep_play.specs.Played.{IsTold, Leads, LeadsTo};
+ghost use Rattle.bep_play.specs.Played.{EndsAt, IsTold, Leads};
 
-use bep_core::{Cluster, Why};
+use bep_core::{Cluster, Why, reached_is_gapless};
 use bep_lines::push_step;
 use bep_machine::{Moved, Step};
 use bep_scenario::Scenario;
@@ -18,11 +18,12 @@ pub(crate) fn played(
     scenario: Scenario,
 ) -> Result<(Cluster<MemStore>, Vec<u8>), AllocError>
     requires { BeginsEmpty scenario.config }
-    ensures { IfOk result (λ end. LeadsTo (said scenario) end.0 end.1.items) }
+    ensures { IfOk result (λ end. EndsAt (said scenario) end.0 end.1.items) }
 {
+    reached_is_gapless();
     let mut cluster = Cluster::new(alloc, scenario.config)?;
     let told = play(alloc, &mut cluster, scenario.steps)?;
-    // what a cluster's devices and links keep is said by whatever lends them
+    // `peers` is called for its clause `a_network`
     let _devices = cluster.peers();
     Ok((cluster, told))
 }

@@ -28,13 +28,13 @@ with_empty_folders config [] is = is
 with_empty_folders config (folder ∷ more) is =
     with_empty_folders (with_shared config folder) more (with_empty_shares (with_folder config folder.folder) folder.folder folder.devices is)
 
-with_links_alone : (config : Start) (links : List LinkParts) → BeginsEmpty config → BeginsEmpty (with_links config links)
-with_links_alone config [] is = is
-with_links_alone config (link ∷ more) is = with_links_alone (with_link config link.a link.b) more is
+links_keep_empty : (config : Start) (links : List LinkParts) → BeginsEmpty config → BeginsEmpty (with_links config links)
+links_keep_empty config [] is = is
+links_keep_empty config (link ∷ more) is = links_keep_empty (with_link config link.a link.b) more is
 
 starts_empty : (cluster : CheckParts) → BeginsEmpty (start_of cluster)
 starts_empty cluster =
-    with_links_alone (with_folders nothing cluster.folders) cluster.links
+    links_keep_empty (with_folders nothing cluster.folders) cluster.links
     (with_empty_folders nothing cluster.folders (All-nil (λ (one : Sharing (ByName NodeParts)). one.store ≡ empty)))
 
 reads_empty : (reading : Reading ScenarioParts) (scenario : Said) → (reading >>= λ (parts : ScenarioParts). Read (made_of parts)) ≡ Read scenario → BeginsEmpty scenario.config

@@ -1,4 +1,4 @@
-use Rattle.bep_machine.proofs.OneEndRuns.{runs_are_determined_lem}
+use Rattle.bep_machine.proofs.OneOutcomeRuns.{runs_are_determined_lem}
 use Rattle.bep_machine.proofs.determined.runs_are_determined.Goals as goal
 
 pub returns : goal.returns

@@ -1,4 +1,4 @@
-use Rattle.bep_machine.proofs.OneEndSteps.{steps_are_determined_lem}
+use Rattle.bep_machine.proofs.OneOutcomeSteps.{steps_are_determined_lem}
 use Rattle.bep_machine.proofs.determined.steps_are_determined.Goals as goal
 
 pub returns : goal.returns

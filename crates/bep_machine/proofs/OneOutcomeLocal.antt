@@ -10,24 +10,24 @@ use Rattle.bep_machine.specs.declared.moved.Moved.TheVariants.{Changed}
 use Rattle.bep_machine.specs.Answer.{Done, becomes}
 use Rattle.bep_machine.specs.Local.{EditRow, RemoveRow, PutRow, FoundRow, ScanRow, OverridingRow, OverrideRow, RevertedRow, RevertRow, Finds, IsRaised, IsMergedAndRaised, overriding}
 use Rattle.bep_machine.specs.Replica.{Replica, own_at, node_at, version_of, Chooses, with_record}
-use Rattle.bep_machine.proofs.OneEnd.{HasOneEnd, same_made, same_or, same_guess}
+use Rattle.bep_machine.proofs.OneOutcome.{HasOneOutcome, same_made, same_or, same_guess}
 use Rattle.bep_machine.proofs.OneChoice.{HasOneChoice}
 use Rattle.bep_machine.proofs.OneVersion.{one_raised, one_merged_and_raised}
 
 -- ---- the user's own changes
 
-pub edit_one_end : (name : FileName) (node : NodeParts) (failed : Option ℕ) (old : Replica) → HasOneEnd (EditRow name node failed old)
-edit_one_end name node failed old one other answer reply row again = same_or row again (λ made too. same_made made too)
+pub edit_one_outcome : (name : FileName) (node : NodeParts) (failed : Option ℕ) (old : Replica) → HasOneOutcome (EditRow name node failed old)
+edit_one_outcome name node failed old one other answer reply row again = same_or row again (λ made too. same_made made too)
 
-pub remove_one_end : (name : FileName) (failed : Option ℕ) (old : Replica) → HasOneEnd (RemoveRow name failed old)
-remove_one_end name failed old one other answer reply row again =
+pub remove_one_outcome : (name : FileName) (failed : Option ℕ) (old : Replica) → HasOneOutcome (RemoveRow name failed old)
+remove_one_outcome name failed old one other answer reply row again =
     same_or row again (λ a b. same_or a b (λ c d. same_or c d (λ made too. same_made made too)))
 
 -- ---- new records
 
 -- where one record only is new, the row that puts it has one outcome
-put_one_end : (name : FileName) (IsNew : Entry → Type 0) (old : Replica) → ((one other : Entry) → IsNew one → IsNew other → one ≡ other) → HasOneEnd (PutRow name IsNew old)
-put_one_end name IsNew old unique one other answer reply row again =
+put_one_outcome : (name : FileName) (IsNew : Entry → Type 0) (old : Replica) → ((one other : Entry) → IsNew one → IsNew other → one ≡ other) → HasOneOutcome (PutRow name IsNew old)
+put_one_outcome name IsNew old unique one other answer reply row again =
     same_or row again (λ a b. same_or a b (λ c d.
     same_guess IsNew (λ entry. becomes (with_record old entry) (Done Changed)) unique
     (λ entry is new next told tells made too. same_made made too) c d))
@@ -59,17 +59,17 @@ marked_is_one device name old one other (found, finds, marked) (next, finds_too,
     ∙ ap (λ (entry : Entry). record entry { invalid = true }) (one_found device name (node_at old name) (own_at old name) (version_of (own_at old name)) found next finds finds_too)
     ∙ sym marked_too
 
-found_one_end : BumpIsUnique → (kind : FolderKind) (device : Device) (name : FileName) (old : Replica) → HasOneEnd (FoundRow kind device name old)
-found_one_end law ReceiveOnly device name old one other answer reply row again =
-    put_one_end name (IsMarked device name old) old (marked_is_one device name old) one other answer reply row again
-found_one_end law SendOnly device name old one other answer reply row again =
-    same_or row again (λ a b. same_or a b (λ c d. put_one_end name (IsFound device name old) old (raised_is_one law device name old) one other answer reply c d))
-found_one_end law SendReceive device name old one other answer reply row again =
-    same_or row again (λ a b. same_or a b (λ c d. put_one_end name (IsFound device name old) old (raised_is_one law device name old) one other answer reply c d))
+found_one_outcome : BumpIsUnique → (kind : FolderKind) (device : Device) (name : FileName) (old : Replica) → HasOneOutcome (FoundRow kind device name old)
+found_one_outcome law ReceiveOnly device name old one other answer reply row again =
+    put_one_outcome name (IsMarked device name old) old (marked_is_one device name old) one other answer reply row again
+found_one_outcome law SendOnly device name old one other answer reply row again =
+    same_or row again (λ a b. same_or a b (λ c d. put_one_outcome name (IsFound device name old) old (raised_is_one law device name old) one other answer reply c d))
+found_one_outcome law SendReceive device name old one other answer reply row again =
+    same_or row again (λ a b. same_or a b (λ c d. put_one_outcome name (IsFound device name old) old (raised_is_one law device name old) one other answer reply c d))
 
-pub scan_one_end : BumpIsUnique → (device : Device) (name : FileName) (failed : Option ℕ) (old : Replica) → HasOneEnd (ScanRow device name failed old)
-scan_one_end law device name failed old one other answer reply row again =
-    same_or row again (λ a b. same_or a b (λ c d. found_one_end law old.kind device name old one other answer reply c d))
+pub scan_one_outcome : BumpIsUnique → (device : Device) (name : FileName) (failed : Option ℕ) (old : Replica) → HasOneOutcome (ScanRow device name failed old)
+scan_one_outcome law device name failed old one other answer reply row again =
+    same_or row again (λ a b. same_or a b (λ c d. found_one_outcome law old.kind device name old one other answer reply c d))
 
 -- ---- override
 
@@ -84,23 +84,23 @@ overriding_is_one law device name chosen old one other (version, merged, is) (ne
     ∙ ap (overriding device name (own_at old name) chosen) (one_merged_and_raised law device (version_of (own_at old name)) chosen.version version next merged merged_too)
     ∙ sym is_too
 
-overriding_one_end : BumpIsUnique → (device : Device) (name : FileName) (chosen : Entry) (old : Replica) → HasOneEnd (OverridingRow device name chosen old)
-overriding_one_end law device name chosen old one other answer reply row again =
+overriding_one_outcome : BumpIsUnique → (device : Device) (name : FileName) (chosen : Entry) (old : Replica) → HasOneOutcome (OverridingRow device name chosen old)
+overriding_one_outcome law device name chosen old one other answer reply row again =
     same_or row again (λ a b. same_or a b (λ c d.
-    put_one_end name (IsOverriding device name chosen old) old (overriding_is_one law device name chosen old) one other answer reply c d))
+    put_one_outcome name (IsOverriding device name chosen old) old (overriding_is_one law device name chosen old) one other answer reply c d))
 
-pub override_one_end : BumpIsUnique → (device : Device) (name : FileName) (old : Replica) → HasOneChoice device old → HasOneEnd (OverrideRow device name old)
-override_one_end law device name old choice one other answer reply row again =
+pub override_one_outcome : BumpIsUnique → (device : Device) (name : FileName) (old : Replica) → HasOneChoice device old → HasOneOutcome (OverrideRow device name old)
+override_one_outcome law device name old choice one other answer reply row again =
     same_or row again (λ a b. same_or a b (λ c d.
-    same_guess (Chooses device old name) (λ chosen. OverridingRow device name chosen old) (choice name) (λ chosen is. overriding_one_end law device name chosen old) c d))
+    same_guess (Chooses device old name) (λ chosen. OverridingRow device name chosen old) (choice name) (λ chosen is. overriding_one_outcome law device name chosen old) c d))
 
 -- ---- revert
 
-reverted_one_end : (device : Device) (name : FileName) (failed : Option ℕ) (own : Option Entry) (old : Replica) → HasOneEnd (RevertedRow device name failed own old)
-reverted_one_end device name failed None old one other answer reply row again = absurd row
-reverted_one_end device name failed (Some own) old one other answer reply row again = same_or row again (λ made too. same_made made too)
+reverted_one_outcome : (device : Device) (name : FileName) (failed : Option ℕ) (own : Option Entry) (old : Replica) → HasOneOutcome (RevertedRow device name failed own old)
+reverted_one_outcome device name failed None old one other answer reply row again = absurd row
+reverted_one_outcome device name failed (Some own) old one other answer reply row again = same_or row again (λ made too. same_made made too)
 
-pub revert_one_end : (device : Device) (name : FileName) (failed : Option ℕ) (old : Replica) → HasOneEnd (RevertRow device name failed old)
-revert_one_end device name failed old one other answer reply row again =
+pub revert_one_outcome : (device : Device) (name : FileName) (failed : Option ℕ) (old : Replica) → HasOneOutcome (RevertRow device name failed old)
+revert_one_outcome device name failed old one other answer reply row again =
     same_or row again (λ a b. same_or a b (λ c d. same_or c d (λ e f. same_or e f (λ g h. same_or g h (λ i j.
-    reverted_one_end device name failed (own_at old name) old one other answer reply i j)))))
+    reverted_one_outcome device name failed (own_at old name) old one other answer reply i j)))))
