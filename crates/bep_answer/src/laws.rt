@@ -4,7 +4,7 @@ ghost use Rattle.bep_answer.specs.Laws.{AuditIsUnique, CutAnswerIsUnique, Docume
 use bep_model::{certificate_is_unique, verdict_is_unique, winners_or_first_without};
 
 /// The definitions of answers leave an answer no choice: the bytes of a document have one audit at most, outcome and text,
-/// and one answer where a certificate is asked for; and so there has a cut.
+/// and one answer where a certificate is asked for, as a cut has.
 pub fn answers_are_unique()
     ensures audit { AuditIsUnique }
     ensures of_cut { CutAnswerIsUnique }

@@ -116,7 +116,7 @@ sent_when_announced index low limit batch is_index given after = record {
 
 -- ---- what is sent is taken
 
-above_low : (low : ℕ) (batch : List Entry) → Rises low batch → (entry : Entry) → IsAmong entry batch → low < entry.sequence
+pub above_low : (low : ℕ) (batch : List Entry) → Rises low batch → (entry : Entry) → IsAmong entry batch → low < entry.sequence
 above_low low [] rises entry among = absurd among
 above_low low (first ∷ more) rises entry among =
     ⊎_elim

@@ -4,8 +4,8 @@ use Rattle.bep_map.specs.NameMap.{ByName}
 use Rattle.bep_record.specs.declared.entry.Entry.{Entry}
 use Rattle.bep_index.specs.Listing.{IsRecord}
 use Rattle.bep_index.specs.Batch.{Rises, last_sequence}
-use Rattle.bep_index.specs.After.{IsAmong, IsRun, IsAfter}
-use Rattle.bep_machine.proofs.GapFacts.{above_or_not}
+use Rattle.bep_index.specs.After.{IsRun, IsAfter}
+use Rattle.bep_machine.proofs.GapFacts.{above_low, above_or_not}
 
 -- what rises ends no lower than it begins
 last_above : (low : ℕ) (batch : List Entry) → Rises low batch → low ≤ last_sequence low batch
@@ -14,15 +14,6 @@ last_above low (first ∷ more) rises =
     let above = rises.0 in
     let rest = last_above first.sequence more rises.2 in
     omega (arith, above, rest)
-
-among_above : (low : ℕ) (batch : List Entry) (entry : Entry) → Rises low batch → IsAmong entry batch → low < entry.sequence
-among_above low [] entry rises among = absurd among
-among_above low (first ∷ more) entry rises among =
-    let above = rises.0 in
-    ⊎_elim
-    (λ here. let same = ap (λ (e : Entry). e.sequence) here in omega (arith, above, same))
-    (λ later. let rest = among_above first.sequence more entry rises.2 later in omega (arith, above, rest))
-    among
 
 module _ (records : ByName Entry) where
   -- where the one is shorter than the other, no record is above its last
@@ -47,7 +38,7 @@ module _ (records : ByName Entry) where
       let last = last_above next.sequence rest other.rises.2 in
       ⊎_elim
       (λ same. same)
-      (λ later. let above = among_above next.sequence rest first other.rises.2 later in absurd (omega (arith, above, below)))
+      (λ later. let above = above_low next.sequence rest other.rises.2 first later in absurd (omega (arith, above, below)))
       (other.whole first run.recorded.0 run.rises.0 (omega (arith, last, below)))
 
   same_first : (low : ℕ) (first next : Entry) (more rest : List Entry) → IsRun records low (first ∷ more) → IsRun records low (next ∷ rest) → first ≡ next
