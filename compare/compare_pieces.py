@@ -1,5 +1,5 @@
 #!/usr/bin/env python3
-"""Compares the program with the second reading on each document that examples/pieces.sh puts together: check documents as
+"""Compares the program with the second reading on each document that tests/pieces.sh puts together: check documents as
 compare.py does, scenarios as compare_runs.py does.
 
     compare/compare_pieces.py
@@ -21,7 +21,7 @@ from compare import PROGRAM, TOP, compare, kind_of, tell_difference
 def put_together(folder):
     """The documents that the rows ask the program about, each with its command, each once."""
     told = os.environ | {"KEPT": str(folder), "PROGRAM": str(PROGRAM)}
-    ran = subprocess.run([TOP / "examples/pieces.sh", TOP / "examples/keeper.sh"], env=told, capture_output=True, text=True, check=False)
+    ran = subprocess.run([TOP / "tests/pieces.sh", TOP / "tests/keeper.sh"], env=told, capture_output=True, text=True, check=False)
     print(ran.stdout.rstrip())
     if ran.returncode != 0:
         sys.exit("the rows fail")

@@ -1,5 +1,5 @@
 //! `plain_check`: the report on a check document by the plain checker, which takes no memory and looks for each reason by
-//! itself. `examples/plain.sh` runs it beside `syncaudit check`, whose one walk tells the same.
+//! itself. `tests/plain.sh` runs it beside `syncaudit check`, whose one walk tells the same.
 #![tactic(auto)]
 
 use bep_audit::{Certificate, check_plain};

@@ -1,5 +1,5 @@
 //! What is answered of no folders, by the calls that tell nothing on standard error. What the program answers of all other
-//! documents, and where a stream fails, `examples/` shows.
+//! documents, and where a stream fails, `tests/` shows.
 use bep_answer::{Certified, Outcome, certify_text, check_text};
 use bep_play::run_text;
 use bep_reasons::explain_text;

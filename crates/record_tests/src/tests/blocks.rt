@@ -1,5 +1,5 @@
 //! Block lists and their limits, with hashes from outside. The blocks of small files and of two blocks, and those that
-//! hashes make, `examples/` shows.
+//! hashes make, `tests/` shows.
 use bep_blocks::{BlocksError, blocks, matches};
 use bep_record::{Block, BlockSize};
 use std::alloc::Global;

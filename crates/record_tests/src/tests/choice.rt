@@ -1,5 +1,5 @@
 //! Which record is chosen, and what a folder needs of it, in this project's profile; the wanted answers were worked out by
-//! hand. More choices, `examples/pieces.sh` shows.
+//! hand. More choices, `tests/pieces.sh` shows.
 use super::made::{Said, record};
 use bep_choice::{choose, needed};
 use bep_record::{DeviceId, FolderKind, Record};

@@ -1,4 +1,4 @@
-//! A link's copy. What is on its way, in which order it arrives, and links that are lost or full, `examples/` shows.
+//! A link's copy. What is on its way, in which order it arrives, and links that are lost or full, `tests/` shows.
 use bep_links::Link;
 use bep_record::DeviceId;
 use std::alloc::Global;

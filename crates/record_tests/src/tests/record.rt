@@ -1,5 +1,5 @@
 //! Bytes that are no names. What documents can say of records, nodes, names and targets, and the names that losing files get,
-//! `examples/pieces.sh` shows.
+//! `tests/pieces.sh` shows.
 use bep_record::{Name, RecordError};
 use std::alloc::Global;
 

@@ -1,5 +1,5 @@
 //! A version vector of the most counters that this profile allows. How versions stand to each other, and what fewer counters
-//! become, `examples/pieces.sh` shows.
+//! become, `tests/pieces.sh` shows.
 use bep_record::{DeviceId, RecordError, Vector};
 
 const SIXTEEN: [(u64, u64); 16] = [

@@ -1,5 +1,5 @@
 #!/usr/bin/env bash
-# run.sh PROGRAM: runs the built program as each row of README.md says, and compares its standard output, its standard
+# rows.sh PROGRAM: runs the built program as each row of examples/README.md says, and compares its standard output, its standard
 # error and its status with the row's. The last line is 'N passed, M failed'.
 set -euo pipefail
 program=$(readlink -m "$1")
@@ -40,12 +40,12 @@ check_row() {
     passed=$((passed + 1))
   else
     failed=$((failed + 1))
-    printf '%s\n' "${faults[@]/#/"examples: $1: "}"
+    printf '%s\n' "${faults[@]/#/"rows: $1: "}"
   fi
 }
 
 if [ ! -x "$program" ]; then
-  echo "examples: there is no program $1"
+  echo "rows: there is no program $1"
   echo "0 passed, 1 failed"
   exit 1
 fi
@@ -55,7 +55,7 @@ check_json() {
   if ! command -v python3 > /dev/null 2>&1; then
     return
   fi
-  if python3 examples/explained.py "$program" "$1"; then
+  if python3 tests/explained.py "$program" "$1"; then
     passed=$((passed + 1))
   else
     failed=$((failed + 1))
@@ -95,7 +95,7 @@ while IFS='|' read -r _ name _ output status _; do
     check_row "syncaudit explain < examples/$(lines_of "$name")" "${output%%<br>*}" "$told" "$status"
   elif ! grep -qF "| \`syncaudit explain < examples/$(lines_of "$name")\` |" examples/README.md; then
     failed=$((failed + 1))
-    echo "examples: $(lines_of "$name") isn't settled, and README.md doesn't say all that fails"
+    echo "rows: $(lines_of "$name") isn't settled, and README.md doesn't say all that fails"
   fi
   # Where the certificate isn't at fault, the one that is made anew is the same.
   if [ "${status// /}" != 2 ] && ! grep -qE 'CertificateOrder|NameMissing|NameUnknown|NotWinner' <<< "$output"; then
@@ -116,7 +116,7 @@ done < <(grep '^| `' examples/README.md | grep -v '^| `[a-z-]*\.json` |')
 for file in examples/*.json; do
   if ! grep -q "^| \`$(basename "$file")\` |" examples/README.md; then
     failed=$((failed + 1))
-    echo "examples: $(basename "$file") has no row in README.md"
+    echo "rows: $(basename "$file") has no row in README.md"
   fi
 done
 for file in examples/faulty/*.json; do
@@ -125,7 +125,7 @@ done
 for file in examples/scenarios/*.json examples/faulty/*.json; do
   if ! grep -qF "< $file\`" examples/README.md; then
     failed=$((failed + 1))
-    echo "examples: $file has no row in README.md"
+    echo "rows: $file has no row in README.md"
   fi
 done
 echo "$passed passed, $failed failed"

@@ -1,5 +1,5 @@
 #!/usr/bin/env bash
-# edits.sh [--fit] [CRATE..]: tries the wrong bodies in edits/ that the gate has no time for, of these crates or of all, on a
+# wrong.sh [--fit] [CRATE..]: tries the wrong bodies in wrong/ that the gate has no time for, of these crates or of all, on a
 # clone of the repository, in which what isn't committed would be missing: the prover must refuse each. With --fit it only
 # says whether each still fits its file as it stands, in which the text that it changes must stand once, and tries none.
 # The last line is 'N passed, M failed'.
@@ -11,7 +11,7 @@ if [ "${1:-}" = --fit ]; then
   shift
 fi
 if [ $# = 0 ]; then
-  mapfile -t crates < <(ls bench/edits)
+  mapfile -t crates < <(ls tests/wrong)
 else
   crates=("$@")
 fi
@@ -32,7 +32,7 @@ fits() {
 }
 
 if ! $fit && [ -n "$(git status --porcelain -- HANDLES crates.txt crates)" ]; then
-  echo "edits: crates/ has changes that aren't committed, and edits are tried on a clone: commit them first"
+  echo "wrong: crates/ has changes that aren't committed, and edits are tried on a clone: commit them first"
   echo "0 passed, 1 failed"
   exit 1
 fi
@@ -40,12 +40,12 @@ fi
 passed=0
 failed=0
 for crate in "${crates[@]}"; do
-  for edit in bench/edits/"$crate"/*.edit; do
+  for edit in tests/wrong/"$crate"/*.edit; do
     if fits "$crate" "$edit"; then
       passed=$((passed + 1))
     else
       failed=$((failed + 1))
-      echo "edits: $edit doesn't fit any more"
+      echo "wrong: $edit doesn't fit any more"
     fi
   done
 done
@@ -61,7 +61,7 @@ trap 'rm -rf "$work"' EXIT
 git clone -q . "$work/clone"
 for crate in "${crates[@]}"; do
   rm -rf "$work/clone/crates/$crate/must-fail"
-  cp -r "bench/edits/$crate" "$work/clone/crates/$crate/must-fail"
+  cp -r "tests/wrong/$crate" "$work/clone/crates/$crate/must-fail"
 done
 cd "$work/clone"
 rt must-fail "${crates[@]}" | tee "$work/log" || true

@@ -87,7 +87,7 @@ take() {
 
 for part in documents records lists cuts choices runs devices; do
   # shellcheck source=/dev/null
-  source "examples/pieces/$part.sh"
+  source "tests/pieces/$part.sh"
 done
 
 echo "$passed passed, $failed failed"

@@ -189,7 +189,7 @@ expect 'a lost link' '"epoch":1 "to_a": "to_b": "up":false' "$(on_its_way '["los
 expect 'a link anew' '"epoch":2 "to_a": "to_b": "up":true' "$(on_its_way '["lose",1,2]' '["connect",1,2]')"
 
 # Where one end is full, the other takes a message.
-told=$(examples/large.sh messages | sed '$s/.*/,["edit",2,"docs",{"name":"other","type":1,"modified_s":1}],["scan",2,"docs","other"],["announce",2,1,"docs"]]}/' |
+told=$(tests/large.sh messages | sed '$s/.*/,["edit",2,"docs",{"name":"other","type":1,"modified_s":1}],["scan",2,"docs","other"],["announce",2,1,"docs"]]}/' |
   { "$program" run 2> /dev/null || true; } | grep '^step ')
 expect 'a full link' 'step 3078: 152 LinkFull' "$told"
 

@@ -6,7 +6,7 @@
 # answers as ever. The last line is 'N passed, M failed', a run each.
 set -euo pipefail
 program=$(readlink -m "$1")
-cd "$(dirname "$0")"
+cd "$(dirname "$0")/.."
 passed=0
 failed=0
 work=$(mktemp -d)
@@ -19,7 +19,7 @@ if [ -z "$compiler" ]; then
   echo "0 passed, 1 failed"
   exit 1
 fi
-"$compiler" -O1 -shared -fPIC -o "$work/refuse.so" refusing/refuse.c -ldl
+"$compiler" -O1 -shared -fPIC -o "$work/refuse.so" tests/refusing/refuse.c -ldl
 
 # run_refused KIND NUMBER DOCUMENT WORDS..: runs the program with that call refused, and keeps its status.
 run_refused() {
@@ -110,18 +110,18 @@ refuse_all() {
   refuse WRITE 5 "$@"
 }
 
-refuse_all one-equal-file.json check
-refuse_all cut-alone.json certify
-refuse_all scenarios/conflict.json run
+refuse_all examples/one-equal-file.json check
+refuse_all examples/cut-alone.json certify
+refuse_all examples/scenarios/conflict.json run
 # Without memory nothing is said of an old file in a view, where its deletion is known everywhere else.
-answer old-file-in-a-view.json check
-refuse GROWTH 4 old-file-in-a-view.json check
-cut_off one-equal-file.json check
-REFUSE_WITH=interruption refuse READ 5 one-equal-file.json check
-REFUSE_WITH=interruption refuse WRITE 5 one-equal-file.json check
-REFUSE_WITH=nothing refuse WRITE 5 one-equal-file.json check
+answer examples/old-file-in-a-view.json check
+refuse GROWTH 4 examples/old-file-in-a-view.json check
+cut_off examples/one-equal-file.json check
+REFUSE_WITH=interruption refuse READ 5 examples/one-equal-file.json check
+REFUSE_WITH=interruption refuse WRITE 5 examples/one-equal-file.json check
+REFUSE_WITH=nothing refuse WRITE 5 examples/one-equal-file.json check
 for bytes in 1 2 3 50; do
-  in_pieces "$bytes" one-equal-file.json check
+  in_pieces "$bytes" examples/one-equal-file.json check
 done
 
 echo "$passed passed, $failed failed"
