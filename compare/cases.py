@@ -10,6 +10,7 @@ from cluster.cut import first_fault
 from cluster.index import View
 from cluster.record import Kind, Node, Record, record_of_node
 from cluster.refusal import Moved, Why
+from cluster.replica import Replica
 from cluster.step import Announce, Ask, Begin, Connect, Deliver, StartPull
 
 CHANGED, UNCHANGED, DROPPED, LOST = Moved.Changed, Moved.Unchanged, Moved.Dropped, Moved.LinkLost
@@ -27,11 +28,11 @@ def entry(name: str, node: Node, by: int, version: tuple, sequence: int = 0, inv
     return replace(record_of_node(name, node, by, version, invalid), sequence=sequence)
 
 
-def empty_cluster(*kinds: FolderKind) -> Cluster:
-    """Devices 1, 2 and so on that share one folder in these kinds, with a link between each two."""
+def empty_cluster(*kinds: FolderKind, replica: type[Replica] = Replica) -> Cluster:
+    """Devices 1, 2 and so on that share one folder in these kinds, by these rules, with a link between each two."""
     devices = range(1, len(kinds) + 1)
     shares = tuple(Share(device, kind, 10 + device) for device, kind in zip(devices, kinds))
-    return Cluster.new(Config({DOCS: shares}, tuple((a, b) for a in devices for b in devices if a < b)))
+    return Cluster.new(Config({DOCS: shares}, tuple((a, b) for a in devices for b in devices if a < b)), replica)
 
 
 def docs(cluster: Cluster, device: int):

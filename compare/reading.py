@@ -436,25 +436,25 @@ class Device:
                    for entry in entries]
         return set(self.own) | set(self.store) | {entry["name"] for entry in foreign if not entry["invalid"]}
 
-    def is_harmless(self, entry, wanted):
+    def is_harmless(self, entry, winner):
         own = self.own.get(entry["name"])
-        return (entry["invalid"] or content(entry) == wanted
+        return (entry["invalid"] or content(entry) == content(winner)
                 or (own is not None and is_below(entry["version"], own["version"])))
 
-    def are_harmless(self, part, name, wanted):
-        return all(self.is_harmless(entry, wanted) for entry in part.get(name, ()))
+    def are_harmless(self, part, name, winner):
+        return all(self.is_harmless(entry, winner) for entry in part.get(name, ()))
 
 
 DEVICE_REASONS = [
-    ("RecordMissing", lambda device, name, wanted: name in device.own or wanted == "deleted"),
-    ("RecordDiffers", lambda device, name, wanted: name not in device.own or device.own[name]["invalid"]
-     or content(device.own[name]) == wanted),
-    ("LocalOnly", lambda device, name, wanted: name not in device.own or not device.own[name]["invalid"]),
-    ("StoreDiffers", lambda device, name, wanted: content_of_node(device.store.get(name)) == wanted),
-    ("StoreUnclean", lambda device, name, wanted: is_clean(device.store.get(name), device.own.get(name))),
-    ("ViewAhead", lambda device, name, wanted: device.are_harmless(device.viewed, name, wanted)),
-    ("FlightAhead", lambda device, name, wanted: device.are_harmless(device.coming, name, wanted)),
-    ("PullAhead", lambda device, name, wanted: device.are_harmless(device.pulls, name, wanted)),
+    ("RecordMissing", lambda device, name, winner: name in device.own or winner["deleted"]),
+    ("RecordDiffers", lambda device, name, winner: name not in device.own or device.own[name]["invalid"]
+     or content(device.own[name]) == content(winner)),
+    ("LocalOnly", lambda device, name, winner: name not in device.own or not device.own[name]["invalid"]),
+    ("StoreDiffers", lambda device, name, winner: content_of_node(device.store.get(name)) == content(winner)),
+    ("StoreUnclean", lambda device, name, winner: is_clean(device.store.get(name), device.own.get(name))),
+    ("ViewAhead", lambda device, name, winner: device.are_harmless(device.viewed, name, winner)),
+    ("FlightAhead", lambda device, name, winner: device.are_harmless(device.coming, name, winner)),
+    ("PullAhead", lambda device, name, winner: device.are_harmless(device.pulls, name, winner)),
 ]
 
 
@@ -464,8 +464,8 @@ REASONS = ["CertificateOrder", "NameMissing", "NameUnknown", "NotWinner", *(reas
 class Cut:
     """The devices of each folder, folders and devices rising."""
 
-    def __init__(self, read):
-        self.folders = {folder["folder"]: sorted(map(Device, folder["shares"]), key=lambda device: device.number)
+    def __init__(self, read, device=Device):
+        self.folders = {folder["folder"]: sorted(map(device, folder["shares"]), key=lambda one: one.number)
                         for folder in sorted(read["folders"], key=lambda folder: folder["folder"])}
         coming = {}
         for _, receiver, item in each_message(read):
@@ -501,10 +501,15 @@ class Cut:
         for row, (folder, name) in zip(rows, keys):
             if self.winner(folder, name) != (row["device"], row["record"]):
                 return "NotWinner", folder, name, None
-        for reason, holds in DEVICE_REASONS:
-            for row, (folder, name) in zip(rows, keys):
+        return self.first_failing(DEVICE_REASONS, rows)
+
+    def first_failing(self, reasons, rows):
+        """The first of these reasons that fails at a device, at the first row and device; None where all hold."""
+        for reason, holds in reasons:
+            for row in rows:
+                folder, name = row["folder"], row["record"]["name"]
                 for device in self.folders[folder]:
-                    if not holds(device, name, content(row["record"])):
+                    if not holds(device, name, row["record"]):
                         return reason, folder, name, device.number
         return None
 
@@ -521,7 +526,7 @@ class Cut:
             if self.winner(folder, name) != (row["device"], row["record"]):
                 found.append(("NotWinner", folder, name, None))
             found += [(reason, folder, name, device.number) for device in self.folders.get(folder, [])
-                      for reason, holds in DEVICE_REASONS if not holds(device, name, content(row["record"]))]
+                      for reason, holds in DEVICE_REASONS if not holds(device, name, row["record"])]
         return sorted(set(found), key=lambda one: (REASONS.index(one[0]), *one[1:3], one[3] or 0))
 
 

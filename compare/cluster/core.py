@@ -39,15 +39,16 @@ class Cluster:
     links: dict[tuple[int, int], Link] = field(default_factory=dict)
 
     @staticmethod
-    def new(config: Config) -> "Cluster":
-        """The cluster before any step: nothing is recorded, known or stored, and all links are down."""
+    def new(config: Config, replica: type[Replica] = Replica) -> "Cluster":
+        """The cluster before any step: nothing is recorded, known or stored, and all links are down. Its folders go by
+        the rules of `replica`."""
         made = Cluster()
         for folder, shares in config.folders.items():
             devices = {share.device for share in shares}
             for share in shares:
                 peer = made.peers.setdefault(share.device, Peer(share.device, Faults()))
                 views = {other: View() for other in sorted(devices - {share.device})}
-                peer.replicas[folder] = Replica(share.device, share.kind, Index(share.index_id), views,
+                peer.replicas[folder] = replica(share.device, share.kind, Index(share.index_id), views,
                                                 Store(peer.faults))
         made.links = {(a, b): Link(a, b) for a, b in config.links}
         return made

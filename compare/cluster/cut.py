@@ -76,12 +76,12 @@ def certify(cut: dict) -> list[dict]:
     return rows
 
 
-def first_fault(cluster: Cluster):
+def first_fault(cluster: Cluster, device: type[reading.Device] = reading.Device):
     """Why the cluster's cut isn't settled for the list of its own winners: reason, folder, name, device; None where it
-    is."""
+    is. What is asked of a device is asked by the rules of `device`."""
     cut = cut_of(cluster)
     try:
-        return reading.Cut(cut).first_fault(certify(cut))
+        return reading.Cut(cut, device).first_fault(certify(cut))
     except NoWinner as none:
         return "NotWinner", none.folder, none.name, None
 

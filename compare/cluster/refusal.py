@@ -27,6 +27,7 @@ class Why(IntEnum):
     CopyExists = 145
     PullsFull = 146
     KindForbids = 147
+    Stale = 148
     LinkDown = 151
     LinkFull = 152
     EpochFull = 153

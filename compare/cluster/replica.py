@@ -8,7 +8,7 @@ from .record import (Kind, Node, Record, conflict_name, deletion, is_clean, is_n
                      same_entry)
 from .refusal import Moved, Why, refuse
 from .store import Store
-from .version import all_greatest, are_concurrent, bump, is_at_most, merge
+from .version import Version, all_greatest, are_concurrent, bump, is_at_most, merge
 
 MOST_PULLS = 64
 
@@ -45,7 +45,7 @@ class Replica:
         """The device's own record of that name."""
         return self.index.records.get(name)
 
-    def own_version(self, name: str):
+    def own_version(self, name: str) -> Version:
         """The version of the own record, the empty one where there is none."""
         own = self.own(name)
         return own.version if own else ()
@@ -77,7 +77,7 @@ class Replica:
 
     def scan(self, name: str) -> Moved:
         """Puts a record of what the store holds, unless it is clean."""
-        node, own = self.store.read(name), self.own(name)
+        node, own = self.look(name), self.own(name)
         if is_clean(node, own):
             return Moved.Unchanged
         is_local = self.kind == FolderKind.ReceiveOnly
@@ -87,6 +87,10 @@ class Replica:
         else:
             self.index.put(record_of_node(name, node, self.me, version, invalid=is_local))
         return Moved.Changed
+
+    def look(self, name: str) -> Node | None:
+        """What a scan takes for the node of that name: what the store holds now."""
+        return self.store.read(name)
 
     # ---- kinds
 
@@ -132,7 +136,7 @@ class Replica:
         refuse(Why.NotNeeded, when=name not in self.pulls)
         pull = self.pulls[name]
         target = pull.target
-        if not same_entry(target, self.wanted(name)):
+        if not self.is_still_wanted(target):
             del self.pulls[name]
             return Moved.Dropped
         own = self.own(name)
@@ -141,7 +145,7 @@ class Replica:
         node = self.store.read(name)
         refuse(Why.Unscanned, when=not is_clean(node, own))
         copy = self.conflict_copy(own, target, node)
-        version = merge(target.version, self.own_version(name))
+        version = self.adopted_version(target)
         self.index.check_room(name)
         if copy:
             self.store.write(*copy)
@@ -155,6 +159,14 @@ class Replica:
         self.index.put(replace(target, version=version, invalid=False))
         del self.pulls[name]
         return Moved.Changed
+
+    def is_still_wanted(self, target: Record) -> bool:
+        """Whether a pull that comes to its end would be begun now, for the very same record."""
+        return same_entry(target, self.wanted(target.name))
+
+    def adopted_version(self, target: Record) -> Version:
+        """The version of a target that is taken over: it and the own one merged."""
+        return merge(target.version, self.own_version(target.name))
 
     def conflict_copy(self, own: Record | None, target: Record, node: Node | None) -> tuple[str, Node] | None:
         """The name and node of the copy to write before the target replaces a file that was changed apart from it: none
