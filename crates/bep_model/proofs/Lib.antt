@@ -9,4 +9,5 @@ pub mod FirstFault
 pub mod VerdictFound
 pub mod WithoutFacts
 pub mod StaysFacts
+pub mod FirmFacts
 mod TwoDevices

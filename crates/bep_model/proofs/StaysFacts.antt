@@ -1,5 +1,6 @@
 -- What is calm for a settled cut's contents is as the certificate says, and settled again.
 use Rattle.std.proofs.Common.{◌≡◌, ◌⊎◌, ℕ, List, [], ◌∷◌, Contains, Option, Some, None, IsSome, is_some, false, refl, sym, ap, subst, ◌∙◌, inl, inr, ⊎_elim}
+use Rattle.std.proofs.lemmas.Bool.{cond-false}
 use Rattle.std.proofs.lemmas.List.Elements.{Contains-append_cases, Contains-append_left, Contains-append_right}
 use Rattle.std.specs.declared.cmp.Ordering.TheVariants.{Less}
 use Rattle.bep_facts.specs.Members.{not_in_none, Contains-first, Contains-more, Contains-cons_cases}
@@ -29,6 +30,10 @@ what_is_there : (kind : Kind) (blocks : List Block) (target : List ℕ) → ¬ (
 what_is_there File blocks target = λ e. cc
 what_is_there Directory blocks target = λ e. cc
 what_is_there Symlink blocks target = λ e. cc
+
+-- a record that isn't deleted has other content than Deleted
+pub not_deleted : (entry : Entry) → entry.deleted ≡ false → ¬ (content_of entry ≡ Deleted)
+not_deleted entry there e = what_is_there entry.kind entry.blocks entry.target (sym (cond-false _ _ _ there) ∙ e)
 
 -- what a store holds is Deleted only where it holds nothing
 nothing_held : (node : Option NodeParts) → content_of_node node ≡ Deleted → node ≡ None
@@ -80,7 +85,7 @@ own_agrees None content calm = calm
 own_agrees (Some own) content calm = calm
 
 -- who has a candidate shares the folder, and who shares it and has a record has a candidate
-owner_shares : (t : Tables) (folder : Folder) (name : FileName) (shares : List (Device × FolderKind)) (one : Candidate) → Contains (owned t folder name shares) one → (kind : FolderKind) × Contains shares (one.0, kind)
+pub owner_shares : (t : Tables) (folder : Folder) (name : FileName) (shares : List (Device × FolderKind)) (one : Candidate) → Contains (owned t folder name shares) one → (kind : FolderKind) × Contains shares (one.0, kind)
 owner_shares t folder name [] one member = absurd (not_in_none one member)
 owner_shares t folder name (share ∷ more) one member =
     ⊎_elim

@@ -12,6 +12,8 @@ use Rattle.bep_model.specs.WithoutWinner.{IsWithoutWinner, IsFirstWithoutWinner,
 use Rattle.bep_model.specs.Reasons.{Place, Asks, first_disordered}
 use Rattle.bep_model.specs.Verdict.{Verdict, number_of, IsVerdict}
 use Rattle.bep_model.specs.Calm.{IsCalm, contents_of, Kept}
+use Rattle.bep_model.specs.Free.{IsFreeRun}
+use Rattle.bep_model.specs.Firm.{IsFirm, IsUnchanged}
 
 -- settled is that no reason fails anywhere
 abbrev pub SettledIsFaultless : Type 0
@@ -85,3 +87,7 @@ abbrev pub CalmIsSettledAgain : Type 0
 CalmIsSettledAgain =
     (t later : Tables) (rows : List Row) → IsSettled t rows → SameShares t later → KeepsRecords t later → RecordsAreNamed later → IsCalm later (contents_of rows) →
     (others : List Row) × IsSettled later others × SameContents rows others
+
+-- what is firm stays firm, under the same rows, and nothing changes, whatever free peers do
+abbrev pub FirmStaysFirm : Type 0
+FirmStaysFirm = (t later : Tables) (between : List Tables) (rows : List Row) → IsFirm t rows → IsFreeRun t between later → IsFirm later rows × IsUnchanged t later

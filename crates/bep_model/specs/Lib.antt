@@ -7,5 +7,7 @@ pub mod Reasons
 pub mod Verdict
 pub mod Calm
 pub mod Stays
+pub mod Free
+pub mod Firm
 pub mod Examples
 pub mod Laws

@@ -1,5 +1,5 @@
 //! What follows from the definitions alone. Each function does nothing; its contract is the law.
-ghost use Rattle.bep_model.specs.Laws.{RowsRiseInOrder, NumbersAreWithin, NumbersDiffer, WinnerIsUnique, SettledIsFaultless, VerdictIsUnique, VerdictExists, SettledIsListOfWinners, ListOfWinnersIsUnique, CertificateIsUnique, WinnersAreSettledIfAny, WinnersLeaveNoneOut, FirstWithoutIsUnique, WinnersOrFirstWithout, SettledIsCalm, CalmStays, CalmIsSettledAgain};
+ghost use Rattle.bep_model.specs.Laws.{RowsRiseInOrder, NumbersAreWithin, NumbersDiffer, WinnerIsUnique, SettledIsFaultless, VerdictIsUnique, VerdictExists, SettledIsListOfWinners, ListOfWinnersIsUnique, CertificateIsUnique, WinnersAreSettledIfAny, WinnersLeaveNoneOut, FirstWithoutIsUnique, WinnersOrFirstWithout, SettledIsCalm, CalmStays, CalmIsSettledAgain, FirmStaysFirm};
 
 use bep_choice::laws::{choice_exists, choice_is_unique};
 
@@ -80,3 +80,9 @@ pub fn calm_is_settled_again()
     choice_exists();
     choice_is_unique();
 }
+
+/// What is firm stays firm, for the same rows: after every run of free peers each sharing device has the very records and
+/// the very files that it had.
+pub fn firm_stays_firm()
+    ensures { FirmStaysFirm }
+{}
