@@ -15,7 +15,7 @@ use Rattle.bep_machine.proofs.ChoiceFacts.{chosen_is_known, chosen_is_valid, own
 use Rattle.bep_machine.proofs.ReplicaFacts.{target_at_pull, target_says, with_pull_found}
 
 -- what is chosen and needed was in a view
-needed_is_viewed : (device : Device) (old : Replica) (name : FileName) (chosen : Entry) → Chooses device old name chosen → ¬ (¬ IsNeeded old.kind (own_at old name) chosen) → IsElsewhere old name chosen
+pub needed_is_viewed : (device : Device) (old : Replica) (name : FileName) (chosen : Entry) → Chooses device old name chosen → ¬ (¬ IsNeeded old.kind (own_at old name) chosen) → IsElsewhere old name chosen
 needed_is_viewed device old name chosen choice needed =
     ⊎_elim
     (λ own. absurd (needed (own_not_needed old.kind (own_at old name) chosen (chosen_is_valid device old name chosen choice) own)))
@@ -23,7 +23,7 @@ needed_is_viewed device old name chosen choice needed =
     (chosen_is_known device old name chosen choice)
 
 -- the target of a pull that is there afterwards
-target_before : (old : Replica) (name : FileName) (chosen : Entry) → IsElsewhere old name chosen → (other : FileName) (entry : Entry) → target_at (with_pull old name (new_pull chosen)) other ≡ Some entry → IsElsewhere old other entry
+pub target_before : (old : Replica) (name : FileName) (chosen : Entry) → IsElsewhere old name chosen → (other : FileName) (entry : Entry) → target_at (with_pull old name (new_pull chosen)) other ≡ Some entry → IsElsewhere old other entry
 target_before old name chosen known other entry is =
     let found = target_says (pull_at (with_pull old name (new_pull chosen)) other) entry is in
     ⊎_elim

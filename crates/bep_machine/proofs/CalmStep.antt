@@ -1,8 +1,7 @@
 -- Every quiet step of a sound cluster keeps calm, and takes no own record away.
-use Rattle.std.proofs.Common.{◌≡◌, ◌⊎◌, ℕ, Bool, true, false, if◌then◌else◌, List, [], Option, Some, None, IsSome, Contains, refl, sym, ap, subst, ◌∙◌, inl, inr, ⊎_elim}
+use Rattle.std.proofs.Common.{◌≡◌, ℕ, Bool, true, false, List, Option, Some, None, IsSome, Contains, refl, sym, ap, subst, ◌∙◌, inl, ⊎_elim}
 use Rattle.std.specs.FinMap.{get}
-use Rattle.bep_facts.specs.Members.{Contains-one, Contains-flat_map, Contains-from_flat_map, not_in_none}
-use Rattle.std.specs.List.{flat_map}
+use Rattle.bep_facts.specs.Members.{Contains-one, not_in_none}
 use Rattle.bep_record.specs.declared.entry.Entry.{Entry}
 use Rattle.bep_record.specs.Content.{Content, content_of}
 use Rattle.bep_record.specs.Laws.{CutIsOfOneLength}
@@ -17,13 +16,12 @@ use Rattle.bep_machine.specs.declared.step.Step.{Step}
 use Rattle.bep_machine.specs.declared.step.Step.TheVariants.{Edit, Remove, Scan, Override, Revert, Connect, Lose, Begin, Deliver, Announce, StartPull, Ask, Finish, Restart}
 use Rattle.bep_machine.specs.Answer.{Answer, Row}
 use Rattle.bep_machine.specs.Replica.{Replica, own_at}
-use Rattle.bep_machine.specs.Link.{Link}
 use Rattle.bep_machine.specs.Local.{ScanRow}
 use Rattle.bep_machine.specs.Pull.{StartPullRow, FinishRow}
 use Rattle.bep_machine.specs.Peer.{with_replica}
 use Rattle.bep_machine.specs.Cluster.{Cluster, with_peer}
 use Rattle.bep_machine.specs.Steps.{SharesFolder, IsThere, AtReplica, StepRow, IsStep, IsQuiet}
-use Rattle.bep_machine.specs.Said.{looked_up, both_share, flight_when, flights_of, are_linked, tables_of_cluster}
+use Rattle.bep_machine.specs.Said.{looked_up, both_share, flight_when, flights_of, tables_of_cluster}
 use Rattle.bep_machine.specs.Sound.{IsSound, IsSoundReplica}
 use Rattle.bep_machine.specs.Laws.{QuietStepsKeepCalm, QuietStepsKeepRecords}
 use Rattle.bep_model.specs.Stays.{KeepsRecords}
@@ -40,7 +38,7 @@ use Rattle.bep_machine.proofs.CalmFinish.{finish_is_quiet}
 use Rattle.bep_machine.proofs.KeepsOwn.{KeepsOwn, scan_keeps_own, start_pull_keeps_own, finish_keeps_own}
 use Rattle.bep_machine.proofs.ThereDecided.{there_decided}
 use Rattle.bep_machine.proofs.ReadOn.{quiet_where_read}
-use Rattle.bep_machine.proofs.LinkQueues.{queue_between, LinkGoesOn, queues_go_on}
+use Rattle.bep_machine.proofs.Flights.{flights_go_on}
 use Rattle.bep_machine.proofs.LinkSteps.{AreOwn}
 use Rattle.bep_machine.proofs.ReadingSteps.{SendsOwn, IsReadingStep, nothing_happens, connect_reads, lose_reads, restart_reads, begin_reads, announce_reads, ask_reads, deliver_reads}
 
@@ -77,25 +75,11 @@ module _ (among : AmongIsContained) (contents : Contents) (cluster : Cluster) (s
 
   -- ---- steps over links
 
-  -- what flies now flew before, or is due
-  flies_on : (links : Device → Device → Link) (sender receiver : Device) (flight : Flight) → ((lower upper : Device) → LinkGoesOn (SendsOwn cluster) lower upper (cluster.link lower upper) (links lower upper)) → (linked : Bool) →
-      Contains (if linked then flat_map (flights_of cluster.config sender receiver) (queue_between links sender receiver) else []) flight →
-      Contains (if linked then flat_map (flights_of cluster.config sender receiver) (queue_between cluster.link sender receiver) else []) flight ⊎ AllDue contents flight
-  flies_on links sender receiver flight go false flies = absurd (not_in_none flight flies)
-  flies_on links sender receiver flight go true flies =
-      let sent = Contains-from_flat_map (flights_of cluster.config sender receiver) (queue_between links sender receiver) flight flies in
-      ⊎_elim
-      (λ was. inl (Contains-flat_map (flights_of cluster.config sender receiver) (queue_between cluster.link sender receiver) sent.0 flight was sent.2))
-      (λ own. inr (sent_is_due sender receiver sent.0 own flight sent.2))
-      (queues_go_on (SendsOwn cluster) cluster.link links go sender receiver sent.0 sent.1)
-
   reading_parts : (new : Cluster) → IsReadingStep cluster new → AreQuietParts contents cluster new
   reading_parts new step = record {
     config = step.config;
     places = λ device folder. quiet_where_read (IsFlying (tables_of_cluster cluster) device folder) (IsComing contents cluster device folder) (λ name entry flies. inl flies) _ _ (step.reads device folder);
-    flights = λ sender receiver flight flies.
-        flies_on new.link sender receiver flight step.links (are_linked cluster.config sender receiver)
-        (subst (λ config. Contains (if are_linked config sender receiver then flat_map (flights_of config sender receiver) (queue_between new.link sender receiver) else []) flight) step.config flies);
+    flights = flights_go_on cluster (λ _ flight. AllDue contents flight) sent_is_due new step;
   }
 
 -- ---- steps of one replica
@@ -118,7 +102,7 @@ parts_keep_calm contents old new calm parts =
     let move = move_of_parts contents old new parts calm in
     (calm_after_move contents (tables_of_cluster old) (tables_of_cluster new) move calm, kept_after_move contents (tables_of_cluster old) (tables_of_cluster new) move)
 
-sound_at : (cluster : Cluster) → IsSound cluster → (device : Device) (folder : Folder) (replica : Replica) → SharesFolder cluster.config device folder → get (cluster.peer device).replicas folder ≡ Some replica → IsSoundReplica device replica
+pub sound_at : (cluster : Cluster) → IsSound cluster → (device : Device) (folder : Folder) (replica : Replica) → SharesFolder cluster.config device folder → get (cluster.peer device).replicas folder ≡ Some replica → IsSoundReplica device replica
 sound_at cluster sound device folder replica shares here = (sound.peers device (sound.config.sharing folder device shares)).replicas folder replica here
 
 replica_keeps_calm : (contents : Contents) (old new : Cluster) (device : Device) (folder : Folder) (row : Replica → Row Replica) (answer : Answer) → RowIsQuiet device row → IsSound old → IsCalm (tables_of_cluster old) contents → SharesFolder old.config device folder → AtReplica device folder row old new answer → KeepsCalm contents old new
@@ -147,7 +131,7 @@ reading_keeps_records old new step =
 -- ---- the laws
 
 -- a step is made where all that it names is there; else nothing happens
-step_or_nothing : (P : Cluster → Type 0) (step : Step) (failed : Option ℕ) (old new : Cluster) (answer : Answer) → P old → (IsThere old.config step → StepRow step failed old new answer → P new) → IsStep step failed old new answer → P new
+pub step_or_nothing : (P : Cluster → Type 0) (step : Step) (failed : Option ℕ) (old new : Cluster) (answer : Answer) → P old → (IsThere old.config step → StepRow step failed old new answer → P new) → IsStep step failed old new answer → P new
 step_or_nothing P step failed old new answer nothing made is =
     ⊎_elim
     (λ memory. at_becomes P memory.1 nothing)

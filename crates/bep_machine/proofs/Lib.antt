@@ -97,3 +97,7 @@ mod OneOutcomePull
 mod OneOutcomeLink
 mod OneOutcomeSteps
 mod OneOutcomeRuns
+mod Flights
+mod FreePlaces
+mod FreeRows
+mod FreeSteps

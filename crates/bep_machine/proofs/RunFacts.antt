@@ -72,7 +72,7 @@ row_keeps_config (Finish device folder name) failed old new answer made = at_rep
 row_keeps_config (Restart device) failed old new answer made = ap (λ (c : Cluster). c.config) made.0
 
 -- a user puts in what is no node only by an edit, and an edit isn't quiet
-quiet_is_sound : (step : Step) → IsQuiet step → IsSoundStep step
+pub quiet_is_sound : (step : Step) → IsQuiet step → IsSoundStep step
 quiet_is_sound (Edit device folder name node) quiet = absurd quiet
 quiet_is_sound (Remove device folder name) quiet = tt
 quiet_is_sound (Scan device folder name) quiet = tt

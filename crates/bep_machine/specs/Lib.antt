@@ -18,3 +18,4 @@ pub mod HalfLaws
 pub mod Files
 pub mod Undone
 pub mod Determined
+pub mod FreeLaws

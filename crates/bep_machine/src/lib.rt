@@ -8,6 +8,7 @@ mod determined;
 mod effects;
 mod files;
 mod finite;
+mod free;
 mod gapless;
 mod halves;
 mod headline;
@@ -28,6 +29,7 @@ pub use effects::{
 };
 pub use files::{finish_keeps_files, revert_keeps_files};
 pub use finite::clusters_are_finite;
+pub use free::{firm_stays_put, runs_are_free, steps_are_free};
 pub use gapless::{runs_are_gapless, same_point_same_index};
 pub use halves::{
     actions_are_told, halves_make_the_step, own_events_replay, replays_run, run_replays,

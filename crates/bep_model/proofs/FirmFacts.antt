@@ -1,10 +1,10 @@
 -- What is firm stays firm: at a firm cut no leave is open, so no record and no file changes.
-use Rattle.std.proofs.Common.{◌≡◌, ◌⊎◌, ℕ, List, [], ◌∷◌, ◌++◌, Contains, Option, Some, None, IsSome, true, false, refl, sym, ap, subst, ◌∙◌, inl, inr, ⊎_elim, arith}
+use Rattle.std.proofs.Common.{◌≡◌, ◌⊎◌, List, [], ◌∷◌, ◌++◌, Contains, Option, Some, None, IsSome, false, refl, sym, ap, subst, ◌∙◌, inl, inr, ⊎_elim, arith}
 use Rattle.bep_facts.specs.Members.{Contains-first, Contains-more}
 use Rattle.bep_record.specs.declared.entry.Entry.{Entry}
 use Rattle.bep_record.specs.declared.node.NodeParts.{NodeParts}
 use Rattle.bep_record.specs.declared.folder_kind.FolderKind.{FolderKind}
-use Rattle.bep_record.specs.Content.{Content, Deleted, content_of, content_of_kind}
+use Rattle.bep_record.specs.Content.{Content, content_of}
 use Rattle.bep_record.specs.Node.{IsClean}
 use Rattle.bep_record.specs.Vector.{IsAtMost}
 use Rattle.bep_choice.specs.Choice.{Candidate, IsChoice}
@@ -12,8 +12,8 @@ use Rattle.bep_model.specs.declared.row.Row.{Row}
 use Rattle.bep_model.specs.Tables.{Tables, Device, Folder, FileName, Shares}
 use Rattle.bep_model.specs.Foreign.{IsFlying, IsForeign, IsHarmless, HasTrace, IsKnown}
 use Rattle.bep_model.specs.Winner.{IsWinner, beside, owned, own_candidates, smallest}
-use Rattle.bep_model.specs.Settled.{HasRow, OwnAgrees, StoreAgrees, ForeignAgrees, IsSettled, key_of}
-use Rattle.bep_model.specs.Free.{IsNews, IsHad, MayWant, MayRecord, MayWrite, MayBecome, IsFreeRun}
+use Rattle.bep_model.specs.Settled.{HasRow, OwnAgrees, StoreAgrees, ForeignAgrees}
+use Rattle.bep_model.specs.Free.{IsNews, IsHad, MayWant, MayBecome}
 use Rattle.bep_model.specs.Firm.{OwnHasVersion, ForeignIsAtMost, IsFirm, IsUnchanged}
 use Rattle.bep_model.specs.Laws.{FirmStaysFirm}
 use Rattle.bep_model.proofs.StaysFacts.{not_deleted, owner_shares}

@@ -1,5 +1,5 @@
 -- What is calm for a settled cut's contents is as the certificate says, and settled again.
-use Rattle.std.proofs.Common.{◌≡◌, ◌⊎◌, ℕ, List, [], ◌∷◌, Contains, Option, Some, None, IsSome, is_some, false, refl, sym, ap, subst, ◌∙◌, inl, inr, ⊎_elim}
+use Rattle.std.proofs.Common.{◌≡◌, ℕ, List, [], ◌∷◌, Contains, Option, Some, None, IsSome, is_some, false, refl, sym, ap, subst, ◌∙◌, inl, inr, ⊎_elim}
 use Rattle.std.proofs.lemmas.Bool.{cond-false}
 use Rattle.std.proofs.lemmas.List.Elements.{Contains-append_cases, Contains-append_left, Contains-append_right}
 use Rattle.std.specs.declared.cmp.Ordering.TheVariants.{Less}
@@ -16,13 +16,13 @@ use Rattle.bep_blocks.specs.Plain.{plain_blocks}
 use Rattle.bep_choice.specs.Choice.{Candidate}
 use Rattle.bep_model.specs.declared.row.Row.{Row}
 use Rattle.bep_model.specs.Tables.{Tables, Device, Folder, FileName, Shares}
-use Rattle.bep_model.specs.Foreign.{IsKnown, IsForeign}
+use Rattle.bep_model.specs.Foreign.{IsKnown}
 use Rattle.bep_model.specs.Winner.{IsWinner, beside, owned, own_candidates, smallest}
 use Rattle.bep_model.specs.Settled.{IsSettled, IsListOfWinners, HasRow, Rise, OwnAgrees, content_of_node, key_of, key_cmp}
-use Rattle.bep_model.specs.Calm.{Contents, OwnIsCalm, StoreIsCalm, NodeIsCalm, ForeignIsCalm, IsCalm, IsCalmAt, Kept, content_due, contents_of}
-use Rattle.bep_model.specs.Stays.{OwnHas, Stays, KeepsRecords, SameShares, RecordsAreNamed, SameContents}
+use Rattle.bep_model.specs.Calm.{OwnIsCalm, StoreIsCalm, NodeIsCalm, ForeignIsCalm, IsCalm, content_due, contents_of}
+use Rattle.bep_model.specs.Stays.{OwnHas, KeepsRecords, SameShares, RecordsAreNamed, SameContents}
 use Rattle.bep_model.specs.Laws.{CalmStays, CalmIsSettledAgain}
-use Rattle.bep_model.proofs.CalmFacts.{HasContent, HasNoContent, content_or_none}
+use Rattle.bep_model.proofs.CalmFacts.{content_or_none}
 use Rattle.bep_model.proofs.CutDecided.{SomeChoice}
 use Rattle.bep_model.proofs.Winners.{OneChoice, same_row, beside_says, owned_says}
 

@@ -1,4 +1,4 @@
-use Rattle.std.proofs.Common.{◌≡◌, [], ◌∷◌, Some, refl, subst, inr, ⊎_elim, arith}
+use Rattle.std.proofs.Common.{◌≡◌, [], Some, refl, subst, inr, ⊎_elim, arith}
 use Rattle.std.proofs.lemmas.Bool.Decides.{nat_tests}
 use Rattle.bep_facts.specs.Members.{Contains-first, Contains-one}
 use Rattle.bep_record.specs.declared.entry.Entry.{Entry}

@@ -1,4 +1,4 @@
-use Rattle.std.proofs.Common.{◌≡◌, true, false, [], ◌∷◌, refl}
+use Rattle.std.proofs.Common.{◌≡◌, true, false, [], refl}
 use Rattle.bep_facts.specs.Members.{Contains-first}
 use Rattle.bep_record.specs.declared.folder_kind.FolderKind.TheVariants.{ReceiveOnly}
 use Rattle.bep_model.specs.Examples.{by_one, link, row_of}

@@ -1,8 +1,8 @@
-use Rattle.std.proofs.Common.{◌==◌, Bool, true, false, cond, [], ◌∷◌, Option, None, IsSome, refl, ⊎_elim}
+use Rattle.std.proofs.Common.{◌==◌, Bool, true, false, cond, [], Option, None, IsSome, refl, ⊎_elim}
 use Rattle.bep_facts.specs.Members.{not_in_none, Contains-first}
 use Rattle.bep_record.specs.declared.entry.Entry.{Entry}
 use Rattle.bep_record.specs.declared.folder_kind.FolderKind.TheVariants.{SendReceive}
-use Rattle.bep_model.specs.Tables.{Tables, Device}
+use Rattle.bep_model.specs.Tables.{Tables}
 use Rattle.bep_model.specs.Foreign.{IsKnown}
 use Rattle.bep_model.specs.Examples.{folder_f, name_a, by_one, deletion, two_devices, row_of}
 use Rattle.bep_model.proofs.examples.row_of_an_unknown_name.Goals as goal

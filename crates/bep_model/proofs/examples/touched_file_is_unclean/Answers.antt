@@ -1,4 +1,4 @@
-use Rattle.std.proofs.Common.{◌≡◌, [], ◌∷◌, Some, refl, arith}
+use Rattle.std.proofs.Common.{[], Some, refl}
 use Rattle.bep_facts.specs.Members.{Contains-first}
 use Rattle.bep_record.specs.declared.folder_kind.FolderKind.TheVariants.{SendReceive}
 use Rattle.bep_record.specs.Node.{IsClean}
