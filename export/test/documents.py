@@ -37,9 +37,3 @@ def certified(written):
             return None, (folder, name)
         rows.append({"folder": folder.decode(), "device": winner[0], "record": own[folder, winner[0], name]})
     return with_certificate(written, rows), None
-
-
-def verdict(document):
-    """The first line of the report on an exported document, certified."""
-    lines, _ = answer(certified(encoded(document))[0])
-    return lines.decode().splitlines()[0]

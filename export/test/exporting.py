@@ -1,4 +1,4 @@
-"""Real Syncthing devices in step, stopped, and the exporter run on them."""
+"""Real Syncthing devices in step, stopped, and the audit run on them."""
 
 import json
 import os
@@ -9,10 +9,10 @@ import time
 import unittest
 from pathlib import Path
 
-from documents import verdict
 from syncthing import FOLDER, SECONDS_TO_WAIT, Device, wait_until_in_step
 
 SOURCES = Path(__file__).resolve().parents[1]
+PROGRAM = "syncthing-audit"
 GOPATH = Path("/usr/share/gocode")
 NEEDED = {"golang-go": lambda: shutil.which("go"), "syncthing": lambda: shutil.which("syncthing"),
           "golang-github-syncthing-syncthing-dev":
@@ -20,7 +20,8 @@ NEEDED = {"golang-go": lambda: shutil.which("go"), "syncthing": lambda: shutil.w
 BUILT = SOURCES.parent / "crates/syncaudit/out/syncaudit"
 STAND_IN = Path(__file__).with_name("stand_in.py")
 # The variable with the time, by the monotonic clock, from which on no case is begun.
-UNTIL = "SYNCTHING_CUT_UNTIL"
+UNTIL = "SYNCTHING_AUDIT_UNTIL"
+STATUSES = {"settled": 0, "settled as far as audited": 6}
 
 
 def missing_packages():
@@ -29,9 +30,9 @@ def missing_packages():
 
 
 def go_environment(room):
-    """The environment for Go: Debian's packages alone; what it keeps stands in this room where it has no place of its own
+    """The environment for Go: these sources and Debian's packages; what it keeps stands in this room where it has no place of its own
     that can be written."""
-    made = {**os.environ, "GO111MODULE": "off", "GOPATH": str(GOPATH)}
+    made = {**os.environ, "GO111MODULE": "off", "GOPATH": f"{SOURCES}:{GOPATH}"}
     cache = subprocess.run(["go", "env", "GOCACHE"], env=made, capture_output=True, text=True).stdout.strip()
     if cache.startswith("/"):
         try:
@@ -44,8 +45,8 @@ def go_environment(room):
 
 
 def build_words(program):
-    """The command that builds the exporter, in the directory of its sources."""
-    return ["go", "build", "-p", "1", "-o", program, "."]
+    """The command that builds the audit."""
+    return ["go", "build", "-p", "1", "-o", program, PROGRAM]
 
 
 def auditor():
@@ -68,18 +69,20 @@ class Exporting(unittest.TestCase):
 
     names = ("one", "two")
     kinds = {}
+    # Whether the files are too large for documents with bytes.
+    is_large = False
 
     @classmethod
     def setUpClass(cls):
         if is_over():
             raise unittest.SkipTest("the time is over")
         os.umask(0o022)
-        room = tempfile.TemporaryDirectory(prefix="syncthing-cut-test-")
+        room = tempfile.TemporaryDirectory(prefix="syncthing-audit-test-")
         cls.addClassCleanup(room.cleanup)
         cls.room = Path(room.name)
-        cls.program = os.environ.get("SYNCTHING_CUT") or cls.room / "syncthing-cut"
-        if "SYNCTHING_CUT" not in os.environ:
-            subprocess.run(build_words(cls.program), cwd=SOURCES, env=go_environment(cls.room), check=True)
+        cls.program = os.environ.get("SYNCTHING_AUDIT") or cls.room / PROGRAM
+        if "SYNCTHING_AUDIT" not in os.environ:
+            subprocess.run(build_words(cls.program), env=go_environment(cls.room), check=True)
         cls.auditor = auditor()
         cls.devices = [Device(cls.room, name) for name in cls.names]
         cls.one, cls.two = cls.devices[:2]
@@ -88,7 +91,7 @@ class Exporting(unittest.TestCase):
         cls.configure()
         cls.start()
         cls.synchronise()
-        cls.while_running = cls.export()
+        cls.while_running = cls.check()
         cls.stop()
         cls.numbers = cls.device_numbers()
 
@@ -134,18 +137,40 @@ class Exporting(unittest.TestCase):
 
     @classmethod
     def export(cls, *words):
-        """Runs the exporter on all homes."""
-        return cls.export_homes([device.home for device in cls.devices], *words)
+        """Exports the documents of all homes."""
+        return cls.on_homes("export", [device.home for device in cls.devices], *words)
 
     @classmethod
-    def export_homes(cls, homes, *words):
-        """Runs the exporter on these homes."""
-        return run([cls.program, *(word for home in homes for word in ("--home", home)), *words])
+    def check(cls, *words):
+        """Audits all homes."""
+        return cls.check_homes([device.home for device in cls.devices], *words)
+
+    @classmethod
+    def check_homes(cls, homes, *words):
+        """Audits these homes."""
+        return cls.on_homes("check", homes, "--lines", "--syncaudit", cls.auditor, *words)
+
+    @classmethod
+    def on_homes(cls, command, homes, *words):
+        """Runs a command on these homes."""
+        return run([cls.program, command, *(word for home in homes for word in ("--home", home)), *words])
+
+    @classmethod
+    def check_parts(cls, parts, *words):
+        """Audits these parts."""
+        return run([cls.program, "check", *parts, "--lines", "--syncaudit", cls.auditor, *words])
+
+    @classmethod
+    def part(cls, device, *words):
+        """Makes a device's part, and gives its path."""
+        path = cls.room / f"{device.home.parent.name}.part"
+        run([cls.program, "part", "--home", device.home, "-o", path, *words], check=True)
+        return path
 
     @classmethod
     def device_numbers(cls):
         """The devices' numbers, by their ids, as the exporter tells them."""
-        lines = [line.split() for line in cls.export().stderr.splitlines() if " device " in line]
+        lines = [line.split() for line in cls.export().stderr.splitlines() if ": device " in line]
         return {words[4]: int(words[2]) for words in lines}
 
     @classmethod
@@ -154,43 +179,46 @@ class Exporting(unittest.TestCase):
         return cls.numbers[device.id]
 
     def document(self, *words):
-        """The exported document."""
-        ran = self.export(*words)
+        """The exported document, with bytes."""
+        ran = self.export("--bytes", *words)
         self.assertEqual(ran.returncode, 0, ran.stderr)
         return json.loads(ran.stdout)
 
     def report(self, *words):
-        """The lines of the report that an audit of the devices writes."""
-        ran = self.export("--audit", "--syncaudit", self.auditor, *words)
+        """The lines that an audit of the devices writes. With bytes the verdict is the same, and so it is by parts."""
+        ran = self.check(*words)
         lines = ran.stdout.splitlines()
         self.assertTrue(lines, ran.stderr)
-        self.assertEqual(ran.returncode, 0 if lines[0] in ("settled", "all settled") else 1, ran.stderr)
+        self.assertEqual(ran.returncode, STATUSES.get(lines[0], 1), ran.stderr)
+        if not self.is_large:
+            self.assertEqual(self.check("--bytes", *words).stdout.splitlines(), lines)
         return lines
 
     def verdict(self, *words):
-        """The first line of that report."""
+        """The first line of what an audit writes."""
         return self.report(*words)[0]
 
     def fault(self, reason, name, device=None):
         """The verdict of this reason on the folder."""
-        return f"not settled: {reason} {FOLDER} {name}" + (f" on {self.number(device)}" if device else "")
+        return f"not settled: {self.failure(reason, name, device)}"
+
+    def failure(self, reason, name, device=None):
+        """The line of this failure."""
+        return f"{reason} {FOLDER} {name}" + (f" on {self.number(device)}" if device else "")
 
     def refused(self, *words):
-        """What the exporter says as it refuses."""
-        ran = self.export(*words)
+        """What the audit says as it refuses."""
+        ran = self.check(*words)
         self.assertEqual((ran.returncode, ran.stdout), (2, ""), ran.stderr)
         return ran.stderr
 
-    def assert_left_out(self, name):
-        """A lenient export has no name that begins so, says so, and is settled."""
-        ran = self.export("--lenient")
-        self.assertEqual(ran.returncode, 0, ran.stderr)
-        self.assertIn("left out: 1 names, 0 devices, 0 folders", ran.stderr)
-        document = json.loads(ran.stdout)
-        for share in document["cut"]["folders"][0]["devices"]:
-            for items in (share["own"], share["store"], share["views"][0]["records"]):
-                self.assertEqual([one["name"] for one in items if one["name"].startswith(name)], [])
-        self.assertEqual(verdict(document), "settled")
+    def assert_left_out(self, name, kind, *more):
+        """An audit that leaves out this kind says so of the name, and is settled as far as it goes; without that it is
+        refused."""
+        self.assertIn(f"--leave-out {kind} leaves them out", self.refused())
+        lines = self.report("--leave-out", kind)
+        self.assertEqual(lines[0], "settled as far as audited")
+        self.assertEqual([line.split(" on ")[0] for line in lines[2:]], [f"left out: {FOLDER} {name}", *more])
 
 
 def main():

@@ -1,5 +1,5 @@
 #!/usr/bin/env python3
-"""The exporter against two real Syncthing devices whose folder doesn't fit into one document.
+"""The audit of two real Syncthing devices whose folder doesn't fit into one document with bytes.
 
     export/test/large_folders.py
 """
@@ -24,11 +24,13 @@ class LargeFolder(Exporting):
         cls.scan_and_wait()
 
     def test_one_document_is_refused(self):
-        self.assertIn("could be over 67108864 bytes once it has its certificate: --split", self.refused())
+        ran = self.export("--bytes")
+        self.assertEqual((ran.returncode, ran.stdout), (2, ""))
+        self.assertIn("one document hasn't room for all: --into DIR writes several", ran.stderr)
 
     def test_several_documents_in_a_directory(self):
         room = self.room / "documents"
-        ran = self.export("--split", "--into", str(room))
+        ran = self.export("--bytes", "--into", str(room))
         self.assertEqual((ran.returncode, ran.stdout), (0, ""), ran.stderr)
         documents = [json.loads(path.read_bytes()) for path in sorted(room.iterdir())]
         names = [[node["name"] for node in one["cut"]["folders"][0]["devices"][0]["store"]] for one in documents]
@@ -37,11 +39,13 @@ class LargeFolder(Exporting):
             with path.open("rb") as cut:
                 certified = run([self.auditor, "certify"], stdin=cut, check=True)
             self.assertLessEqual(len(certified.stdout.encode()), 64 * MEGA)
-        self.assertIn("file exists", self.refused("--split", "--into", str(room)))
+        ran = self.export("--bytes", "--into", str(room))
+        self.assertEqual(ran.returncode, 2)
+        self.assertIn("file exists", ran.stderr)
 
     def test_the_sum_of_the_answers(self):
         counts = f"folder {FOLDER}: 4 names, 0 deleted, 2 devices"
-        self.assertEqual(self.report("--split"), ["all settled", counts])
+        self.assertEqual(self.report(), ["settled", counts])
         path = self.two.files / "b.bin"
         times = path.stat()
         with path.open("r+b") as file:
@@ -50,20 +54,22 @@ class LargeFolder(Exporting):
             file.write(bytes([first[0] ^ 1]))
         os.utime(path, ns=(times.st_atime_ns, times.st_mtime_ns))
         try:
-            self.assertEqual(self.report("--split"), [self.fault("StoreDiffers", "b.bin", self.two), counts])
+            self.assertEqual(self.report(), [self.fault("StoreDiffers", "b.bin", self.two), counts,
+                                             self.failure("StoreDiffers", "b.bin", self.two)])
         finally:
             with path.open("r+b") as file:
                 file.write(first)
             os.utime(path, ns=(times.st_atime_ns, times.st_mtime_ns))
 
-    def test_a_file_over_the_limit_is_left_out(self):
+    def test_a_file_over_the_limit_of_bytes_is_left_out(self):
         path = self.one.files / "huge"
         with path.open("wb") as file:
             file.truncate(16 * MEGA + 1)
         try:
-            self.assertIn('name "huge": it has over 16777216 bytes', self.refused("--split", "--audit"))
-            self.assertEqual(self.verdict("--split", "--lenient", "--names", "huge"), "settled")
-            self.assertIn("left out: 1 names, 0 devices, 0 folders", self.export("--names", "huge", "--lenient").stderr)
+            lines = self.check("--bytes", "--leave-out", "large").stdout.splitlines()
+            self.assertEqual(lines[0], "settled as far as audited")
+            self.assertIn(f"left out: {FOLDER} huge on {self.number(self.one)}: a document with bytes", lines[2])
+            self.assertIn("there is nothing to audit", self.refused("--bytes", "--leave-out", "large", "--names", "huge"))
         finally:
             path.unlink()
 

@@ -1,5 +1,5 @@
 #!/usr/bin/env python3
-"""Runs the exporter's tests: Go's, and each class of cases against real Syncthing devices in a process of its own,
+"""Runs the tests of the audit of real devices: Go's, and each class of cases against real Syncthing devices in a process of its own,
 side by side. The last line is 'N passed, M failed'.
 
     export/test/run.py [SECONDS]
@@ -84,22 +84,21 @@ def run_until(deadline, words, **options):
 
 
 def build(room, environment, deadline):
-    """Builds the exporter and Go's tests, and has Go vet them; gives the status, nothing if that wasn't done by the
-    deadline."""
-    from exporting import SOURCES, build_words
-    for words in (build_words(room / "syncthing-cut"), ["go", "test", "-c", "-p", "1", "-o", room / "go-tests", "."],
-                  ["go", "vet", "-p", "1", "."]):
-        status, said = run_until(deadline, words, cwd=SOURCES, env=environment)
+    """Builds the audit, and has Go vet it; gives the status, nothing if that wasn't done by the deadline."""
+    from exporting import PROGRAM, build_words
+    for words in (build_words(room / PROGRAM), ["go", "vet", "-p", "1", f"{PROGRAM}/..."]):
+        status, said = run_until(deadline, words, env=environment)
         if status != 0:
             print(said)
             return status
     return 0
 
 
-def run_go(room):
-    """Runs Go's tests, and gives how many passed and failed."""
+def run_go(environment):
+    """Builds and runs Go's tests, and gives how many passed and failed."""
+    from exporting import PROGRAM
     status, said = run_until(time.monotonic() + 2 * SECONDS_OF_GO,
-                             [room / "go-tests", "-test.v", f"-test.timeout={SECONDS_OF_GO}s"], cwd=HERE.parent)
+                             ["go", "test", "-p", "1", "-v", f"-timeout={SECONDS_OF_GO}s", f"{PROGRAM}/..."], env=environment)
     passed = len(re.findall(r"^--- PASS", said, re.MULTILINE))
     failed = len(re.findall(r"^--- FAIL", said, re.MULTILINE))
     if status != 0 or not passed:
@@ -142,11 +141,11 @@ def run_classes(environment, deadline):
 def main():
     lacking = missing()
     if lacking:
-        print("exporter's tests skipped; missing:", ", ".join(lacking))
+        print("tests of the audit of real devices skipped; missing:", ", ".join(lacking))
         print("0 passed, 0 failed")
         return 0
     deadline = time.monotonic() + (float(sys.argv[1]) if len(sys.argv) > 1 else 3600)
-    with tempfile.TemporaryDirectory(prefix="syncthing-cut-tests-") as made:
+    with tempfile.TemporaryDirectory(prefix="syncthing-audit-tests-") as made:
         passed, failed, unfinished = run_all(Path(made), deadline)
     for what in unfinished:
         print("skipped:", what)
@@ -155,17 +154,18 @@ def main():
 
 
 def run_all(room, deadline):
-    """Builds the exporter and runs all tests; gives how many passed and failed, and what wasn't begun."""
-    from exporting import STAND_IN, UNTIL, auditor, go_environment
+    """Builds the audit and runs all tests; gives how many passed and failed, and what wasn't begun."""
+    from exporting import PROGRAM, STAND_IN, UNTIL, auditor, go_environment
     program = auditor()
-    print("exporter's tests, audited by", "compare/ in place of the program" if program == str(STAND_IN) else program)
-    status = build(room, go_environment(room), deadline)
+    print("tests of the audit of real devices, answered by", "compare/ in place of the program" if program == str(STAND_IN) else program)
+    for_go = go_environment(room)
+    status = build(room, for_go, deadline)
     if status is None:
         return 0, 0, ["all; building wasn't done in time"]
     if status != 0:
         return 0, 1, []
-    passed, failed = run_go(room)
-    environment = {**os.environ, "SYNCTHING_CUT": str(room / "syncthing-cut"), "TMPDIR": str(room), UNTIL: str(deadline)}
+    passed, failed = run_go(for_go)
+    environment = {**os.environ, "SYNCTHING_AUDIT": str(room / PROGRAM), "TMPDIR": str(room), UNTIL: str(deadline)}
     more = run_classes(environment, deadline)
     return passed + more[0], failed + more[1], more[2]
 

@@ -1,16 +1,18 @@
 #!/usr/bin/env python3
-"""Stands for the program `syncaudit` where it isn't built: `certify` and `check`, by the second reading in compare/.
+"""Stands for the program `syncaudit` where it isn't built: `certify`, `check` and `explain`, by the second reading in
+compare/. It explains without what is indented.
 
     export/test/stand_in.py certify < CUT
     export/test/stand_in.py check < DOCUMENT
+    export/test/stand_in.py explain < DOCUMENT
 
-CUT is what the exporter writes, without a certificate.
+CUT is what is exported, without a certificate.
 """
 
 import sys
 
 from documents import certified
-from reading import Fault, answer, printed, refusal
+from reading import Fault, answer, answers, printed, refusal
 
 
 def certify(written):
@@ -25,8 +27,13 @@ def certify(written):
     return made, 0
 
 
+def explain(written):
+    """What `syncaudit explain` writes for the document but for what is indented, and its exit status."""
+    return answers(written)[1]
+
+
 def main():
-    said, status = {"certify": certify, "check": answer}[sys.argv[1]](sys.stdin.buffer.read())
+    said, status = {"certify": certify, "check": answer, "explain": explain}[sys.argv[1]](sys.stdin.buffer.read())
     sys.stdout.buffer.write(said)
     sys.stdout.flush()
     sys.exit(status)

@@ -1,5 +1,5 @@
 #!/usr/bin/env python3
-"""The exporter against three real Syncthing devices on loopback.
+"""The audit of three real Syncthing devices on loopback.
 
     export/test/three_devices.py
 """

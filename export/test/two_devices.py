@@ -1,20 +1,19 @@
 #!/usr/bin/env python3
-"""The exporter against two real Syncthing devices on loopback.
+"""The audit of two real Syncthing devices on loopback.
 
     export/test/two_devices.py
 
-Builds the exporter, makes two devices that share a folder, lets them synchronise, stops them, and checks what is
-exported. It installs nothing, and says what is missing.
+Builds the audit, makes two devices that share a folder, lets them synchronise, stops them, and checks what is told of
+them. It installs nothing, and says what is missing.
 """
 
-import json
 import os
 import subprocess
 import tempfile
 from contextlib import contextmanager
 from pathlib import Path
 
-from exporting import Exporting, main
+from exporting import Exporting, main, run
 from syncthing import FOLDER, files_of, wait_until, wait_until_in_step
 
 
@@ -26,11 +25,13 @@ class TwoDevices(Exporting):
         """The second device's text with other bytes of the same size and time."""
         path = self.two.files / "text"
         times = path.stat()
-        for data in ("hallo", "hello"):
-            path.write_text(data)
+        path.write_text("hallo")
+        os.utime(path, ns=(times.st_atime_ns, times.st_mtime_ns))
+        try:
+            yield
+        finally:
+            path.write_text("hello")
             os.utime(path, ns=(times.st_atime_ns, times.st_mtime_ns))
-            if data == "hallo":
-                yield
 
     def differs(self):
         """The verdict on the second device's text with other bytes."""
@@ -53,7 +54,7 @@ class TwoDevices(Exporting):
         self.assertEqual([one["name"] for one in share["own"] + share["store"]], ["folder/large"] * 2)
 
     def test_names_of_which_there_is_none_are_refused(self):
-        self.assertIn('no name begins with "nobody"', self.refused("--names", "nobody", "--lenient"))
+        self.assertIn('no name begins with "nobody"', self.refused("--names", "nobody"))
 
     def test_nothing_of_the_homes_changes(self):
         before = [files_of(device.home.parent) for device in (self.one, self.two)]
@@ -92,7 +93,7 @@ class TwoDevices(Exporting):
         subprocess.run(["cp", "-a", self.two.files, files], check=True)
         home = self.copied_home(files)
         (files / "empty").unlink()
-        ran = self.export_homes([self.one.home, home], "--audit", "--syncaudit", self.auditor)
+        ran = self.check_homes([self.one.home, home])
         self.assertEqual((ran.returncode, ran.stdout.splitlines()[0]),
                          (1, self.fault("StoreDiffers", "empty", self.two)), ran.stderr)
         self.assertEqual(self.verdict(), "settled")
@@ -110,30 +111,23 @@ class TwoDevices(Exporting):
     def test_two_devices_in_one_directory_are_refused(self):
         with self.other_bytes():
             for path in (self.one.files, f"{self.one.files}/"):
-                for words in ((), ("--lenient", "--audit")):
-                    ran = self.export_homes([self.one.home, self.copied_home(path)], *words)
-                    self.assertEqual((ran.returncode, ran.stdout), (2, ""))
-                    self.assertIn(f"its directory {self.one.files} is that of device", ran.stderr)
+                ran = self.check_homes([self.one.home, self.copied_home(path)])
+                self.assertEqual((ran.returncode, ran.stdout), (2, ""))
+                self.assertIn(f"its directory {self.one.files} is that of device", ran.stderr)
 
-    def test_a_missing_home_is_refused(self):
-        ran = self.export_homes([self.one.home])
+    def test_a_missing_home_is_refused_or_left_out(self):
+        ran = self.check_homes([self.one.home])
         self.assertEqual((ran.returncode, ran.stdout), (2, ""))
-        self.assertIn(f"folder {FOLDER}, device {self.numbers[self.two.id]}, name -: it shares the folder", ran.stderr)
-
-    def test_a_missing_home_is_left_out(self):
-        ran = self.export_homes([self.one.home], "--lenient")
-        self.assertIn("left out: 0 names, 1 devices, 0 folders", ran.stderr)
-        share, = json.loads(ran.stdout)["cut"]["folders"][0]["devices"]
-        self.assertEqual((share["device"], share["views"]), (self.numbers[self.one.id], []))
+        self.assertIn(f"it shares the folder, and no home or part of it is given ({self.two.id})", ran.stderr)
+        ran = self.check_homes([self.one.home], "--leave-out", "absent")
+        self.assertEqual((ran.returncode, ran.stdout.splitlines()[0]), (6, "settled as far as audited"))
+        self.assertIn(f"left out: folder {FOLDER}, device", ran.stdout)
 
     def test_an_encrypted_folder_is_refused_or_left_out(self):
         self.one.configure([self.one, self.two], password="secret")
         try:
-            self.assertIn("it is shared encrypted with device", self.refused())
-            ran = self.export("--lenient")
-            self.assertEqual(json.loads(ran.stdout)["cut"], {"folders": [], "links": []})
-            self.assertIn("left out: 0 names, 0 devices, 1 folders", ran.stderr)
-            self.assertIn("no folder at any device is there, or left", self.refused("--lenient", "--audit"))
+            self.assertIn("the folder is shared encrypted with it by device", self.refused())
+            self.assertIn("there is nothing to audit", self.refused("--leave-out", "encrypted"))
         finally:
             self.one.configure([self.one, self.two])
 
@@ -149,16 +143,22 @@ class TwoDevices(Exporting):
         open(path, "xb").close()
         try:
             self.assertIn(r'name "odd\xff": its name', self.refused())
-            self.assert_left_out("odd")
+            ran = self.check("--leave-out", "names")
+            self.assertEqual((ran.returncode, ran.stdout.splitlines()[0]), (6, "settled as far as audited"))
         finally:
             os.remove(path)
 
-    def test_other_permissions_are_refused_or_left_out(self):
+    def test_other_permissions_are_told_beside_the_verdict(self):
         path = self.two.files / "text"
         path.chmod(0o600)
         try:
-            self.assertIn(f'device {self.numbers[self.two.id]}, name "text": its permissions', self.refused())
-            self.assert_left_out("text")
+            lines = self.report()
+            self.assertEqual(lines[0], "settled")
+            self.assertIn(f"{self.number(self.two)} index 0644 disk 0600", lines[2])
+            with self.other_bytes():
+                lines = self.report()
+                self.assertEqual(lines[0], self.differs())
+                self.assertIn("disk 0600", lines[3])
         finally:
             path.chmod(0o644)
 
@@ -167,7 +167,7 @@ class TwoDevices(Exporting):
         os.mkfifo(path)
         try:
             self.assertIn('name "fifo": it is no file, directory or symlink', self.refused())
-            self.assert_left_out("fifo")
+            self.assert_left_out("fifo", "special")
         finally:
             path.unlink()
 
@@ -176,41 +176,79 @@ class TwoDevices(Exporting):
         path.write_text("emp*\n")
         try:
             self.assertIn('name "empty": it is ignored there by .stignore', self.refused())
-            self.assert_left_out("empty")
+            self.assert_left_out("empty", "ignored")
         finally:
             path.unlink()
 
-    def test_a_file_over_the_limit_is_refused(self):
+    def test_what_each_device_ignores_is_outside_the_folder(self):
+        paths = [device.files / name for device in (self.one, self.two) for name in (".stignore", "scratch")]
+        for path in paths:
+            path.write_text("scratch\n")
+        try:
+            lines = self.report()
+            self.assertEqual((lines[0], lines[2]), ("settled", f"ignored: {FOLDER} 1 names, 8 bytes, on no device's index"))
+        finally:
+            for path in paths:
+                path.unlink()
+
+    def test_patterns_that_cannot_be_read_are_refused(self):
+        path = self.two.files / ".stignore"
+        path.write_text("#include nowhere\n")
+        try:
+            self.assertIn(f"{path} can't be read", self.refused())
+        finally:
+            path.unlink()
+
+    def test_a_file_over_the_limit_of_bytes(self):
         path = self.one.files / "huge"
         with path.open("wb") as file:
             file.truncate((16 << 20) + 1)
         try:
-            self.assertIn('name "huge": it has over 16777216 bytes', self.refused())
+            self.assertIn('name "huge": a document with bytes has files of at most', self.refused("--bytes"))
+            self.assertEqual(self.check().stdout.splitlines()[0], self.fault("NotWinner", "huge"))
         finally:
             path.unlink()
 
     def test_usage(self):
-        for words in ((), ("--split",), ("--into", "x"), ("--audit", "--into", "x"), ("now",)):
-            ran = self.export(*words) if words else self.export_homes([])
-            self.assertEqual(ran.returncode, 3, words)
+        for words in ((), ("now",), ("check",), ("part",), ("check", "--leave-out", "everything", "x"), ("check", "--bytes", "x")):
+            self.assertEqual(run([self.program, *words]).returncode, 3, words)
+        asked = run([self.program, "--help"])
+        self.assertEqual((asked.returncode, asked.stdout[:6], asked.stderr), (0, "usage:", ""))
 
     def test_an_audit_without_its_program(self):
-        ran = self.export("--audit", "--syncaudit", "/nowhere/syncaudit")
+        ran = self.check("--syncaudit", "/nowhere/syncaudit")
         self.assertEqual((ran.returncode, ran.stdout), (127, ""))
         self.assertIn("/nowhere/syncaudit can't be run", ran.stderr)
 
     def test_an_audit_by_the_environment(self):
         os.environ["SYNCAUDIT"] = self.auditor
         try:
-            self.assertEqual(self.export("--audit").stdout.splitlines()[0], "settled")
+            ran = self.on_homes("check", [device.home for device in self.devices], "--lines")
+            self.assertEqual(ran.stdout.splitlines()[0], "settled")
         finally:
             del os.environ["SYNCAUDIT"]
 
-    def test_two_documents_of_one_name_each(self):
+    def test_some_names_and_all(self):
         with self.other_bytes():
             for names, said in (("e", "settled"), ("text", self.differs())):
                 self.assertEqual(self.verdict("--names", names), said)
-            self.assertEqual(self.verdict("--split"), self.differs())
+
+    def test_parts_say_what_homes_do(self):
+        with self.other_bytes():
+            parts = [self.part(device) for device in self.devices]
+        ran = self.check_parts(parts)
+        self.assertEqual((ran.returncode, ran.stdout.splitlines()[0]), (1, self.differs()), ran.stderr)
+        ran = self.check_parts(parts[:1])
+        self.assertEqual((ran.returncode, ran.stdout), (2, ""))
+
+    def test_what_is_no_part_is_refused(self):
+        whole = self.part(self.one).read_bytes()
+        path = self.room / "broken.part"
+        for data in (b"", b"hello", whole[:-1], whole[:100], whole[:-20] + whole[-19:]):
+            path.write_bytes(data)
+            ran = self.check_parts([path, self.part(self.two)])
+            self.assertEqual((ran.returncode, ran.stdout), (2, ""))
+            self.assertIn("broken.part", ran.stderr)
 
 
 class ReceiveOnly(Exporting):
@@ -234,7 +272,9 @@ class ReceiveOnly(Exporting):
 
     def test_what_nobody_else_has_has_no_winner(self):
         self.assertEqual(self.report("--names", "added"),
-                         [self.fault("NotWinner", "added"), f"folder {FOLDER}: 1 names, 0 deleted, 2 devices"])
+                         [self.fault("NotWinner", "added"), f"folder {FOLDER}: 1 names, 0 deleted, 2 devices",
+                          self.failure("NotWinner", "added"),
+                          f"no winner: {FOLDER} added on {self.number(self.two)}: local change"])
 
     def test_they_go_as_over_the_wire(self):
         shares = {share["device"]: share for share in self.document()["cut"]["folders"][0]["devices"]}
@@ -242,7 +282,7 @@ class ReceiveOnly(Exporting):
         viewed = shares[self.numbers[self.one.id]]["views"][0]["records"]
         self.assertEqual(own, viewed)
         self.assertEqual([(one["name"], one["version"]) for one in own if one.get("invalid")],
-                         [("added", []), ("empty", []), ("text", [])])
+                         [("empty", []), ("text", [])])
 
     def test_the_rest_is_settled(self):
         self.assertEqual(self.verdict("--names", "folder"), "settled")

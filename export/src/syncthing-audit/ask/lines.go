@@ -1,0 +1,88 @@
+package ask
+
+import (
+	"encoding/hex"
+	"fmt"
+	"strconv"
+	"strings"
+
+	"syncthing-audit/finding"
+)
+
+// Line gives a failure as syncaudit writes it.
+func Line(folder string, one *finding.Failure) string {
+	line := one.Reason + " " + folder + " " + Printed(one.Name)
+	if one.Device != 0 {
+		line += " on " + strconv.FormatUint(one.Device, 10)
+	}
+	return line
+}
+
+// Printed gives a name as syncaudit writes it: each byte below 0x21, each backslash and 0x7f as \xNN.
+func Printed(name string) string {
+	var made strings.Builder
+	for place := 0; place < len(name); place++ {
+		if one := name[place]; one < 0x21 || one == '\\' || one == 0x7f {
+			fmt.Fprintf(&made, `\x%02x`, one)
+		} else {
+			made.WriteByte(one)
+		}
+	}
+	return made.String()
+}
+
+// unprinted gives the name that is written so.
+func unprinted(text string) (string, bool) {
+	var made strings.Builder
+	for place := 0; place < len(text); place++ {
+		if text[place] != '\\' {
+			made.WriteByte(text[place])
+			continue
+		}
+		if place+4 > len(text) || text[place+1] != 'x' {
+			return "", false
+		}
+		one, err := hex.DecodeString(text[place+2 : place+4])
+		if err != nil {
+			return "", false
+		}
+		made.Write(one)
+		place += 3
+	}
+	return made.String(), true
+}
+
+// readFailures reads what 'syncaudit explain' writes: what is indented is only said.
+func readFailures(folder, report string) ([]finding.Failure, error) {
+	failures := []finding.Failure{}
+	for _, line := range strings.Split(strings.TrimSuffix(report, "\n"), "\n") {
+		if strings.HasPrefix(line, " ") {
+			continue
+		}
+		one, is := readFailure(folder, line)
+		if !is {
+			return nil, &Failed{statusRefused, fmt.Sprintf("syncaudit explains %q", line)}
+		}
+		failures = append(failures, one)
+	}
+	if len(failures) == 0 {
+		return nil, &Failed{statusRefused, "syncaudit explains nothing"}
+	}
+	return failures, nil
+}
+
+// readFailure reads one of its lines.
+func readFailure(folder, line string) (finding.Failure, bool) {
+	words := strings.Split(line, " ")
+	if len(words) != 3 && len(words) != 5 || finding.Place(words[0]) < 0 || words[1] != folder {
+		return finding.Failure{}, false
+	}
+	name, is := unprinted(words[2])
+	made := finding.Failure{Reason: words[0], Name: name}
+	if len(words) == 5 {
+		number, err := strconv.ParseUint(words[4], 10, 64)
+		is = is && err == nil && words[3] == "on"
+		made.Device = number
+	}
+	return made, is
+}

@@ -1,0 +1,68 @@
+package ask
+
+import (
+	"sync"
+
+	"syncthing-audit/document"
+)
+
+// Pool has several programs at once answer to documents.
+type Pool struct {
+	program Program
+	asked   chan *document.Document
+	workers sync.WaitGroup
+	mutex   sync.Mutex
+	take    func(*document.Document, *Reply)
+	err     error
+}
+
+// NewPool starts so many workers; each reply is given to take, one at a time, in any order.
+func NewPool(program Program, workers int, take func(*document.Document, *Reply)) *Pool {
+	made := &Pool{program: program, asked: make(chan *document.Document), take: take}
+	for next := 0; next < workers; next++ {
+		made.workers.Add(1)
+		go made.work()
+	}
+	return made
+}
+
+func (p *Pool) work() {
+	defer p.workers.Done()
+	for one := range p.asked {
+		if p.failed() != nil {
+			continue
+		}
+		reply, err := p.program.Ask(one.Folder, one.Written)
+		one.Written = nil
+		p.mutex.Lock()
+		if err == nil {
+			p.take(one, reply)
+		} else if p.err == nil {
+			p.err = err
+		}
+		p.mutex.Unlock()
+	}
+}
+
+// failed gives the first error.
+func (p *Pool) failed() error {
+	p.mutex.Lock()
+	defer p.mutex.Unlock()
+	return p.err
+}
+
+// Ask has a document answered to, once a worker is free.
+func (p *Pool) Ask(one *document.Document) error {
+	if err := p.failed(); err != nil {
+		return err
+	}
+	p.asked <- one
+	return nil
+}
+
+// Close waits for all answers.
+func (p *Pool) Close() error {
+	close(p.asked)
+	p.workers.Wait()
+	return p.err
+}

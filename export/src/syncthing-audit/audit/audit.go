@@ -1,0 +1,128 @@
+// Package audit goes through all names of the folders and tells what is found; documents go to those who answer them.
+package audit
+
+import (
+	"errors"
+	"fmt"
+
+	"syncthing-audit/ask"
+	"syncthing-audit/document"
+	"syncthing-audit/finding"
+	"syncthing-audit/join"
+	"syncthing-audit/limits"
+)
+
+// bytesOfDocument is how long a document of stand-ins grows: small enough that several are in memory at once.
+const bytesOfDocument = 4 << 20
+
+// Options say how an audit goes.
+type Options struct {
+	LeaveOut  map[string]bool // the kinds of what may be left out
+	WithBytes bool            // documents with bytes in place of stand-ins
+	Refused   func()          // called once there is something without which no answer is given
+}
+
+// Collect goes through the folders of a plan. Each document is given to take, as long as nothing was refused.
+func Collect(plan *join.Plan, options Options, take func(*document.Document) error) (*finding.Answer, error) {
+	made := &collector{plan: plan, options: options, take: take, answer: &finding.Answer{}}
+	for _, one := range plan.Devices {
+		made.answer.Devices = append(made.answer.Devices, finding.Device{ID: one.Head.Device, Number: one.Number, Name: one.Head.Name,
+			Made: one.Head.Made, From: one.From})
+	}
+	for _, one := range plan.Refusals {
+		made.refuse(finding.Refusal{Kind: one.Kind, Folder: one.Folder, Device: label(one), Why: one.Why})
+	}
+	for _, one := range plan.Folders {
+		if err := made.folder(one); err != nil {
+			return nil, err
+		}
+	}
+	for _, one := range plan.Devices {
+		if err := one.Whole(); err != nil {
+			return nil, err
+		}
+	}
+	return made.answer, made.checkSomething()
+}
+
+// label names the device of a refusal for a person.
+func label(one join.Refusal) string {
+	if one.Name == "" {
+		return one.Device
+	}
+	return one.Name
+}
+
+// ErrNothing says that an audit would call nothing at all settled.
+var ErrNothing = errors.New("refused: there is nothing to audit: no name of any folder is left")
+
+// collector goes through the folders.
+type collector struct {
+	plan      *join.Plan
+	options   Options
+	take      func(*document.Document) error
+	answer    *finding.Answer
+	documents int
+	names     int64
+	audited   int64 // names that documents have, or that are told to have no winner
+}
+
+// refuse notes what isn't audited.
+func (c *collector) refuse(one finding.Refusal) {
+	if one.Kind != "" && c.options.LeaveOut[one.Kind] {
+		c.answer.LeftOut = append(c.answer.LeftOut, one)
+		return
+	}
+	if len(c.answer.Refusals) == 0 && c.options.Refused != nil {
+		c.options.Refused()
+	}
+	c.answer.Refusals = append(c.answer.Refusals, one)
+}
+
+// checkSomething says whether anything was audited.
+func (c *collector) checkSomething() error {
+	if c.audited > 0 || len(c.answer.Refusals) > 0 {
+		return nil
+	}
+	for _, one := range c.plan.Devices {
+		if one.Head.Prefix != "" && c.names == 0 {
+			return fmt.Errorf("refused: no name begins with %q", one.Head.Prefix)
+		}
+	}
+	return ErrNothing
+}
+
+// folder goes through the names of a folder.
+func (c *collector) folder(folder *join.Folder) error {
+	most := bytesOfDocument
+	if c.options.WithBytes {
+		most = limits.MostBytes
+	}
+	next := &names{collector: c, found: &finding.Folder{ID: folder.ID, Label: folder.Label, Members: folder.Members,
+		Rows: map[string]*join.Row{}}, builder: document.NewBuilder(folder, c.options.WithBytes, most)}
+	c.answer.Folders = append(c.answer.Folders, next.found)
+	var err error
+	if next.found.Bytes, err = folder.Rows(next.row); err != nil {
+		return err
+	}
+	if next.builder.Rows() > 0 || next.found.Documents == 0 {
+		return next.give(next.builder.Take())
+	}
+	return nil
+}
+
+// Merge adds an answer to what was found in its document's folder.
+func Merge(to *finding.Folder, one *document.Document, reply *ask.Reply) {
+	to.Names += reply.Names
+	to.Deleted += reply.Deleted
+	to.Failures = append(to.Failures, reply.Failures...)
+	failed := map[string]bool{}
+	for _, failure := range reply.Failures {
+		failed[failure.Name] = true
+	}
+	for _, row := range one.Rows {
+		if failed[row.Name] {
+			to.Rows[row.Name] = row
+		}
+	}
+}

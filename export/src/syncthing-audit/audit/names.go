@@ -1,0 +1,167 @@
+package audit
+
+import (
+	"strings"
+
+	"syncthing-audit/document"
+	"syncthing-audit/finding"
+	"syncthing-audit/join"
+	"syncthing-audit/part"
+)
+
+// names goes through the names of one folder.
+type names struct {
+	*collector
+	found   *finding.Folder
+	builder *document.Builder
+	below   *finding.LeftOut // the directory below which all is left out, if there is one
+}
+
+// row takes a name: it is audited, or told as one that isn't, or as one without a winner.
+func (n *names) row(row *join.Row) error {
+	n.collector.names++
+	switch {
+	case n.isBelow(row):
+	case isOutside(row):
+		n.found.Outside.Names++
+		n.found.Outside.Bytes += sizeOf(row)
+	case hasOut(row):
+		n.leaveOut(row, reasonsOf(row))
+	default:
+		return n.audit(row)
+	}
+	return nil
+}
+
+// audit has a name audited.
+func (n *names) audit(row *join.Row) error {
+	n.audited++
+	n.addPermissions(row)
+	if !hasWinner(row) && isKnown(row) {
+		n.addUnwon(row)
+		return nil
+	}
+	full, out := n.builder.Add(row)
+	if out != nil {
+		n.audited--
+		n.leaveOut(row, []finding.Reason{{Member: -1, Kind: out.Kind, Why: out.Why}})
+		return nil
+	}
+	if full == nil {
+		return nil
+	}
+	return n.give(full)
+}
+
+// give gives a document to those who answer it. Where something was refused there is no answer, so it isn't asked for.
+func (n *names) give(one *document.Document) error {
+	n.found.Documents++
+	one.Place = n.documents
+	n.documents++
+	if len(n.answer.Refusals) > 0 {
+		return nil
+	}
+	return n.take(one)
+}
+
+// isBelow says whether a name stands below a directory that couldn't be read somewhere, and counts it.
+func (n *names) isBelow(row *join.Row) bool {
+	if n.below == nil || !strings.HasPrefix(row.Name, n.below.Name) || row.Name == n.below.Name {
+		return false
+	}
+	n.below.Names++
+	n.below.Bytes += sizeOf(row)
+	return true
+}
+
+// leaveOut leaves a name out for all these reasons, or refuses it for those that weren't asked to be left out.
+func (n *names) leaveOut(row *join.Row, reasons []finding.Reason) {
+	one := &finding.LeftOut{Name: row.Name, Names: 1, Bytes: sizeOf(row), Why: reasons}
+	for _, at := range row.At {
+		for _, out := range outsOf(at) {
+			one.Below = one.Below || out.Below
+		}
+	}
+	if one.Below {
+		one.Names = 0
+		n.below = one
+	}
+	refused := false
+	for _, why := range reasons {
+		if !n.options.LeaveOut[why.Kind] {
+			refused = true
+			n.refuse(finding.Refusal{Kind: why.Kind, Folder: n.found.ID, Device: n.labelOf(why.Member), Name: row.Name, Why: why.Why})
+		}
+	}
+	if !refused {
+		n.found.LeftOut = append(n.found.LeftOut, one)
+	}
+}
+
+// labelOf names a member for a person.
+func (n *names) labelOf(member int) string {
+	if member < 0 {
+		return ""
+	}
+	return n.found.Members[member].Label()
+}
+
+func outsOf(one *part.Name) []part.LeftOut {
+	if one == nil {
+		return nil
+	}
+	return one.Out
+}
+
+// hasOut says whether a member has something of the name that no document says.
+func hasOut(row *join.Row) bool { return len(reasonsOf(row)) > 0 }
+
+// reasonsOf gives why a name can't be audited, at each member.
+func reasonsOf(row *join.Row) []finding.Reason {
+	var reasons []finding.Reason
+	for member, one := range row.At {
+		for _, out := range outsOf(one) {
+			reasons = append(reasons, finding.Reason{Member: member, Kind: out.Kind, Why: out.Why})
+		}
+	}
+	return reasons
+}
+
+// isOutside says whether a name is ignored by each member that has it on its disk, and no index names it: Syncthing
+// doesn't take it for the folder's.
+func isOutside(row *join.Row) bool {
+	for _, one := range row.At {
+		if one == nil {
+			continue
+		}
+		if one.Own != nil || len(one.Views) > 0 || len(one.Out) != 1 || one.Out[0].Kind != part.Ignored || one.Disk == nil {
+			return false
+		}
+	}
+	return true
+}
+
+// sizeOf gives the most bytes that a member has, or records, of a name.
+func sizeOf(row *join.Row) int64 {
+	most := int64(0)
+	take := func(size int64) {
+		if size > most {
+			most = size
+		}
+	}
+	for _, one := range row.At {
+		if one == nil {
+			continue
+		}
+		if one.Disk != nil {
+			take(one.Disk.Size)
+		}
+		if one.Own != nil && one.Own.Content != nil {
+			take(one.Own.Content.Size)
+		}
+		for _, out := range one.Out {
+			take(out.Bytes)
+		}
+	}
+	return most
+}

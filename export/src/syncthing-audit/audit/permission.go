@@ -1,0 +1,41 @@
+package audit
+
+import (
+	"syncthing-audit/finding"
+	"syncthing-audit/join"
+	"syncthing-audit/part"
+)
+
+// addPermissions adds a name whose permissions differ between a disk and its index, or between two devices' own entries.
+func (n *names) addPermissions(row *join.Row) {
+	at := make([]finding.Bits, len(row.At))
+	differs := false
+	for member, one := range row.At {
+		if one == nil || n.found.Members[member].About.IgnoresPermissions {
+			continue
+		}
+		at[member] = bitsOf(one)
+		differs = differs || at[member].OnDisk && at[member].Disk != at[member].Index
+		for other := range row.At[:member] {
+			differs = differs || at[member].Has && at[other].Has && one.Own.Type == row.At[other].Own.Type &&
+				at[member].Index != at[other].Index
+		}
+	}
+	if differs {
+		n.found.Permissions = append(n.found.Permissions, finding.Permissions{Name: row.Name, At: at})
+		n.found.Rows[row.Name] = row
+	}
+}
+
+// bitsOf gives the permissions of an entry that has some, and those on the disk, of what is of the entry's kind.
+func bitsOf(one *part.Name) finding.Bits {
+	var made finding.Bits
+	if one.Own == nil || one.Own.Permissions == nil {
+		return made
+	}
+	made.Has, made.Index = true, *one.Own.Permissions&0o777
+	if one.Disk != nil && one.Disk.Type == one.Own.Type {
+		made.OnDisk, made.Disk = true, one.Disk.Permissions&0o777
+	}
+	return made
+}

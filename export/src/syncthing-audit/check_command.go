@@ -1,0 +1,100 @@
+package main
+
+import (
+	"flag"
+	"fmt"
+	"io"
+
+	"syncthing-audit/ask"
+	"syncthing-audit/audit"
+	"syncthing-audit/document"
+	"syncthing-audit/finding"
+	"syncthing-audit/join"
+	"syncthing-audit/report"
+)
+
+// runCheck joins devices and has syncaudit answer.
+func runCheck(words []string, output, log io.Writer) (int, error) {
+	asked, err := readOptions("check", words, func(flags *flag.FlagSet, read *options) {
+		inputFlags(flags, read)
+		flags.BoolVar(&read.lines, "lines", false, "")
+		flags.StringVar(&read.program, "syncaudit", defaultProgram(), "")
+	})
+	if err == nil {
+		err = asked.checkInputs()
+	}
+	if err != nil {
+		return 0, err
+	}
+	program := ask.Program{Path: asked.program}
+	if err := program.Find(); err != nil {
+		return 0, err
+	}
+	opened, err := openInputs(asked)
+	if err != nil {
+		return 0, err
+	}
+	defer opened.close()
+	tellDevices(log, opened.devices)
+	answer, err := answerOf(opened, asked, program)
+	if err != nil {
+		return 0, err
+	}
+	if len(answer.Refusals) > 0 {
+		report.Refusals(log, answer)
+		return 0, errTold
+	}
+	report.Lines(output, answer)
+	fmt.Fprint(log, meaning)
+	return statusOfAnswer(answer), nil
+}
+
+// answerOf audits what was opened.
+func answerOf(opened *inputs, asked options, program ask.Program) (*finding.Answer, error) {
+	plan, err := join.NewPlan(opened.devices, asked.folders)
+	if err != nil {
+		return nil, err
+	}
+	type replied struct {
+		document *document.Document
+		reply    *ask.Reply
+	}
+	var replies []replied
+	pool := ask.NewPool(program, asked.jobs, func(one *document.Document, reply *ask.Reply) {
+		if len(reply.Failures) == 0 {
+			one.Rows = nil
+		}
+		replies = append(replies, replied{one, reply})
+	})
+	options := audit.Options{LeaveOut: asked.leaveOut, WithBytes: asked.bytes}
+	answer, err := audit.Collect(plan, options, pool.Ask)
+	if failed := pool.Close(); failed != nil {
+		return nil, failed
+	}
+	if err != nil {
+		return nil, err
+	}
+	folders := map[string]*finding.Folder{}
+	for _, one := range answer.Folders {
+		folders[one.ID] = one
+	}
+	for _, one := range replies {
+		audit.Merge(folders[one.document.Folder], one.document, one.reply)
+	}
+	for _, one := range answer.Folders {
+		one.Sort()
+	}
+	return answer, nil
+}
+
+// statusOfAnswer gives the exit status for an answer.
+func statusOfAnswer(answer *finding.Answer) int {
+	_, first := answer.First()
+	switch {
+	case first != nil:
+		return statusNotSettled
+	case answer.IsPartial():
+		return statusPartial
+	}
+	return statusDone
+}

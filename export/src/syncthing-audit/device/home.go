@@ -1,0 +1,139 @@
+// Package device reads the home of a stopped Syncthing device: its configuration and its index.
+package device
+
+import (
+	"bytes"
+	"encoding/pem"
+	"encoding/xml"
+	"errors"
+	"fmt"
+	"os"
+	"path/filepath"
+
+	"github.com/syncthing/syncthing/lib/config"
+	"github.com/syncthing/syncthing/lib/db"
+	"github.com/syncthing/syncthing/lib/db/backend"
+	"github.com/syncthing/syncthing/lib/events"
+	"github.com/syncthing/syncthing/lib/protocol"
+)
+
+// databaseName is the folder of the index in a home of Syncthing 1.
+const databaseName = "index-v0.14.0.db"
+
+// leastConfig is the first version of config.xml that Syncthing's reader doesn't bring up to date by changing the
+// folders themselves.
+const leastConfig = 23
+
+// Home is a stopped device's home, its index opened from a copy.
+type Home struct {
+	Dir     string
+	ID      protocol.DeviceID
+	Config  config.Configuration
+	lock    *os.File
+	copied  string
+	backend backend.Backend
+	index   *db.Lowlevel
+}
+
+// Open reads and locks a home and opens a copy of its index. Nothing of the home is changed.
+func Open(dir string) (*Home, error) {
+	id, err := readDeviceID(filepath.Join(dir, "cert.pem"))
+	if err != nil {
+		return nil, err
+	}
+	opened := &Home{Dir: dir, ID: id}
+	if opened.Config, err = readConfig(filepath.Join(dir, "config.xml"), id); err != nil {
+		return nil, err
+	}
+	if err := opened.openIndex(); err != nil {
+		opened.Close()
+		return nil, err
+	}
+	return opened, nil
+}
+
+// Name gives the device's name, as it is configured at itself.
+func (h *Home) Name() string { return h.nameOf(h.ID) }
+
+// nameOf gives the name that this device has for another.
+func (h *Home) nameOf(id protocol.DeviceID) string {
+	for _, one := range h.Config.Devices {
+		if one.DeviceID == id {
+			return one.Name
+		}
+	}
+	return ""
+}
+
+// readDeviceID gives the device id of a certificate.
+func readDeviceID(path string) (protocol.DeviceID, error) {
+	text, err := os.ReadFile(path)
+	if err != nil {
+		return protocol.DeviceID{}, err
+	}
+	block, _ := pem.Decode(text)
+	if block == nil || block.Type != "CERTIFICATE" {
+		return protocol.DeviceID{}, fmt.Errorf("%s: no certificate", path)
+	}
+	return protocol.NewDeviceID(block.Bytes), nil
+}
+
+// readConfig reads a device's configuration.
+func readConfig(path string, id protocol.DeviceID) (config.Configuration, error) {
+	text, err := os.ReadFile(path)
+	if err != nil {
+		return config.Configuration{}, err
+	}
+	var head struct {
+		Version int `xml:"version,attr"`
+	}
+	if err := xml.Unmarshal(text, &head); err != nil {
+		return config.Configuration{}, fmt.Errorf("%s: %w", path, err)
+	}
+	if head.Version < leastConfig {
+		return config.Configuration{}, fmt.Errorf("%s: version %d is too old (from %d on): start a newer Syncthing on it once",
+			path, head.Version, leastConfig)
+	}
+	read, _, err := config.ReadXML(bytes.NewReader(text), id)
+	if err != nil {
+		return config.Configuration{}, fmt.Errorf("%s: %w", path, err)
+	}
+	return read, nil
+}
+
+// openIndex locks the index, copies it to a temporary folder and opens the copy.
+func (h *Home) openIndex() error {
+	database := filepath.Join(h.Dir, databaseName)
+	var err error
+	if h.lock, err = lockShared(h.Dir, database); errors.Is(err, os.ErrNotExist) {
+		return fmt.Errorf("%s: no index %s, as Syncthing 1 makes it on its first start (Syncthing 2's isn't read)", h.Dir, databaseName)
+	} else if err != nil {
+		return err
+	}
+	if h.copied, err = os.MkdirTemp("", "syncthing-audit-"); err != nil {
+		return err
+	}
+	if err := copyFiles(database, h.copied); err != nil {
+		return err
+	}
+	if h.backend, err = backend.Open(h.copied, backend.TuningAuto); err != nil {
+		return err
+	}
+	if h.index, err = db.NewLowlevel(h.backend, events.NoopLogger); err != nil {
+		return err
+	}
+	return db.UpdateSchema(h.index)
+}
+
+// Close removes the copy and gives the lock back.
+func (h *Home) Close() {
+	if h.backend != nil {
+		h.backend.Close()
+	}
+	if h.copied != "" {
+		os.RemoveAll(h.copied)
+	}
+	if h.lock != nil {
+		h.lock.Close()
+	}
+}

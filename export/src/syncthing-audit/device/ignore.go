@@ -1,0 +1,23 @@
+package device
+
+import (
+	"errors"
+	"fmt"
+	"os"
+
+	"github.com/syncthing/syncthing/lib/ignore"
+)
+
+// Patterns gives the folder's patterns of names to ignore. A file of patterns that is there and can't be read, or that
+// includes one which can't, is an error: what would be ignored isn't known then. Without one nothing is ignored.
+func (i *Index) Patterns() (*ignore.Matcher, error) {
+	disk := i.Config.Filesystem()
+	patterns := ignore.New(disk)
+	if _, err := disk.Lstat(".stignore"); errors.Is(err, os.ErrNotExist) {
+		return patterns, nil
+	}
+	if err := patterns.Load(".stignore"); err != nil {
+		return nil, fmt.Errorf("folder %s: %s/.stignore can't be read: %w", i.Config.ID, disk.URI(), err)
+	}
+	return patterns, nil
+}

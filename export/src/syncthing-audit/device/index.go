@@ -1,0 +1,131 @@
+package device
+
+import (
+	"fmt"
+	"strings"
+
+	"github.com/syncthing/syncthing/lib/config"
+	"github.com/syncthing/syncthing/lib/db"
+	"github.com/syncthing/syncthing/lib/fs"
+	"github.com/syncthing/syncthing/lib/protocol"
+	"syncthing-audit/part"
+)
+
+// Index is what a device's index has of one folder, at one moment.
+type Index struct {
+	Config    config.FolderConfiguration
+	home      *Home
+	directory string
+	files     *db.FileSet
+	snapshot  *db.Snapshot
+}
+
+// Index opens a folder's index. What Syncthing's packages panic with is the error.
+func (h *Home) Index(folder config.FolderConfiguration) (made *Index, err error) {
+	defer recovered(folder.ID, &err)
+	folder.CaseSensitiveFS = true // names come from the directory itself
+	if err := folder.CheckPath(); err != nil {
+		return nil, fmt.Errorf("folder %s: %s: %w", folder.ID, folder.Path, err)
+	}
+	directory, err := directoryOf(folder.Filesystem().URI())
+	if err != nil {
+		return nil, fmt.Errorf("folder %s: %w", folder.ID, err)
+	}
+	files, err := db.NewFileSet(folder.ID, h.index)
+	if err != nil {
+		return nil, err
+	}
+	snapshot, err := files.Snapshot()
+	if err != nil {
+		return nil, err
+	}
+	return &Index{folder, h, directory, files, snapshot}, nil
+}
+
+// recovered makes an error of what Syncthing's packages panic with, such as a list of blocks that the index lacks.
+func recovered(folder string, err *error) {
+	if reason := recover(); reason != nil {
+		*err = fmt.Errorf("folder %s: its index can't be read: %v", folder, reason)
+	}
+}
+
+// Close gives the index back.
+func (i *Index) Close() { i.snapshot.Release() }
+
+// Disk gives the folder's files, with their times as Syncthing sees them.
+func (i *Index) Disk() fs.Filesystem { return i.files.MtimeFS(i.Config.Filesystem()) }
+
+// Max gives the greatest sequence of the device's own index.
+func (i *Index) Max() int64 { return i.snapshot.Sequence(protocol.LocalDeviceID) }
+
+// Folder gives what a part's head says of the folder. A view that was never filled isn't told.
+func (i *Index) Folder() part.Folder {
+	made := part.Folder{ID: i.Config.ID, Label: i.Config.Label, Kind: kindOf(i.Config.Type), Path: i.Config.Filesystem().URI(),
+		Directory: i.directory, IndexID: uint64(i.files.IndexID(protocol.LocalDeviceID)), Max: i.Max(),
+		IgnoresPermissions: i.Config.IgnorePerms, Sharing: []part.Sharing{}, Views: []part.View{}}
+	for _, other := range i.Config.Devices {
+		if other.DeviceID == i.home.ID {
+			continue
+		}
+		id := other.DeviceID.String()
+		made.Sharing = append(made.Sharing, part.Sharing{Device: id, Name: i.home.nameOf(other.DeviceID), Encrypted: other.EncryptionPassword != ""})
+		view := part.View{Device: id, IndexID: uint64(i.files.IndexID(other.DeviceID)), Max: i.snapshot.Sequence(other.DeviceID)}
+		if view.IndexID != 0 || view.Max != 0 {
+			made.Views = append(made.Views, view)
+		}
+	}
+	return made
+}
+
+// kindOf gives the document's word for a folder's type.
+func kindOf(kind config.FolderType) string {
+	switch kind {
+	case config.FolderTypeSendOnly:
+		return "send-only"
+	case config.FolderTypeReceiveOnly:
+		return "receive-only"
+	case config.FolderTypeReceiveEncrypted:
+		return "encrypted"
+	default:
+		return "send-receive"
+	}
+}
+
+// Own gives the device's own entries whose names begin so, rising by name.
+func (i *Index) Own(prefix string, take func(Entry) bool) error {
+	return i.entries(protocol.LocalDeviceID, prefix, i.Max(), ownEntry, take)
+}
+
+// View gives the entries that the device knows of another one, rising by name.
+func (i *Index) View(of part.View, prefix string, take func(Entry) bool) error {
+	id, err := protocol.DeviceIDFromString(of.Device)
+	if err != nil {
+		return err
+	}
+	return i.entries(id, prefix, of.Max, viewedEntry, take)
+}
+
+// viewedEntry reads another device's entry. Of what that device ignores it tells neither size nor blocks.
+func viewedEntry(entry protocol.FileInfo) Entry {
+	if entry.IsInvalid() && !entry.Deleted && entry.Type == protocol.FileInfoTypeFile && len(entry.Blocks) == 0 {
+		return leftOut(entry, part.Ignored, "the device whose index it is ignores it")
+	}
+	return entryOf(entry)
+}
+
+// entries reads what the index has of one device.
+func (i *Index) entries(of protocol.DeviceID, prefix string, greatest int64, read func(protocol.FileInfo) Entry, take func(Entry) bool) (err error) {
+	defer recovered(i.Config.ID, &err)
+	i.snapshot.WithHave(of, func(item protocol.FileIntf) bool {
+		entry := item.(protocol.FileInfo)
+		if !strings.HasPrefix(entry.Name, prefix) {
+			return entry.Name < prefix
+		}
+		made := read(entry)
+		if made.Record != nil && (entry.Sequence < 1 || entry.Sequence > greatest) {
+			made = leftOut(entry, part.OddRecord, fmt.Sprintf("its sequence %d isn't 1 to %d", entry.Sequence, greatest))
+		}
+		return take(made)
+	})
+	return nil
+}

@@ -1,0 +1,190 @@
+package device
+
+import (
+	"errors"
+	"fmt"
+	"math"
+	"sort"
+
+	"github.com/syncthing/syncthing/lib/protocol"
+	"syncthing-audit/disk"
+	"syncthing-audit/limits"
+	"syncthing-audit/part"
+)
+
+// Entry is what an index has of a name: a record with its block hashes, or why a document has none such.
+type Entry struct {
+	Name   string
+	Record *part.Record
+	Blocks [][32]byte
+	Out    *part.LeftOut
+}
+
+// ownEntry reads a device's own entry, as it goes over the wire: what is changed locally on a receive-only folder is
+// invalid and without a version.
+func ownEntry(entry protocol.FileInfo) Entry {
+	switch {
+	case entry.IsIgnored():
+		return leftOut(entry, part.Ignored, "it is ignored there by .stignore")
+	case entry.IsUnsupported():
+		return leftOut(entry, part.OddRecord, "its kind isn't supported there")
+	case entry.MustRescan():
+		return leftOut(entry, part.Rescan, "it waits for a scan: start Syncthing, let it finish, stop it")
+	}
+	if entry.IsReceiveOnlyChanged() {
+		entry.Version = protocol.Vector{}
+	}
+	return entryOf(entry)
+}
+
+// leftOut gives an entry without a record.
+func leftOut(entry protocol.FileInfo, kind, why string) Entry {
+	bytes := int64(0)
+	if entry.Type == protocol.FileInfoTypeFile && !entry.Deleted && entry.Size > 0 {
+		bytes = entry.Size
+	}
+	return Entry{Name: entry.Name, Out: &part.LeftOut{Kind: kind, Why: why, Bytes: bytes}}
+}
+
+// entryOf reads an entry, and says why a document has no such record.
+func entryOf(entry protocol.FileInfo) Entry {
+	if err := limits.CheckName(entry.Name); err != nil {
+		return leftOut(entry, part.OddName, err.Error())
+	}
+	if entry.Type == protocol.FileInfoTypeSymlink && !entry.Deleted {
+		if err := limits.CheckTarget(entry.SymlinkTarget); err != nil {
+			return leftOut(entry, part.OddTarget, err.Error())
+		}
+	}
+	record, blocks, err := recordOf(entry)
+	if err != nil {
+		return leftOut(entry, part.OddRecord, err.Error())
+	}
+	return Entry{Name: entry.Name, Record: record, Blocks: blocks}
+}
+
+// recordOf gives the record of an entry, with its block hashes.
+func recordOf(entry protocol.FileInfo) (*part.Record, [][32]byte, error) {
+	if err := checkHead(entry); err != nil {
+		return nil, nil, err
+	}
+	version, err := versionOf(entry.Version)
+	if err != nil {
+		return nil, nil, err
+	}
+	made := &part.Record{Type: int(entry.Type), ModifiedS: entry.ModifiedS, ModifiedNs: entry.ModifiedNs, ModifiedBy: uint64(entry.ModifiedBy),
+		Version: version, Sequence: entry.Sequence, Deleted: entry.Deleted, Invalid: entry.IsInvalid()}
+	if entry.Deleted {
+		return made, nil, nil
+	}
+	if entry.HasPermissionBits() && !entry.IsSymlink() {
+		bits := entry.Permissions & 0o777
+		made.Permissions = &bits
+	}
+	if entry.Type != protocol.FileInfoTypeFile {
+		made.Target = entry.SymlinkTarget
+		return made, nil, checkOther(entry)
+	}
+	blocks, err := blocksOf(entry)
+	if err != nil {
+		return nil, nil, err
+	}
+	made.Content = &part.Content{Size: entry.Size, BlockSize: int64(entry.BlockSize()), Hash: disk.HashOf(blocks)}
+	return made, blocks, nil
+}
+
+// checkHead says what of an entry but its version and content the document doesn't have.
+func checkHead(entry protocol.FileInfo) error {
+	switch {
+	case !isKind(entry.Type):
+		return fmt.Errorf("its type is %d (only files, directories and symlinks are had)", entry.Type)
+	case len(entry.Encrypted) > 0:
+		return errors.New("it is encrypted")
+	case entry.ModifiedNs < 0 || entry.ModifiedNs > 999999999:
+		return errors.New("its nanoseconds are over 999999999")
+	case entry.ModifiedBy == 0:
+		return errors.New("it doesn't say which device changed it")
+	}
+	return nil
+}
+
+// isKind says whether the document has this type.
+func isKind(kind protocol.FileInfoType) bool {
+	return kind == protocol.FileInfoTypeFile || kind == protocol.FileInfoTypeDirectory || kind == protocol.FileInfoTypeSymlink
+}
+
+// versionOf gives a version's counters, their devices rising.
+func versionOf(version protocol.Vector) ([][2]uint64, error) {
+	counters := make([][2]uint64, 0, len(version.Counters))
+	for _, one := range version.Counters {
+		if one.ID == 0 || one.Value == 0 || one.Value > math.MaxInt64 {
+			return nil, errors.New("its version has a counter without device, of 0 or over 9223372036854775807")
+		}
+		counters = append(counters, [2]uint64{uint64(one.ID), one.Value})
+	}
+	if len(counters) > limits.MostCounters {
+		return nil, fmt.Errorf("its version has over %d counters", limits.MostCounters)
+	}
+	sort.Slice(counters, func(a, b int) bool { return counters[a][0] < counters[b][0] })
+	for next := 1; next < len(counters); next++ {
+		if counters[next-1][0] == counters[next][0] {
+			return nil, errors.New("its version has two counters of one device")
+		}
+	}
+	return counters, nil
+}
+
+// checkOther says why the document has no directory or symlink such as this entry.
+func checkOther(entry protocol.FileInfo) error {
+	if entry.Size != 0 || len(entry.Blocks) > 0 {
+		return errors.New("it has a size or blocks, and is no file")
+	}
+	if entry.Type == protocol.FileInfoTypeDirectory && entry.SymlinkTarget != "" {
+		return errors.New("it is a directory with a target")
+	}
+	return nil
+}
+
+// blocksOf gives a file's block hashes, where they are those of a file of its size.
+func blocksOf(entry protocol.FileInfo) ([][32]byte, error) {
+	size := int64(entry.BlockSize())
+	switch {
+	case entry.SymlinkTarget != "":
+		return nil, errors.New("it is a file with a target")
+	case entry.Size < 0:
+		return nil, fmt.Errorf("its size is %d", entry.Size)
+	case !isBlockSize(entry.BlockSize()):
+		return nil, fmt.Errorf("its block size is %d, which Syncthing hasn't", size)
+	case int64(len(entry.Blocks)) != disk.CountOfBlocks(entry.Size, size):
+		return nil, fmt.Errorf("its %d blocks don't fit its size of %d", len(entry.Blocks), entry.Size)
+	}
+	hashes := make([][32]byte, len(entry.Blocks))
+	for place, block := range entry.Blocks {
+		offset := int64(place) * size
+		length := entry.Size - offset
+		if length > size {
+			length = size
+		}
+		if block.Offset != offset || int64(block.Size) != length || len(block.Hash) != len(hashes[place]) {
+			return nil, fmt.Errorf("its block %d doesn't fit its size of %d", place, entry.Size)
+		}
+		copy(hashes[place][:], block.Hash)
+	}
+	if entry.Size == 0 && part.Hash(hashes[0]).String() != hashOfNothing {
+		return nil, errors.New("it is empty, and its block isn't that of nothing")
+	}
+	return hashes, nil
+}
+
+// hashOfNothing is the SHA-256 hash of no bytes, that of an empty file's one block.
+const hashOfNothing = "e3b0c44298fc1c149afbf4c8996fb92427ae41e4649b934ca495991b7852b855"
+
+// isBlockSize says whether Syncthing cuts files into blocks of this size.
+func isBlockSize(size int) bool {
+	for _, one := range protocol.BlockSizes {
+		if one == size {
+			return true
+		}
+	}
+	return false
+}

@@ -1,0 +1,130 @@
+package device
+
+import (
+	"crypto/sha256"
+	"encoding/hex"
+	"reflect"
+	"testing"
+
+	"github.com/syncthing/syncthing/lib/protocol"
+	"syncthing-audit/part"
+)
+
+// helloHash is the SHA-256 hash of 'hello'.
+const helloHash = "2cf24dba5fb0a30e26e83b2ac5b9e29e1b161e5c1fa7425e73043362938b9824"
+
+// hello gives the entry of a file of 5 bytes, after a change.
+func hello(change func(*protocol.FileInfo)) protocol.FileInfo {
+	hash := sha256.Sum256([]byte("hello"))
+	entry := protocol.FileInfo{Name: "hello", Size: 5, ModifiedS: -7, ModifiedNs: 8, ModifiedBy: 9, Sequence: 3,
+		Version: vector(2, 1, 1, 4), Blocks: []protocol.BlockInfo{{Size: 5, Hash: hash[:]}}, RawBlockSize: protocol.MinBlockSize}
+	change(&entry)
+	return entry
+}
+
+// vector gives a version of these pairs of device and value.
+func vector(pairs ...uint64) protocol.Vector {
+	var made protocol.Vector
+	for next := 0; next < len(pairs); next += 2 {
+		made.Counters = append(made.Counters, protocol.Counter{ID: protocol.ShortID(pairs[next]), Value: pairs[next+1]})
+	}
+	return made
+}
+
+// manyCounters gives a version of so many counters.
+func manyCounters(count uint64) protocol.Vector {
+	var pairs []uint64
+	for id := uint64(1); id <= count; id++ {
+		pairs = append(pairs, id, 1)
+	}
+	return vector(pairs...)
+}
+
+// helloRecord gives the record of the unchanged hello, after a change.
+func helloRecord(change func(*part.Record)) part.Record {
+	made := part.Record{ModifiedS: -7, ModifiedNs: 8, ModifiedBy: 9, Sequence: 3, Version: [][2]uint64{{1, 4}, {2, 1}},
+		Content: contentOf(5, helloHash), Permissions: new(uint32)}
+	change(&made)
+	return made
+}
+
+// contentOf gives the content of a file of one block with this hash.
+func contentOf(size int64, block string) *part.Content {
+	hash, _ := hex.DecodeString(block)
+	return &part.Content{Size: size, BlockSize: protocol.MinBlockSize, Hash: sha256.Sum256(hash)}
+}
+
+func TestRecords(t *testing.T) {
+	nothing, _ := hex.DecodeString(hashOfNothing)
+	noContent := func(r *part.Record) { r.Content, r.Permissions = nil, nil }
+	cases := []struct {
+		why    string
+		entry  func(*protocol.FileInfo)
+		record func(*part.Record)
+	}{
+		{"as it is, counters put in order", func(*protocol.FileInfo) {}, func(*part.Record) {}},
+		{"an old entry without a block size has the usual one", func(e *protocol.FileInfo) { e.RawBlockSize = 0 }, func(*part.Record) {}},
+		{"another of Syncthing's block sizes", func(e *protocol.FileInfo) { e.RawBlockSize = 2 * protocol.MinBlockSize },
+			func(r *part.Record) { r.Content.BlockSize *= 2 }},
+		{"no permissions", func(e *protocol.FileInfo) { e.NoPermissions = true }, func(r *part.Record) { r.Permissions = nil }},
+		{"16 counters", func(e *protocol.FileInfo) { e.Version = manyCounters(16) }, func(r *part.Record) {
+			r.Version = nil
+			for id := uint64(1); id <= 16; id++ {
+				r.Version = append(r.Version, [2]uint64{id, 1})
+			}
+		}},
+		{"a deletion loses size, blocks and target", func(e *protocol.FileInfo) { e.Deleted, e.SymlinkTarget = true, "t" },
+			func(r *part.Record) { noContent(r); r.Deleted = true }},
+		{"a local change of a receive-only folder goes invalid and without version",
+			func(e *protocol.FileInfo) { e.LocalFlags = protocol.FlagLocalReceiveOnly },
+			func(r *part.Record) { r.Invalid, r.Version = true, [][2]uint64{} }},
+		{"an invalid one stays so", func(e *protocol.FileInfo) { e.RawInvalid = true }, func(r *part.Record) { r.Invalid = true }},
+		{"a directory", func(e *protocol.FileInfo) { e.Type, e.Size, e.Blocks = protocol.FileInfoTypeDirectory, 0, nil },
+			func(r *part.Record) { r.Type, r.Content = 1, nil }},
+		{"a symlink", func(e *protocol.FileInfo) {
+			e.Type, e.Size, e.Blocks, e.SymlinkTarget = protocol.FileInfoTypeSymlink, 0, nil, "t"
+		}, func(r *part.Record) { noContent(r); r.Type, r.Target = 4, "t" }},
+		{"an empty file has one block", func(e *protocol.FileInfo) { e.Size, e.Blocks = 0, []protocol.BlockInfo{{Hash: nothing}} },
+			func(r *part.Record) { r.Content = contentOf(0, hashOfNothing) }},
+	}
+	for _, one := range cases {
+		made := ownEntry(hello(one.entry))
+		if expected := helloRecord(one.record); made.Out != nil || !reflect.DeepEqual(*made.Record, expected) {
+			t.Errorf("%s: %+v, %v; expected %+v", one.why, made.Record, made.Out, expected)
+		}
+	}
+}
+
+func TestRefusedRecords(t *testing.T) {
+	cases := []struct {
+		why   string
+		entry func(*protocol.FileInfo)
+	}{
+		{"ignored", func(e *protocol.FileInfo) { e.LocalFlags = protocol.FlagLocalIgnored }},
+		{"unsupported", func(e *protocol.FileInfo) { e.LocalFlags = protocol.FlagLocalUnsupported }},
+		{"waits for a scan", func(e *protocol.FileInfo) { e.LocalFlags = protocol.FlagLocalMustRescan }},
+		{"a name that isn't UTF-8", func(e *protocol.FileInfo) { e.Name = "\xff" }},
+		{"an old type of symlink", func(e *protocol.FileInfo) { e.Type = protocol.FileInfoTypeSymlinkFile }},
+		{"encrypted", func(e *protocol.FileInfo) { e.Encrypted = []byte{1} }},
+		{"nanoseconds", func(e *protocol.FileInfo) { e.ModifiedNs = 1000000000 }},
+		{"changed by nobody", func(e *protocol.FileInfo) { e.ModifiedBy = 0 }},
+		{"17 counters", func(e *protocol.FileInfo) { e.Version = manyCounters(17) }},
+		{"a counter of device 0", func(e *protocol.FileInfo) { e.Version = vector(0, 1) }},
+		{"a counter of 0", func(e *protocol.FileInfo) { e.Version = vector(1, 0) }},
+		{"a counter too great", func(e *protocol.FileInfo) { e.Version = vector(1, 1<<63) }},
+		{"two counters of one device", func(e *protocol.FileInfo) { e.Version = vector(1, 1, 1, 2) }},
+		{"another block size", func(e *protocol.FileInfo) { e.RawBlockSize = 3 * protocol.MinBlockSize }},
+		{"a size that isn't the block's", func(e *protocol.FileInfo) { e.Size = 6 }},
+		{"a block missing", func(e *protocol.FileInfo) { e.Blocks = nil }},
+		{"an empty file with another block", func(e *protocol.FileInfo) { e.Size, e.Blocks[0].Size = 0, 0 }},
+		{"a short hash", func(e *protocol.FileInfo) { e.Blocks[0].Hash = e.Blocks[0].Hash[:31] }},
+		{"a file with a target", func(e *protocol.FileInfo) { e.SymlinkTarget = "t" }},
+		{"a directory with blocks", func(e *protocol.FileInfo) { e.Type, e.Size = protocol.FileInfoTypeDirectory, 0 }},
+		{"a symlink without target", func(e *protocol.FileInfo) { e.Type, e.Size, e.Blocks = protocol.FileInfoTypeSymlink, 0, nil }},
+	}
+	for _, one := range cases {
+		if made := ownEntry(hello(one.entry)); made.Record != nil || made.Out == nil {
+			t.Errorf("%s: %+v", one.why, made)
+		}
+	}
+}

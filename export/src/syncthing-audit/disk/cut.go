@@ -1,0 +1,87 @@
+package disk
+
+import (
+	"hash"
+
+	"syncthing-audit/part"
+)
+
+// mostRanges is how many ranges of blocks that differ are told.
+const mostRanges = 64
+
+// cutter cuts what is written to it into blocks of one size and hashes each.
+type cutter struct {
+	sum    hash.Hash
+	size   int64
+	filled int64
+	hashes [][32]byte // those of the blocks to come
+	ended  int
+}
+
+// write takes bytes that end at the end of a block, or before it.
+func (c *cutter) write(data []byte) {
+	c.sum.Write(data)
+	c.filled += int64(len(data))
+	if c.filled == c.size {
+		c.take()
+	}
+}
+
+// end ends a last block that isn't full; no bytes at all are one block.
+func (c *cutter) end() {
+	if c.filled > 0 || c.ended == 0 {
+		c.take()
+	}
+}
+
+func (c *cutter) take() {
+	c.sum.Sum(c.hashes[c.ended][:0])
+	c.ended++
+	c.sum.Reset()
+	c.filled = 0
+}
+
+// compare says which blocks differ; nothing if none does.
+func compare(recorded, found [][32]byte) *part.Differ {
+	most := len(recorded)
+	if len(found) > most {
+		most = len(found)
+	}
+	var made *part.Differ
+	for place := 0; place < most; place++ {
+		if place < len(recorded) && place < len(found) && recorded[place] == found[place] {
+			continue
+		}
+		if made == nil {
+			made = &part.Differ{First: pairAt(recorded, found, place)}
+		}
+		add(made, int64(place))
+	}
+	return made
+}
+
+// add adds a block to those that differ.
+func add(to *part.Differ, place int64) {
+	to.Count++
+	last := len(to.Ranges) - 1
+	switch {
+	case last >= 0 && to.Ranges[last][1] == place-1:
+		to.Ranges[last][1] = place
+	case len(to.Ranges) < mostRanges:
+		to.Ranges = append(to.Ranges, [2]int64{place, place})
+	}
+}
+
+// pairAt gives the hashes of a block that differs.
+func pairAt(recorded, found [][32]byte, place int) part.Pair {
+	var made part.Pair
+	if place < len(recorded) {
+		hash := part.Hash(recorded[place])
+		made.Recorded = &hash
+	}
+	if place < len(found) {
+		hash := part.Hash(found[place])
+		made.Found = &hash
+	}
+	return made
+}

@@ -1,0 +1,199 @@
+package disk
+
+import (
+	"crypto/sha256"
+	"errors"
+	"fmt"
+	"io"
+	"sync"
+	"sync/atomic"
+
+	"github.com/syncthing/syncthing/lib/fs"
+	"github.com/syncthing/syncthing/lib/protocol"
+	"syncthing-audit/part"
+)
+
+const (
+	// pieceBytes is how much of a file one worker hashes: a multiple of each block size.
+	pieceBytes = 4 * protocol.MaxBlockSize
+	// readBytes is how much is read at once: it divides each block size.
+	readBytes = protocol.MinBlockSize
+)
+
+// ErrChanged says that a file isn't what it was when it was found.
+var ErrChanged = errors.New("it changed while it was read")
+
+// File is a file to be hashed: how it was found, and how it is to be cut into blocks.
+type File struct {
+	Disk       fs.Filesystem // gives times as Syncthing sees them
+	Name       string
+	Node       *part.Node
+	BlockSizes []int64
+	Recorded   [][32]byte // the own record's block hashes, to be compared with those of the first block size; or none
+	Keep       bool       // the bytes, too
+}
+
+// Pool hashes files, each once, on several cores.
+type Pool struct {
+	tasks   chan func()
+	workers sync.WaitGroup
+	hashed  int64
+	sums    chooser
+}
+
+// NewPool starts so many workers.
+func NewPool(workers int) *Pool {
+	made := &Pool{tasks: make(chan func(), workers)}
+	for next := 0; next < workers; next++ {
+		made.workers.Add(1)
+		go func() {
+			defer made.workers.Done()
+			for task := range made.tasks {
+				task()
+			}
+		}()
+	}
+	return made
+}
+
+// Close ends the workers once all is hashed that was begun.
+func (p *Pool) Close() {
+	close(p.tasks)
+	p.workers.Wait()
+}
+
+// Hashed gives how many bytes were hashed up to now.
+func (p *Pool) Hashed() int64 { return atomic.LoadInt64(&p.hashed) }
+
+// Job is a file that is being hashed.
+type Job struct {
+	file   File
+	pieces sync.WaitGroup
+	hashes [][][32]byte // for each block size the hashes of all blocks
+	data   []byte
+	mutex  sync.Mutex
+	err    error
+}
+
+// Begin has the workers hash a file.
+func (p *Pool) Begin(file File) *Job {
+	job := &Job{file: file, hashes: make([][][32]byte, len(file.BlockSizes))}
+	for place, size := range file.BlockSizes {
+		job.hashes[place] = make([][32]byte, CountOfBlocks(file.Node.Size, size))
+	}
+	if file.Keep {
+		job.data = make([]byte, file.Node.Size)
+	}
+	for offset := int64(0); offset == 0 || offset < file.Node.Size; offset += pieceBytes {
+		offset := offset
+		job.pieces.Add(1)
+		p.tasks <- func() {
+			defer job.pieces.Done()
+			if err := p.hash(job, offset); err != nil {
+				job.fail(err)
+			}
+		}
+	}
+	return job
+}
+
+// CountOfBlocks gives how many blocks a file of this size has: an empty one has one.
+func CountOfBlocks(size, blockSize int64) int64 {
+	if size == 0 {
+		return 1
+	}
+	return (size-1)/blockSize + 1
+}
+
+func (j *Job) fail(err error) {
+	j.mutex.Lock()
+	defer j.mutex.Unlock()
+	if j.err == nil {
+		j.err = err
+	}
+}
+
+// hash hashes one piece of a file.
+func (p *Pool) hash(job *Job, offset int64) error {
+	length := job.file.Node.Size - offset
+	if length > pieceBytes {
+		length = pieceBytes
+	}
+	file, err := job.file.Disk.Open(job.file.Name)
+	if err != nil {
+		return fmt.Errorf("it can't be read: %w", err)
+	}
+	defer file.Close()
+	cuts := make([]*cutter, len(job.file.BlockSizes))
+	for place, size := range job.file.BlockSizes {
+		cuts[place] = &cutter{sum: p.sums.new(length), size: size, hashes: job.hashes[place][offset/size:]}
+	}
+	buffer := buffers.Get().(*[readBytes]byte)
+	defer buffers.Put(buffer)
+	for done := int64(0); done < length; {
+		next := buffer[:]
+		if left := length - done; left < readBytes {
+			next = buffer[:left]
+		}
+		if _, err := file.ReadAt(next, offset+done); errors.Is(err, io.EOF) {
+			return ErrChanged
+		} else if err != nil {
+			return fmt.Errorf("it can't be read: %w", err)
+		}
+		for _, cut := range cuts {
+			cut.write(next)
+		}
+		if job.data != nil {
+			copy(job.data[offset+done:], next)
+		}
+		done += int64(len(next))
+		atomic.AddInt64(&p.hashed, int64(len(next)))
+	}
+	for _, cut := range cuts {
+		cut.end()
+	}
+	return nil
+}
+
+var buffers = sync.Pool{New: func() interface{} { return new([readBytes]byte) }}
+
+// Wait gives the file's contents, one for each block size, and which blocks differ from the record.
+func (j *Job) Wait() ([]part.Content, *part.Differ, []byte, error) {
+	j.pieces.Wait()
+	if j.err == nil {
+		j.err = j.check()
+	}
+	if j.err != nil {
+		return nil, nil, nil, j.err
+	}
+	contents := make([]part.Content, len(j.hashes))
+	for place, hashes := range j.hashes {
+		contents[place] = part.Content{Size: j.file.Node.Size, BlockSize: j.file.BlockSizes[place], Hash: HashOf(hashes)}
+	}
+	var differ *part.Differ
+	if j.file.Recorded != nil {
+		differ = compare(j.file.Recorded, j.hashes[0])
+	}
+	return contents, differ, j.data, nil
+}
+
+// check says whether the file has the size and time still with which it was found.
+func (j *Job) check() error {
+	after, err := j.file.Disk.Lstat(j.file.Name)
+	if err != nil || !after.IsRegular() || after.Size() != j.file.Node.Size ||
+		after.ModTime().Unix() != j.file.Node.ModifiedS || after.ModTime().Nanosecond() != j.file.Node.ModifiedNs {
+		return ErrChanged
+	}
+	return nil
+}
+
+// HashOf gives the SHA-256 of block hashes, one after another.
+func HashOf(hashes [][32]byte) part.Hash {
+	sum := sha256.New()
+	for place := range hashes {
+		sum.Write(hashes[place][:])
+	}
+	var made part.Hash
+	sum.Sum(made[:0])
+	return made
+}

@@ -1,0 +1,37 @@
+package disk
+
+import (
+	standard "crypto/sha256"
+	"hash"
+	"sync"
+	"sync/atomic"
+
+	"github.com/syncthing/syncthing/lib/sha256"
+)
+
+// bytesBeforeChoice is how much is hashed before it pays to measure which SHA-256 is the fastest.
+const bytesBeforeChoice = 64 << 20
+
+// chooser gives the SHA-256 that Syncthing itself would choose. Its choice takes a second of measuring, so what is hashed
+// until then takes the standard one, which a small folder takes alone.
+type chooser struct {
+	once   sync.Once
+	hashed int64
+	chosen uint32
+}
+
+// new gives a hash for so many bytes.
+func (c *chooser) new(bytes int64) hash.Hash {
+	if atomic.LoadUint32(&c.chosen) == 1 {
+		return sha256.New()
+	}
+	if atomic.AddInt64(&c.hashed, bytes) > bytesBeforeChoice {
+		c.once.Do(func() {
+			go func() {
+				sha256.SelectAlgo()
+				atomic.StoreUint32(&c.chosen, 1)
+			}()
+		})
+	}
+	return standard.New()
+}

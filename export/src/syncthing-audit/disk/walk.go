@@ -1,0 +1,133 @@
+// Package disk reads what stands in a folder's directory, in the order of names, and hashes files.
+package disk
+
+import (
+	"fmt"
+	"path"
+	"sort"
+	"strings"
+
+	"github.com/syncthing/syncthing/lib/fs"
+	"github.com/syncthing/syncthing/lib/protocol"
+	"syncthing-audit/limits"
+	"syncthing-audit/part"
+)
+
+// Found is what stands under a name: a node, or why there is none, or both.
+type Found struct {
+	Name string
+	Node *part.Node
+	Out  *part.LeftOut
+}
+
+// Walker reads the nodes of a folder, without the bytes of files.
+type Walker struct {
+	Disk   fs.Filesystem // gives times as Syncthing sees them
+	Prefix string        // only names that begin so are read
+	Take   func(Found) error
+}
+
+// Walk reads all names, rising byte by byte as the names of an index do.
+func (w *Walker) Walk() error { return w.walk(".") }
+
+// walk reads what stands in a directory and below it. Symlinks aren't followed. What stands below a directory has names
+// with a slash behind the directory's own, and others may stand between the two.
+func (w *Walker) walk(directory string) error {
+	names, err := w.Disk.DirNames(directory)
+	if err != nil {
+		why := part.LeftOut{Kind: part.Unreadable, Why: "the directory can't be read: " + err.Error(), Below: true}
+		if directory == "." {
+			return fmt.Errorf("%s: %w", w.Disk.URI(), err)
+		}
+		return w.Take(Found{Name: directory + "/", Out: &why})
+	}
+	sort.Strings(names)
+	below := []string{} // directories that were met, each with its slash, whose names are still to come
+	for _, name := range names {
+		for len(below) > 0 && below[0] < name {
+			if err := w.walk(path.Join(directory, below[0])); err != nil {
+				return err
+			}
+			below = below[1:]
+		}
+		isDirectory, err := w.visit(path.Join(directory, name))
+		if err != nil {
+			return err
+		}
+		if isDirectory {
+			below = insert(below, name+"/")
+		}
+	}
+	for _, name := range below {
+		if err := w.walk(path.Join(directory, name)); err != nil {
+			return err
+		}
+	}
+	return nil
+}
+
+// insert puts a name into its place.
+func insert(names []string, name string) []string {
+	at := sort.SearchStrings(names, name)
+	names = append(names, "")
+	copy(names[at+1:], names[at:])
+	names[at] = name
+	return names
+}
+
+// visit reads what stands under a name, and says whether names below it are to be read. What Syncthing keeps for itself
+// and its temporary files are passed over, as its scanner does.
+func (w *Walker) visit(name string) (bool, error) {
+	if fs.IsInternal(name) {
+		return false, nil
+	}
+	info, err := w.Disk.Lstat(name)
+	if err != nil {
+		return false, w.Take(Found{Name: name, Out: &part.LeftOut{Kind: part.Unreadable, Why: "it can't be read: " + err.Error()}})
+	}
+	if strings.HasPrefix(name, w.Prefix) && !fs.IsTemporary(name) {
+		if err := w.Take(w.found(name, info)); err != nil {
+			return false, err
+		}
+	}
+	return info.IsDir() && mayHold(name, w.Prefix), nil
+}
+
+// mayHold says whether names below a directory may begin with the prefix.
+func mayHold(directory, prefix string) bool {
+	below := directory + "/"
+	return strings.HasPrefix(below, prefix) || strings.HasPrefix(prefix, below)
+}
+
+// found reads a node, and says why a document has none such.
+func (w *Walker) found(name string, info fs.FileInfo) Found {
+	made := Found{Name: name}
+	out := func(kind, why string) Found {
+		made.Out = &part.LeftOut{Kind: kind, Why: why, Bytes: info.Size()}
+		return made
+	}
+	if err := limits.CheckName(name); err != nil {
+		return out(part.OddName, err.Error())
+	}
+	modified := info.ModTime()
+	node := &part.Node{ModifiedS: modified.Unix(), ModifiedNs: modified.Nanosecond(), Permissions: uint32(info.Mode() & fs.ModePerm)}
+	switch {
+	case info.IsSymlink():
+		target, err := w.Disk.ReadSymlink(name)
+		if err != nil {
+			return out(part.Unreadable, "it can't be read: "+err.Error())
+		}
+		if err := limits.CheckTarget(target); err != nil {
+			return out(part.OddTarget, err.Error())
+		}
+		node.Type, node.Target = int(protocol.FileInfoTypeSymlink), target
+	case info.IsDir():
+		node.Type = int(protocol.FileInfoTypeDirectory)
+	case info.IsRegular():
+		node.Type, node.Size = int(protocol.FileInfoTypeFile), info.Size()
+	default:
+		return out(part.Special, "it is no file, directory or symlink")
+	}
+	made.Node = node
+	return made
+}

@@ -1,0 +1,252 @@
+package document
+
+import (
+	"bytes"
+	"fmt"
+
+	"syncthing-audit/join"
+	"syncthing-audit/limits"
+	"syncthing-audit/part"
+)
+
+// Bounds for what a document grows by when its certificate is added and every member is written.
+const (
+	bytesOfDefaults = 128 // the members of a record or node that stand there with their defaults
+	bytesOfRow      = 192 // a row of the certificate but its record: folder, device and punctuation
+	bytesOfEnds     = 4096
+	bytesOfMember   = 512 // a member of a folder without names
+	bytesOfView     = 256 // a view without names, and a link
+)
+
+// Document is a check document without its certificate.
+type Document struct {
+	Folder      string
+	Place       int // among all documents, from 0
+	First, Last string
+	Rows        []*join.Row // in the order of names
+	Written     []byte
+}
+
+// About says what the document is about.
+func (d *Document) About() string {
+	if len(d.Rows) == 0 {
+		return fmt.Sprintf("folder %s, no names", d.Folder)
+	}
+	return fmt.Sprintf("folder %s, names %q to %q", d.Folder, d.First, d.Last)
+}
+
+// Builder fills documents with rows, each as far as it has room. Settled speaks of each name by itself, and all that is
+// said of a name stands in one document, so all of them together say what one would.
+type Builder struct {
+	folder    *join.Folder
+	withBytes bool
+	room      int // bytes for names
+	members   []*member
+	rows      []*join.Row
+	used      int
+}
+
+// member is what a document says of one device.
+type member struct {
+	join.Member
+	own, store list
+	views      []viewed
+}
+
+// viewed is a view of another member.
+type viewed struct {
+	about  part.View
+	number uint64
+	list
+}
+
+// NewBuilder begins to fill documents of a folder of at most so many bytes.
+func NewBuilder(folder *join.Folder, withBytes bool, most int) *Builder {
+	made := &Builder{folder: folder, withBytes: withBytes, room: most - bytesOfEnds}
+	for _, one := range folder.Members {
+		next := &member{Member: one, views: make([]viewed, len(one.About.Views))}
+		made.room -= bytesOfMember
+		for place, of := range one.About.Views {
+			made.room -= bytesOfView
+			if folder.Member(of.Device) >= 0 {
+				next.views[place] = viewed{about: of, number: part.Number(of.Device)}
+			}
+		}
+		made.members = append(made.members, next)
+	}
+	return made
+}
+
+// items are a row as JSON, in the places where it goes.
+type items struct {
+	own, store []byte
+	views      map[int][]byte
+}
+
+// Add adds a row. It gives the document before it, if that was full; or why no document has the row.
+func (b *Builder) Add(row *join.Row) (*Document, *part.LeftOut) {
+	made, size := b.encode(row)
+	if size > b.room {
+		return nil, &part.LeftOut{Kind: part.Large, Why: "what all devices hold of it is more than a document has room for"}
+	}
+	if doubled := b.takeSequences(row); doubled != nil {
+		return nil, doubled
+	}
+	var full *Document
+	if b.used+size > b.room || len(b.rows) == limits.MostNames {
+		full = b.Take()
+		b.takeSequences(row)
+	}
+	for at, one := range made {
+		to := b.members[at]
+		if one.own != nil {
+			to.own.add(one.own)
+		}
+		if one.store != nil {
+			to.store.add(one.store)
+		}
+		for view, item := range one.views {
+			to.views[view].add(item)
+		}
+	}
+	b.rows = append(b.rows, row)
+	b.used += size
+	return full, nil
+}
+
+// encode gives a row as JSON for each member, with a bound for what it takes of a certified document, in which bytes
+// stand as hexadecimal digits.
+func (b *Builder) encode(row *join.Row) ([]items, int) {
+	made := make([]items, len(row.At))
+	size, greatest := 0, 0
+	for at, one := range row.At {
+		if one == nil {
+			continue
+		}
+		if one.Own != nil {
+			made[at].own = encoded(recordOf(row.Name, one.Own, b.withBytes))
+			length := len(made[at].own) + bytesOfDefaults
+			size += length
+			if length > greatest {
+				greatest = length
+			}
+		}
+		if one.Disk != nil {
+			next := nodeOf(row.Name, row.At, at, b.withBytes)
+			made[at].store = encoded(next)
+			size += len(made[at].store) + bytesOfDefaults + 2*len(next.Text)
+		}
+		for _, seen := range one.Views {
+			if b.members[at].views[seen.View].number == 0 {
+				continue
+			}
+			if made[at].views == nil {
+				made[at].views = map[int][]byte{}
+			}
+			item := encoded(recordOf(row.Name, &seen.Record, b.withBytes))
+			made[at].views[seen.View] = item
+			size += len(item) + bytesOfDefaults
+		}
+	}
+	return made, size + greatest + bytesOfRow
+}
+
+// takeSequences takes the sequence numbers of a row, and says whether another name of the document has one of them.
+func (b *Builder) takeSequences(row *join.Row) *part.LeftOut {
+	free := true
+	for at, one := range row.At {
+		if one == nil {
+			continue
+		}
+		if one.Own != nil {
+			free = b.members[at].own.take(one.Own.Sequence) && free
+		}
+		for _, seen := range one.Views {
+			free = b.members[at].views[seen.View].take(seen.Record.Sequence) && free
+		}
+	}
+	if free {
+		return nil
+	}
+	return &part.LeftOut{Kind: part.OddRecord, Why: "another name has its sequence number, too"}
+}
+
+// Take gives the document as it is, and begins another.
+func (b *Builder) Take() *Document {
+	made := &Document{Folder: b.folder.ID, Rows: b.rows, Written: b.write()}
+	if len(b.rows) > 0 {
+		made.First, made.Last = b.rows[0].Name, b.rows[len(b.rows)-1].Name
+	}
+	for _, one := range b.members {
+		one.own.reset()
+		one.store.reset()
+		for place := range one.views {
+			one.views[place].reset()
+		}
+	}
+	b.rows, b.used = nil, 0
+	return made
+}
+
+// Rows says how many rows the document has up to now.
+func (b *Builder) Rows() int { return len(b.rows) }
+
+// write gives the document's one line.
+func (b *Builder) write() []byte {
+	var to bytes.Buffer
+	fmt.Fprintf(&to, `{"version":1,"cut":{"folders":[{"folder":%q,"devices":[`, b.folder.ID)
+	for place, one := range b.members {
+		if place > 0 {
+			to.WriteByte(',')
+		}
+		one.write(&to)
+	}
+	to.WriteString(`]}],"links":[`)
+	b.writeLinks(&to)
+	to.WriteString("]}}\n")
+	return to.Bytes()
+}
+
+// write writes what the document says of a device. No pulls are written: Syncthing has them in memory alone.
+func (m *member) write(to *bytes.Buffer) {
+	fmt.Fprintf(to, `{"device":%d,"kind":%q,"index_id":%d,"max":%d,"own":[`, m.Number, m.About.Kind, m.About.IndexID, m.About.Max)
+	to.Write(m.own.written.Bytes())
+	to.WriteString(`],"store":[`)
+	to.Write(m.store.written.Bytes())
+	to.WriteString(`],"views":[`)
+	separator := ""
+	for place := range m.views {
+		one := &m.views[place]
+		if one.number == 0 {
+			continue
+		}
+		fmt.Fprintf(to, `%s{"of":%d,"index_id":%d,"max":%d,"records":[`, separator, one.number, one.about.IndexID, one.about.Max)
+		to.Write(one.written.Bytes())
+		to.WriteString("]}")
+		separator = ","
+	}
+	to.WriteString("]}")
+}
+
+// writeLinks writes a link, down and empty, for each two members that share the folder with each other.
+func (b *Builder) writeLinks(to *bytes.Buffer) {
+	separator := ""
+	for place, one := range b.members {
+		for _, other := range b.members[place+1:] {
+			if !one.sharesWith(other) {
+				continue
+			}
+			fmt.Fprintf(to, `%s{"a":%d,"b":%d,"up":false,"epoch":0}`, separator, one.Number, other.Number)
+			separator = ","
+		}
+	}
+}
+
+func (m *member) sharesWith(other *member) bool {
+	for _, one := range m.About.Sharing {
+		if one.Device == other.Head.Device {
+			return true
+		}
+	}
+	return false
+}

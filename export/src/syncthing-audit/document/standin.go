@@ -1,0 +1,50 @@
+// Package document writes check documents: what the members of a folder have of some of its names.
+package document
+
+import (
+	"crypto/sha256"
+	"encoding/hex"
+	"fmt"
+
+	"syncthing-audit/part"
+)
+
+// StandIn gives the text that stands in a document for a file's bytes: under 128 bytes, and equal exactly where the lists
+// of block hashes are, unless SHA-256 collides. Of one block alone the block size makes no difference to the list.
+func StandIn(content *part.Content) string {
+	cut := fmt.Sprintf("in blocks of %d", content.BlockSize)
+	if content.Size <= content.BlockSize {
+		cut = "in one block"
+	}
+	return fmt.Sprintf("%d bytes %s: %s", content.Size, cut, content.Hash)
+}
+
+// standInRecord gives what a record of the stand-in says: its length and its one block's hash.
+func standInRecord(content *part.Content) (int64, string) {
+	text := StandIn(content)
+	sum := sha256.Sum256([]byte(text))
+	return int64(len(text)), hex.EncodeToString(sum[:])
+}
+
+// contentOnDisk gives the content of a file on the disk. A file that is cut in several ways has the content that the
+// device's own record says, or else that of another device's record, where one of the ways gives it.
+func contentOnDisk(row []*part.Name, at int) *part.Content {
+	contents := row[at].Disk.Contents
+	own := row[at].Own
+	if own != nil && isContent(own, &contents[0]) {
+		return &contents[0]
+	}
+	for place := range contents {
+		for _, one := range row {
+			if one != nil && one.Own != nil && !one.Own.Invalid && isContent(one.Own, &contents[place]) {
+				return &contents[place]
+			}
+		}
+	}
+	return &contents[0]
+}
+
+// isContent says whether a record has this content.
+func isContent(one *part.Record, content *part.Content) bool {
+	return one.Content != nil && StandIn(one.Content) == StandIn(content)
+}

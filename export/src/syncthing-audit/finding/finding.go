@@ -1,0 +1,176 @@
+// Package finding has what an audit found, for those who print it.
+package finding
+
+import (
+	"sort"
+	"time"
+
+	"syncthing-audit/join"
+)
+
+// Answer is what was found in all folders.
+type Answer struct {
+	Devices  []Device
+	Folders  []*Folder
+	Refusals []Refusal // what isn't audited and wasn't asked to be left out: with any of these there is no verdict
+	LeftOut  []Refusal // devices and folders that were left out on request
+}
+
+// Device is a device that was audited.
+type Device struct {
+	ID     string
+	Number uint64
+	Name   string
+	Made   time.Time // when its part was made
+	From   string    // the home or file that it was read from
+}
+
+// Folder is what was found in a folder.
+type Folder struct {
+	ID, Label   string
+	Members     []join.Member // their numbers rising; the rows' places are theirs
+	Names       int64         // known ones, those without a winner included
+	Deleted     int64         // of these what no device holds
+	Bytes       int64         // that were hashed on all devices together
+	Documents   int
+	Failures    []Failure // what keeps the folder from being settled, in the order in which it is told
+	Unwon       []Unwon   // names without a winner; each is a failure, too
+	Permissions []Permissions
+	LeftOut     []*LeftOut // names that were left out on request
+	Outside     Outside
+	Rows        map[string]*join.Row // of the names of failures, permissions and names without a winner
+}
+
+// Failure is a reason why a folder isn't settled, at a name and, from RecordMissing on, a device.
+type Failure struct {
+	Reason string
+	Name   string
+	Device uint64 // 0 for none
+}
+
+// Unwon is a name without a winner: no device has a record of it that others may take.
+type Unwon struct {
+	Name string
+	At   []Cause
+}
+
+// Cause says what a device has of a name without a winner.
+type Cause struct {
+	Member int
+	Kind   string // Unscanned, LocalChange or OnlySeen
+}
+
+// Why a name has no winner at a device.
+const (
+	Unscanned   = "unscanned"    // it stands on the disk, and the index has no record of it
+	LocalChange = "local change" // it was changed on a receive-only folder
+	OnlySeen    = "only seen"    // another device's index is said to have it
+)
+
+// Permissions are those of a name that differ between disk and index, or between devices.
+type Permissions struct {
+	Name string
+	At   []Bits // one for each member; those that have none or ignore them are false
+}
+
+// Bits are the permissions of a name at a member.
+type Bits struct {
+	Has, OnDisk bool
+	Index, Disk uint32
+}
+
+// LeftOut is a name that wasn't audited, or all names below it.
+type LeftOut struct {
+	Name  string
+	Below bool // Name ends with a slash, and all names that begin so are meant
+	Names int64
+	Bytes int64
+	Why   []Reason
+}
+
+// Reason is why a name wasn't audited.
+type Reason struct {
+	Member int
+	Kind   string
+	Why    string
+}
+
+// Outside counts names that are ignored by each device that has them: Syncthing doesn't take them for the folder's.
+type Outside struct{ Names, Bytes int64 }
+
+// Refusal is why a name, a device or a folder isn't audited.
+type Refusal struct {
+	Kind   string // that --leave-out names; none where it can't be left out
+	Folder string
+	Device string // as a person knows it
+	Name   string
+	Why    string
+}
+
+// Reasons are why a folder isn't settled, in the order in which they are told.
+var Reasons = []string{"CertificateOrder", "NameMissing", "NameUnknown", "NotWinner", "RecordMissing", "RecordDiffers",
+	"LocalOnly", "StoreDiffers", "StoreUnclean", "ViewAhead", "FlightAhead", "PullAhead"}
+
+// Place gives the place of a reason in that order, or -1.
+func Place(reason string) int {
+	for place, one := range Reasons {
+		if one == reason {
+			return place
+		}
+	}
+	return -1
+}
+
+// Sort puts the failures in the order in which one document of all would have told them.
+func (f *Folder) Sort() {
+	sort.SliceStable(f.Failures, func(a, b int) bool { return before(f.Failures[a], f.Failures[b]) })
+}
+
+func before(one, other Failure) bool {
+	if one.Reason != other.Reason {
+		return Place(one.Reason) < Place(other.Reason)
+	}
+	if one.Name != other.Name {
+		return one.Name < other.Name
+	}
+	return one.Device < other.Device
+}
+
+// IsPart says whether something of the folder wasn't audited: a name, a device, or all other devices.
+func (a *Answer) IsPart(folder *Folder) bool {
+	if len(folder.LeftOut) > 0 || len(folder.Members) < 2 {
+		return true
+	}
+	for _, one := range a.LeftOut {
+		if one.Folder == folder.ID {
+			return true
+		}
+	}
+	return false
+}
+
+// IsPartial says whether something wasn't audited.
+func (a *Answer) IsPartial() bool {
+	for _, one := range a.Folders {
+		if a.IsPart(one) {
+			return true
+		}
+	}
+	return len(a.LeftOut) > 0
+}
+
+// First gives the failure that one document of all would have told, with its folder; nothing where all is settled.
+func (a *Answer) First() (*Folder, *Failure) {
+	var in *Folder
+	var first *Failure
+	for _, folder := range a.Folders {
+		if len(folder.Failures) == 0 {
+			continue
+		}
+		next := &folder.Failures[0]
+		if first == nil || Place(next.Reason) < Place(first.Reason) {
+			in, first = folder, next
+		}
+	}
+	return in, first
+}

@@ -1,0 +1,88 @@
+// Package gather reads what a device has of its folders, name by name: its index, its views and its disk, with the files
+// hashed on the way.
+package gather
+
+import (
+	"time"
+
+	"github.com/syncthing/syncthing/lib/fs"
+	"github.com/syncthing/syncthing/lib/ignore"
+	"syncthing-audit/device"
+	"syncthing-audit/disk"
+	"syncthing-audit/part"
+)
+
+// Folder is where a folder at a device is read from.
+type Folder interface {
+	Folder() part.Folder
+	Disk() fs.Filesystem
+	Patterns() (*ignore.Matcher, error)
+	Own(prefix string, take func(device.Entry) bool) error
+	View(of part.View, prefix string, take func(device.Entry) bool) error
+	Max() int64 // the greatest sequence of the device's own index, now
+}
+
+// Device is a device that is to be read.
+type Device struct {
+	ID, Name string
+	Folders  []Folder // rising by id
+	Prefix   string   // only names that begin so
+	Bytes    bool     // the bytes of files, too, in memory alone
+	Pool     *disk.Pool
+}
+
+// Head gives the head of the device's part.
+func (d *Device) Head() *part.Head {
+	made := &part.Head{Version: part.Version, Device: d.ID, Name: d.Name, Made: time.Now().UTC().Truncate(time.Second),
+		Prefix: d.Prefix, Folders: []part.Folder{}}
+	for _, one := range d.Folders {
+		made.Folders = append(made.Folders, one.Folder())
+	}
+	return made
+}
+
+// Run reads all folders and gives the lines behind the head.
+func (d *Device) Run(head *part.Head, sink part.Sink) error {
+	for place, one := range d.Folders {
+		about := &head.Folders[place]
+		if err := sink(part.Line{Begin: &part.Begin{Folder: about.ID}}); err != nil {
+			return err
+		}
+		end := &part.End{Folder: about.ID, Last: place == len(d.Folders)-1}
+		if err := d.names(one, about, end, sink); err != nil {
+			return err
+		}
+		end.Max = one.Max()
+		if err := sink(part.Line{End: end}); err != nil {
+			return err
+		}
+	}
+	return nil
+}
+
+// names gives the names of a folder. One routine finds them and has their files hashed; this one waits for the hashes, in
+// the order of names.
+func (d *Device) names(folder Folder, about *part.Folder, end *part.End, sink part.Sink) error {
+	patterns, err := folder.Patterns()
+	if err != nil {
+		return err
+	}
+	found := newQueue()
+	merging := newMerge(d, folder, about, patterns, found)
+	go func() { found.end(merging.run()) }()
+	defer found.stop()
+	for {
+		next, err := found.next()
+		if next == nil {
+			return err
+		}
+		line := next.finish()
+		end.Names++
+		if line.Disk != nil && line.Disk.Contents != nil {
+			end.Bytes += line.Disk.Size
+		}
+		if err := sink(part.Line{Name: line}); err != nil {
+			return err
+		}
+	}
+}

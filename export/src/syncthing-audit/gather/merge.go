@@ -1,0 +1,226 @@
+package gather
+
+import (
+	"errors"
+
+	"github.com/syncthing/syncthing/lib/ignore"
+	"github.com/syncthing/syncthing/lib/protocol"
+	"syncthing-audit/device"
+	"syncthing-audit/disk"
+	"syncthing-audit/limits"
+	"syncthing-audit/part"
+)
+
+// weightOfName is what a name without hashes takes of the queue's room.
+const weightOfName = 32
+
+// merge joins a folder's index, views and disk by name.
+type merge struct {
+	device   *Device
+	patterns *ignore.Matcher
+	walker   *disk.Walker
+	own      *puller[device.Entry]
+	views    []*puller[device.Entry]
+	nodes    *puller[disk.Found]
+	to       *queue
+}
+
+// errStopped says that nobody wants the names any more.
+var errStopped = errors.New("stopped")
+
+// newMerge begins to read a folder.
+func newMerge(of *Device, folder Folder, about *part.Folder, patterns *ignore.Matcher, to *queue) *merge {
+	made := &merge{device: of, patterns: patterns, to: to, walker: &disk.Walker{Disk: folder.Disk(), Prefix: of.Prefix}}
+	made.own = pull(func(take func(device.Entry) bool) error { return folder.Own(of.Prefix, take) })
+	for _, view := range about.Views {
+		view := view
+		made.views = append(made.views, pull(func(take func(device.Entry) bool) error { return folder.View(view, of.Prefix, take) }))
+	}
+	made.nodes = pull(func(take func(disk.Found) bool) error {
+		made.walker.Take = func(one disk.Found) error {
+			if !take(one) {
+				return errStopped
+			}
+			return nil
+		}
+		return made.walker.Walk()
+	})
+	return made
+}
+
+// run puts all names into the queue.
+func (m *merge) run() error {
+	defer func() {
+		m.nodes.close()
+		for _, one := range m.entries() {
+			one.close()
+		}
+	}()
+	for {
+		name, is := m.least()
+		if !is {
+			return m.err()
+		}
+		if !m.put(name) {
+			return errStopped
+		}
+	}
+}
+
+// entries gives the readings of the index: its own, then the views.
+func (m *merge) entries() []*puller[device.Entry] {
+	return append([]*puller[device.Entry]{m.own}, m.views...)
+}
+
+// err gives the error of a reading, if there was one.
+func (m *merge) err() error {
+	for _, one := range m.entries() {
+		if one.err != nil {
+			return one.err
+		}
+	}
+	return m.nodes.err
+}
+
+// least gives the least name that is still to come.
+func (m *merge) least() (string, bool) {
+	name, is := "", false
+	take := func(next string) {
+		if !is || next < name {
+			name, is = next, true
+		}
+	}
+	for _, one := range m.entries() {
+		if next := one.peek(); next != nil {
+			take(next.Name)
+		}
+	}
+	if next := m.nodes.peek(); next != nil {
+		take(next.Name)
+	}
+	return name, is
+}
+
+// put puts all that is said of a name into the queue, and has its file hashed; it says whether that is wanted still.
+func (m *merge) put(name string) bool {
+	line := &part.Name{Name: part.Bytes(name)}
+	var recorded [][32]byte
+	for place, one := range m.entries() {
+		next := one.peek()
+		if next == nil || next.Name != name {
+			continue
+		}
+		one.take()
+		if next.Out != nil {
+			line.Out = append(line.Out, *next.Out)
+			continue
+		}
+		m.addRecord(line, place, next)
+		if place == 0 && next.Record.Content != nil {
+			recorded = next.Blocks
+		}
+	}
+	if next := m.nodes.peek(); next != nil && next.Name == name {
+		m.nodes.take()
+		line.Disk = next.Node
+		if next.Out != nil {
+			line.Out = append(line.Out, *next.Out)
+		}
+	}
+	if m.patterns.Match(name).IsIgnored() {
+		line.Out = append(line.Out, part.LeftOut{Kind: part.Ignored, Why: "it is ignored there by .stignore", Bytes: sizeOf(line)})
+	}
+	return m.send(line, recorded)
+}
+
+// addRecord adds a record to a name: the own one, or one of a view.
+func (m *merge) addRecord(line *part.Name, place int, entry *device.Entry) {
+	if m.device.Bytes {
+		entry.Record.Blocks = entry.Blocks
+		if content := entry.Record.Content; content != nil && !fitsBytes(content.Size, content.BlockSize) {
+			line.Out = append(line.Out, tooLarge(content.Size))
+		}
+	}
+	if place == 0 {
+		line.Own = entry.Record
+		return
+	}
+	line.Views = append(line.Views, part.Seen{View: place - 1, Record: *entry.Record})
+}
+
+// fitsBytes says whether a document with bytes has files such as this.
+func fitsBytes(size, blockSize int64) bool {
+	return size <= limits.MostFileBytes && (size <= limits.BlockSize || blockSize == limits.BlockSize)
+}
+
+func tooLarge(size int64) part.LeftOut {
+	return part.LeftOut{Kind: part.Large, Why: "a document with bytes has files of at most 16777216 bytes in blocks of 131072", Bytes: size}
+}
+
+// sizeOf gives the bytes of a name's file on the disk, or as it is recorded.
+func sizeOf(line *part.Name) int64 {
+	switch {
+	case line.Disk != nil:
+		return line.Disk.Size
+	case line.Own != nil && line.Own.Content != nil:
+		return line.Own.Content.Size
+	}
+	return 0
+}
+
+// send puts a name into the queue, its file being hashed.
+func (m *merge) send(line *part.Name, recorded [][32]byte) bool {
+	node := line.Disk
+	if node != nil && m.device.Bytes && node.Size > limits.MostFileBytes && len(line.Out) == 0 {
+		line.Out = append(line.Out, tooLarge(node.Size))
+	}
+	one := &pending{line: line, weight: weightOfName}
+	isHashed := node != nil && node.Type == int(protocol.FileInfoTypeFile) && len(line.Out) == 0
+	file := disk.File{}
+	if isHashed {
+		file = disk.File{Disk: m.walker.Disk, Name: string(line.Name), Node: node, BlockSizes: blockSizes(line), Recorded: recorded,
+			Keep: m.device.Bytes}
+		one.weight += len(recorded)
+		for _, size := range file.BlockSizes {
+			one.weight += int(disk.CountOfBlocks(node.Size, size))
+		}
+		if file.Keep {
+			one.weight += int(node.Size / 32)
+		}
+	}
+	if !m.to.reserve(one.weight) {
+		return false
+	}
+	if isHashed {
+		one.job = m.device.Pool.Begin(file)
+	}
+	m.to.put(one)
+	return true
+}
+
+// blockSizes gives how a file on the disk is cut: first as the own record cuts it, or without one as its size asks for;
+// then as the views' records of its size do, where that makes other blocks.
+func blockSizes(line *part.Name) []int64 {
+	size := line.Disk.Size
+	first := int64(protocol.BlockSize(size))
+	if line.Own != nil && line.Own.Content != nil {
+		first = line.Own.Content.BlockSize
+	}
+	sizes := []int64{first}
+	for _, seen := range line.Views {
+		content := seen.Record.Content
+		if content != nil && content.Size == size && !contains(sizes, content.BlockSize) && (size > first || size > content.BlockSize) {
+			sizes = append(sizes, content.BlockSize)
+		}
+	}
+	return sizes
+}
+
+func contains(sizes []int64, size int64) bool {
+	for _, one := range sizes {
+		if one == size {
+			return true
+		}
+	}
+	return false
+}

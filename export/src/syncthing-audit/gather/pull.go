@@ -1,0 +1,63 @@
+package gather
+
+import "sync"
+
+// batchLength is how many things go from the reading to the one who asks at once.
+const batchLength = 64
+
+// puller turns a reading that gives things one by one into one that is asked for them. It reads ahead.
+type puller[T any] struct {
+	batches chan []T
+	batch   []T
+	stopped chan struct{}
+	stop    sync.Once
+	err     error // once the batches are at their end
+}
+
+// pull begins a reading.
+func pull[T any](read func(take func(T) bool) error) *puller[T] {
+	made := &puller[T]{batches: make(chan []T, 2), stopped: make(chan struct{})}
+	go func() {
+		defer close(made.batches)
+		batch := make([]T, 0, batchLength)
+		send := func() bool {
+			select {
+			case made.batches <- batch:
+				batch = make([]T, 0, batchLength)
+				return true
+			case <-made.stopped:
+				return false
+			}
+		}
+		made.err = read(func(one T) bool {
+			batch = append(batch, one)
+			return len(batch) < batchLength || send()
+		})
+		if made.err == nil && len(batch) > 0 {
+			send()
+		}
+	}()
+	return made
+}
+
+// peek gives the next thing without taking it; nothing at the end.
+func (p *puller[T]) peek() *T {
+	for len(p.batch) == 0 {
+		next, is := <-p.batches
+		if !is {
+			return nil
+		}
+		p.batch = next
+	}
+	return &p.batch[0]
+}
+
+// take takes what peek gives.
+func (p *puller[T]) take() { p.batch = p.batch[1:] }
+
+// close ends the reading, and waits until nothing of it runs any more.
+func (p *puller[T]) close() {
+	p.stop.Do(func() { close(p.stopped) })
+	for range p.batches {
+	}
+}

@@ -1,0 +1,124 @@
+package main
+
+import (
+	"fmt"
+	"io"
+	"os"
+	"sort"
+
+	"syncthing-audit/device"
+	"syncthing-audit/disk"
+	"syncthing-audit/gather"
+	"syncthing-audit/join"
+	"syncthing-audit/part"
+)
+
+// inputs are the homes and parts that are read, to be closed.
+type inputs struct {
+	devices []*join.Device
+	pool    *disk.Pool
+	closers []func()
+}
+
+func (i *inputs) close() {
+	for place := len(i.closers) - 1; place >= 0; place-- {
+		i.closers[place]()
+	}
+}
+
+// openInputs opens all homes and parts; nothing stays open on an error.
+func openInputs(asked options) (*inputs, error) {
+	opened := &inputs{}
+	if len(asked.homes) > 0 {
+		opened.pool = disk.NewPool(asked.jobs)
+		opened.closers = append(opened.closers, opened.pool.Close)
+	}
+	if err := opened.open(asked); err != nil {
+		opened.close()
+		return nil, err
+	}
+	return opened, nil
+}
+
+func (i *inputs) open(asked options) error {
+	var homes []*device.Home
+	for _, dir := range asked.homes {
+		home, err := device.Open(dir)
+		if err != nil {
+			return err
+		}
+		i.closers = append(i.closers, home.Close)
+		homes = append(homes, home)
+	}
+	for _, home := range homes {
+		read, err := i.deviceOf(home, asked)
+		if err != nil {
+			return err
+		}
+		stream := read.Stream()
+		i.closers = append(i.closers, stream.Close)
+		i.devices = append(i.devices, join.NewDevice(stream, home.Dir))
+	}
+	for _, path := range asked.parts {
+		if err := i.openPart(path); err != nil {
+			return fmt.Errorf("%s: %w", path, err)
+		}
+	}
+	return nil
+}
+
+// openPart opens a part.
+func (i *inputs) openPart(path string) error {
+	file, err := os.Open(path)
+	if err != nil {
+		return err
+	}
+	i.closers = append(i.closers, func() { file.Close() })
+	read, err := part.NewReader(file)
+	if err != nil {
+		return err
+	}
+	i.devices = append(i.devices, join.NewDevice(read, path))
+	return nil
+}
+
+// deviceOf opens the indexes of a home's folders: those that are wanted, or all.
+func (i *inputs) deviceOf(home *device.Home, asked options) (*gather.Device, error) {
+	made := &gather.Device{ID: home.ID.String(), Name: home.Name(), Prefix: asked.names, Bytes: asked.bytes, Pool: i.pool}
+	folders := append(home.Config.Folders[:0:0], home.Config.Folders...)
+	sort.Slice(folders, func(a, b int) bool { return folders[a].ID < folders[b].ID })
+	for _, one := range folders {
+		if len(asked.folders) > 0 && !contains(asked.folders, one.ID) {
+			continue
+		}
+		index, err := home.Index(one)
+		if err != nil {
+			return nil, fmt.Errorf("%s: %w", home.Dir, err)
+		}
+		i.closers = append(i.closers, index.Close)
+		made.Folders = append(made.Folders, index)
+	}
+	return made, nil
+}
+
+func contains(all []string, word string) bool {
+	for _, one := range all {
+		if one == word {
+			return true
+		}
+	}
+	return false
+}
+
+// meaning says once, on standard error, what an answer means for real Syncthing.
+const meaning = `syncthing-audit: what an answer means: the files, records and views are compared exactly as they were when
+they were read. That a settled cut stays settled is proved of this project's peers, which merge versions when they
+adopt a record, as Syncthing does not.
+`
+
+// tellDevices tells whose homes and parts these are.
+func tellDevices(log io.Writer, devices []*join.Device) {
+	for _, one := range devices {
+		fmt.Fprintf(log, "syncthing-audit: device %d is %s (%s)\n", one.Number, one.Head.Device, one.From)
+	}
+}

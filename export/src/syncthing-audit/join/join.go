@@ -1,0 +1,205 @@
+// Package join brings the parts of several devices together, name by name.
+package join
+
+import (
+	"errors"
+	"fmt"
+	"io"
+
+	"syncthing-audit/part"
+)
+
+// Device is a device with its part.
+type Device struct {
+	Stream part.Stream
+	Head   *part.Head
+	Number uint64
+	From   string // the home or the file, for messages
+	line   *part.Line
+}
+
+// NewDevice gives the device of a part.
+func NewDevice(stream part.Stream, from string) *Device {
+	return &Device{Stream: stream, Head: stream.Head(), Number: stream.Head().Number(), From: from}
+}
+
+// Member is a device that shares a folder.
+type Member struct {
+	*Device
+	About *part.Folder
+}
+
+// Folder is a folder with those of its devices that are audited, their numbers rising.
+type Folder struct {
+	ID      string
+	Label   string
+	Members []Member
+}
+
+// Member gives the place of a device among a folder's members, or -1.
+func (f *Folder) Member(device string) int {
+	for place, one := range f.Members {
+		if one.Head.Device == device {
+			return place
+		}
+	}
+	return -1
+}
+
+// Row is all that the members of a folder have of one name: nothing where one has nothing.
+type Row struct {
+	Name string
+	At   []*part.Name
+}
+
+// peek gives the next line of a device's part without taking it.
+func (d *Device) peek() (*part.Line, error) {
+	if d.line == nil {
+		next, err := d.Stream.Next()
+		if err == io.EOF {
+			return nil, fmt.Errorf("%s: the part has no more folders", d.From)
+		}
+		if err != nil {
+			return nil, fmt.Errorf("%s: %w", d.From, err)
+		}
+		d.line = &next
+	}
+	return d.line, nil
+}
+
+// Choose says which folders are to be read, where that is known before they are.
+func (d *Device) Choose(isChosen func(id string) bool) {
+	if chooser, is := d.Stream.(interface{ Choose(func(string) bool) }); is {
+		chooser.Choose(isChosen)
+	}
+}
+
+// Whole says why a part isn't whole, once its folders were read.
+func (d *Device) Whole() error {
+	whole, is := d.Stream.(interface{ Whole() error })
+	if !is {
+		return nil
+	}
+	if err := whole.Whole(); err != nil {
+		return fmt.Errorf("%s: %w", d.From, err)
+	}
+	return nil
+}
+
+// begin goes to the first name of a folder, past folders that aren't audited.
+func (d *Device) begin(id string) error {
+	for {
+		line, err := d.peek()
+		if err != nil {
+			return err
+		}
+		d.line = nil
+		if line.Begin != nil && line.Begin.Folder == id {
+			return nil
+		}
+	}
+}
+
+// nextName gives the next name of the folder without taking it; nothing at its end.
+func (d *Device) nextName() (*part.Name, error) {
+	line, err := d.peek()
+	if err != nil {
+		return nil, err
+	}
+	if line.Begin != nil {
+		return nil, fmt.Errorf("%s: a folder begins inside another", d.From)
+	}
+	return line.Name, nil
+}
+
+// end takes the end of a folder, and says whether the index is still that of the part's head.
+func (d *Device) end(about *part.Folder) (*part.End, error) {
+	line, err := d.peek()
+	if err != nil {
+		return nil, err
+	}
+	d.line = nil
+	if line.End == nil {
+		return nil, errors.New("a folder's end is missing")
+	}
+	if line.End.Max != about.Max {
+		return nil, fmt.Errorf("refused: folder %s, %s: its index changed while it was read (sequence %d, then %d): make the part anew",
+			about.ID, d.Label(), about.Max, line.End.Max)
+	}
+	return line.End, nil
+}
+
+// Label names a device for a person: its configured name and its id.
+func (d *Device) Label() string {
+	short := d.Head.Device
+	if len(short) > 7 {
+		short = short[:7]
+	}
+	if d.Head.Name == "" {
+		return "device " + short
+	}
+	return fmt.Sprintf("device %s (%s)", d.Head.Name, short)
+}
+
+// Rows gives the rows of a folder, rising by name, and then how many bytes were hashed. Folders are asked for in the
+// order of their ids.
+func (f *Folder) Rows(take func(*Row) error) (int64, error) {
+	for _, one := range f.Members {
+		if err := one.begin(f.ID); err != nil {
+			return 0, err
+		}
+	}
+	for {
+		row, err := f.next()
+		if err != nil {
+			return 0, err
+		}
+		if row == nil {
+			return f.finish()
+		}
+		if err := take(row); err != nil {
+			return 0, err
+		}
+	}
+}
+
+// next gives the next row; nothing at the end.
+func (f *Folder) next() (*Row, error) {
+	heads := make([]*part.Name, len(f.Members))
+	var least *part.Bytes
+	for place, one := range f.Members {
+		next, err := one.nextName()
+		if err != nil {
+			return nil, err
+		}
+		heads[place] = next
+		if next != nil && (least == nil || next.Name < *least) {
+			least = &next.Name
+		}
+	}
+	if least == nil {
+		return nil, nil
+	}
+	row := &Row{Name: string(*least), At: heads}
+	for place, next := range heads {
+		if next == nil || next.Name != *least {
+			row.At[place] = nil
+			continue
+		}
+		f.Members[place].line = nil
+	}
+	return row, nil
+}
+
+// finish takes the ends of a folder.
+func (f *Folder) finish() (int64, error) {
+	total := int64(0)
+	for _, one := range f.Members {
+		end, err := one.end(one.About)
+		if err != nil {
+			return 0, err
+		}
+		total += end.Bytes
+	}
+	return total, nil
+}

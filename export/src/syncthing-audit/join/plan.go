@@ -1,0 +1,240 @@
+package join
+
+import (
+	"fmt"
+	"sort"
+
+	"syncthing-audit/limits"
+	"syncthing-audit/part"
+)
+
+// Refusal is why something isn't audited. One of a kind can be left out on request; one without a kind can't.
+type Refusal struct {
+	Kind   string
+	Folder string
+	Device string // its id, or nothing
+	Name   string // what the device is called by those who know it
+	Why    string
+}
+
+// Plan is what is audited: folders, rising by id, with their devices.
+type Plan struct {
+	Devices  []*Device // their numbers rising
+	Folders  []*Folder
+	Refusals []Refusal
+}
+
+// NewPlan says what is to be audited of these devices: the folders that are wanted, or all. Of what the refusals name the
+// devices and folders aren't in it.
+func NewPlan(devices []*Device, wanted []string) (*Plan, error) {
+	sort.Slice(devices, func(a, b int) bool { return devices[a].Number < devices[b].Number })
+	if err := checkDevices(devices); err != nil {
+		return nil, err
+	}
+	ids, err := chosen(devices, wanted)
+	if err != nil {
+		return nil, err
+	}
+	made := &Plan{Devices: devices}
+	for _, id := range ids {
+		if folder := made.folder(id); folder != nil {
+			made.Folders = append(made.Folders, folder)
+		}
+	}
+	for _, device := range devices {
+		device.Choose(made.has)
+	}
+	return made, checkDirectories(made.Folders)
+}
+
+// has says whether a folder is audited.
+func (p *Plan) has(id string) bool {
+	for _, one := range p.Folders {
+		if one.ID == id {
+			return true
+		}
+	}
+	return false
+}
+
+// checkDevices says whether two parts are one device's, or were made with other names.
+func checkDevices(devices []*Device) error {
+	for place := 1; place < len(devices); place++ {
+		one, other := devices[place-1], devices[place]
+		if one.Number == other.Number {
+			return fmt.Errorf("refused: %s and %s are of one device number, %d", one.From, other.From, one.Number)
+		}
+		if one.Head.Prefix != other.Head.Prefix {
+			return fmt.Errorf("refused: %s has the names that begin with %q, and %s those with %q: make all parts with the same --names",
+				one.From, one.Head.Prefix, other.From, other.Head.Prefix)
+		}
+	}
+	return nil
+}
+
+// chosen gives the ids of the folders to audit, rising.
+func chosen(devices []*Device, wanted []string) ([]string, error) {
+	there := map[string]bool{}
+	for _, device := range devices {
+		for _, one := range device.Head.Folders {
+			there[one.ID] = true
+		}
+	}
+	for _, id := range wanted {
+		if !there[id] {
+			return nil, fmt.Errorf("refused: no device here has the folder %q", id)
+		}
+	}
+	ids := []string{}
+	for id := range there {
+		if len(wanted) == 0 || contains(wanted, id) {
+			ids = append(ids, id)
+		}
+	}
+	sort.Strings(ids)
+	return ids, nil
+}
+
+func contains(all []string, word string) bool {
+	for _, one := range all {
+		if one == word {
+			return true
+		}
+	}
+	return false
+}
+
+// folder gives a folder with its devices; nothing where it isn't audited as a whole.
+func (p *Plan) folder(id string) *Folder {
+	made := &Folder{ID: id}
+	for _, device := range p.Devices {
+		if about := device.Head.Folder(id); about != nil {
+			made.Members = append(made.Members, Member{device, about})
+			if made.Label == "" {
+				made.Label = about.Label
+			}
+		}
+	}
+	before := len(p.Refusals)
+	p.checkWhole(made)
+	if len(p.Refusals) > before {
+		return nil
+	}
+	if !p.checkSharing(made) {
+		return nil
+	}
+	p.checkMoments(made)
+	return made
+}
+
+// refuse adds a refusal.
+func (p *Plan) refuse(kind string, folder *Folder, device, name, why string) {
+	p.Refusals = append(p.Refusals, Refusal{kind, folder.ID, device, name, why})
+}
+
+// checkWhole refuses a folder that no document has.
+func (p *Plan) checkWhole(folder *Folder) {
+	if !limits.IsFolderID(folder.ID) {
+		p.refuse(part.OddName, folder, "", "", "its id isn't 1 to 64 ASCII letters, digits, '-' and '_'")
+	}
+	if len(folder.Members) > limits.MostDevices {
+		p.refuse("", folder, "", "", fmt.Sprintf("%d devices, at most %d go into a document", len(folder.Members), limits.MostDevices))
+	}
+	for _, one := range folder.Members {
+		if one.About.Kind == "encrypted" {
+			p.refuse(part.Encrypted, folder, one.Head.Device, one.Head.Name, "the folder is encrypted there")
+		}
+		for _, other := range one.About.Sharing {
+			if other.Encrypted {
+				p.refuse(part.Encrypted, folder, other.Device, other.Name, "the folder is shared encrypted with it by "+one.Label())
+			}
+		}
+	}
+}
+
+// checkSharing refuses a device without a part, and a folder that one device shares with another which doesn't share it
+// with the first; it says whether there is none such.
+func (p *Plan) checkSharing(folder *Folder) bool {
+	absent := map[string]bool{}
+	isShared := true
+	for _, one := range folder.Members {
+		for _, other := range one.About.Sharing {
+			at := folder.Member(other.Device)
+			switch {
+			case at >= 0 && !sharesWith(folder.Members[at].About, one.Head.Device):
+				isShared = false
+				p.refuse(part.Unshared, folder, other.Device, other.Name, "it doesn't share the folder with "+one.Label()+", which shares it with this one")
+			case at < 0 && p.hasDevice(other.Device):
+				isShared = false
+				p.refuse(part.Unshared, folder, other.Device, other.Name, "it doesn't share the folder, or its part is without it; "+one.Label()+" shares it with this one")
+			case at < 0 && !absent[other.Device]:
+				absent[other.Device] = true
+				p.refuse(part.Absent, folder, other.Device, other.Name, "it shares the folder, and no home or part of it is given ("+other.Device+")")
+			}
+		}
+	}
+	return isShared
+}
+
+// hasDevice says whether a part of this device is here.
+func (p *Plan) hasDevice(device string) bool {
+	for _, one := range p.Devices {
+		if one.Head.Device == device {
+			return true
+		}
+	}
+	return false
+}
+
+// sharesWith says whether a folder is shared with this device.
+func sharesWith(about *part.Folder, device string) bool {
+	for _, one := range about.Sharing {
+		if one.Device == device {
+			return true
+		}
+	}
+	return false
+}
+
+// checkMoments refuses parts that can't be of one moment: a device knows more of another one's index than that one's
+// part has.
+func (p *Plan) checkMoments(folder *Folder) {
+	for _, one := range folder.Members {
+		for _, view := range one.About.Views {
+			at := folder.Member(view.Device)
+			if at < 0 {
+				continue
+			}
+			other := folder.Members[at]
+			if view.IndexID == other.About.IndexID && view.Max > other.About.Max {
+				p.refuse("", folder, other.Head.Device, other.Head.Name, fmt.Sprintf("it is of an earlier moment than %s, which knows of its change %d, "+
+					"and here its last one is %d: stop both devices, then make the part of this one anew", one.From, view.Max, other.About.Max))
+			}
+		}
+	}
+}
+
+// checkDirectories refuses two devices that have one and the same directory, be it for one folder or for two. The
+// config.xml of a copied home names a path of the other machine, and what stands there on this one may well be a folder
+// of this one's device: its bytes would be read as those of both, and two devices that differ be called settled.
+//
+// A directory inside another device's is no such mistake: a copy may be kept inside a folder, and no name of a folder
+// then stands for one file at both. Nor are two folders of one device in one directory, which Syncthing allows.
+func checkDirectories(folders []*Folder) error {
+	type owner struct {
+		Member
+		folder string
+	}
+	seen := map[string]owner{}
+	for _, folder := range folders {
+		for _, one := range folder.Members {
+			other, taken := seen[one.About.Directory]
+			if taken && other.Device != one.Device {
+				return fmt.Errorf("refused: folder %s, %s: its directory %s is that of %s for folder %s, too. A copied home's "+
+					"config.xml is to name the directory of the copied folder", folder.ID, one.Label(), one.About.Path, other.Label(), other.folder)
+			}
+			seen[one.About.Directory] = owner{one, folder.ID}
+		}
+	}
+	return nil
+}

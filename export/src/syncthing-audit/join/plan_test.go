@@ -1,0 +1,128 @@
+package join
+
+import (
+	"io"
+	"strings"
+	"testing"
+
+	"github.com/syncthing/syncthing/lib/protocol"
+	"syncthing-audit/part"
+)
+
+// deviceID gives the device id of a number.
+func deviceID(number byte) string {
+	return protocol.DeviceID{7: number}.String()
+}
+
+// heads is a stream of a head alone.
+type heads struct{ head part.Head }
+
+func (h *heads) Head() *part.Head         { return &h.head }
+func (h *heads) Next() (part.Line, error) { return part.Line{}, io.EOF }
+
+// sharing gives devices that share the folder 'docs': each entry is a device with the others that it shares with.
+func sharing(with map[byte]string, change func(device byte, folder *part.Folder)) []*Device {
+	var devices []*Device
+	for number := byte(1); number < 10; number++ {
+		others, given := with[number]
+		if !given {
+			continue
+		}
+		folder := part.Folder{ID: "docs", Kind: "send-receive", IndexID: uint64(number), Max: 5, Directory: deviceID(number)}
+		for _, other := range others {
+			if id := byte(other - '0'); id != number {
+				folder.Sharing = append(folder.Sharing, part.Sharing{Device: deviceID(id)})
+			}
+		}
+		change(number, &folder)
+		devices = append(devices, NewDevice(&heads{part.Head{Device: deviceID(number), Folders: []part.Folder{folder}}}, string('0'+rune(number))))
+	}
+	return devices
+}
+
+func unchanged(byte, *part.Folder) {}
+
+// refused gives the kinds of a plan's refusals.
+func refused(plan *Plan) string {
+	words := []string{}
+	for _, one := range plan.Refusals {
+		words = append(words, one.Kind)
+	}
+	return strings.Join(words, " ")
+}
+
+func TestSharing(t *testing.T) {
+	cases := []struct {
+		why     string
+		with    map[byte]string
+		change  func(byte, *part.Folder)
+		refused string
+		members int
+	}{
+		{"all with all", map[byte]string{1: "123", 2: "123", 3: "123"}, unchanged, "", 3},
+		{"a chain", map[byte]string{1: "12", 2: "123", 3: "23"}, unchanged, "", 3},
+		{"alone", map[byte]string{1: "1"}, unchanged, "", 1},
+		{"a part is missing", map[byte]string{1: "12"}, unchanged, part.Absent, 1},
+		{"one that two miss is told once", map[byte]string{1: "123", 2: "123"}, unchanged, part.Absent, 2},
+		{"not shared back", map[byte]string{1: "12", 2: "2"}, unchanged, part.Unshared, 0},
+		{"encrypted", map[byte]string{1: "12", 2: "12"}, func(device byte, folder *part.Folder) {
+			if device == 2 {
+				folder.Kind = "encrypted"
+			}
+		}, part.Encrypted, 0},
+		{"an odd id", map[byte]string{1: "12", 2: "12"}, func(_ byte, folder *part.Folder) { folder.ID = "my docs" }, part.OddName, 0},
+	}
+	for _, one := range cases {
+		plan, err := NewPlan(sharing(one.with, one.change), nil)
+		if err != nil {
+			t.Fatal(one.why, err)
+		}
+		members := 0
+		for _, folder := range plan.Folders {
+			members += len(folder.Members)
+		}
+		if refused(plan) != one.refused || members != one.members {
+			t.Errorf("%s: %q, %d devices", one.why, refused(plan), members)
+		}
+	}
+}
+
+func TestMoments(t *testing.T) {
+	cases := []struct {
+		why     string
+		indexID uint64
+		max     int64
+		refused bool
+	}{
+		{"as far as the index goes", 2, 5, false}, {"behind it", 2, 4, false}, {"ahead of it", 2, 6, true}, {"of an index that is gone", 9, 6, false},
+	}
+	for _, one := range cases {
+		plan, err := NewPlan(sharing(map[byte]string{1: "12", 2: "12"}, func(device byte, folder *part.Folder) {
+			if device == 1 {
+				folder.Views = []part.View{{Device: deviceID(2), IndexID: one.indexID, Max: one.max}}
+			}
+		}), nil)
+		if err != nil || (len(plan.Refusals) > 0) != one.refused {
+			t.Errorf("%s: %v, %v", one.why, plan.Refusals, err)
+		}
+	}
+}
+
+func TestPartsThatDoNotGoTogether(t *testing.T) {
+	same := func(_ byte, folder *part.Folder) { folder.Directory = "one" }
+	if _, err := NewPlan(sharing(map[byte]string{1: "12", 2: "12"}, same), nil); err == nil {
+		t.Error("two devices have one directory")
+	}
+	one := sharing(map[byte]string{1: "12"}, unchanged)
+	if _, err := NewPlan(append(one, sharing(map[byte]string{1: "12"}, unchanged)...), nil); err == nil {
+		t.Error("two parts are of one device")
+	}
+	if _, err := NewPlan(one, []string{"pics"}); err == nil {
+		t.Error("no device has the folder")
+	}
+	other := sharing(map[byte]string{2: "12"}, unchanged)
+	other[0].Head.Prefix = "a"
+	if _, err := NewPlan(append(one, other...), nil); err == nil {
+		t.Error("the parts have other names")
+	}
+}

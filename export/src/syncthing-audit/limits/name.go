@@ -1,0 +1,46 @@
+package limits
+
+import (
+	"errors"
+	"fmt"
+	"strings"
+	"unicode/utf8"
+)
+
+// CheckName says why the document has no such name: a name is 1 to 1024 bytes of UTF-8 without NUL, whose parts
+// between slashes aren't empty, '.' or '..'.
+func CheckName(name string) error {
+	switch {
+	case !utf8.ValidString(name):
+		return errors.New("its name isn't UTF-8")
+	case len(name) > MostNameBytes:
+		return fmt.Errorf("its name has over %d bytes", MostNameBytes)
+	case strings.ContainsRune(name, 0):
+		return errors.New("its name has a NUL")
+	}
+	for _, part := range strings.Split(name, "/") {
+		if part == "" || part == "." || part == ".." {
+			return errors.New("its name has a part that is empty, '.' or '..'")
+		}
+	}
+	return nil
+}
+
+// CheckTarget says why the document has no symlink of this target.
+func CheckTarget(target string) error {
+	switch {
+	case !utf8.ValidString(target):
+		return errors.New("its target isn't UTF-8")
+	case target == "" || len(target) > MostTargetBytes:
+		return fmt.Errorf("its target hasn't 1 to %d bytes", MostTargetBytes)
+	case strings.ContainsRune(target, 0):
+		return errors.New("its target has a NUL")
+	}
+	return nil
+}
+
+// IsFolderID says whether the document has this folder id: 1 to 64 ASCII letters, digits, '-' and '_'.
+func IsFolderID(id string) bool {
+	const others = "-_0123456789ABCDEFGHIJKLMNOPQRSTUVWXYZabcdefghijklmnopqrstuvwxyz"
+	return 1 <= len(id) && len(id) <= 64 && strings.Trim(id, others) == ""
+}

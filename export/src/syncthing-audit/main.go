@@ -1,0 +1,90 @@
+// Command syncthing-audit says whether real Syncthing devices are in step, and where not which device is wrong.
+package main
+
+import (
+	"errors"
+	"fmt"
+	"io"
+	"os"
+	"syscall"
+
+	"syncthing-audit/ask"
+)
+
+// Exit statuses; syncaudit's own are the same as far as it has them.
+const (
+	statusDone       = 0 // or settled
+	statusNotSettled = 1
+	statusRefused    = 2
+	statusUsage      = 3
+	statusPartial    = 6 // in step as far as audited
+)
+
+// errTold says that the log has been told already why there is no answer.
+var errTold = errors.New("refused")
+
+// command is one of the program's commands.
+type command func(words []string, output, log io.Writer) (int, error)
+
+var commands = map[string]command{"part": runPart, "check": runCheck, "export": runExport}
+
+func main() {
+	output, err := takeStandardOutput()
+	if err != nil {
+		fmt.Fprintln(os.Stderr, "syncthing-audit:", err)
+		os.Exit(statusRefused)
+	}
+	os.Exit(run(os.Args[1:], output, os.Stderr))
+}
+
+// takeStandardOutput gives the program's output to the caller and sends everything else that is printed to standard
+// error: Syncthing's packages log to standard output.
+func takeStandardOutput() (*os.File, error) {
+	number, err := syscall.Dup(syscall.Stdout)
+	if err != nil {
+		return nil, err
+	}
+	if err := syscall.Dup3(syscall.Stderr, syscall.Stdout, 0); err != nil {
+		return nil, err
+	}
+	return os.NewFile(uintptr(number), "standard output"), nil
+}
+
+// run runs the command that the words name and gives the exit status.
+func run(words []string, output, log io.Writer) int {
+	if len(words) > 0 && isHelp(words[0]) {
+		fmt.Fprint(output, usage)
+		return statusDone
+	}
+	if len(words) == 0 || commands[words[0]] == nil {
+		fmt.Fprint(log, usage)
+		return statusUsage
+	}
+	status, err := commands[words[0]](words[1:], output, log)
+	if err == nil {
+		return status
+	}
+	return statusOf(err, output, log)
+}
+
+func isHelp(word string) bool { return word == "--help" || word == "-h" || word == "help" }
+
+// statusOf tells the log of an error that it hasn't been told yet, and gives the exit status.
+func statusOf(err error, output, log io.Writer) int {
+	var wrong *wrongUsage
+	var failed *ask.Failed
+	switch {
+	case errors.Is(err, errHelp):
+		fmt.Fprint(output, usage)
+		return statusDone
+	case errors.As(err, &wrong):
+		fmt.Fprintf(log, "syncthing-audit: %v\n'syncthing-audit --help' tells how to use it\n", err)
+		return statusUsage
+	case !errors.Is(err, errTold):
+		fmt.Fprintln(log, "syncthing-audit:", err)
+	}
+	if errors.As(err, &failed) {
+		return failed.Status
+	}
+	return statusRefused
+}

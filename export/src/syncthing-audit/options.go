@@ -1,0 +1,148 @@
+package main
+
+import (
+	"errors"
+	"flag"
+	"fmt"
+	"io"
+	"os"
+	"runtime"
+	"strings"
+
+	"syncthing-audit/part"
+)
+
+// options are what the command line asks for.
+type options struct {
+	homes    []string
+	parts    []string
+	folders  []string
+	names    string
+	leaveOut map[string]bool
+	bytes    bool
+	lines    bool
+	into     string
+	output   string
+	program  string
+	jobs     int
+}
+
+var usage = fmt.Sprintf(`usage: syncthing-audit part [--home DIR] [--folder ID ..] [--names PREFIX] -o FILE
+       syncthing-audit check [--home DIR ..] [PART ..] [--folder ID ..]
+       syncthing-audit export [--home DIR ..] [PART ..] --into DIR
+
+Says whether stopped Syncthing devices are in step, and where not which device is wrong.
+
+  part    reads a device's index and hashes its files, and writes what it found: no file's bytes, no private key
+  check   joins the parts of all devices that share a folder, and has syncaudit answer
+  export  writes the check documents of such an answer, for 'syncaudit certify' and 'syncaudit check'
+
+  --home DIR           a device's home on this machine: config.xml, cert.pem and index-v0.14.0.db
+  --folder ID          only this folder (may be given more than once; all folders if it isn't)
+  --names PREFIX       only names that begin with these bytes
+  -o FILE              where the part goes; standard output if it isn't given
+  --leave-out KINDS    leave out what can't be audited, by kinds with commas between, and say so:
+                       %s
+  --lines              print the verdict and all that fails, a line each, in syncaudit's words
+  --bytes              documents with the bytes of files (from homes alone), as others may want to read them
+  --into DIR           write the documents there, as cut-0001.json and so on
+  --syncaudit FILE     the program that answers; if it isn't given, $SYNCAUDIT, or syncaudit on PATH
+  --jobs N             how many of it run at once, and how many files are hashed at once (%d)
+
+Exit status: 0 in step, or written; 1 not in step; 2 refused; 3 usage; 6 in step as far as audited: something was left
+out; 4, 5 the audit's out of memory, or read or write fault; 127 syncaudit can't be run.
+`, strings.Join(part.Kinds, ","), runtime.NumCPU())
+
+// list is a flag that may be given more than once.
+type list []string
+
+func (l *list) String() string { return strings.Join(*l, " ") }
+
+// Set adds a value, which may not be empty.
+func (l *list) Set(value string) error {
+	if value == "" {
+		return errors.New("empty")
+	}
+	*l = append(*l, value)
+	return nil
+}
+
+// kinds is the flag of what may be left out.
+type kinds map[string]bool
+
+func (k kinds) String() string { return "" }
+
+// Set adds kinds, with commas between.
+func (k kinds) Set(value string) error {
+	for _, word := range strings.Split(value, ",") {
+		if !part.IsKind(word) {
+			return fmt.Errorf("%q is none of %s", word, strings.Join(part.Kinds, ", "))
+		}
+		k[word] = true
+	}
+	return nil
+}
+
+// wrongUsage says how the command line is wrong.
+type wrongUsage struct{ reason string }
+
+func (w *wrongUsage) Error() string { return w.reason }
+
+// errHelp says that help was asked for.
+var errHelp = errors.New("help")
+
+// readOptions reads the words behind a command, with the flags that it has.
+func readOptions(name string, words []string, flagsOf func(*flag.FlagSet, *options)) (options, error) {
+	read := options{leaveOut: map[string]bool{}}
+	flags := flag.NewFlagSet(name, flag.ContinueOnError)
+	flags.SetOutput(io.Discard)
+	flags.Usage = func() {}
+	flags.Var((*list)(&read.homes), "home", "")
+	flags.Var((*list)(&read.folders), "folder", "")
+	flags.StringVar(&read.names, "names", "", "")
+	flags.IntVar(&read.jobs, "jobs", runtime.NumCPU(), "")
+	flagsOf(flags, &read)
+	for {
+		if err := flags.Parse(words); errors.Is(err, flag.ErrHelp) {
+			return options{}, errHelp
+		} else if err != nil {
+			return options{}, &wrongUsage{err.Error()}
+		}
+		if flags.NArg() == 0 {
+			break
+		}
+		read.parts = append(read.parts, flags.Arg(0))
+		words = flags.Args()[1:]
+	}
+	if read.jobs < 1 {
+		return options{}, &wrongUsage{"--jobs is at least 1"}
+	}
+	return read, nil
+}
+
+// checkInputs says what is wrong with homes and parts that belong together.
+func (o *options) checkInputs() error {
+	switch {
+	case len(o.homes)+len(o.parts) == 0:
+		return &wrongUsage{"no home and no part is given"}
+	case len(o.parts) > 0 && o.bytes:
+		return &wrongUsage{"--bytes reads homes; parts have no bytes"}
+	case len(o.parts) > 0 && o.names != "" && len(o.homes) == 0:
+		return &wrongUsage{"--names is for homes; a part has the names that it was made with"}
+	}
+	return nil
+}
+
+// inputFlags are the flags of commands that join devices.
+func inputFlags(flags *flag.FlagSet, read *options) {
+	flags.Var(kinds(read.leaveOut), "leave-out", "")
+	flags.BoolVar(&read.bytes, "bytes", false, "")
+}
+
+// defaultProgram gives the program that audits where none is named.
+func defaultProgram() string {
+	if named := os.Getenv("SYNCAUDIT"); named != "" {
+		return named
+	}
+	return "syncaudit"
+}

@@ -1,0 +1,97 @@
+package part
+
+import (
+	"bufio"
+	"bytes"
+	"compress/gzip"
+	"encoding/json"
+	"errors"
+	"fmt"
+	"io"
+)
+
+// mostLineBytes is how long a line of a part may be: a name with the records of fifteen views takes far less.
+const mostLineBytes = 1 << 20
+
+// Reader reads a part, and refuses what is none.
+type Reader struct {
+	lines *bufio.Reader
+	head  Head
+	rules rules
+	count int
+}
+
+// NewReader reads a part's head.
+func NewReader(from io.Reader) (*Reader, error) {
+	unzipped, err := gzip.NewReader(bufio.NewReaderSize(from, 1<<16))
+	if err != nil {
+		return nil, fmt.Errorf("this is no part: %w", err)
+	}
+	made := &Reader{lines: bufio.NewReaderSize(unzipped, mostLineBytes)}
+	if err := made.read(&made.head); err != nil {
+		if err == io.EOF {
+			err = errors.New("it is empty")
+		}
+		return nil, fmt.Errorf("this is no part: %w", err)
+	}
+	if err := checkHead(&made.head); err != nil {
+		return nil, err
+	}
+	made.rules.head = &made.head
+	return made, nil
+}
+
+// Head gives the part's head.
+func (r *Reader) Head() *Head { return &r.head }
+
+// Next gives the next line; io.EOF behind the last.
+func (r *Reader) Next() (Line, error) {
+	var line Line
+	err := r.read(&line)
+	if err == io.EOF {
+		return Line{}, r.rules.end()
+	}
+	if err == nil {
+		err = r.rules.take(line)
+	}
+	if err != nil {
+		return Line{}, fmt.Errorf("line %d of the part: %w", r.count, err)
+	}
+	return line, nil
+}
+
+// Whole reads what is left, and says why the part isn't whole.
+func (r *Reader) Whole() error {
+	for {
+		if _, err := r.Next(); err == io.EOF {
+			return nil
+		} else if err != nil {
+			return err
+		}
+	}
+}
+
+// read reads a line into a value, with no member that it doesn't have.
+func (r *Reader) read(into interface{}) error {
+	text, err := r.lines.ReadSlice('\n')
+	switch {
+	case err == io.EOF && len(text) == 0:
+		return io.EOF
+	case err == io.EOF:
+		return errors.New("its last line isn't whole")
+	case errors.Is(err, bufio.ErrBufferFull):
+		return fmt.Errorf("it has over %d bytes", mostLineBytes)
+	case err != nil:
+		return fmt.Errorf("it can't be read: %w", err)
+	}
+	r.count++
+	decoder := json.NewDecoder(bytes.NewReader(text))
+	decoder.DisallowUnknownFields()
+	if err := decoder.Decode(into); err != nil {
+		return err
+	}
+	if _, err := decoder.Token(); err != io.EOF {
+		return errors.New("something stands behind its value")
+	}
+	return nil
+}

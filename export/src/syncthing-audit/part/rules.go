@@ -1,0 +1,231 @@
+package part
+
+import (
+	"errors"
+	"fmt"
+	"io"
+	"math"
+
+	"github.com/syncthing/syncthing/lib/protocol"
+)
+
+// checkHead says why a part's head is none.
+func checkHead(head *Head) error {
+	if head.Version != Version {
+		return fmt.Errorf("the part has version %d; this program reads version %d", head.Version, Version)
+	}
+	if Number(head.Device) == 0 {
+		return fmt.Errorf("the part's device %q is no device id", head.Device)
+	}
+	for place := range head.Folders {
+		one := &head.Folders[place]
+		if place > 0 && head.Folders[place-1].ID >= one.ID {
+			return fmt.Errorf("the part's folder %q isn't in its place", one.ID)
+		}
+		if err := checkFolder(one); err != nil {
+			return fmt.Errorf("the part's folder %q: %w", one.ID, err)
+		}
+	}
+	return nil
+}
+
+// checkFolder says why a folder of a head is none.
+func checkFolder(one *Folder) error {
+	switch one.Kind {
+	case "send-receive", "send-only", "receive-only", "encrypted":
+	default:
+		return fmt.Errorf("its kind is %q", one.Kind)
+	}
+	if one.IndexID == 0 || one.Max < 0 {
+		return errors.New("its index has no id, or a greatest sequence below 0")
+	}
+	seen := map[string]bool{}
+	for _, of := range one.Views {
+		if Number(of.Device) == 0 || seen[of.Device] || of.Max < 0 {
+			return fmt.Errorf("its view of %q is none", of.Device)
+		}
+		seen[of.Device] = true
+	}
+	for _, other := range one.Sharing {
+		if Number(other.Device) == 0 {
+			return fmt.Errorf("it is shared with %q, which is no device id", other.Device)
+		}
+	}
+	return nil
+}
+
+// rules are what the lines of a part keep to, one after another.
+type rules struct {
+	head  *Head
+	begun int     // folders
+	in    *Folder // the folder whose names these are, if any
+	last  Bytes
+	names int64
+	ended bool
+}
+
+// take says why a line isn't one that may come now.
+func (r *rules) take(line Line) error {
+	count := 0
+	for _, is := range []bool{line.Begin != nil, line.Name != nil, line.End != nil} {
+		if is {
+			count++
+		}
+	}
+	switch {
+	case count != 1:
+		return errors.New("it is no begin, name or end")
+	case r.ended:
+		return errors.New("it stands behind the end")
+	case line.Begin != nil:
+		return r.begin(line.Begin)
+	case r.in == nil:
+		return errors.New("no folder has begun")
+	case line.End != nil:
+		return r.finish(line.End)
+	}
+	if r.names > 0 && line.Name.Name <= r.last {
+		return fmt.Errorf("the name %q isn't in its place", line.Name.Name)
+	}
+	r.last = line.Name.Name
+	r.names++
+	return checkName(line.Name, r.in)
+}
+
+// begin begins a folder: the next one of the head.
+func (r *rules) begin(line *Begin) error {
+	if r.in != nil || r.begun == len(r.head.Folders) || r.head.Folders[r.begun].ID != line.Folder {
+		return fmt.Errorf("folder %q isn't in its place", line.Folder)
+	}
+	r.in, r.names, r.last = &r.head.Folders[r.begun], 0, ""
+	r.begun++
+	return nil
+}
+
+// finish ends a folder.
+func (r *rules) finish(line *End) error {
+	if line.Folder != r.in.ID || line.Names != r.names {
+		return fmt.Errorf("folder %q ends with %d names, and %d stand here", line.Folder, line.Names, r.names)
+	}
+	if line.Last != (r.begun == len(r.head.Folders)) {
+		return fmt.Errorf("folder %q isn't in its place", line.Folder)
+	}
+	r.in = nil
+	r.ended = line.Last
+	return nil
+}
+
+// end says whether a part may end here, by io.EOF.
+func (r *rules) end() error {
+	if r.in != nil || r.begun < len(r.head.Folders) {
+		return errors.New("the part ends in the middle: it was cut off")
+	}
+	return io.EOF
+}
+
+// checkName says why a name's line is none.
+func checkName(one *Name, in *Folder) error {
+	if one.Own != nil {
+		if err := checkRecord(one.Own, in.Max); err != nil {
+			return fmt.Errorf("the own record of %q: %w", one.Name, err)
+		}
+	}
+	last := -1
+	for place := range one.Views {
+		seen := &one.Views[place]
+		if seen.View <= last || seen.View >= len(in.Views) {
+			return fmt.Errorf("the views of %q aren't in their places", one.Name)
+		}
+		last = seen.View
+		if err := checkRecord(&seen.Record, in.Views[seen.View].Max); err != nil {
+			return fmt.Errorf("a view of %q: %w", one.Name, err)
+		}
+	}
+	for _, out := range one.Out {
+		if !IsKind(out.Kind) || out.Why == "" || out.Bytes < 0 {
+			return fmt.Errorf("%q is left out as %q", one.Name, out.Kind)
+		}
+	}
+	if one.Disk == nil {
+		return nil
+	}
+	if err := checkNode(one.Disk, len(one.Out) > 0); err != nil {
+		return fmt.Errorf("what stands on the disk at %q: %w", one.Name, err)
+	}
+	return nil
+}
+
+// checkRecord says why a record is none.
+func checkRecord(one *Record, greatest int64) error {
+	switch {
+	case one.Sequence < 1 || one.Sequence > greatest:
+		return fmt.Errorf("its sequence %d isn't 1 to %d", one.Sequence, greatest)
+	case !isKind(one.Type):
+		return fmt.Errorf("its type is %d", one.Type)
+	case (one.Content != nil) != (isFile(one.Type) && !one.Deleted):
+		return errors.New("it has a content and is no file, or the other way round")
+	case (one.Target != "") != (one.Type == symlink && !one.Deleted):
+		return errors.New("it has a target and is no symlink, or the other way round")
+	case one.ModifiedNs < 0 || one.ModifiedNs > 999999999:
+		return errors.New("its nanoseconds are over 999999999")
+	case one.ModifiedBy == 0:
+		return errors.New("it doesn't say which device changed it")
+	case one.Content != nil && !one.Content.isOne():
+		return errors.New("its content is none")
+	}
+	return checkVersion(one.Version)
+}
+
+// checkVersion says why a version is none.
+func checkVersion(counters [][2]uint64) error {
+	for place, one := range counters {
+		if one[0] == 0 || one[1] == 0 || one[1] > math.MaxInt64 || place > 0 && counters[place-1][0] >= one[0] {
+			return errors.New("its version is none")
+		}
+	}
+	return nil
+}
+
+// checkNode says why a node is none; one that is left out may have no content.
+func checkNode(one *Node, isOut bool) error {
+	switch {
+	case !isKind(one.Type):
+		return fmt.Errorf("its type is %d", one.Type)
+	case one.ModifiedNs < 0 || one.ModifiedNs > 999999999 || one.Size < 0:
+		return errors.New("its time or size is none")
+	case (one.Target != "") != (one.Type == symlink) && !isOut:
+		return errors.New("it has a target and is no symlink, or the other way round")
+	case (len(one.Contents) > 0) != isFile(one.Type) && !isOut:
+		return errors.New("it has a content and is no file, or the other way round")
+	}
+	for _, content := range one.Contents {
+		if !content.isOne() || content.Size != one.Size {
+			return errors.New("its content is none")
+		}
+	}
+	return nil
+}
+
+// isOne says whether this is a content.
+func (c *Content) isOne() bool {
+	return c.Size >= 0 && c.BlockSize >= protocol.MinBlockSize && c.BlockSize <= math.MaxInt32
+}
+
+const symlink = int(protocol.FileInfoTypeSymlink)
+
+func isFile(kind int) bool { return kind == int(protocol.FileInfoTypeFile) }
+
+// isKind says whether a document has this type.
+func isKind(kind int) bool {
+	return isFile(kind) || kind == int(protocol.FileInfoTypeDirectory) || kind == symlink
+}
+
+// IsKind says whether this is a kind of what is left out.
+func IsKind(word string) bool {
+	for _, one := range Kinds {
+		if one == word {
+			return true
+		}
+	}
+	return false
+}

@@ -1,0 +1,197 @@
+// Package part has what one device tells of its folders: what its index says, what it knows of others' indexes, and
+// what stands on its disk, with hashes in place of bytes. A part is a stream: a head, then for each folder its names,
+// rising byte by byte. It holds no private key and no file's bytes.
+package part
+
+import (
+	"time"
+
+	"github.com/syncthing/syncthing/lib/protocol"
+)
+
+// Version is the version of the format.
+const Version = 1
+
+// Kinds of what a check document can't say, in the words of --leave-out.
+const (
+	Ignored    = "ignored"    // .stignore ignores the name
+	Unreadable = "unreadable" // what stands on the disk can't be read
+	Changing   = "changing"   // it changed while it was read
+	Special    = "special"    // a fifo, a socket, a device
+	OddName    = "names"      // no name that a document has
+	OddTarget  = "targets"    // no target that a document has
+	OddRecord  = "records"    // an entry of the index that no document has
+	Rescan     = "rescan"     // the entry waits for a scan
+	Large      = "large"      // with bytes alone: too much for a document
+	Absent     = "absent"     // a device that shares the folder has no part
+	Encrypted  = "encrypted"  // a folder that is encrypted somewhere
+	Unshared   = "unshared"   // a folder that one device shares and the other doesn't
+)
+
+// Kinds are all of them.
+var Kinds = []string{Ignored, Unreadable, Changing, Special, OddName, OddTarget, OddRecord, Rescan, Large, Absent, Encrypted, Unshared}
+
+// Head says whose part it is and what it holds.
+type Head struct {
+	Version int       `json:"version"`
+	Device  string    `json:"device"` // its id
+	Name    string    `json:"name"`   // as it is configured at itself
+	Made    time.Time `json:"made"`
+	Prefix  string    `json:"prefix,omitempty"` // only names that begin so were read
+	Folders []Folder  `json:"folders"`          // rising by id
+}
+
+// Folder is a folder at the device.
+type Folder struct {
+	ID                 string    `json:"id"`
+	Label              string    `json:"label,omitempty"`
+	Kind               string    `json:"kind"` // as in a check document, or 'encrypted'
+	Path               string    `json:"path"`
+	Directory          string    `json:"directory"` // the same for one directory of one machine alone
+	IndexID            uint64    `json:"index_id,string"`
+	Max                int64     `json:"max"`
+	IgnoresPermissions bool      `json:"ignores_permissions,omitempty"`
+	Sharing            []Sharing `json:"sharing"`
+	Views              []View    `json:"views"`
+}
+
+// Sharing is another device that the folder is shared with, by the device's own configuration.
+type Sharing struct {
+	Device    string `json:"device"`
+	Name      string `json:"name"`
+	Encrypted bool   `json:"encrypted,omitempty"`
+}
+
+// View is what the device knows of another device's index.
+type View struct {
+	Device  string `json:"device"`
+	IndexID uint64 `json:"index_id,string"`
+	Max     int64  `json:"max"`
+}
+
+// Line is one line of a part behind its head: exactly one of these is there.
+type Line struct {
+	Begin *Begin `json:"begin,omitempty"`
+	Name  *Name  `json:"name,omitempty"`
+	End   *End   `json:"end,omitempty"`
+}
+
+// Begin begins the names of a folder.
+type Begin struct {
+	Folder string `json:"folder"`
+}
+
+// End ends the names of a folder.
+type End struct {
+	Folder string `json:"folder"`
+	Names  int64  `json:"names"`
+	Bytes  int64  `json:"bytes"`          // that were hashed
+	Max    int64  `json:"max"`            // the greatest sequence now, to be that of the head
+	Last   bool   `json:"last,omitempty"` // no folder follows
+}
+
+// Name is all that the device has of one name.
+type Name struct {
+	Name  Bytes     `json:"name"`
+	Own   *Record   `json:"own,omitempty"`
+	Views []Seen    `json:"views,omitempty"`
+	Disk  *Node     `json:"disk,omitempty"`
+	Out   []LeftOut `json:"out,omitempty"`
+}
+
+// Seen is a record in a view.
+type Seen struct {
+	View   int    `json:"view"` // the place among the folder's views
+	Record Record `json:"record"`
+}
+
+// Record is an entry of an index, as it goes over the wire.
+type Record struct {
+	Type        int         `json:"type"`
+	ModifiedS   int64       `json:"s"`
+	ModifiedNs  int         `json:"ns,omitempty"`
+	ModifiedBy  uint64      `json:"by"`
+	Version     [][2]uint64 `json:"version"`
+	Sequence    int64       `json:"sequence"`
+	Deleted     bool        `json:"deleted,omitempty"`
+	Invalid     bool        `json:"invalid,omitempty"`
+	Content     *Content    `json:"content,omitempty"` // of a file that isn't deleted
+	Target      string      `json:"target,omitempty"`
+	Permissions *uint32     `json:"permissions,omitempty"` // none where the entry has none
+
+	Blocks [][32]byte `json:"-"` // in memory alone, for documents with bytes
+}
+
+// Node is what stands on the disk.
+type Node struct {
+	Type        int       `json:"type"`
+	ModifiedS   int64     `json:"s"`
+	ModifiedNs  int       `json:"ns,omitempty"`
+	Size        int64     `json:"size,omitempty"`     // of a file
+	Contents    []Content `json:"contents,omitempty"` // the first one by the own record's block size
+	Target      string    `json:"target,omitempty"`
+	Permissions uint32    `json:"permissions"`
+	Differ      *Differ   `json:"differ,omitempty"`
+
+	Data []byte `json:"-"` // in memory alone, for documents with bytes
+}
+
+// Content is a file's list of block hashes: how long the file is, how it is cut, and the SHA-256 of the hashes one after
+// another. Of a file of one block the block size isn't part of the content.
+type Content struct {
+	Size      int64 `json:"size"`
+	BlockSize int64 `json:"block_size"`
+	Hash      Hash  `json:"hash"`
+}
+
+// Differ says which blocks of a file differ from the own record.
+type Differ struct {
+	Count  int64      `json:"count"`
+	Ranges [][2]int64 `json:"ranges"` // first and last, from 0; not all where there are many
+	First  Pair       `json:"first"`
+}
+
+// Pair is the first block that differs, as it is recorded and as it is; a block that isn't there has no hash.
+type Pair struct {
+	Recorded *Hash `json:"recorded,omitempty"`
+	Found    *Hash `json:"found,omitempty"`
+}
+
+// LeftOut says what of a name a check document can't say, and why.
+type LeftOut struct {
+	Kind  string `json:"kind"`
+	Why   string `json:"why"`
+	Bytes int64  `json:"bytes,omitempty"`
+	Below bool   `json:"below,omitempty"` // all below the name, too
+}
+
+// Number gives a device's number: the first 8 bytes of its id; 0 for what is no id.
+func Number(device string) uint64 {
+	id, err := protocol.DeviceIDFromString(device)
+	if err != nil {
+		return 0
+	}
+	return uint64(id.Short())
+}
+
+// Number gives the number of the part's device.
+func (h *Head) Number() uint64 { return Number(h.Device) }
+
+// Folder gives the folder of this id, or nothing.
+func (h *Head) Folder(id string) *Folder {
+	for place := range h.Folders {
+		if h.Folders[place].ID == id {
+			return &h.Folders[place]
+		}
+	}
+	return nil
+}
+
+// Stream gives the lines of a part one by one; io.EOF after the last.
+type Stream interface {
+	Head() *Head
+	Next() (Line, error)
+}
+
+// Sink takes the lines of a part one by one.
+type Sink func(Line) error

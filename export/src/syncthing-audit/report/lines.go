@@ -1,0 +1,124 @@
+// Package report prints what an audit found.
+package report
+
+import (
+	"fmt"
+	"io"
+	"strconv"
+	"strings"
+	"unicode/utf8"
+
+	"syncthing-audit/ask"
+	"syncthing-audit/finding"
+)
+
+// Verdict gives the first line of an answer, in syncaudit's words.
+func Verdict(answer *finding.Answer) string {
+	folder, first := answer.First()
+	switch {
+	case first != nil:
+		return "not settled: " + ask.Line(folder.ID, first)
+	case answer.IsPartial():
+		return "settled as far as audited"
+	}
+	return "settled"
+}
+
+// Lines prints the verdict, the counts of each folder, and all that was found, a line each, in syncaudit's words.
+func Lines(to io.Writer, answer *finding.Answer) {
+	fmt.Fprintln(to, Verdict(answer))
+	for _, folder := range answer.Folders {
+		fmt.Fprintf(to, "folder %s: %d names, %d deleted, %d devices\n", folder.ID, folder.Names, folder.Deleted, len(folder.Members))
+	}
+	for _, folder := range answer.Folders {
+		for next := range folder.Failures {
+			fmt.Fprintln(to, ask.Line(folder.ID, &folder.Failures[next]))
+		}
+	}
+	Rest(to, answer)
+}
+
+// Rest prints what no document says: names without a winner, permissions that differ, what was left out.
+func Rest(to io.Writer, answer *finding.Answer) {
+	for _, folder := range answer.Folders {
+		unwon(to, folder)
+		permissions(to, folder)
+		leftOut(to, folder)
+	}
+	for _, one := range answer.LeftOut {
+		fmt.Fprintf(to, "left out: folder %s, device %s: %s\n", one.Folder, one.Device, one.Why)
+	}
+}
+
+// unwon prints what each device has of each name without a winner.
+func unwon(to io.Writer, folder *finding.Folder) {
+	for _, one := range folder.Unwon {
+		for _, at := range one.At {
+			fmt.Fprintf(to, "no winner: %s %s on %d: %s\n", folder.ID, ask.Printed(one.Name), folder.Members[at.Member].Number, at.Kind)
+		}
+	}
+}
+
+// permissions prints names whose permissions differ.
+func permissions(to io.Writer, folder *finding.Folder) {
+	for _, one := range folder.Permissions {
+		fmt.Fprintf(to, "permissions: %s %s", folder.ID, ask.Printed(one.Name))
+		for member, bits := range one.At {
+			if bits.Has {
+				fmt.Fprintf(to, " %d index %04o", folder.Members[member].Number, bits.Index)
+			}
+			if bits.OnDisk {
+				fmt.Fprintf(to, " disk %04o", bits.Disk)
+			}
+		}
+		fmt.Fprintln(to)
+	}
+}
+
+// leftOut prints what was left out on request, and what is outside the folder.
+func leftOut(to io.Writer, folder *finding.Folder) {
+	for _, one := range folder.LeftOut {
+		for _, why := range one.Why {
+			device := "-"
+			if why.Member >= 0 {
+				device = strconv.FormatUint(folder.Members[why.Member].Number, 10)
+			}
+			fmt.Fprintf(to, "left out: %s %s on %s: %s (%s, %d names, %d bytes)\n", folder.ID, printed(one.Name), device, why.Why,
+				why.Kind, one.Names, one.Bytes)
+		}
+	}
+	if folder.Outside.Names > 0 {
+		fmt.Fprintf(to, "ignored: %s %d names, %d bytes, on no device's index\n", folder.ID, folder.Outside.Names, folder.Outside.Bytes)
+	}
+}
+
+// printed gives a name as syncaudit writes it, or where it isn't UTF-8 with all its odd bytes as \xNN.
+func printed(name string) string {
+	if utf8.ValidString(name) {
+		return ask.Printed(name)
+	}
+	return strings.Trim(strconv.QuoteToASCII(name), `"`)
+}
+
+// Refusals prints what has no answer, and how to leave it out.
+func Refusals(to io.Writer, answer *finding.Answer) {
+	kinds := ""
+	seen := map[string]bool{}
+	for _, one := range answer.Refusals {
+		device, name := "-", "-"
+		if one.Device != "" {
+			device = one.Device
+		}
+		if one.Name != "" {
+			name = strconv.Quote(one.Name)
+		}
+		fmt.Fprintf(to, "syncthing-audit: refused: folder %s, device %s, name %s: %s\n", one.Folder, device, name, one.Why)
+		if one.Kind != "" && !seen[one.Kind] {
+			seen[one.Kind] = true
+			kinds += "," + one.Kind
+		}
+	}
+	if kinds != "" {
+		fmt.Fprintf(to, "syncthing-audit: %d refused; --leave-out %s leaves them out\n", len(answer.Refusals), kinds[1:])
+	}
+}
