@@ -513,8 +513,9 @@ class Cut:
                         return reason, folder, name, device.number
         return None
 
-    def all_faults(self, rows):
-        """Each reason that fails, with each folder, name and device at which it does: by reason, then by these."""
+    def all_faults(self, rows, reasons=tuple(DEVICE_REASONS)):
+        """Each reason that fails, with each folder, name and device at which it does: by reason, then by these. At a
+        device these reasons are asked."""
         keys = [(row["folder"], row["record"]["name"]) for row in rows]
         orders = [key for before, key in zip(keys, keys[1:]) if not before < key]
         found = [("CertificateOrder", *key, None) for key in orders[:1]]
@@ -526,8 +527,9 @@ class Cut:
             if self.winner(folder, name) != (row["device"], row["record"]):
                 found.append(("NotWinner", folder, name, None))
             found += [(reason, folder, name, device.number) for device in self.folders.get(folder, [])
-                      for reason, holds in DEVICE_REASONS if not holds(device, name, row["record"])]
-        return sorted(set(found), key=lambda one: (REASONS.index(one[0]), *one[1:3], one[3] or 0))
+                      for reason, holds in reasons if not holds(device, name, row["record"])]
+        order = REASONS[:4] + [reason for reason, _ in reasons]
+        return sorted(set(found), key=lambda one: (order.index(one[0]), *one[1:3], one[3] or 0))
 
 
 # ---- the report
@@ -543,8 +545,12 @@ def fault_line(reason, folder, name, device):
 
 def report(read):
     cut = Cut(read)
-    fault = cut.first_fault(read["rows"])
-    lines = [b"settled" if fault is None else b"not settled: " + fault_line(*fault)]
+    return report_of(cut, b"settled", cut.first_fault(read["rows"]))
+
+
+def report_of(cut, good, fault):
+    """The report on a cut that is good, in this word, or has this fault."""
+    lines = [good if fault is None else b"not " + good + b": " + fault_line(*fault)]
     for folder, devices in cut.folders.items():
         names = cut.known(folder)
         deleted = sum(not any(name in device.store for device in devices) for name in names)

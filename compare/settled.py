@@ -2,6 +2,7 @@
 times and versions that differ where contents are the same, sessions and received blocks without sense."""
 
 import random
+from collections.abc import Callable
 from dataclasses import dataclass, replace
 
 from cluster.choice import FolderKind
@@ -48,10 +49,18 @@ class Making:
 
     def record(self, name: str, body: Node | None, sequence: int) -> Record:
         """A record of that body, at any time and version."""
+        return self.record_at(name, body, sequence, self.version())
+
+    def own_record(self, name: str, body: Node | None, sequence: int) -> Record:
+        """A record that a device has of that body itself."""
+        return self.record(name, body, sequence)
+
+    def record_at(self, name: str, body: Node | None, sequence: int, version: Version) -> Record:
+        """A record of that body at this version, at any time."""
         seconds, nanoseconds = self.random.choice(TIMES)
         node = body or Node(self.random.choice(list(Kind)), 0, target="x")
         node = replace(node, modified_s=seconds, modified_ns=nanoseconds)
-        made = record_of_node(name, node, self.random.choice(DEVICES), self.version(), invalid=False)
+        made = record_of_node(name, node, self.random.choice(DEVICES), version, invalid=False)
         made = made if body else deletion(name, made, made.modified_by, made.version)
         return replace(made, sequence=sequence)
 
@@ -75,7 +84,7 @@ class Making:
         """Gives a device its own records and nodes."""
         for place, (name, body) in enumerate(bodies.items()):
             if body or must_own or self.happens(0.5):
-                own = self.record(name, body, place + 1)
+                own = self.own_record(name, body, place + 1)
                 replica.index.records[name] = own
                 if body:
                     seconds, nanoseconds = own.time if body.kind == Kind.File else self.random.choice(TIMES)
@@ -158,10 +167,10 @@ def random_config(making: Making) -> Config:
     return Config(folders, links)
 
 
-def settled_cluster(making: Making) -> Cluster:
-    """A settled cluster."""
+def settled_cluster(making: Making, replica: Callable[..., Replica] = Replica) -> Cluster:
+    """A settled cluster, whose folders go by these rules."""
     config = random_config(making)
-    made = Cluster.new(config)
+    made = Cluster.new(config, replica)
     bodies = {folder: {name: making.body() for name in making.random.sample(NAMES, making.random.randint(1, 4))}
               for folder in config.folders}
     for folder, shares in config.folders.items():

@@ -1,5 +1,6 @@
 """The cluster: devices, links, and what each step does to them."""
 
+from collections.abc import Callable
 from dataclasses import dataclass, field
 
 from . import exchange
@@ -39,7 +40,7 @@ class Cluster:
     links: dict[tuple[int, int], Link] = field(default_factory=dict)
 
     @staticmethod
-    def new(config: Config, replica: type[Replica] = Replica) -> "Cluster":
+    def new(config: Config, replica: Callable[..., Replica] = Replica) -> "Cluster":
         """The cluster before any step: nothing is recorded, known or stored, and all links are down. Its folders go by
         the rules of `replica`."""
         made = Cluster()

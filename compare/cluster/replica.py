@@ -81,7 +81,7 @@ class Replica:
         if is_clean(node, own):
             return Moved.Unchanged
         is_local = self.kind == FolderKind.ReceiveOnly
-        version = self.own_version(name) if is_local else bump(self.own_version(name), self.me)
+        version = self.own_version(name) if is_local else self.raised_version(name)
         if node is None:
             self.index.put(deletion(name, own, self.me, version, invalid=is_local))
         else:
@@ -91,6 +91,10 @@ class Replica:
     def look(self, name: str) -> Node | None:
         """What a scan takes for the node of that name: what the store holds now."""
         return self.store.read(name)
+
+    def raised_version(self, name: str) -> Version:
+        """The version of a change that a scan found."""
+        return bump(self.own_version(name), self.me)
 
     # ---- kinds
 
