@@ -1,7 +1,7 @@
 #!/usr/bin/env python3
 """Firm cuts, read a second time. A cut is firm for a list of rows where it is settled, and where for each row with the
-winner's version v each device that has an own record has it at v, and each record that a device has from elsewhere has a
-version that is at most v. Then nobody wants anything, by whatever rule it chooses.
+winner's version v each device that has an own record has it at v, and each record that a device has from elsewhere has
+a version that is at most v. Then nobody wants anything, by whatever rule it chooses.
 
     compare/firm.py < DOCUMENT
 """
@@ -31,8 +31,8 @@ FIRM_REASONS = [
 
 
 def first_fault(cut, rows):
-    """Why a cut isn't firm for these rows: the first reason that fails, with folder, name and device; what keeps it from
-    being settled comes first. None where it is firm."""
+    """Why a cut isn't firm for these rows: the first reason that fails, with folder, name and device; what keeps it
+    from being settled comes first. None where it is firm."""
     return cut.first_fault(rows) or cut.first_failing(FIRM_REASONS, rows)
 
 

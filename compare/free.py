@@ -1,9 +1,9 @@
-"""Free peers: peers that keep to few rules, and choose at random wherever these leave a choice. What holds of all their
-runs holds of any peer that keeps to the same rules, whatever it chooses.
+"""Free peers: peers that keep to few rules, and choose at random wherever these leave a choice. What holds of all
+their runs holds of any peer that keeps to the same rules, whatever it chooses.
 
-- It takes a record over only where the record isn't invalid and isn't at most its own version; without an own record it
-  takes no deletion over. Which one of these it takes is free, and its folder's kind is no matter. (A local-only own record
-  binds it to nothing.)
+- It takes a record over only where the record isn't invalid and isn't at most its own version; without an own record
+  it takes no deletion over. Which one of these it takes is free, and its folder's kind is no matter. (A local-only own
+  record binds it to nothing.)
 - A pull that comes to its end is asked again. It may take its target over, or be dropped, or left for later.
 - What it takes over gets any version that is at least the target's.
 - It may keep a copy of the file that it replaces, under any other name that is free.

@@ -5,12 +5,12 @@
 
 COUNT runs of each kind (1000 if not given).
 
-A run of the first kind begins at a firm cluster made at random, and takes quiet steps of free peers, store calls failing
-among them. After each one all nodes must be as they were, their times too, and all own records in all fields; and the cut
-must be firm, for the very same winners.
+A run of the first kind begins at a firm cluster made at random, and takes quiet steps of free peers, store calls
+failing among them. After each one all nodes must be as they were, their times too, and all own records in all fields;
+and the cut must be firm, for the very same winners.
 
-A run of the second kind begins at the empty cluster and takes local and quiet steps of free peers. From the first firm cut
-with a name on all steps are quiet, and the same must hold.
+A run of the second kind begins at the empty cluster and takes local and quiet steps of free peers. From the first firm
+cut with a name on all steps are quiet, and the same must hold.
 
 Every other run has small limits, so that batches are cut, queues fill, and counters and sequences end.
 """

@@ -9,9 +9,12 @@ A run of the first kind begins at a settled cluster made at random and takes qui
 them. After each one the stores must be kept, the cut settled for the list of its own winners, with the same names and
 contents, and no own record gone.
 
-A run of the second kind begins at the empty cluster and takes local and quiet steps. After each one no view may have a
-gap, the other rules of every cluster must hold, and no node may be lost that wasn't clean against its own record. From
-the first settled cut on all steps are quiet, and the first kind's conditions must hold too.
+A run of the second kind has index resets too. After each step the stores must be kept, and nothing else is asked.
+
+A run of the third kind begins at the empty cluster and takes local and quiet steps, some of them resets too. After
+each one no view may have a gap, the other rules of every cluster must hold, and no node may be lost that wasn't clean
+against its own record. From the first settled cut on all steps are quiet, and the first kind's conditions must hold
+too.
 
 Every other run has small limits, so that batches are cut, queues fill, and counters and sequences end.
 """
@@ -30,8 +33,8 @@ from cluster.core import Cluster
 from cluster.cut import settled_contents, stores_of
 from cluster.record import is_clean
 from cluster.refusal import Moved, Why
-from cluster.step import (Announce, Ask, Begin, Connect, Deliver, Edit, Finish, Lose, Override, Remove, Restart, Revert,
-                          Scan, StartPull, Step)
+from cluster.step import (Announce, Ask, Begin, Connect, Deliver, Edit, Finish, Lose, Override, Remove, Reset, Restart,
+                          Revert, Scan, StartPull, Step)
 from settled import NAMES, TIMES, Making, random_config, settled_cluster
 
 
@@ -52,7 +55,8 @@ def small_limits() -> contextlib.ExitStack:
 class Walk:
     """Random steps on a cluster."""
 
-    def __init__(self, making: Making, cluster: Cluster):
+    def __init__(self, making: Making, cluster: Cluster, with_resets: bool = False):
+        self.with_resets = with_resets
         self.random = making.random
         self.making = making
         self.cluster = cluster
@@ -136,8 +140,16 @@ class Walk:
 
     def quiet_step(self) -> Step:
         """A step that isn't local, and most often one for which there is something to do."""
+        if self.with_resets and self.making.happens(0.03):
+            return self.reset()
         steps = list(self.open_steps()) if self.making.happens(0.85) else []
         return self.random.choice(steps) if steps else self.any_quiet_step()
+
+    def reset(self) -> Step:
+        """A reset of some device, most often under an id above its own ones."""
+        device = self.random.choice(self.devices)
+        ids = [one.index.id for one in self.cluster.peers[device].replicas.values()]
+        return Reset(device, max(ids) + self.random.choice([0, 1, 1, 2]))
 
     def step_back(self) -> Step:
         """A scan, an override or a revert where there is something to do, so that devices can come to agree."""
@@ -215,6 +227,18 @@ def run_from_settled(making: Making, answers: Counter) -> None:
     answers.update(walk.answers)
 
 
+def run_with_resets(making: Making, answers: Counter) -> None:
+    """A run of quiet steps and resets from a settled cluster made at random: the stores are kept."""
+    walk = Walk(making, settled_cluster(making), with_resets=True)
+    stores = stores_of(walk.cluster)
+    for _ in range(making.random.choice([40, 80, 120])):
+        step = walk.quiet_step()
+        walk.take(step)
+        if stores_of(walk.cluster) != stores:
+            raise Contradiction("the stores weren't kept", step)
+    answers.update(walk.answers)
+
+
 def wrote_copy(cluster: Cluster, step: Step, before: tuple[dict, dict]) -> bool:
     """Whether this step put a node under a name beside its own."""
     return isinstance(step, Finish) and any(name != step.name for _, _, name
@@ -248,10 +272,10 @@ def checked_step(walk: Walk, step: Step) -> Moved | Why:
 
 def run_from_empty(making: Making, answers: Counter) -> bool:
     """A run from the empty cluster; whether it came to a settled cut with a name."""
-    walk = Walk(making, Cluster.new(random_config(making)))
+    walk = Walk(making, Cluster.new(random_config(making)), with_resets=making.happens(0.3))
     for _ in range(making.random.choice([20, 60, 120])):
         checked_step(walk, walk.local_step() if making.happens(0.3) else walk.quiet_step())
-    settled = None
+    settled, walk.with_resets = None, False
     for number in range(making.random.choice([100, 200, 300])):
         is_quiet = settled is not None or making.happens(0.7)
         step = walk.quiet_step() if is_quiet else walk.step_back()
@@ -269,15 +293,17 @@ def main() -> None:
     """Makes the runs, and tells how often each step answered what."""
     count = int(sys.argv[1]) if len(sys.argv) > 1 else 1000
     seed = int(sys.argv[2]) if len(sys.argv) > 2 else 1
-    from_settled, from_empty, agreed = Counter(), Counter(), 0
+    from_settled, with_resets, from_empty, agreed = Counter(), Counter(), Counter(), 0
     for number in range(seed, seed + count):
         with small_limits() if number % 2 else contextlib.nullcontext():
             try:
                 run_from_settled(Making(random.Random(number)), from_settled)
+                run_with_resets(Making(random.Random(number)), with_resets)
                 agreed += run_from_empty(Making(random.Random(number)), from_empty)
             except Contradiction as found:
                 sys.exit(f"run {number}: {found}")
-    for title, answers in (("from settled clusters", from_settled), ("from the empty cluster", from_empty)):
+    for title, answers in (("from settled clusters", from_settled),
+                           ("with resets from settled clusters", with_resets), ("from the empty cluster", from_empty)):
         print(f"{count} runs {title}, {sum(answers.values())} steps")
         for (step, answer), times in sorted(answers.items()):
             print(f"{times:9} {step} {answer}")

@@ -1,11 +1,11 @@
 """The story of three devices that lose a file, though they were settled.
 
-Anna (device 1), Ben (2) and Cleo (3) share a folder. A price list of two lines is in it. A backup has the list too, with
-Monday's date. Ben got it by mail on Tuesday. Anna saved it into the folder on Wednesday, and Cleo's device received it
-from hers.
+Anna (device 1), Ben (2) and Cleo (3) share a folder. A price list of two lines is in it. A backup has the list too,
+with Monday's date. Ben got it by mail on Tuesday. Anna saved it into the folder on Wednesday, and Cleo's device
+received it from hers.
 
-1. Cleo takes the second line away. Anna's device receives the change. It announces to Cleo's device that it has it; this
-   message is slow, and stays on its way.
+1. Cleo takes the second line away. Anna's device receives the change. It announces to Cleo's device that it has it;
+   this message is slow, and stays on its way.
 2. Anna and Cleo both see the mistake. Each puts the list back from the backup, with Monday's date.
 3. Ben joins the folder. He has the list from the mail already.
 
@@ -14,17 +14,17 @@ three records have the same content, but versions of which none is the greatest.
 
 Here devices take a record's version as it is, as Syncthing does, and don't merge it with their own. So:
 
-4. Cleo's device takes Ben's record over, since Tuesday is later than Monday. Then it takes Anna's first record over, of
-   Wednesday: that is the last that it heard from her. The bytes stay. But its own record has a version now that is older
-   than the change of step 1.
-5. Cleo's device tells the others, and their devices do the same. Nobody has a record any more that says that the mistake
-   was undone.
+4. Cleo's device takes Ben's record over, since Tuesday is later than Monday. Then it takes Anna's first record over,
+   of Wednesday: that is the last that it heard from her. The bytes stay. But its own record has a version now that is
+   older than the change of step 1.
+5. Cleo's device tells the others, and their devices do the same. Nobody has a record any more that says that the
+   mistake was undone.
 6. The slow message arrives. It is newer than all that Cleo's device has, so the device pulls the list of one line. No
    conflict copy is kept, since nothing conflicts.
 7. It tells the others, and they pull it too. The second line is lost on all three devices.
 
-With merged versions each device keeps what it knew, the slow message is old news wherever it comes, and nothing happens.
-"""
+With merged versions each device keeps what it knew, the slow message is old news wherever it comes, and nothing
+happens. """
 
 from cases import BOTH, DOCS, empty_cluster, text
 from cluster.core import Cluster
@@ -52,10 +52,10 @@ def save(device: int, content: str, seconds: int) -> list[Step]:
     return [Edit(device, DOCS, LIST, text(content, seconds)), Scan(device, DOCS, LIST)]
 
 
-def fetch(device: int, other: int) -> list[Step]:
-    """The device pulls the list from the other one."""
-    return [StartPull(device, DOCS, LIST), Ask(device, other, DOCS, LIST), Deliver(other, device),
-            Deliver(device, other), Finish(device, DOCS, LIST)]
+def fetch(device: int, other: int, name: str = LIST) -> list[Step]:
+    """The device pulls a file of one block from the other one, the list if none is named."""
+    return [StartPull(device, DOCS, name), Ask(device, other, DOCS, name), Deliver(other, device),
+            Deliver(device, other), Finish(device, DOCS, name)]
 
 
 def adopt(device: int) -> list[Step]:

@@ -13,12 +13,13 @@ import story
 from cases import BOTH, DOCS, docs, empty_cluster, entry, put, text
 from cluster.core import Cluster
 from cluster.cut import first_fault, stores_of
+from cluster.index import View
 from cluster.record import Node, Record, deletion
 from cluster.refusal import Why
 from cluster.replica import Pull, Replica
-from cluster.step import Announce, Connect, Begin, Deliver, Finish, LocalStep, Scan, StartPull, Step
-from wrong import (EndsWithoutAskingAgain, LooksFirst, PassesOldForeignWithoutOwn, TakesVersionsUnmerged,
-                   TrustsAnOldLook)
+from cluster.step import Announce, Deliver, Finish, LocalStep, Reset, Scan, StartPull, Step
+from wrong import (EndsWithoutAskingAgain, LooksFirst, PassesOldForeignWithoutOwn, ResetKeepsViews,
+                   TakesVersionsUnmerged, TrustsAnOldLook)
 
 NAME = "hello"
 NEW, OLD = text("hello", 2000), text("old", 1000)
@@ -59,8 +60,7 @@ class OldForeignRecordWithoutOwn(Headline):
         old = old_record(((1, 1),))
         for device in (1, 2, 3) if has_own else (1, 2):
             put(made, device, deletion(NAME, old, 1, ((1, 2),)), None)
-        docs(made, 3).views[2].sequence = 1
-        docs(made, 3).views[2].records = {NAME: old}
+        docs(made, 3).views[2] = View(12, 1, {NAME: old})
         docs(made, 3).pulls[NAME] = Pull(old, {0: OLD.data})
         return made
 
@@ -88,7 +88,7 @@ class CommitOfAnOldLook(Headline):
         for device in (1, 2):
             put(made, device, entry(NAME, NEW, 1, ((1, 1),)), NEW)
         docs(made, 1).seen[NAME] = None
-        for step in (Connect(1, 2), Begin(1, 2), Begin(2, 1), Deliver(2, 1), Deliver(1, 2)):
+        for step in story.connect(1, 2):
             made.apply(step)
         return made
 
@@ -117,6 +117,32 @@ class EndOfAPullThatIsNotWanted(Headline):
 
     def test_under_the_wrong_rule_the_old_file_is_written_over_the_newer_one(self):
         self.assertEqual(self.changes(self.cluster(EndsWithoutAskingAgain), self.STEPS), {2: held(hello=OLD)})
+
+    def test_under_the_right_rule_all_is_kept(self):
+        self.assertEqual(self.changes(self.cluster(Replica), self.STEPS), {})
+
+
+class ResetThatKeepsViews(Headline):
+    """Lines were added to a file, and a device still knows the old record of it. Its date is later than the new one's.
+    Then the device's index is reset, and the file scanned anew."""
+
+    NOTES, BEGINNING = text("one\ntwo\n", 1000), text("one\n", 2000)
+
+    def cluster(self, replica: type[Replica]) -> Cluster:
+        """Two devices have the newer file, and the second one the old record in its view of the first one."""
+        made = empty_cluster(BOTH, BOTH, replica=replica)
+        for device in (1, 2):
+            put(made, device, entry("notes", self.NOTES, 1, ((1, 2),)), self.NOTES)
+        docs(made, 1).index.max_sequence = 2
+        docs(made, 2).views[1] = View(11, 1, {"notes": entry("notes", self.BEGINNING, 1, ((1, 1),), sequence=1)})
+        return made
+
+    STEPS = [Reset(2, 20), Scan(2, DOCS, "notes"), *story.connect(1, 2), *story.fetch(2, 1, "notes")]
+
+    def test_under_the_wrong_rule_the_old_file_is_written_over_the_newer_one(self):
+        changes = self.changes(self.cluster(ResetKeepsViews), self.STEPS)
+        copy = "notes.sync-conflict-1000-0000000000000002"
+        self.assertEqual(changes, {2: held(notes=self.BEGINNING, **{copy: self.NOTES})})
 
     def test_under_the_right_rule_all_is_kept(self):
         self.assertEqual(self.changes(self.cluster(Replica), self.STEPS), {})

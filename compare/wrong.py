@@ -1,5 +1,5 @@
-"""Wrong rules, one thing wrong in each. Under each one there is a settled cluster, and a list of quiet steps after which
-a store isn't kept (test_teeth.py)."""
+"""Wrong rules, one thing wrong in each. Under each one there is a settled cluster, and a list of quiet steps after
+which a store isn't kept (test_teeth.py)."""
 
 from dataclasses import dataclass, field
 
@@ -33,6 +33,15 @@ class TakesVersionsUnmerged(Replica):
     def adopted_version(self, target: Record):
         """The target's version as it is."""
         return target.version
+
+
+class ResetKeepsViews(Replica):
+    """A reset begins the index anew, but what the device knew of others stays."""
+
+    def reset(self, index_id: int) -> None:
+        """Begins the index anew; the views stay."""
+        self.index.begin_anew(index_id)
+        self.pulls.clear()
 
 
 @dataclass

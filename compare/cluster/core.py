@@ -10,8 +10,8 @@ from .index import Index, View
 from .link import Link
 from .refusal import Moved, Refused, Why, refuse
 from .replica import Replica
-from .step import (Announce, Ask, Begin, Connect, Deliver, Edit, Finish, Lose, Override, Remove, Restart, Revert, Scan,
-                   StartPull, Step)
+from .step import (Announce, Ask, Begin, Connect, Deliver, Edit, Finish, Lose, Override, Remove, Reset, Restart, Revert,
+                   Scan, StartPull, Step)
 from .store import Faults, Store
 
 
@@ -97,6 +97,8 @@ class Cluster:
                 return exchange.ask(*self.shared_end(device, other, folder), other, folder, name)
             case Restart(device):
                 return self.restart(device)
+            case Reset(device, index_id):
+                return self.reset(device, index_id)
 
     def peer(self, device: int) -> Peer:
         """The device of that number."""
@@ -129,7 +131,21 @@ class Cluster:
         peer.sessions.clear()
         for replica in peer.replicas.values():
             replica.pulls.clear()
+        self.lose_all_links(device)
+        return Moved.Changed
+
+    def reset(self, device: int, index_id: int) -> Moved:
+        """Begins a device's indexes anew under an id above theirs; its stores stay."""
+        peer = self.peer(device)
+        refuse(Why.IndexIdOld, when=any(index_id <= replica.index.id for replica in peer.replicas.values()))
+        peer.sessions.clear()
+        for replica in peer.replicas.values():
+            replica.reset(index_id)
+        self.lose_all_links(device)
+        return Moved.Changed
+
+    def lose_all_links(self, device: int) -> None:
+        """Ends each connection of the device."""
         for link in self.links.values():
             if device in (link.a, link.b) and link.is_up:
                 link.lose()
-        return Moved.Changed

@@ -27,6 +27,10 @@ class Index:
         """How far the index goes: its id and its greatest sequence."""
         return self.id, self.max_sequence
 
+    def begin_anew(self, index_id: int) -> None:
+        """Forgets all, and begins under another id."""
+        self.id, self.max_sequence, self.records = index_id, 0, {}
+
     def check_room(self, name: str) -> None:
         """Refuses where the name can't get a next number."""
         refuse(Why.SequenceFull, when=self.max_sequence == MOST_SEQUENCE)

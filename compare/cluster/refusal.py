@@ -28,6 +28,7 @@ class Why(IntEnum):
     PullsFull = 146
     KindForbids = 147
     Stale = 148
+    IndexIdOld = 149
     LinkDown = 151
     LinkFull = 152
     EpochFull = 153

@@ -183,6 +183,15 @@ class Replica:
         refuse(Why.CopyExists, when=there is not None and there != node)
         return (name, node) if there is None else None
 
+    # ---- index resets
+
+    def reset(self, index_id: int) -> None:
+        """Begins the index anew under this id, and forgets what others have. The store stays."""
+        self.index.begin_anew(index_id)
+        for view in self.views.values():
+            view.clear(0)
+        self.pulls.clear()
+
     # ---- what others ask and answer
 
     def answer(self, name: str, offset: int, size: int) -> bytes | None:

@@ -1,4 +1,4 @@
-"""The fourteen steps of a cluster, as values."""
+"""The steps of a cluster, as values: fourteen, and the index reset."""
 
 from dataclasses import dataclass
 
@@ -127,6 +127,15 @@ class Restart(Value):
     device: int
 
 
+@dataclass(frozen=True)
+class Reset(Value):
+    """A device begins all its indexes anew under this id, and forgets what it knew of others. (The program doesn't have
+    this step yet.)"""
+
+    device: int
+    id: int
+
+
 LocalStep = Edit | Remove | Override | Revert
-QuietStep = Scan | Connect | Lose | Begin | Deliver | Announce | StartPull | Ask | Finish | Restart
+QuietStep = Scan | Connect | Lose | Begin | Deliver | Announce | StartPull | Ask | Finish | Restart | Reset
 Step = LocalStep | QuietStep
