@@ -13,6 +13,7 @@ from syncthing import FOLDER, SECONDS_TO_WAIT, Device, wait_until_in_step
 
 SOURCES = Path(__file__).resolve().parents[1]
 PROGRAM = "syncthing-audit"
+SAMPLE = f"{PROGRAM}/sample"
 GOPATH = Path("/usr/share/gocode")
 NEEDED = {"golang-go": lambda: shutil.which("go"), "syncthing": lambda: shutil.which("syncthing"),
           "golang-github-syncthing-syncthing-dev":
@@ -44,9 +45,17 @@ def go_environment(room):
     return {**made, "GOCACHE": str(room / "go-cache")}
 
 
-def build_words(program):
-    """The command that builds the audit."""
-    return ["go", "build", "-p", "1", "-o", program, PROGRAM]
+def build_words(directory):
+    """The command that builds the audit, and what makes samples for it, in a directory."""
+    return ["go", "build", "-p", "1", "-o", f"{directory}/", PROGRAM, SAMPLE]
+
+
+def built(room):
+    """The directory with these programs: $SYNCTHING_AUDIT, or built in this room where they aren't yet."""
+    if "SYNCTHING_AUDIT" in os.environ:
+        return Path(os.environ["SYNCTHING_AUDIT"])
+    subprocess.run(build_words(room), env=go_environment(room), check=True)
+    return room
 
 
 def auditor():
@@ -80,9 +89,7 @@ class Exporting(unittest.TestCase):
         room = tempfile.TemporaryDirectory(prefix="syncthing-audit-test-")
         cls.addClassCleanup(room.cleanup)
         cls.room = Path(room.name)
-        cls.program = os.environ.get("SYNCTHING_AUDIT") or cls.room / PROGRAM
-        if "SYNCTHING_AUDIT" not in os.environ:
-            subprocess.run(build_words(cls.program), env=go_environment(cls.room), check=True)
+        cls.program = built(cls.room) / PROGRAM
         cls.auditor = auditor()
         cls.devices = [Device(cls.room, name) for name in cls.names]
         cls.one, cls.two = cls.devices[:2]

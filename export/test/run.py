@@ -22,7 +22,7 @@ from pathlib import Path
 
 HERE = Path(__file__).resolve().parent
 # The longest first.
-CLASSES = [("large_folders", "LargeFolder"), ("three_devices", "LeftBehind"), ("three_devices", "EachKind"),
+CLASSES = [("large_folders", "LargeFiles"), ("large_folders", "LargeFolder"), ("large_folders", "ManyFiles"), ("three_devices", "LeftBehind"), ("three_devices", "EachKind"),
            ("two_devices", "Conflict"), ("two_devices", "TwoDevices"), ("two_devices", "SendOnly"),
            ("two_devices", "ReceiveOnly"), ("three_devices", "Chain"), ("three_devices", "ThreeDevices")]
 SIDE_BY_SIDE = 4
@@ -86,7 +86,7 @@ def run_until(deadline, words, **options):
 def build(room, environment, deadline):
     """Builds the audit, and has Go vet it; gives the status, nothing if that wasn't done by the deadline."""
     from exporting import PROGRAM, build_words
-    for words in (build_words(room / PROGRAM), ["go", "vet", "-p", "1", f"{PROGRAM}/..."]):
+    for words in (build_words(room), ["go", "vet", "-p", "1", f"{PROGRAM}/..."]):
         status, said = run_until(deadline, words, env=environment)
         if status != 0:
             print(said)
@@ -165,7 +165,7 @@ def run_all(room, deadline):
     if status != 0:
         return 0, 1, []
     passed, failed = run_go(for_go)
-    environment = {**os.environ, "SYNCTHING_AUDIT": str(room / PROGRAM), "TMPDIR": str(room), UNTIL: str(deadline)}
+    environment = {**os.environ, "SYNCTHING_AUDIT": str(room), "TMPDIR": str(room), UNTIL: str(deadline)}
     more = run_classes(environment, deadline)
     return passed + more[0], failed + more[1], more[2]
 

@@ -82,6 +82,7 @@ class LeftBehind(Exporting):
 
     def test_until_all_are_in_step_again(self):
         three = self.devices[2]
+        before = self.part(self.one).read_bytes()
         self.one.start()
         self.two.start()
         (self.one.files / "text").write_text("changed on one")
@@ -89,6 +90,7 @@ class LeftBehind(Exporting):
         wait_until_in_step(self.one, self.two)
         self.stop()
         self.assertEqual(self.verdict(), self.fault("RecordDiffers", "text", three))
+        self.assert_parts_are_of_one_moment(before)
 
         (three.files / "empty").write_text("written while it was off")
         self.assertEqual(self.verdict("--names", "empty"), self.fault("StoreDiffers", "empty", three))
@@ -99,6 +101,18 @@ class LeftBehind(Exporting):
             self.assertEqual((device.files / "empty").read_text(), "written while it was off")
         self.stop()
         self.assertEqual(self.verdict(), "settled")
+
+
+    def assert_parts_are_of_one_moment(self, before):
+        """Parts of the three devices say what their homes do; with the first device's part of before they are
+        refused."""
+        parts = [self.part(device) for device in self.devices]
+        ran = self.check_parts(parts)
+        self.assertEqual(ran.stdout.splitlines(), self.report())
+        parts[0].write_bytes(before)
+        ran = self.check_parts(parts)
+        self.assertEqual((ran.returncode, ran.stdout), (2, ""))
+        self.assertIn("it is of an earlier moment than", ran.stderr)
 
 
 class Chain(Exporting):

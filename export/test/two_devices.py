@@ -287,6 +287,21 @@ class ReceiveOnly(Exporting):
     def test_the_rest_is_settled(self):
         self.assertEqual(self.verdict("--names", "folder"), "settled")
 
+    def test_what_has_no_winner_does_not_hide_other_bytes(self):
+        path = self.one.files / "folder" / "large"
+        times = path.stat()
+        data = path.read_bytes()
+        path.write_bytes(b"rot" + data[3:])
+        os.utime(path, ns=(times.st_atime_ns, times.st_mtime_ns))
+        try:
+            lines = self.report()
+            self.assertEqual(lines[0], self.fault("NotWinner", "added"))
+            for line in (self.failure("LocalOnly", "text", self.two), self.failure("StoreDiffers", "folder/large", self.one)):
+                self.assertIn(line, lines)
+        finally:
+            path.write_bytes(data)
+            os.utime(path, ns=(times.st_atime_ns, times.st_mtime_ns))
+
 
 class SendOnly(Exporting):
     """A device that only sends, and another that changed a file."""

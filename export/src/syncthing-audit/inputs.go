@@ -78,7 +78,9 @@ func (i *inputs) openPart(path string) error {
 	if err != nil {
 		return err
 	}
-	i.devices = append(i.devices, join.NewDevice(read, path))
+	ahead := part.NewAhead(read)
+	i.closers = append(i.closers, ahead.Close)
+	i.devices = append(i.devices, join.NewDevice(ahead, path))
 	return nil
 }
 

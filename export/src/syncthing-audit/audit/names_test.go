@@ -20,7 +20,7 @@ func rowOf(one, other *part.Name) *join.Row {
 }
 
 func TestWinners(t *testing.T) {
-	sees := func(one *part.Record) *part.Name { return &part.Name{Views: []part.Seen{{Record: *one}}} }
+	sees := func(one *part.Record) *part.Name { return &part.Name{Views: []part.Seen{{Record: one}}} }
 	cases := []struct {
 		why        string
 		one, other *part.Name

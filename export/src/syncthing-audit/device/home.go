@@ -116,6 +116,9 @@ func (h *Home) openIndex() error {
 	if err := copyFiles(database, h.copied); err != nil {
 		return err
 	}
+	if err := checkWhole(h.copied); err != nil {
+		return fmt.Errorf("refused: %s: %w", h.Dir, err)
+	}
 	if h.backend, err = backend.Open(h.copied, backend.TuningAuto); err != nil {
 		return err
 	}

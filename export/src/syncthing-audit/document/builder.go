@@ -38,12 +38,12 @@ func (d *Document) About() string {
 // Builder fills documents with rows, each as far as it has room. Settled speaks of each name by itself, and all that is
 // said of a name stands in one document, so all of them together say what one would.
 type Builder struct {
-	folder    *join.Folder
-	withBytes bool
-	room      int // bytes for names
-	members   []*member
-	rows      []*join.Row
-	used      int
+	folder  *join.Folder
+	writer  writer
+	room    int // bytes for names
+	members []*member
+	rows    []*join.Row
+	used    int
 }
 
 // member is what a document says of one device.
@@ -62,7 +62,7 @@ type viewed struct {
 
 // NewBuilder begins to fill documents of a folder of at most so many bytes.
 func NewBuilder(folder *join.Folder, withBytes bool, most int) *Builder {
-	made := &Builder{folder: folder, withBytes: withBytes, room: most - bytesOfEnds}
+	made := &Builder{folder: folder, writer: writer{withBytes: withBytes}, room: most - bytesOfEnds}
 	for _, one := range folder.Members {
 		next := &member{Member: one, views: make([]viewed, len(one.About.Views))}
 		made.room -= bytesOfMember
@@ -80,7 +80,7 @@ func NewBuilder(folder *join.Folder, withBytes bool, most int) *Builder {
 // items are a row as JSON, in the places where it goes.
 type items struct {
 	own, store []byte
-	views      map[int][]byte
+	views      [][]byte // by their places among the folder's
 }
 
 // Add adds a row. It gives the document before it, if that was full; or why no document has the row.
@@ -106,7 +106,9 @@ func (b *Builder) Add(row *join.Row) (*Document, *part.LeftOut) {
 			to.store.add(one.store)
 		}
 		for view, item := range one.views {
-			to.views[view].add(item)
+			if item != nil {
+				to.views[view].add(item)
+			}
 		}
 	}
 	b.rows = append(b.rows, row)
@@ -119,12 +121,13 @@ func (b *Builder) Add(row *join.Row) (*Document, *part.LeftOut) {
 func (b *Builder) encode(row *join.Row) ([]items, int) {
 	made := make([]items, len(row.At))
 	size, greatest := 0, 0
+	b.writer.begin(row.Name)
 	for at, one := range row.At {
 		if one == nil {
 			continue
 		}
 		if one.Own != nil {
-			made[at].own = encoded(recordOf(row.Name, one.Own, b.withBytes))
+			made[at].own = b.writer.record(one.Own)
 			length := len(made[at].own) + bytesOfDefaults
 			size += length
 			if length > greatest {
@@ -132,23 +135,27 @@ func (b *Builder) encode(row *join.Row) ([]items, int) {
 			}
 		}
 		if one.Disk != nil {
-			next := nodeOf(row.Name, row.At, at, b.withBytes)
-			made[at].store = encoded(next)
-			size += len(made[at].store) + bytesOfDefaults + 2*len(next.Text)
+			store, text := b.writer.node(row.At, at)
+			made[at].store = store
+			size += len(store) + bytesOfDefaults + 2*text
 		}
-		for _, seen := range one.Views {
-			if b.members[at].views[seen.View].number == 0 {
-				continue
-			}
-			if made[at].views == nil {
-				made[at].views = map[int][]byte{}
-			}
-			item := encoded(recordOf(row.Name, &seen.Record, b.withBytes))
-			made[at].views[seen.View] = item
-			size += len(item) + bytesOfDefaults
-		}
+		size += b.encodeViews(&made[at], at, one.Views)
 	}
 	return made, size + greatest + bytesOfRow
+}
+
+// encodeViews gives the records of a member's views, with a bound for what they take.
+func (b *Builder) encodeViews(to *items, at int, views []part.Seen) int {
+	size := 0
+	to.views = make([][]byte, len(b.members[at].views))
+	for _, seen := range views {
+		if b.members[at].views[seen.View].number == 0 {
+			continue
+		}
+		to.views[seen.View] = b.writer.record(seen.Record)
+		size += len(to.views[seen.View]) + bytesOfDefaults
+	}
+	return size
 }
 
 // takeSequences takes the sequence numbers of a row, and says whether another name of the document has one of them.

@@ -36,7 +36,7 @@ func rowOf(name string, sequence, size int64) *join.Row {
 	}
 	for device := 0; device < 2; device++ {
 		own := one
-		row.At = append(row.At, &part.Name{Name: part.Bytes(name), Own: &own, Views: []part.Seen{{Record: one}},
+		row.At = append(row.At, &part.Name{Name: part.Bytes(name), Own: &own, Views: []part.Seen{{Record: &one}},
 			Disk: &part.Node{Size: size, Contents: []part.Content{*one.Content}, Data: data}})
 	}
 	return row
@@ -98,7 +98,7 @@ func built(t *testing.T, withBytes bool, most int, rows ...*join.Row) ([]*Docume
 }
 
 func TestDocumentsWithBytes(t *testing.T) {
-	const mega = 1 << 20
+	const unit = 16 << 10 // a document here has room for 64 of them
 	cases := []struct {
 		why   string
 		sizes []int64
@@ -106,17 +106,17 @@ func TestDocumentsWithBytes(t *testing.T) {
 		out   []string
 	}{
 		{"no names make one document", nil, []string{""}, nil},
-		{"what fits stays together", []int64{mega, mega, mega}, []string{"abc"}, nil},
-		{"bytes stand twice at each of two devices", []int64{8 * mega, 7 * mega, 2 * mega}, []string{"ab", "c"}, nil},
-		{"consecutive names alone", []int64{mega, 15 * mega, mega, mega}, []string{"a", "b", "cd"}, nil},
-		{"what fits into no document is left out", []int64{mega, 16 * mega, mega}, []string{"ac"}, []string{"b"}},
+		{"what fits stays together", []int64{unit, unit, unit}, []string{"abc"}, nil},
+		{"bytes stand twice at each of two devices", []int64{8 * unit, 7 * unit, 2 * unit}, []string{"ab", "c"}, nil},
+		{"consecutive names alone", []int64{unit, 15 * unit, unit, unit}, []string{"a", "b", "cd"}, nil},
+		{"what fits into no document is left out", []int64{unit, 16 * unit, unit}, []string{"ac"}, []string{"b"}},
 	}
 	for _, one := range cases {
 		var rows []*join.Row
 		for place, size := range one.sizes {
 			rows = append(rows, rowOf(string(rune('a'+place)), int64(place+1), size))
 		}
-		documents, out := built(t, true, limits.MostBytes, rows...)
+		documents, out := built(t, true, 64*unit, rows...)
 		if names := namesIn(t, documents); !reflect.DeepEqual(names, one.parts) || !reflect.DeepEqual(out, one.out) {
 			t.Errorf("%s: %q, without %q", one.why, names, out)
 		}

@@ -3,72 +3,152 @@ package document
 import (
 	"encoding/hex"
 	"encoding/json"
+	"strconv"
 	"strings"
 	"unicode/utf8"
 
 	"syncthing-audit/part"
 )
 
-// record is an entry of an index. Its block size is the document's default.
-type record struct {
-	Name       string      `json:"name"`
-	Type       int         `json:"type"`
-	Size       int64       `json:"size,omitempty"`
-	ModifiedS  int64       `json:"modified_s"`
-	ModifiedNs int         `json:"modified_ns,omitempty"`
-	ModifiedBy uint64      `json:"modified_by"`
-	Deleted    bool        `json:"deleted,omitempty"`
-	Invalid    bool        `json:"invalid,omitempty"`
-	Version    [][2]uint64 `json:"version"`
-	Sequence   int64       `json:"sequence"`
-	Blocks     []string    `json:"blocks,omitempty"`
-	Target     string      `json:"target,omitempty"`
+// writer writes the records and nodes of one name, as JSON.
+type writer struct {
+	name      string // as JSON
+	withBytes bool
+	last      part.Content // mostly that of all records and nodes of a name
+	standIn   standIn      // of the last one
+	written   []byte
 }
 
-// node is what stands on the disk under a name.
-type node struct {
-	Name       string `json:"name"`
-	Type       int    `json:"type"`
-	ModifiedS  int64  `json:"modified_s"`
-	ModifiedNs int    `json:"modified_ns,omitempty"`
-	Text       string `json:"text,omitempty"`
-	Hex        string `json:"hex,omitempty"`
-	Target     string `json:"target,omitempty"`
-}
+// begin begins a name.
+func (w *writer) begin(name string) { w.name = quoted(name) }
 
-// recordOf gives the document's record.
-func recordOf(name string, one *part.Record, withBytes bool) record {
-	made := record{Name: name, Type: one.Type, ModifiedS: one.ModifiedS, ModifiedNs: one.ModifiedNs, ModifiedBy: one.ModifiedBy,
-		Deleted: one.Deleted, Invalid: one.Invalid, Version: one.Version, Sequence: one.Sequence, Target: one.Target}
-	if made.Version == nil {
-		made.Version = [][2]uint64{}
+// quoted gives a text as JSON.
+func quoted(text string) string {
+	var written strings.Builder
+	encoder := json.NewEncoder(&written)
+	encoder.SetEscapeHTML(false)
+	if err := encoder.Encode(text); err != nil {
+		panic(err) // a text
 	}
+	return strings.TrimSuffix(written.String(), "\n")
+}
+
+// standInOf gives the stand-in of a content.
+func (w *writer) standInOf(content *part.Content) *standIn {
+	if w.standIn.text == "" || *content != w.last {
+		w.last, w.standIn = *content, newStandIn(content)
+	}
+	return &w.standIn
+}
+
+func (w *writer) text(text string) { w.written = append(w.written, text...) }
+
+// number writes a member that is a number, and is left out where it is 0 unless it must be there.
+func (w *writer) number(member string, value int64, isNeeded bool) {
+	if value == 0 && !isNeeded {
+		return
+	}
+	w.text(`,"` + member + `":`)
+	w.written = strconv.AppendInt(w.written, value, 10)
+}
+
+// flag writes a member that is true.
+func (w *writer) flag(member string, is bool) {
+	if is {
+		w.text(`,"` + member + `":true`)
+	}
+}
+
+// take gives what was written, and begins anew.
+func (w *writer) take() []byte {
+	made := append([]byte(nil), w.written...)
+	w.written = w.written[:0]
+	return made
+}
+
+// record gives an entry of an index. Its block size is the document's default.
+func (w *writer) record(one *part.Record) []byte {
+	w.text(`{"name":` + w.name)
+	w.number("type", int64(one.Type), true)
+	w.number("modified_s", one.ModifiedS, true)
+	w.number("modified_ns", int64(one.ModifiedNs), false)
+	w.text(`,"modified_by":`)
+	w.written = strconv.AppendUint(w.written, one.ModifiedBy, 10)
+	w.flag("deleted", one.Deleted)
+	w.flag("invalid", one.Invalid)
+	w.version(one.Version)
+	w.number("sequence", one.Sequence, true)
 	switch {
 	case one.Content == nil:
-	case withBytes:
-		made.Size = one.Content.Size
-		for place := range one.Blocks {
-			made.Blocks = append(made.Blocks, hex.EncodeToString(one.Blocks[place][:]))
-		}
+	case w.withBytes:
+		w.number("size", one.Content.Size, false)
+		w.blocks(one.Blocks)
 	default:
-		size, block := standInRecord(one.Content)
-		made.Size, made.Blocks = size, []string{block}
+		stands := w.standInOf(one.Content)
+		w.number("size", int64(len(stands.text)), true)
+		w.blocks([][32]byte{stands.block})
 	}
-	return made
+	if one.Target != "" {
+		w.text(`,"target":` + quoted(one.Target))
+	}
+	w.text("}")
+	return w.take()
 }
 
-// nodeOf gives the document's node of a member.
-func nodeOf(name string, row []*part.Name, at int, withBytes bool) node {
+// version writes a record's version.
+func (w *writer) version(counters [][2]uint64) {
+	w.text(`,"version":[`)
+	for place, one := range counters {
+		if place > 0 {
+			w.text(",")
+		}
+		w.text("[")
+		w.written = strconv.AppendUint(w.written, one[0], 10)
+		w.text(",")
+		w.written = strconv.AppendUint(w.written, one[1], 10)
+		w.text("]")
+	}
+	w.text("]")
+}
+
+// blocks writes a record's block hashes.
+func (w *writer) blocks(hashes [][32]byte) {
+	w.text(`,"blocks":[`)
+	for place := range hashes {
+		if place > 0 {
+			w.text(",")
+		}
+		w.text(`"` + hex.EncodeToString(hashes[place][:]) + `"`)
+	}
+	w.text("]")
+}
+
+// node gives what stands on a member's disk, and how many bytes a file of it has in the document as text.
+func (w *writer) node(row []*part.Name, at int) ([]byte, int) {
 	disk := row[at].Disk
-	made := node{Name: name, Type: disk.Type, ModifiedS: disk.ModifiedS, ModifiedNs: disk.ModifiedNs, Target: disk.Target}
+	w.text(`{"name":` + w.name)
+	w.number("type", int64(disk.Type), true)
+	w.number("modified_s", disk.ModifiedS, true)
+	w.number("modified_ns", int64(disk.ModifiedNs), false)
+	text, digits := "", ""
 	switch {
 	case disk.Contents == nil:
-	case withBytes:
-		made.Text, made.Hex = textOrHex(disk.Data)
+	case w.withBytes:
+		text, digits = textOrHex(disk.Data)
 	default:
-		made.Text = StandIn(contentOnDisk(row, at))
+		text = w.standInOf(contentOnDisk(row, at)).text
 	}
-	return made
+	if text != "" {
+		w.text(`,"text":` + quoted(text))
+	}
+	if digits != "" {
+		w.text(`,"hex":"` + digits + `"`)
+	}
+	if disk.Target != "" {
+		w.text(`,"target":` + quoted(disk.Target))
+	}
+	w.text("}")
+	return w.take(), len(text)
 }
 
 // textOrHex gives bytes as text where they are UTF-8 without control characters other than tabs and ends of lines,
@@ -79,15 +159,4 @@ func textOrHex(data []byte) (text, digits string) {
 		return string(data), ""
 	}
 	return "", hex.EncodeToString(data)
-}
-
-// encoded gives a record or node as JSON.
-func encoded(one interface{}) []byte {
-	var written strings.Builder
-	encoder := json.NewEncoder(&written)
-	encoder.SetEscapeHTML(false)
-	if err := encoder.Encode(one); err != nil {
-		panic(err) // plain structs of texts and numbers
-	}
-	return []byte(strings.TrimSuffix(written.String(), "\n"))
 }

@@ -3,7 +3,6 @@ package document
 
 import (
 	"crypto/sha256"
-	"encoding/hex"
 	"fmt"
 
 	"syncthing-audit/part"
@@ -19,11 +18,15 @@ func StandIn(content *part.Content) string {
 	return fmt.Sprintf("%d bytes %s: %s", content.Size, cut, content.Hash)
 }
 
-// standInRecord gives what a record of the stand-in says: its length and its one block's hash.
-func standInRecord(content *part.Content) (int64, string) {
+// standIn is a stand-in with the hash of its one block.
+type standIn struct {
+	text  string
+	block [32]byte
+}
+
+func newStandIn(content *part.Content) standIn {
 	text := StandIn(content)
-	sum := sha256.Sum256([]byte(text))
-	return int64(len(text)), hex.EncodeToString(sum[:])
+	return standIn{text, sha256.Sum256([]byte(text))}
 }
 
 // contentOnDisk gives the content of a file on the disk. A file that is cut in several ways has the content that the
@@ -46,5 +49,5 @@ func contentOnDisk(row []*part.Name, at int) *part.Content {
 
 // isContent says whether a record has this content.
 func isContent(one *part.Record, content *part.Content) bool {
-	return one.Content != nil && StandIn(one.Content) == StandIn(content)
+	return one.Content != nil && (*one.Content == *content || StandIn(one.Content) == StandIn(content))
 }

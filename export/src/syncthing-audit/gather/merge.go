@@ -145,7 +145,7 @@ func (m *merge) addRecord(line *part.Name, place int, entry *device.Entry) {
 		line.Own = entry.Record
 		return
 	}
-	line.Views = append(line.Views, part.Seen{View: place - 1, Record: *entry.Record})
+	line.Views = append(line.Views, part.Seen{View: place - 1, Record: entry.Record})
 }
 
 // fitsBytes says whether a document with bytes has files such as this.

@@ -2,7 +2,6 @@ package part
 
 import (
 	"bufio"
-	"bytes"
 	"compress/gzip"
 	"encoding/json"
 	"errors"
@@ -51,6 +50,9 @@ func (r *Reader) Next() (Line, error) {
 	if err == io.EOF {
 		return Line{}, r.rules.end()
 	}
+	if err == nil && line.Name != nil {
+		err = lengthen(line.Name)
+	}
 	if err == nil {
 		err = r.rules.take(line)
 	}
@@ -60,18 +62,7 @@ func (r *Reader) Next() (Line, error) {
 	return line, nil
 }
 
-// Whole reads what is left, and says why the part isn't whole.
-func (r *Reader) Whole() error {
-	for {
-		if _, err := r.Next(); err == io.EOF {
-			return nil
-		} else if err != nil {
-			return err
-		}
-	}
-}
-
-// read reads a line into a value, with no member that it doesn't have.
+// read reads a line into a value.
 func (r *Reader) read(into interface{}) error {
 	text, err := r.lines.ReadSlice('\n')
 	switch {
@@ -85,13 +76,5 @@ func (r *Reader) read(into interface{}) error {
 		return fmt.Errorf("it can't be read: %w", err)
 	}
 	r.count++
-	decoder := json.NewDecoder(bytes.NewReader(text))
-	decoder.DisallowUnknownFields()
-	if err := decoder.Decode(into); err != nil {
-		return err
-	}
-	if _, err := decoder.Token(); err != io.EOF {
-		return errors.New("something stands behind its value")
-	}
-	return nil
+	return json.Unmarshal(text, into)
 }

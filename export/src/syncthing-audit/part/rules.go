@@ -137,7 +137,7 @@ func checkName(one *Name, in *Folder) error {
 			return fmt.Errorf("the views of %q aren't in their places", one.Name)
 		}
 		last = seen.View
-		if err := checkRecord(&seen.Record, in.Views[seen.View].Max); err != nil {
+		if err := checkRecord(seen.Record, in.Views[seen.View].Max); err != nil {
 			return fmt.Errorf("a view of %q: %w", one.Name, err)
 		}
 	}

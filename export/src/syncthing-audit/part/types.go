@@ -99,10 +99,12 @@ type Name struct {
 	Out   []LeftOut `json:"out,omitempty"`
 }
 
-// Seen is a record in a view.
+// Seen is a record in a view. Most are the own one with another sequence, and are written so; in memory the record is
+// always there.
 type Seen struct {
-	View   int    `json:"view"` // the place among the folder's views
-	Record Record `json:"record"`
+	View   int     `json:"view"`           // the place among the folder's views
+	Same   int64   `json:"same,omitempty"` // the sequence of a record that is the own one but for it
+	Record *Record `json:"record,omitempty"`
 }
 
 // Record is an entry of an index, as it goes over the wire.

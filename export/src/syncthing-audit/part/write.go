@@ -24,7 +24,12 @@ func NewWriter(to io.Writer, head *Head) (*Writer, error) {
 }
 
 // Take writes a line.
-func (w *Writer) Take(line Line) error { return w.encoder.Encode(line) }
+func (w *Writer) Take(line Line) error {
+	if line.Name != nil {
+		line.Name = shortened(line.Name)
+	}
+	return w.encoder.Encode(line)
+}
 
 // Close ends the part.
 func (w *Writer) Close() error {

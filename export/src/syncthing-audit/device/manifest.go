@@ -1,0 +1,100 @@
+package device
+
+import (
+	"bufio"
+	"encoding/binary"
+	"fmt"
+	"io"
+	"os"
+
+	"github.com/syndtr/goleveldb/leveldb/journal"
+)
+
+// manifest is what an index's manifest says.
+type manifest struct {
+	log      int64           // the number of the oldest log that counts
+	nextFile int64           // each file that the manifest knows of has a lesser number
+	tables   map[int64]int64 // the bytes of each table, by its number
+}
+
+// readManifest reads the manifest that counts.
+func readManifest(database string) (*manifest, error) {
+	path, err := currentManifest(database)
+	if err != nil {
+		return nil, err
+	}
+	file, err := os.Open(path)
+	if err != nil {
+		return nil, err
+	}
+	defer file.Close()
+	made := &manifest{tables: map[int64]int64{}}
+	entries := journal.NewReader(file, nil, true, true)
+	for {
+		entry, err := entries.Next()
+		if err == io.EOF {
+			return made, nil
+		}
+		if err == nil {
+			err = made.read(bufio.NewReader(entry))
+		}
+		if err != nil {
+			return nil, fmt.Errorf("its manifest ends in the middle: %w", err)
+		}
+	}
+}
+
+// What the fields of a manifest's entry are, with what stands in each: numbers (n) and texts (t).
+var fields = map[uint64]string{
+	1: "t",     // how keys are compared
+	2: "n",     // the log
+	3: "n",     // the next file
+	4: "n",     // a sequence
+	5: "nt",    // where compaction is
+	6: "nn",    // a table that is gone
+	7: "nnntt", // a new table
+	9: "n",     // an older log
+}
+
+// read reads an entry.
+func (m *manifest) read(from *bufio.Reader) error {
+	for {
+		field, err := binary.ReadUvarint(from)
+		if err == io.EOF {
+			return nil
+		}
+		if err != nil {
+			return err
+		}
+		parts, known := fields[field]
+		if !known {
+			return fmt.Errorf("it has a field %d", field)
+		}
+		var numbers []int64
+		for _, kind := range parts {
+			number, err := binary.ReadUvarint(from)
+			if err == nil && kind == 't' {
+				_, err = from.Discard(int(number))
+			}
+			if err != nil {
+				return err
+			}
+			numbers = append(numbers, int64(number))
+		}
+		m.take(field, numbers)
+	}
+}
+
+// take takes the numbers of a field, of texts their lengths.
+func (m *manifest) take(field uint64, numbers []int64) {
+	switch field {
+	case 2:
+		m.log = numbers[0]
+	case 3:
+		m.nextFile = numbers[0]
+	case 6:
+		delete(m.tables, numbers[1])
+	case 7:
+		m.tables[numbers[1]] = numbers[2]
+	}
+}

@@ -1,0 +1,107 @@
+package main
+
+import (
+	"bytes"
+	"context"
+	"math/rand"
+	"os"
+	"path/filepath"
+	"time"
+
+	"github.com/syncthing/syncthing/lib/protocol"
+	"github.com/syncthing/syncthing/lib/scanner"
+)
+
+// batchLength is how many entries go into an index at once.
+const batchLength = 500
+
+// fill puts the same files on all devices and into all indexes.
+func (p *plan) fill(devices []*device) error {
+	random := rand.New(rand.NewSource(1))
+	var batch []protocol.FileInfo
+	last := ""
+	for number := 0; number < p.files; number++ {
+		name := nameOf(number)
+		if directory := filepath.Dir(name); directory != last {
+			last = directory
+			entry, err := putDirectory(devices, directory)
+			if err != nil {
+				return err
+			}
+			batch = append(batch, entry)
+		}
+		entry, err := put(devices, name, p.bytes, random)
+		if err != nil {
+			return err
+		}
+		batch = append(batch, entry)
+		if len(batch) >= batchLength {
+			record(devices, batch)
+			batch = batch[:0]
+		}
+	}
+	record(devices, batch)
+	for _, one := range devices {
+		for _, other := range devices {
+			if other != one {
+				one.set.SetIndexID(other.id, other.set.IndexID(protocol.LocalDeviceID))
+			}
+		}
+	}
+	for _, one := range devices {
+		if err := one.backend.Close(); err != nil {
+			return err
+		}
+	}
+	return nil
+}
+
+var modified = time.Unix(1700000000, 123456789)
+
+// putDirectory puts a directory on all devices.
+func putDirectory(devices []*device, name string) (protocol.FileInfo, error) {
+	for _, one := range devices {
+		if err := os.MkdirAll(filepath.Join(one.files, name), 0o755); err != nil {
+			return protocol.FileInfo{}, err
+		}
+	}
+	return protocol.FileInfo{Name: name, Type: protocol.FileInfoTypeDirectory, Permissions: 0o755, ModifiedS: modified.Unix(),
+		ModifiedBy: devices[0].id.Short(), Version: protocol.Vector{}.Update(devices[0].id.Short())}, nil
+}
+
+// put puts a file of random bytes on all devices.
+func put(devices []*device, name string, size int64, random *rand.Rand) (protocol.FileInfo, error) {
+	data := make([]byte, size)
+	random.Read(data)
+	for _, one := range devices {
+		path := filepath.Join(one.files, name)
+		if err := os.WriteFile(path, data, 0o644); err != nil {
+			return protocol.FileInfo{}, err
+		}
+		if err := os.Chtimes(path, modified, modified); err != nil {
+			return protocol.FileInfo{}, err
+		}
+	}
+	blockSize := protocol.BlockSize(size)
+	blocks, err := scanner.Blocks(context.Background(), bytes.NewReader(data), blockSize, size, nil, true)
+	return protocol.FileInfo{Name: name, Size: size, Permissions: 0o644, ModifiedS: modified.Unix(), ModifiedNs: modified.Nanosecond(),
+		ModifiedBy: devices[0].id.Short(), Version: protocol.Vector{}.Update(devices[0].id.Short()), RawBlockSize: blockSize,
+		Blocks: blocks, BlocksHash: protocol.BlocksHash(blocks)}, err
+}
+
+// record puts entries into each device's own index and into what each knows of the others.
+func record(devices []*device, batch []protocol.FileInfo) {
+	for _, one := range devices {
+		before := one.set.Sequence(protocol.LocalDeviceID)
+		one.set.Update(protocol.LocalDeviceID, batch)
+		seen := append([]protocol.FileInfo(nil), batch...)
+		for place := range seen {
+			seen[place].Sequence = before + int64(place) + 1
+		}
+		for _, other := range devices {
+			if other != one {
+				other.set.Update(one.id, seen)
+			}
+		}
+	}
+}

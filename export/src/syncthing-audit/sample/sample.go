@@ -1,0 +1,62 @@
+// Command sample makes the homes and folders of Syncthing devices that are in step, or their parts alone, so that an
+// audit of them can be measured. It writes indexes by Syncthing's own packages.
+package main
+
+import (
+	"flag"
+	"fmt"
+	"os"
+	"path/filepath"
+)
+
+// plan is what is made.
+type plan struct {
+	room    string
+	devices int
+	files   int
+	bytes   int64 // of each file
+	parts   bool
+}
+
+func main() {
+	made := plan{}
+	flag.IntVar(&made.devices, "devices", 2, "how many devices")
+	flag.IntVar(&made.files, "files", 800, "how many files")
+	flag.Int64Var(&made.bytes, "bytes", 4<<20, "the bytes of each file")
+	flag.BoolVar(&made.parts, "parts", false, "parts alone: no homes, no files")
+	flag.Parse()
+	if flag.NArg() != 1 {
+		fmt.Fprintln(os.Stderr, "usage: sample [--devices N] [--files N] [--bytes N] [--parts] DIR")
+		os.Exit(3)
+	}
+	made.room = flag.Arg(0)
+	if err := made.make(); err != nil {
+		fmt.Fprintln(os.Stderr, "sample:", err)
+		os.Exit(1)
+	}
+}
+
+// make makes the devices.
+func (p *plan) make() error {
+	if p.parts {
+		return p.makeParts()
+	}
+	devices := make([]*device, p.devices)
+	for place := range devices {
+		room := filepath.Join(p.room, fmt.Sprintf("device%d", place+1))
+		next, err := newDevice(room)
+		if err != nil {
+			return err
+		}
+		devices[place] = next
+	}
+	for _, one := range devices {
+		if err := one.configure(devices); err != nil {
+			return err
+		}
+	}
+	return p.fill(devices)
+}
+
+// nameOf gives the name of a file: a hundred stand in each directory.
+func nameOf(number int) string { return fmt.Sprintf("%05d/%02d.bin", number/100, number%100) }
