@@ -1,11 +1,10 @@
 -- Whether a device needs the record that it chose (this project's profile, over Syncthing, 'Folder Types').
-use Rattle.std.specs.Prelude.{◌≡◌, ◌≢◌, ℕ, Bool, true, false, Option, Some, None, List}
+use Rattle.std.specs.Prelude.{◌≡◌, ◌≢◌, Bool, true, false, Option, Some, None}
 use Rattle.bep_record.specs.declared.entry.Entry.{Entry}
 use Rattle.bep_record.specs.Content.{content_of}
 use Rattle.bep_record.specs.Vector.{IsAtMost}
 use Rattle.bep_record.specs.declared.folder_kind.FolderKind.{FolderKind}
 use Rattle.bep_record.specs.declared.folder_kind.FolderKind.TheVariants.{SendOnly}
-use Rattle.bep_choice.specs.Choice.{Candidate, IsChoice}
 
 -- with an own record: by whether that is local-only (a local change of a receive-only folder, marked invalid)
 abbrev pub NeedsBeside : Bool → FolderKind → Entry → Entry → Type 0
@@ -16,8 +15,3 @@ NeedsBeside false kind own chosen = (¬ IsAtMost chosen.version own.version) × 
 abbrev pub IsNeeded : FolderKind → Option Entry → Entry → Type 0
 IsNeeded kind None chosen = (chosen.deleted ≡ false) × (kind ≢ SendOnly)
 IsNeeded kind (Some own) chosen = NeedsBeside own.invalid kind own chosen
-
--- the wanted record: the choice over the own record and the views', where it is needed
-pub record IsWanted (device : ℕ) (kind : FolderKind) (own : Option Entry) (candidates : List Candidate) (one : Candidate) : Type 0 where
-  pub chosen : IsChoice device candidates one
-  pub needed : IsNeeded kind own one.1

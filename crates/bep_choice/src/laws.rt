@@ -1,10 +1,7 @@
-//! Laws of the choice and of need, each stated by a function that does nothing. They hold of any lists of candidates.
-ghost use Rattle.std.specs.Prelude.{◌≡◌, ◌↔◌, ℕ, false, List, Some};
-ghost use Rattle.bep_record.specs.declared.entry.Entry.{Entry};
-ghost use Rattle.bep_record.specs.Vector.{IsAtMost, IsBelow};
-ghost use Rattle.bep_record.specs.declared.folder_kind.FolderKind.{FolderKind};
+//! Laws of the choice, each stated by a function that does nothing. They hold of any lists of candidates.
+ghost use Rattle.std.specs.Prelude.{◌≡◌, ◌↔◌, ℕ, List};
+ghost use Rattle.bep_record.specs.Vector.{IsBelow};
 ghost use Rattle.bep_choice.specs.Choice.{Candidate, IsValidAmong, IsChoice, HasOneEach, HasNoneLeft, SameSet};
-ghost use Rattle.bep_choice.specs.Need.{IsWanted};
 
 /// There is a choice exactly where a candidate is valid.
 pub fn choice_exists()
@@ -39,11 +36,4 @@ pub fn choice_is_shared()
     ensures { (chooser other : ℕ) (candidates : List Candidate) (one : Candidate)
         → HasNoneLeft chooser candidates → HasNoneLeft other candidates
         → IsChoice chooser candidates one → IsChoice other candidates one }
-{}
-
-/// Beside an own record that isn't invalid, the version of a wanted record isn't at most the own one.
-pub fn wanted_is_newer()
-    ensures { (device : ℕ) (kind : FolderKind) (own : Entry) (candidates : List Candidate) (one : Candidate)
-        → IsWanted device kind (Some own) candidates one → own.invalid ≡ false
-        → ¬ IsAtMost one.1.version own.version }
 {}

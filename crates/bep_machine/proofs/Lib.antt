@@ -81,6 +81,7 @@ mod KeptFiles
 mod KnownPlaces
 mod BatchFound
 mod TakingFacts
+mod BreachFacts
 mod SessionEffect
 mod RecordsEffect
 mod RequestEffect

@@ -1,13 +1,15 @@
 -- A pull begins and ends where nothing stands in its way.
 use Rattle.std.proofs.lemmas.Option.{same_Some}
-use Rattle.std.proofs.Common.{◌≡◌, ◌≢◌, ◌∙◌, ◌≤◌, ℕ, ◌+◌, false, List, length, Option, Some, None, refl, sym, ap, subst, subst₂, inl, inr, ⊎_elim, arith}
+use Rattle.std.proofs.Common.{◌≡◌, ◌≢◌, ◌∙◌, ◌≤◌, ℕ, ◌+◌, Bool, false, List, length, Option, Some, None, refl, sym, ap, subst, subst₂, inl, inr, ⊎_elim, arith}
 use Rattle.bep_record.specs.declared.entry.Entry.{Entry}
 use Rattle.bep_record.specs.declared.node.NodeParts.{NodeParts}
 use Rattle.bep_record.specs.Laws.{CutIsOfOneLength, MergeExists}
 use Rattle.bep_record.specs.Node.{IsClean}
 use Rattle.bep_record.specs.Name.{max_name_len}
 use Rattle.bep_record.specs.Content.{content_of}
-use Rattle.bep_record.specs.Vector.{most_counters, IsMerge, ids_in_either}
+use Rattle.bep_record.specs.Vector.{most_counters, IsAtMost, IsMerge, ids_in_either}
+use Rattle.bep_record.specs.declared.folder_kind.FolderKind.{FolderKind}
+use Rattle.bep_choice.specs.Need.{IsNeeded, NeedsBeside}
 use Rattle.bep_index.specs.Index.{numbered}
 use Rattle.bep_model.specs.Calm.{SameFile}
 use Rattle.bep_model.specs.Settled.{content_of_node}
@@ -16,7 +18,7 @@ use Rattle.bep_machine.specs.Answer.{Answer, Row, Done}
 use Rattle.bep_machine.specs.declared.moved.Moved.TheVariants.{Changed, Dropped}
 use Rattle.bep_machine.specs.Replica.{Replica, Pull, own_at, node_at, pull_at, version_of, with_node, with_pull, without_pull}
 use Rattle.bep_machine.specs.Pull.{FinishRow, EndingRow, CopyingRow, SettlingRow, RoomRow, IsAdopted, IsStillWanted, IsConflictDue, EndsWith, new_pull, timed, written, copy_name}
-use Rattle.bep_machine.specs.Effects.{HasRoom, CanFinish, IsJoined, HasFinished, StartPullBegins, FinishAdopts, FinishKeepsCopy, FinishDrops}
+use Rattle.bep_machine.specs.Effects.{HasRoom, CanFinish, IsJoined, HasFinished, StartPullBegins, WantedIsNewer, FinishAdopts, FinishKeepsCopy, FinishDrops}
 use Rattle.bep_machine.specs.Sound.{IsSoundReplica}
 use Rattle.bep_machine.proofs.CalmFinish.{clean_against_adopted, timed_is_clean_there}
 use Rattle.bep_machine.proofs.CalmRows.{CopiedRow}
@@ -32,6 +34,14 @@ start_pull_begins_lem device name old wanted wants room = (
   inr (λ none. none wanted wants.chosen, (wanted, wants.chosen, inr (λ no. no.0 wants.needed, inr (λ no. no wants.needed, inr (room, (refl, refl)))))),
   insert_here old.pulls name (new_pull wanted),
 )
+
+-- a wanted record isn't at most the own one
+newer : (kind : FolderKind) (own : Option Entry) (one wanted : Entry) → IsNeeded kind own wanted → own ≡ Some one → one.invalid ≡ false → ¬ IsAtMost wanted.version one.version
+newer kind own one wanted needed is valid =
+    (subst (λ (local : Bool). NeedsBeside local kind one wanted) valid (subst (λ (own : Option Entry). IsNeeded kind own wanted) is needed)).0
+
+pub wanted_is_newer_lem : WantedIsNewer
+wanted_is_newer_lem device name replica wanted own wants is valid = newer replica.kind (own_at replica name) own wanted wants.needed is valid
 
 -- ---- what the end leaves
 

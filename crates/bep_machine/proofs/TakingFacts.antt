@@ -61,7 +61,7 @@ loses_unless old Holds row not = record {
   only = λ new answer made. ⊎_elim (λ holds. absurd (not holds.0)) (λ lost. ends_lost old new answer lost.1) made;
 }
 
-not_named : (session : Session) (folder named : Folder) → named ≡ folder → get session.cursors folder ≡ None → ¬ IsNamed session named
+pub not_named : (session : Session) (folder named : Folder) → named ≡ folder → get session.cursors folder ≡ None → ¬ IsNamed session named
 not_named session folder named same none has = let found = ap (get session.cursors) same ∙ none in let some = has in absurd (cc)
 
 pub unnamed_loses_link : UnnamedLosesLink

@@ -9,7 +9,7 @@ use Rattle.bep_record.specs.declared.folder_kind.FolderKind.TheVariants.{SendOnl
 use Rattle.bep_record.specs.Content.{Content, Deleted, content_of}
 use Rattle.bep_record.specs.Name.{max_name_len}
 use Rattle.bep_record.specs.Node.{IsClean}
-use Rattle.bep_record.specs.Vector.{counter_of, greatest_counter, most_counters, IsBelow, IsMerge, IsBump, ids_in_either}
+use Rattle.bep_record.specs.Vector.{counter_of, greatest_counter, most_counters, IsAtMost, IsBelow, IsMerge, IsBump, ids_in_either}
 use Rattle.bep_index.specs.Listing.{Listing}
 use Rattle.bep_index.specs.Index.{IsSequenceFull, IsIndexFull}
 use Rattle.bep_model.specs.Calm.{SameFile}
@@ -84,6 +84,12 @@ ScanMarks =
     (entry.invalid ≡ true) × (entry.version ≡ version_of (own_at old name))
 
 -- ---- pulling
+
+-- beside an own record that isn't local-only, the version of a wanted record isn't at most the own one
+abbrev pub WantedIsNewer : Type 0
+WantedIsNewer =
+    (device : Device) (name : FileName) (replica : Replica) (wanted own : Entry) → Wants device replica name wanted →
+    own_at replica name ≡ Some own → own.invalid ≡ false → ¬ IsAtMost wanted.version own.version
 
 -- the pull of a wanted record begins
 abbrev pub StartPullBegins : Type 0

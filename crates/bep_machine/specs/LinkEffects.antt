@@ -1,7 +1,7 @@
 -- That each step over a link does what it is for, where nothing stands in its way, and that what breaks the protocol loses
 -- the link. The functions of src/link_effects.rt have these as contracts (BEP v1; sessions, epochs and limits are this
 -- project's profile).
-use Rattle.std.specs.Prelude.{◌≡◌, ◌≢◌, ◌↔◌, ℕ, ◌+◌, ◌<◌, ◌≤◌, true, false, List, [], ◌∷◌, ◌++◌, map, take, drop, Option, Some, None, Contains, IsTrue, length}
+use Rattle.std.specs.Prelude.{◌≡◌, ◌≢◌, ◌⊎◌, ◌↔◌, ℕ, ◌+◌, ◌<◌, ◌≤◌, true, false, List, [], ◌∷◌, ◌++◌, map, take, drop, Option, Some, None, Contains, IsTrue, length}
 use Rattle.std.specs.Ordering.{nat_cmp}
 use Rattle.std.specs.Cmp.Lexicographic.{slice_cmp}
 use Rattle.std.specs.List.Sorted.{IsStrictlySortedBy}
@@ -34,7 +34,7 @@ use Rattle.bep_machine.specs.Answer.{Answer, Done, Row}
 use Rattle.bep_machine.specs.Replica.{Pull, Replica, own_at, node_at, pull_at, view_of}
 use Rattle.bep_machine.specs.Link.{Link, Sight}
 use Rattle.bep_machine.specs.Peer.{Session, Peer, Acted, is_shared_with}
-use Rattle.bep_machine.specs.Exchange.{IsInSession, HasSession, SharesWith, NamesNot, NamesOnce, NamesShared, BeginRow, DeliverRow, AnnounceRow, AskRow, CanAsk, asked_for, without}
+use Rattle.bep_machine.specs.Exchange.{IsGoodConfig, IsInSession, HasSession, SharesWith, NamesNot, NamesOnce, NamesShared, BeginRow, DeliverRow, AnnounceRow, AskRow, CanAsk, asked_for, without}
 use Rattle.bep_machine.specs.Cluster.{Cluster}
 use Rattle.bep_machine.specs.Steps.{ConnectRow, LoseRow, RestartRow}
 use Rattle.bep_machine.specs.Sound.{IsSoundPull}
@@ -173,6 +173,30 @@ OldUpdateLosesLink =
     IsTaking other sight old session (messages.IndexUpdate folder batch) → get old.replicas folder ≡ Some replica →
     IsOld (view_of replica other).sequence batch →
     LosesLink old (DeliverRow other failed sight old)
+
+-- What breaks the protocol in a session: a ClusterConfig that isn't the session's first, or names a folder twice, or one that
+-- the two don't share; records and requests of a folder that the session's ClusterConfig didn't name; an IndexUpdate that
+-- doesn't begin above what is known.
+abbrev pub Breaks : Device → Session → Peer → Message → Type 0
+Breaks other session peer (messages.ClusterConfig named) = ¬ IsGoodConfig other session peer named
+Breaks other session peer (messages.Index folder batch) = get session.cursors folder ≡ None
+Breaks other session peer (messages.IndexUpdate folder batch) =
+    (get session.cursors folder ≡ None) ⊎ ((replica : Replica) × (get peer.replicas folder ≡ Some replica) × IsOld (view_of replica other).sequence batch)
+Breaks other session peer (messages.Request request) = get session.cursors request.folder ≡ None
+Breaks other session peer (messages.Response response) = ⊥
+
+-- the first message on its way to the device does
+pub record IsBreach (other : Device) (sight : Sight) (peer : Peer) : Type 0 where
+  pub session : Session
+  pub message : Message
+  pub taking : IsTaking other sight peer session message
+  pub breaks : Breaks other session peer message
+
+-- a delivery answers that the link was lost exactly where the message breaks the protocol, and exactly there it is lost
+abbrev pub BreachAloneLosesLink : Type 0
+BreachAloneLosesLink =
+    (other : Device) (failed : Option ℕ) (sight : Sight) (old : Peer) (new : Acted) (answer : Answer) → DeliverRow other failed sight old new answer →
+    ((answer ≡ Done LinkLost) ↔ IsBreach other sight old) × ((answer ≡ Done LinkLost) ↔ (new.deed.loses ≡ true))
 
 -- A folder that the ClusterConfig named: the view is under the announced id, cleared if it was under another one; and what is
 -- above the announced point is sent next, where it is one of the own index, else the whole index.

@@ -1,6 +1,6 @@
 //! That each step of a replica does what it is for, where nothing stands in its way. Each function does nothing; its
 //! contract is the law.
-ghost use Rattle.bep_machine.specs.Effects.{EditPuts, RemoveTakes, ScanRaises, ScanMarks, StartPullBegins, FinishAdopts, FinishKeepsCopy, FinishDrops, OverrideWins, RevertTakesBack};
+ghost use Rattle.bep_machine.specs.Effects.{EditPuts, RemoveTakes, ScanRaises, ScanMarks, WantedIsNewer, StartPullBegins, FinishAdopts, FinishKeepsCopy, FinishDrops, OverrideWins, RevertTakesBack};
 
 use bep_record::{Vector, bump_exists, cut_is_of_one_length, merge_exists};
 
@@ -19,6 +19,11 @@ pub fn scan_records()
 {
     bump_exists();
 }
+
+/// Beside an own record that isn't local-only, a device wants only a record whose version isn't at most the own one.
+pub fn wanted_is_newer()
+    ensures { WantedIsNewer }
+{}
 
 /// The pull of a wanted record begins where there is room for one more.
 pub fn start_pull_begins()

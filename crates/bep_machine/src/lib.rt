@@ -25,7 +25,7 @@ pub use calm::{quiet_steps_keep_calm, quiet_steps_keep_records};
 pub use determined::{runs_are_determined, steps_are_determined};
 pub use effects::{
     finish_adopts, finish_drops, override_wins, revert_takes_back, scan_records, start_pull_begins,
-    users_change_files,
+    users_change_files, wanted_is_newer,
 };
 pub use files::{finish_keeps_files, revert_keeps_files};
 pub use finite::clusters_are_finite;

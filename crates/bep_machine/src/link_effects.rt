@@ -1,6 +1,6 @@
 //! That each step over a link does what it is for, where nothing stands in its way, and what loses the link. Each function
 //! does nothing; its contract is the law.
-ghost use Rattle.bep_machine.specs.LinkEffects.{ConnectOpens, LoseEmpties, RestartForgets, BeginOpens, UnnamedLosesLink, SecondConfigLosesLink, UnsharedLosesLink, TwiceLosesLink, OldUpdateLosesLink, ConfigIsTaken, IndexBringsView, UpdateAddsToView, RequestIsAnswered, WholeIsAnnounced, FurtherIsAnnounced, AskSendsRequest, BlockIsReceived, UnaskedIsIgnored};
+ghost use Rattle.bep_machine.specs.LinkEffects.{ConnectOpens, LoseEmpties, RestartForgets, BeginOpens, UnnamedLosesLink, SecondConfigLosesLink, UnsharedLosesLink, TwiceLosesLink, OldUpdateLosesLink, BreachAloneLosesLink, ConfigIsTaken, IndexBringsView, UpdateAddsToView, RequestIsAnswered, WholeIsAnnounced, FurtherIsAnnounced, AskSendsRequest, BlockIsReceived, UnaskedIsIgnored};
 
 use bep_index::{batch_records_are_found, records_make_an_index};
 
@@ -20,13 +20,15 @@ pub fn begin_opens_session()
 
 /// What breaks the protocol loses the link: a message about a folder that the session's ClusterConfig didn't name, a second
 /// ClusterConfig or one that names a folder that isn't shared or a folder twice, and an IndexUpdate that doesn't begin above
-/// what is known.
+/// what is known. A delivery answers that the link was lost exactly where the message that it takes is one of these, and
+/// exactly there it loses the link.
 pub fn breach_loses_link()
     ensures unnamed { UnnamedLosesLink }
     ensures second { SecondConfigLosesLink }
     ensures unshared { UnsharedLosesLink }
     ensures twice { TwiceLosesLink }
     ensures old { OldUpdateLosesLink }
+    ensures alone { BreachAloneLosesLink }
 {}
 
 /// A ClusterConfig brings each named folder's view under the announced id, cleared if it was under another one, and sets
