@@ -1,19 +1,20 @@
--- A delivery that answers nothing calls no store: it is the same whichever call fails.
-use Rattle.std.proofs.Common.{◌≡◌, ℕ, Bool, true, false, if◌then◌else◌, Option, Some, None, refl, sym, ap, ◌∙◌, inl, inr}
+-- A delivery that answers a request calls the store once, and any other not at all: it is the same whichever other call fails.
+use Rattle.std.proofs.Common.{◌≡◌, ℕ, true, false, Option, Some, None, refl, sym, ap, ◌∙◌, inl, inr}
+use Rattle.bep_record.specs.declared.node.NodeParts.{NodeParts}
 use Rattle.bep_model.specs.Tables.{Device}
 use Rattle.bep_machine.specs.declared.message.Message.{Message}
 use Rattle.bep_machine.specs.declared.message.Message.TheVariants as messages
+use Rattle.bep_machine.specs.declared.message.Request.{Request}
+use Rattle.bep_machine.specs.declared.message.Response.{Response}
 use Rattle.bep_machine.specs.declared.moved.Moved.{Moved}
 use Rattle.bep_machine.specs.Answer.{Answer, Done, Row}
 use Rattle.bep_machine.specs.Link.{Sight, Deed}
 use Rattle.bep_machine.specs.Peer.{Session, Peer, Acted}
-use Rattle.bep_machine.specs.Exchange.{SessionRow, MessageRow, WaitingRow, DeliverRow}
-use Rattle.bep_machine.specs.Halves.{Exchanged, Sent, Took, Broke, Traffic, was_answered, has_answered, deed_told, sight_told, ByTraffic}
+use Rattle.bep_machine.specs.Exchange.{SessionRow, Answers, MessageRow, WaitingRow, DeliverRow}
+use Rattle.bep_machine.specs.Replica.{node_at}
+use Rattle.bep_machine.specs.Halves.{Exchanged, Sent, Took, Broke, Traffic, was_answered, has_answered, only_call, deed_told, sight_told, ByTraffic}
 use Rattle.bep_machine.proofs.LinkDeeds.{past}
-
-pub none_unless : (answered : Bool) (failed : Option ℕ) → answered ≡ false → (if answered then failed else None) ≡ None
-none_unless true failed is = absurd (cc)
-none_unless false failed is = refl
+use Rattle.bep_machine.proofs.OnlyCall.{told_where_made, made_where_told}
 
 in_any_session : (other : Device) (sight : Sight) (old : Peer) (rest more : Session → Row Acted) (new : Acted) (answer : Answer) →
     ((session : Session) → rest session new answer → more session new answer) → SessionRow other sight old rest new answer → SessionRow other sight old more new answer
@@ -33,11 +34,31 @@ unanswered other failed session (messages.Request request) old new deed moved si
 unanswered other failed session (messages.Request request) old new deed moved silent (inr unnamed) = inr unnamed
 unanswered other failed session (messages.Response response) old new deed moved silent row = row
 
+-- an answer depends on the read alone
+answers_told : (request : Request) (failed : Option ℕ) (held : Option NodeParts) (response : Response) → Answers request failed held response → Answers request (only_call true 1 failed) held response
+answers_told request failed held response (inl (fails, is)) = inl (told_where_made 1 failed fails, is)
+answers_told request failed held response (inr (not_fails, is)) = inr ((λ told. not_fails (made_where_told true 1 1 failed told).2), is)
+
+answered : (other : Device) (failed : Option ℕ) (session : Session) (message : Message) (old : Peer) (new : Acted) (answer : Answer) →
+    MessageRow other failed false session message old new answer → MessageRow other (only_call true 1 failed) false session message old new answer
+answered other failed session (messages.ClusterConfig named) old new answer row = row
+answered other failed session (messages.Index folder batch) old new answer row = row
+answered other failed session (messages.IndexUpdate folder batch) old new answer row = row
+answered other failed session (messages.Request request) old new answer (inl (named, (replica, is, inl full))) = inl (named, (replica, is, inl full))
+answered other failed session (messages.Request request) old new answer (inl (named, (replica, is, inr (room, (response, answers, made))))) =
+    inl (named, (replica, is, inr (room, (response, answers_told request failed (node_at replica request.name) response answers, made))))
+answered other failed session (messages.Request request) old new answer (inr unnamed) = inr unnamed
+answered other failed session (messages.Response response) old new answer row = row
+
 told_at : (other : Device) (failed : Option ℕ) (epoch : ℕ) (done : Exchanged) (old new : Peer) (moved : Moved) →
     DeliverRow other failed (sight_told (record { epoch = epoch; done = done })) old (record { peer = new; deed = deed_told done }) (Done moved) →
-    DeliverRow other (if was_answered done then failed else None) (sight_told (record { epoch = epoch; done = done })) old (record { peer = new; deed = deed_told done }) (Done moved)
+    DeliverRow other (only_call (was_answered done) 1 failed) (sight_told (record { epoch = epoch; done = done })) old (record { peer = new; deed = deed_told done }) (Done moved)
 told_at other failed epoch (Sent message) old new moved made = made
-told_at other failed epoch (Took message (Some answer)) old new moved made = made
+told_at other failed epoch (Took message (Some answer)) old new moved made =
+    in_any_session other (sight_told (record { epoch = epoch; done = Took message (Some answer) })) old
+    (λ session. WaitingRow other failed false session (Some message) old) (λ session. WaitingRow other (only_call true 1 failed) false session (Some message) old)
+    (record { peer = new; deed = deed_told (Took message (Some answer)) }) (Done moved)
+    (λ session row. answered other failed session message old (record { peer = new; deed = deed_told (Took message (Some answer)) }) (Done moved) row) made
 told_at other failed epoch (Took message None) old new moved made =
     in_any_session other (sight_told (record { epoch = epoch; done = Took message None })) old
     (λ session. WaitingRow other failed false session (Some message) old) (λ session. WaitingRow other None false session (Some message) old)
@@ -51,6 +72,6 @@ told_at other failed epoch (Broke message) old new moved made =
 
 -- the half of a delivery is that of what its event tells
 pub call_is_told : (other : Device) (failed : Option ℕ) (traffic : Option Traffic) (old new : Peer) → ByTraffic (DeliverRow other failed) traffic old new →
-    ByTraffic (DeliverRow other (if has_answered traffic then failed else None)) traffic old new
+    ByTraffic (DeliverRow other (only_call (has_answered traffic) 1 failed)) traffic old new
 call_is_told other failed None old new made = made
 call_is_told other failed (Some traffic) old new made = (made.0, told_at other failed traffic.epoch traffic.done old new made.0 made.1)

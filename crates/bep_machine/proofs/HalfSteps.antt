@@ -10,7 +10,7 @@ use Rattle.bep_model.specs.Tables.{Device, Folder}
 use Rattle.bep_machine.specs.declared.step.Step.{Step}
 use Rattle.bep_machine.specs.declared.step.Step.TheVariants.{Edit, Remove, Scan, Override, Revert, Connect, Lose, Begin, Deliver, Announce, StartPull, Ask, Finish, Restart}
 use Rattle.bep_machine.specs.declared.moved.Moved.TheVariants.{Changed}
-use Rattle.bep_machine.specs.Answer.{Answer, Done, Row}
+use Rattle.bep_machine.specs.Answer.{Answer, Done, Refused, OutOfMemory, Row}
 use Rattle.bep_machine.specs.Replica.{Replica}
 use Rattle.bep_machine.specs.Local.{EditRow, RemoveRow, ScanRow, OverrideRow, RevertRow}
 use Rattle.bep_machine.specs.Pull.{StartPullRow, FinishRow}
@@ -19,13 +19,29 @@ use Rattle.bep_machine.specs.Peer.{Peer, Acted, with_replica}
 use Rattle.bep_machine.specs.Exchange.{BeginRow, DeliverRow, AnnounceRow, AskRow}
 use Rattle.bep_machine.specs.Cluster.{Cluster, with_link, with_peer, without_links}
 use Rattle.bep_machine.specs.Steps.{AtReplica, OverLink, AtLink, ConnectRow, LoseRow, RestartRow, restarted, StepRow}
-use Rattle.bep_machine.specs.Halves.{Traffic, IsDone, SaysNoMore, deed_told, InFolder, ByTraffic, Carries, OnlyIf}
+use Rattle.bep_machine.specs.Halves.{Traffic, has_answered, kept_told, failed_told, IsDone, SaysNoMore, deed_told, Ends, InFolder, ByTraffic, Carries, OnlyIf}
 use Rattle.bep_machine.specs.HalfLaws.{IsMadeBy, HalvesMakeTheStep}
+use Rattle.bep_machine.proofs.OnlyCall.{may_fail_told}
 use Rattle.bep_machine.proofs.LinkDeeds.{RowSees, begin_sees, announce_sees, ask_sees, deliver_sees}
 
 -- the step was done, or yet changed something
 abbrev Happened : Cluster → Cluster → Answer → Type 0
 Happened old new answer = IsDone answer ⊎ (¬ (new ≡ old))
+
+-- how a step ended that is logged
+pub done_told : (answer : Answer) → IsDone answer → kept_told answer ≡ false
+done_told (Done moved) done = refl
+done_told (Refused why) done = absurd done
+done_told OutOfMemory done = absurd done
+
+undone_told : (answer : Answer) → ¬ IsDone answer → kept_told answer ≡ true
+undone_told (Done moved) undone = absurd (undone tt)
+undone_told (Refused why) undone = refl
+undone_told OutOfMemory undone = refl
+
+ends_told : (kept : Bool) (answer : Answer) (before after : Replica) → Ends kept answer before after → (kept ≡ kept_told answer) × (IsDone answer ⊎ (¬ (after ≡ before)))
+ends_told false answer before after done = (sym (done_told answer done), inl done)
+ends_told true answer before after ends = (sym (undone_told answer ends.0), inr ends.1)
 
 -- a replica that is put in its own place again is the one that was there
 was_before : (peer : Peer) (folder : Folder) (before after : Replica) → get peer.replicas folder ≡ Some before → with_replica peer folder after ≡ peer → after ≡ before
@@ -74,12 +90,14 @@ module _ (old new : Cluster) (lower upper : Device) (Half : Device → Device �
 module _ (old new : Cluster) (config : new.config ≡ old.config) (Says : Type 0) where
   -- ---- a step of a device alone
 
-  in_folder : (device : Device) (folder : Folder) (row : Replica → Row Replica)
-      → ((one : Device) → OnlyIf (one == device) (Says × InFolder folder row (old.peer one) (new.peer one)) (old.peer one) (new.peer one))
+  in_folder : (device : Device) (folder : Folder) (row : Replica → Row Replica) (kept : Bool)
+      → ((one : Device) → OnlyIf (one == device) (Says × InFolder folder row kept (old.peer one) (new.peer one)) (old.peer one) (new.peer one))
       → ((a b : Device) → new.link a b ≡ old.link a b)
-      → (answer : Answer) × AtReplica device folder row old new answer × Happened old new answer
-  in_folder device folder row peers links =
-      let half = (at_device old new device (λ one. Says × InFolder folder row (old.peer one) (new.peer one)) peers).1 in (
+      → (answer : Answer) × AtReplica device folder row old new answer × Says × (kept ≡ kept_told answer) × Happened old new answer
+  in_folder device folder row kept peers links =
+      let both = at_device old new device (λ one. Says × InFolder folder row kept (old.peer one) (new.peer one)) peers in
+      let half = both.1 in
+      let ended = ends_told kept half.2 half.0 half.1 half.5 in (
         half.2,
         (
           half.0,
@@ -87,9 +105,11 @@ module _ (old new : Cluster) (config : new.config ≡ old.config) (Says : Type 0
           half.3,
           half.4,
           same_cluster new (with_peer old device (with_replica (old.peer device) folder half.1)) config
-              (other_devices old new device (λ one. Says × InFolder folder row (old.peer one) (new.peer one)) peers (with_replica (old.peer device) folder half.1) half.6) links,
+              (other_devices old new device (λ one. Says × InFolder folder row kept (old.peer one) (new.peer one)) peers (with_replica (old.peer device) folder half.1) half.6) links,
         ),
-        ⊎_elim (λ done. inl done) (λ moved. inr (λ same. moved (was_before (old.peer device) folder half.0 half.1 half.3 (sym half.6 ∙ ap (λ c. c.peer device) same)))) half.5,
+        both.0,
+        ended.0,
+        ⊎_elim (λ done. inl done) (λ moved. inr (λ same. moved (was_before (old.peer device) folder half.0 half.1 half.3 (sym half.6 ∙ ap (λ c. c.peer device) same)))) ended.1,
       )
 
   -- ---- a step over a link
@@ -99,11 +119,12 @@ module _ (old new : Cluster) (config : new.config ≡ old.config) (Says : Type 0
         → ((one : Device) → OnlyIf (one == device) (Says × ByTraffic row traffic (old.peer one) (new.peer one)) (old.peer one) (new.peer one))
         → ((a b : Device) → OnlyIf ((a == lower) && (b == upper)) (Says × Carries end traffic (old.link a b) (new.link a b)) (old.link a b) (new.link a b))
         → (answer : Answer) × ((acted : Acted) × row (sight_of end (old.link lower upper)) (old.peer device) acted answer ×
-        (new ≡ with_link (with_peer old device acted.peer) lower upper (after_deed end acted.deed (old.link lower upper)))) × Happened old new answer
+        (new ≡ with_link (with_peer old device acted.peer) lower upper (after_deed end acted.deed (old.link lower upper)))) × Says × IsDone answer
     carried end lower upper None peers links =
         absurd ((at_device old new device (λ one. Says × ByTraffic row None (old.peer one) (new.peer one)) peers).1)
     carried end lower upper (Some traffic) peers links =
-        let half = (at_device old new device (λ one. Says × ByTraffic row (Some traffic) (old.peer one) (new.peer one)) peers).1 in
+        let both = at_device old new device (λ one. Says × ByTraffic row (Some traffic) (old.peer one) (new.peer one)) peers in
+        let half = both.1 in
         let carries = (at_link old new lower upper (λ a b. Says × Carries end (Some traffic) (old.link a b) (new.link a b)) links).1 in
         let acted : Acted = record { peer = new.peer device; deed = deed_told traffic.done } in (
           Done half.0,
@@ -114,19 +135,20 @@ module _ (old new : Cluster) (config : new.config ≡ old.config) (Says : Type 0
                 (other_devices old new device (λ one. Says × ByTraffic row (Some traffic) (old.peer one) (new.peer one)) peers (new.peer device) refl)
                 (other_links old new lower upper (λ a b. Says × Carries end (Some traffic) (old.link a b) (new.link a b)) links (after_deed end acted.deed (old.link lower upper)) carries.3),
           ),
-          inl tt,
+          both.0,
+          tt,
         )
 
     over_link : (other : Device) (traffic : Option Traffic)
         → ((one : Device) → OnlyIf (one == device) (Says × ByTraffic row traffic (old.peer one) (new.peer one)) (old.peer one) (new.peer one))
         → ((a b : Device) → OnlyIf (if nat_lt device other then (a == device) && (b == other) else (a == other) && (b == device)) (Says × Carries (if nat_lt device other then Lower else Upper) traffic (old.link a b) (new.link a b)) (old.link a b) (new.link a b))
-        → (answer : Answer) × OverLink device other row old new answer × Happened old new answer
+        → (answer : Answer) × OverLink device other row old new answer × Says × IsDone answer
     over_link other traffic peers = cases (nat_lt device other)
       where
         cases : (t : Bool)
             → ((a b : Device) → OnlyIf (if t then (a == device) && (b == other) else (a == other) && (b == device)) (Says × Carries (if t then Lower else Upper) traffic (old.link a b) (new.link a b)) (old.link a b) (new.link a b))
             → (answer : Answer) × ((acted : Acted) × row (sight_of (if t then Lower else Upper) (if t then old.link device other else old.link other device)) (old.peer device) acted answer ×
-            (new ≡ (if t then with_link (with_peer old device acted.peer) device other (after_deed (if t then Lower else Upper) acted.deed (if t then old.link device other else old.link other device)) else with_link (with_peer old device acted.peer) other device (after_deed (if t then Lower else Upper) acted.deed (if t then old.link device other else old.link other device))))) × Happened old new answer
+            (new ≡ (if t then with_link (with_peer old device acted.peer) device other (after_deed (if t then Lower else Upper) acted.deed (if t then old.link device other else old.link other device)) else with_link (with_peer old device acted.peer) other device (after_deed (if t then Lower else Upper) acted.deed (if t then old.link device other else old.link other device))))) × Says × IsDone answer
         cases true links = carried Lower device other traffic peers links
         cases false links = carried Upper other device traffic peers links
 
@@ -135,17 +157,18 @@ module _ (old new : Cluster) (config : new.config ≡ old.config) (Says : Type 0
   of_link : (lower upper : Device) (row : Link → Row Link)
       → ((one : Device) → new.peer one ≡ old.peer one)
       → ((a b : Device) → OnlyIf ((a == lower) && (b == upper)) (Says × row (old.link a b) (new.link a b) (Done Changed)) (old.link a b) (new.link a b))
-      → (answer : Answer) × AtLink lower upper row old new answer × Happened old new answer
+      → (answer : Answer) × AtLink lower upper row old new answer × Says × IsDone answer
   of_link lower upper row peers links =
-      let half = (at_link old new lower upper (λ a b. Says × row (old.link a b) (new.link a b) (Done Changed)) links).1 in (
+      let both = at_link old new lower upper (λ a b. Says × row (old.link a b) (new.link a b) (Done Changed)) links in (
         Done Changed,
         (
           new.link lower upper,
-          half,
+          both.1,
           same_cluster new (with_link old lower upper (new.link lower upper)) config peers
               (other_links old new lower upper (λ a b. Says × row (old.link a b) (new.link a b) (Done Changed)) links (new.link lower upper) refl),
         ),
-        inl tt,
+        both.0,
+        tt,
       )
 
   -- ---- a device with its links
@@ -153,17 +176,18 @@ module _ (old new : Cluster) (config : new.config ≡ old.config) (Says : Type 0
   of_restart : (device : Device)
       → ((one : Device) → OnlyIf (one == device) (Says × (new.peer one ≡ restarted (old.peer one))) (old.peer one) (new.peer one))
       → ((a b : Device) → OnlyIf ((a == device) || (b == device)) (Says × (new.link a b ≡ lost (old.link a b))) (old.link a b) (new.link a b))
-      → (answer : Answer) × RestartRow device old new answer × Happened old new answer
+      → (answer : Answer) × RestartRow device old new answer × Says × IsDone answer
   of_restart device peers links =
-      let half = (at_device old new device (λ one. Says × (new.peer one ≡ restarted (old.peer one))) peers).1 in (
+      let both = at_device old new device (λ one. Says × (new.peer one ≡ restarted (old.peer one))) peers in (
         Done Changed,
         (
           same_cluster new (without_links (with_peer old device (restarted (old.peer device))) device) config
-              (other_devices old new device (λ one. Says × (new.peer one ≡ restarted (old.peer one))) peers (restarted (old.peer device)) half)
+              (other_devices old new device (λ one. Says × (new.peer one ≡ restarted (old.peer one))) peers (restarted (old.peer device)) both.1)
               (λ a b. cases a b ((a == device) || (b == device)) (links a b)),
           refl,
         ),
-        inl tt,
+        both.0,
+        tt,
       )
     where
       cases : (a b : Device) (t : Bool) → OnlyIf t (Says × (new.link a b ≡ lost (old.link a b))) (old.link a b) (new.link a b) → new.link a b ≡ (if t then lost (old.link a b) else old.link a b)
@@ -172,23 +196,71 @@ module _ (old new : Cluster) (config : new.config ≡ old.config) (Says : Type 0
 
 -- ---- every step
 
-halves_make_row : (step : Step) (failed : Option ℕ) (traffic : Option Traffic) (old new : Cluster) → IsMadeBy (record { step = step; failed = failed; traffic = traffic }) old new → (answer : Answer) × StepRow step failed old new answer × Happened old new answer
-halves_make_row (Edit device folder name node) failed traffic old new made = in_folder old new made.config (SaysNoMore (Edit device folder name node) failed traffic) device folder (EditRow name node failed) made.peers made.links
-halves_make_row (Remove device folder name) failed traffic old new made = in_folder old new made.config (SaysNoMore (Remove device folder name) failed traffic) device folder (RemoveRow name failed) made.peers made.links
-halves_make_row (Scan device folder name) failed traffic old new made = in_folder old new made.config (SaysNoMore (Scan device folder name) failed traffic) device folder (ScanRow device name failed) made.peers made.links
-halves_make_row (Override device folder name) failed traffic old new made = in_folder old new made.config (SaysNoMore (Override device folder name) failed traffic) device folder (OverrideRow device name) made.peers made.links
-halves_make_row (Revert device folder name) failed traffic old new made = in_folder old new made.config (SaysNoMore (Revert device folder name) failed traffic) device folder (RevertRow device name failed) made.peers made.links
-halves_make_row (Connect one other) failed traffic old new made = of_link old new made.config (SaysNoMore (Connect one other) failed traffic) one other ConnectRow made.peers made.links
-halves_make_row (Lose one other) failed traffic old new made = of_link old new made.config (SaysNoMore (Lose one other) failed traffic) one other LoseRow made.peers made.links
-halves_make_row (Begin device other) failed traffic old new made = over_link old new made.config (SaysNoMore (Begin device other) failed traffic) device (BeginRow other) (begin_sees other) other traffic made.peers made.links
-halves_make_row (Deliver device other) failed traffic old new made = over_link old new made.config (SaysNoMore (Deliver device other) failed traffic) device (DeliverRow other failed) (deliver_sees other failed) other traffic made.peers made.links
-halves_make_row (Announce device other folder) failed traffic old new made = over_link old new made.config (SaysNoMore (Announce device other folder) failed traffic) device (AnnounceRow other folder) (announce_sees other folder) other traffic made.peers made.links
-halves_make_row (StartPull device folder name) failed traffic old new made = in_folder old new made.config (SaysNoMore (StartPull device folder name) failed traffic) device folder (StartPullRow device name) made.peers made.links
-halves_make_row (Ask device other folder name) failed traffic old new made = over_link old new made.config (SaysNoMore (Ask device other folder name) failed traffic) device (AskRow other folder name) (ask_sees other folder name) other traffic made.peers made.links
-halves_make_row (Finish device folder name) failed traffic old new made = in_folder old new made.config (SaysNoMore (Finish device folder name) failed traffic) device folder (FinishRow device name failed) made.peers made.links
-halves_make_row (Restart device) failed traffic old new made = of_restart old new made.config (SaysNoMore (Restart device) failed traffic) device made.peers made.links
+-- the event tells of no other call than it has to tell of
+says_call : (step : Step) (failed : Option ℕ) (kept : Bool) (traffic : Option Traffic) → SaysNoMore step failed kept traffic → failed ≡ failed_told step kept traffic failed
+says_call (Edit device folder name node) failed kept traffic says = says.0
+says_call (Remove device folder name) failed kept traffic says = says.0
+says_call (Scan device folder name) failed kept traffic says = says.0
+says_call (Override device folder name) failed kept traffic says = says.0
+says_call (Revert device folder name) failed kept traffic says = says.0
+says_call (Connect one other) failed kept traffic says = says.0
+says_call (Lose one other) failed kept traffic says = says.0
+says_call (Begin device other) failed kept traffic says = says.0
+says_call (Deliver device other) failed kept traffic says = may_fail_told (has_answered traffic) 1 failed says.0
+says_call (Announce device other folder) failed kept traffic says = says.0
+says_call (StartPull device folder name) failed kept traffic says = says.0
+says_call (Ask device other folder name) failed kept traffic says = says.0
+says_call (Finish device folder name) failed kept traffic says = may_fail_told kept 4 failed says.0
+says_call (Restart device) failed kept traffic says = says.0
+
+-- what an event makes of a cluster
+abbrev Makes : Step → Option ℕ → Bool → Option Traffic → Cluster → Cluster → Type 0
+Makes step failed kept traffic old new =
+    (answer : Answer) × StepRow step failed old new answer × SaysNoMore step failed kept traffic × (kept ≡ kept_told answer) × Happened old new answer
+
+-- so it is where the step was done
+done_makes : (step : Step) (failed : Option ℕ) (kept : Bool) (traffic : Option Traffic) (old new : Cluster) → (SaysNoMore step failed kept traffic → kept ≡ false)
+    → (answer : Answer) × StepRow step failed old new answer × SaysNoMore step failed kept traffic × IsDone answer → Makes step failed kept traffic old new
+done_makes step failed kept traffic old new unkept made = (made.0, made.1, made.2, unkept made.2 ∙ sym (done_told made.0 made.3), inl made.3)
+
+halves_make_row : (step : Step) (failed : Option ℕ) (kept : Bool) (traffic : Option Traffic) (old new : Cluster) → IsMadeBy (record { step = step; failed = failed; kept = kept; traffic = traffic }) old new → Makes step failed kept traffic old new
+halves_make_row (Edit device folder name node) failed kept traffic old new made = in_folder old new made.config (SaysNoMore (Edit device folder name node) failed kept traffic) device folder (EditRow name node failed) kept made.peers made.links
+halves_make_row (Remove device folder name) failed kept traffic old new made = in_folder old new made.config (SaysNoMore (Remove device folder name) failed kept traffic) device folder (RemoveRow name failed) kept made.peers made.links
+halves_make_row (Scan device folder name) failed kept traffic old new made = in_folder old new made.config (SaysNoMore (Scan device folder name) failed kept traffic) device folder (ScanRow device name failed) kept made.peers made.links
+halves_make_row (Override device folder name) failed kept traffic old new made = in_folder old new made.config (SaysNoMore (Override device folder name) failed kept traffic) device folder (OverrideRow device name) kept made.peers made.links
+halves_make_row (Revert device folder name) failed kept traffic old new made = in_folder old new made.config (SaysNoMore (Revert device folder name) failed kept traffic) device folder (RevertRow device name failed) kept made.peers made.links
+halves_make_row (Connect one other) failed kept traffic old new made =
+    done_makes (Connect one other) failed kept traffic old new (λ says. says.1)
+    (of_link old new made.config (SaysNoMore (Connect one other) failed kept traffic) one other ConnectRow made.peers made.links)
+halves_make_row (Lose one other) failed kept traffic old new made =
+    done_makes (Lose one other) failed kept traffic old new (λ says. says.1)
+    (of_link old new made.config (SaysNoMore (Lose one other) failed kept traffic) one other LoseRow made.peers made.links)
+halves_make_row (Begin device other) failed kept traffic old new made =
+    done_makes (Begin device other) failed kept traffic old new (λ says. says.1)
+    (over_link old new made.config (SaysNoMore (Begin device other) failed kept traffic) device (BeginRow other) (begin_sees other) other traffic made.peers made.links)
+halves_make_row (Deliver device other) failed kept traffic old new made =
+    done_makes (Deliver device other) failed kept traffic old new (λ says. says.1)
+    (over_link old new made.config (SaysNoMore (Deliver device other) failed kept traffic) device (DeliverRow other failed) (deliver_sees other failed) other traffic made.peers made.links)
+halves_make_row (Announce device other folder) failed kept traffic old new made =
+    done_makes (Announce device other folder) failed kept traffic old new (λ says. says.1)
+    (over_link old new made.config (SaysNoMore (Announce device other folder) failed kept traffic) device (AnnounceRow other folder) (announce_sees other folder) other traffic made.peers made.links)
+halves_make_row (StartPull device folder name) failed kept traffic old new made = in_folder old new made.config (SaysNoMore (StartPull device folder name) failed kept traffic) device folder (StartPullRow device name) kept made.peers made.links
+halves_make_row (Ask device other folder name) failed kept traffic old new made =
+    done_makes (Ask device other folder name) failed kept traffic old new (λ says. says.1)
+    (over_link old new made.config (SaysNoMore (Ask device other folder name) failed kept traffic) device (AskRow other folder name) (ask_sees other folder name) other traffic made.peers made.links)
+halves_make_row (Finish device folder name) failed kept traffic old new made = in_folder old new made.config (SaysNoMore (Finish device folder name) failed kept traffic) device folder (FinishRow device name failed) kept made.peers made.links
+halves_make_row (Restart device) failed kept traffic old new made =
+    done_makes (Restart device) failed kept traffic old new (λ says. says.1)
+    (of_restart old new made.config (SaysNoMore (Restart device) failed kept traffic) device made.peers made.links)
 
 pub halves_make_the_step_lem : HalvesMakeTheStep
-halves_make_the_step_lem event old new there made =
-    let row = halves_make_row event.step event.failed event.traffic old new made in
-    (row.0, inr (inr ((λ missing. missing there), row.1)), row.2)
+halves_make_the_step_lem one old new there made =
+    let row = halves_make_row one.step one.failed one.kept one.traffic old new made in
+    let call : one.failed ≡ failed_told one.step (kept_told row.0) one.traffic one.failed =
+    says_call one.step one.failed one.kept one.traffic row.2 ∙ ap (λ kept. failed_told one.step kept one.traffic one.failed) row.3
+    in (
+      row.0,
+      inr (inr ((λ missing. missing there), row.1)),
+      (λ i. record { step = one.step; failed = call i; kept = row.3 i; traffic = one.traffic }),
+      row.4,
+    )

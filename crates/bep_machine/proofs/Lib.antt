@@ -102,3 +102,9 @@ mod Flights
 mod FreePlaces
 mod FreeRows
 mod FreeSteps
+mod OnlyCall
+mod FinishTold
+mod RowsTold
+mod FoldersFixed
+mod OneReplay
+mod ThereReplayed

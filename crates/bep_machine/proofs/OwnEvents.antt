@@ -33,12 +33,12 @@ module _ {S : Type 0} (touches : Logged → Bool) (Half : Logged → S → S →
 
 pub devices_replay_their_own_lem : DevicesReplayTheirOwn
 devices_replay_their_own_lem device old new logged = (
-  to_own (λ event. touches_device (guards_of event.step) device) (λ event old new. SaysNoMore event.step event.failed event.traffic × PeerHalf event.step event.failed event.traffic old new) old new logged,
-  from_own (λ event. touches_device (guards_of event.step) device) (λ event old new. SaysNoMore event.step event.failed event.traffic × PeerHalf event.step event.failed event.traffic old new) old new logged,
+  to_own (λ event. touches_device (guards_of event.step) device) (λ event old new. SaysNoMore event.step event.failed event.kept event.traffic × PeerHalf event.step event.failed event.kept event.traffic old new) old new logged,
+  from_own (λ event. touches_device (guards_of event.step) device) (λ event old new. SaysNoMore event.step event.failed event.kept event.traffic × PeerHalf event.step event.failed event.kept event.traffic old new) old new logged,
 )
 
 pub links_replay_their_own_lem : LinksReplayTheirOwn
 links_replay_their_own_lem lower upper old new logged = (
-  to_own (λ event. touches_link (guards_of event.step) lower upper) (λ event old new. SaysNoMore event.step event.failed event.traffic × LinkHalf event.step event.traffic old new) old new logged,
-  from_own (λ event. touches_link (guards_of event.step) lower upper) (λ event old new. SaysNoMore event.step event.failed event.traffic × LinkHalf event.step event.traffic old new) old new logged,
+  to_own (λ event. touches_link (guards_of event.step) lower upper) (λ event old new. SaysNoMore event.step event.failed event.kept event.traffic × LinkHalf event.step event.traffic old new) old new logged,
+  from_own (λ event. touches_link (guards_of event.step) lower upper) (λ event old new. SaysNoMore event.step event.failed event.kept event.traffic × LinkHalf event.step event.traffic old new) old new logged,
 )

@@ -1,8 +1,8 @@
 -- Of every run there is a log that all objects replay, and one log that all objects replay is of a run.
 use Rattle.std.proofs.Common.{List, [], ◌∷◌, refl, sym, subst, ◌∙◌, inl, inr, ⊎_elim}
 use Rattle.bep_machine.specs.Cluster.{Cluster}
-use Rattle.bep_machine.specs.Steps.{Event, IsThere}
-use Rattle.bep_machine.specs.Halves.{Logged, IsDone}
+use Rattle.bep_machine.specs.Steps.{Event}
+use Rattle.bep_machine.specs.Halves.{Logged, logged_of, IsDone}
 use Rattle.bep_machine.specs.HalfLaws.{IsMadeBy, HalvesMakeTheStep, StepHasHalves, IsReplayed, IsLogOf, RunReplays, AreThere, ReplaysRun}
 use Rattle.bep_machine.proofs.HalfSteps.{same_cluster}
 
@@ -36,12 +36,12 @@ module _ (has_halves : StepHasHalves) where
         subst (λ c. IsReplayed rest.0 c new) nothing.1 rest.3,
       ))
       (λ half. (
-        half.0 ∷ rest.0,
-        inr (half.1, half.2, rest.1),
-        (subst (λ s. IsThere old.config s) (sym half.1) half.3, subst (λ c. AreThere c rest.0) half.4.config rest.2),
-        replays_one_more half.0 rest.0 old next new half.4 rest.3,
+        logged_of event half.0 ∷ rest.0,
+        inr (refl, rest.1),
+        (half.1, subst (λ c. AreThere c rest.0) half.2.config rest.2),
+        replays_one_more (logged_of event half.0) rest.0 old next new half.2 rest.3,
       ))
-      (has_halves event.step event.failed old next event.answer step)
+      (has_halves event old next step)
 
 module _ (make_step : HalvesMakeTheStep) where
   pub replays_run_lem : ReplaysRun
@@ -50,4 +50,4 @@ module _ (make_step : HalvesMakeTheStep) where
       let next : Cluster = record { config = old.config; peer = λ device. (replayed.peers device).0; link = λ lower upper. (replayed.links lower upper).0 } in
       let made = make_step event old next there.0 (record { config = refl; peers = λ device. (replayed.peers device).1; links = λ lower upper. (replayed.links lower upper).1 }) in
       let rest = replays_run_lem next new logged there.1 (record { config = replayed.config; peers = λ device. (replayed.peers device).2; links = λ lower upper. (replayed.links lower upper).2 }) in
-      (record { step = event.step; failed = event.failed; answer = made.0 } ∷ rest.0, (refl, refl, rest.1), (next, made.1, rest.2))
+      (record { step = event.step; failed = event.failed; answer = made.0 } ∷ rest.0, (made.2, refl, rest.1), (next, made.1, rest.2))

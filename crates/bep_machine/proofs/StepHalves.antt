@@ -1,6 +1,5 @@
 -- Every step changes nothing and isn't done, or an event tells of it, whose halves all devices and links make.
 use Rattle.std.proofs.Common.{◌≡◌, ◌⊎◌, ◌==◌, ◌&&◌, ◌||◌, ℕ, Bool, true, false, cond, nat_lt, if◌then◌else◌, Option, Some, None, refl, sym, ap, subst, ◌∙◌, inl, inr, ⊎_elim, eqb-true}
-use Rattle.std.specs.Prelude.{⊤}
 use Rattle.std.proofs.lemmas.Bool.{and_parts}
 use Rattle.std.specs.Ordering.{nat_cmp, eq_by_cmp}
 use Rattle.std.specs.Cmp.Lexicographic.{slice_cmp, nat_list_cmp_total}
@@ -21,23 +20,21 @@ use Rattle.bep_machine.specs.Peer.{Peer, Acted, idle, with_replica}
 use Rattle.bep_machine.specs.Exchange.{BeginRow, DeliverRow, AnnounceRow, AskRow}
 use Rattle.bep_machine.specs.Cluster.{Cluster, link_between, with_link, with_link_between, with_peer}
 use Rattle.bep_machine.specs.Steps.{IsThere, AtReplica, OverLink, AtLink, ConnectRow, LoseRow, RestartRow, restarted, StepRow}
-use Rattle.bep_machine.specs.Halves.{Traffic, Logged, has_answered, failed_told, IsDone, SaysNoMore, InFolder, ByTraffic, Carries, OnlyIf}
+use Rattle.bep_machine.specs.Halves.{Traffic, Logged, has_answered, kept_told, only_call, failed_told, logged_of, IsDone, SaysNoMore, Ends, InFolder, ByTraffic, Carries, OnlyIf}
 use Rattle.bep_machine.specs.HalfLaws.{IsMadeBy, StepHasHalves}
-use Rattle.bep_machine.proofs.RowEnds.{Stays, StaysOrChanges, edit_stays, remove_stays, scan_stays, override_stays, revert_stays, start_pull_stays, finish_ends}
+use Rattle.bep_machine.proofs.RowsTold.{RowTold, edit_told, remove_told, scan_told, override_told, revert_told, start_pull_told, finished_told}
 use Rattle.bep_machine.proofs.LinkDeeds.{RowTells, begin_tells, announce_tells, ask_tells, deliver_tells}
 use Rattle.bep_machine.proofs.ActedEnds.{Rests, begin_rests, announce_rests, ask_rests, deliver_rests}
-use Rattle.bep_machine.proofs.CallsTold.{none_unless, call_is_told}
+use Rattle.bep_machine.proofs.CallsTold.{call_is_told}
+use Rattle.bep_machine.proofs.OnlyCall.{told_may_fail}
 use Rattle.bep_machine.proofs.ThereDecided.{there_decided}
-use Rattle.bep_machine.proofs.HalfSteps.{same_cluster}
+use Rattle.bep_machine.proofs.HalfSteps.{done_told, same_cluster}
 
 -- a step isn't done and changes nothing, or is of an event that all objects make
 abbrev pub HasHalves : Step → Option ℕ → Cluster → Cluster → Answer → Type 0
-HasHalves step failed old new answer = ((¬ IsDone answer) × (new ≡ old)) ⊎ ((event : Logged) × (event.step ≡ step) × (event.failed ≡ failed_told step event.traffic failed) × IsThere old.config step × IsMadeBy event old new)
-
-done_or_not : (answer : Answer) → IsDone answer ⊎ (¬ IsDone answer)
-done_or_not (Done moved) = inl tt
-done_or_not (Refused why) = inr (λ wrong. wrong)
-done_or_not OutOfMemory = inr (λ wrong. wrong)
+HasHalves step failed old new answer =
+    ((¬ IsDone answer) × (new ≡ old)) ⊎
+    ((traffic : Option Traffic) × IsThere old.config step × IsMadeBy (logged_of (record { step = step; failed = failed; answer = answer }) traffic) old new)
 
 -- ---- what stays
 
@@ -92,10 +89,6 @@ nothing_between old device other acted is =
 
 -- ---- what is touched
 
-only_mapped : {S : Type 0} {one other : Type 0} (old new : S) (b : Bool) → (one → other) → OnlyIf b one old new → OnlyIf b other old new
-only_mapped old new true each step = each step
-only_mapped old new false each step = step
-
 peers_made : (old : Cluster) (device : Device) (peer : Peer) (Half : Peer → Peer → Type 0) → Half (old.peer device) peer →
     (one : Device) → OnlyIf (one == device) (Half (old.peer one) (if one == device then peer else old.peer one)) (old.peer one) (if one == device then peer else old.peer one)
 peers_made old device peer Half half one = cases (one == device) refl
@@ -116,49 +109,49 @@ links_made old lower upper link Half half a b = cases ((a == lower) && (b == upp
 
 -- ---- a step of a device alone
 
-module _ (device : Device) (folder : Folder) (row : Replica → Row Replica) (Says : Type 0) (says : Says) (old new : Cluster) (answer : Answer) where
+module _ (device : Device) (folder : Folder) (row told : Replica → Row Replica) (Says : Type 0) (old new : Cluster) (answer : Answer) where
   -- the device makes its half, and the links stay
   record FolderMade (later : Cluster) : Type 0 where
     pub config : later.config ≡ old.config
-    pub peers : (one : Device) → OnlyIf (one == device) (Says × InFolder folder row (old.peer one) (later.peer one)) (old.peer one) (later.peer one)
+    pub peers : (one : Device) → OnlyIf (one == device) (Says × InFolder folder told (kept_told answer) (old.peer one) (later.peer one)) (old.peer one) (later.peer one)
     pub links : (a b : Device) → later.link a b ≡ old.link a b
 
-  folder_made : ((before after : Replica) → row before after answer → StaysOrChanges before after answer) → AtReplica device folder row old new answer → ((¬ IsDone answer) × (new ≡ old)) ⊎ FolderMade new
-  folder_made ends (before, after, is, made, same) =
+  folder_made : ((before after : Replica) → row before after answer → ((¬ IsDone answer) × (after ≡ before)) ⊎ (Says × told before after answer × Ends (kept_told answer) answer before after))
+      → AtReplica device folder row old new answer → ((¬ IsDone answer) × (new ≡ old)) ⊎ FolderMade new
+  folder_made tells (before, after, is, made, same) =
       ⊎_elim
-      (λ done. inr (happens (inl done)))
-      (λ undone. ⊎_elim (λ stays. inl (undone, same ∙ put_again old device folder before after is stays)) (λ moved. inr (happens (inr moved))) (ends before after made undone))
-      (done_or_not answer)
+      (λ stays. inl (stays.0, same ∙ put_again old device folder before after is stays.1))
+      (λ half. inr (subst (λ c. FolderMade c) (sym same) (happens half.0 half.1 half.2)))
+      (tells before after made)
     where
       changed : Peer
       changed = with_replica (old.peer device) folder after
 
-      happens : IsDone answer ⊎ (¬ (after ≡ before)) → FolderMade new
-      happens why =
-          subst (λ c. FolderMade c) (sym same)
-          (record {
-            config = refl;
-            peers = peers_made old device changed (λ was is. Says × InFolder folder row was is) (says, (before, after, answer, is, made, why, refl));
-            links = λ a b. refl;
-          })
+      happens : Says → told before after answer → Ends (kept_told answer) answer before after → FolderMade (with_peer old device changed)
+      happens says makes ends = record {
+        config = refl;
+        peers = peers_made old device changed (λ was is. Says × InFolder folder told (kept_told answer) was is) (says, (before, after, answer, is, makes, ends, refl));
+        links = λ a b. refl;
+      }
 
 -- ---- a step over a link
 
-module _ (device other : Device) (row : Sight → Peer → Row Acted) (tells : RowTells row) (rests : Rests row) (Says : Type 0) (says : Says) (old new : Cluster) (answer : Answer) where
+module _ (device other : Device) (row : Sight → Peer → Row Acted) (tells : RowTells row) (rests : Rests row) (told : Option Traffic → Sight → Peer → Row Acted) (tell : (traffic : Option Traffic) (old new : Peer) → ByTraffic row traffic old new → ByTraffic (told traffic) traffic old new)
+    (Says : Option Traffic → Type 0) (old new : Cluster) (answer : Answer) (says : (traffic : Option Traffic) → IsDone answer → Says traffic) where
   -- the device and the link make their halves
   record LinkMade (traffic : Option Traffic) (later : Cluster) : Type 0 where
     pub config : later.config ≡ old.config
-    pub peers : (one : Device) → OnlyIf (one == device) (Says × ByTraffic row traffic (old.peer one) (later.peer one)) (old.peer one) (later.peer one)
+    pub peers : (one : Device) → OnlyIf (one == device) (Says traffic × ByTraffic (told traffic) traffic (old.peer one) (later.peer one)) (old.peer one) (later.peer one)
     pub links : (a b : Device) →
         OnlyIf (if nat_lt device other then (a == device) && (b == other) else (a == other) && (b == device))
-        (Says × Carries (end_of device other) traffic (old.link a b) (later.link a b)) (old.link a b) (later.link a b)
+        (Says traffic × Carries (end_of device other) traffic (old.link a b) (later.link a b)) (old.link a b) (later.link a b)
 
-  links_between : (traffic : Option Traffic) (acted : Acted) →
+  links_between : (traffic : Option Traffic) (acted : Acted) → Says traffic →
       Carries (end_of device other) traffic (link_between old device other) (after_deed (end_of device other) acted.deed (link_between old device other)) → (a b : Device) →
       OnlyIf (if nat_lt device other then (a == device) && (b == other) else (a == other) && (b == device))
-      (Says × Carries (end_of device other) traffic (old.link a b) ((with_link_between (with_peer old device acted.peer) device other (after_deed (end_of device other) acted.deed (link_between old device other))).link a b))
+      (Says traffic × Carries (end_of device other) traffic (old.link a b) ((with_link_between (with_peer old device acted.peer) device other (after_deed (end_of device other) acted.deed (link_between old device other))).link a b))
       (old.link a b) ((with_link_between (with_peer old device acted.peer) device other (after_deed (end_of device other) acted.deed (link_between old device other))).link a b)
-  links_between traffic acted = cases (nat_lt device other)
+  links_between traffic acted tells_right = cases (nat_lt device other)
     where
       after : Bool → Cluster
       after t =
@@ -168,9 +161,9 @@ module _ (device other : Device) (row : Sight → Peer → Row Acted) (tells : R
 
       cases : (t : Bool) → Carries (if t then Lower else Upper) traffic (if t then old.link device other else old.link other device) (after_deed (if t then Lower else Upper) acted.deed (if t then old.link device other else old.link other device)) → (a b : Device) →
           OnlyIf (if t then (a == device) && (b == other) else (a == other) && (b == device))
-          (Says × Carries (if t then Lower else Upper) traffic (old.link a b) ((after t).link a b)) (old.link a b) ((after t).link a b)
-      cases true carries = links_made old device other (after_deed Lower acted.deed (old.link device other)) (λ was is. Says × Carries Lower traffic was is) (says, carries)
-      cases false carries = links_made old other device (after_deed Upper acted.deed (old.link other device)) (λ was is. Says × Carries Upper traffic was is) (says, carries)
+          (Says traffic × Carries (if t then Lower else Upper) traffic (old.link a b) ((after t).link a b)) (old.link a b) ((after t).link a b)
+      cases true carries = links_made old device other (after_deed Lower acted.deed (old.link device other)) (λ was is. Says traffic × Carries Lower traffic was is) (tells_right, carries)
+      cases false carries = links_made old other device (after_deed Upper acted.deed (old.link other device)) (λ was is. Says traffic × Carries Upper traffic was is) (tells_right, carries)
 
   link_made : OverLink device other row old new answer → ((¬ IsDone answer) × (new ≡ old)) ⊎ ((traffic : Option Traffic) × LinkMade traffic new)
   link_made (acted, made, same) = cases answer refl
@@ -183,15 +176,16 @@ module _ (device other : Device) (row : Sight → Peer → Row Acted) (tells : R
 
       cases : (given : Answer) → answer ≡ given → ((¬ IsDone answer) × (new ≡ old)) ⊎ ((traffic : Option Traffic) × LinkMade traffic new)
       cases (Done moved) is =
-          let told = tells sight (old.peer device) acted moved (subst (λ a. row sight (old.peer device) acted a) is made) in
-          let traffic : Traffic = record { epoch = sight.epoch; done = told.0 } in
+          let tale = tells sight (old.peer device) acted moved (subst (λ a. row sight (old.peer device) acted a) is made) in
+          let traffic : Traffic = record { epoch = sight.epoch; done = tale.0 } in
+          let tells_right = says (Some traffic) (subst IsDone (sym is) tt) in
           inr (
             Some traffic,
             subst (λ c. LinkMade (Some traffic) c) (sym same)
                 (record {
                   config = kept_config (nat_lt device other);
-                  peers = kept_peers (nat_lt device other) (Some traffic) (moved, told.4);
-                  links = links_between (Some traffic) acted (told.1, refl, told.2, ap (λ deed. after_deed (end_of device other) deed (link_between old device other)) told.3);
+                  peers = kept_peers (nat_lt device other) (Some traffic) tells_right (tell (Some traffic) (old.peer device) acted.peer (moved, tale.4));
+                  links = links_between (Some traffic) acted tells_right (tale.1, refl, tale.2, ap (λ deed. after_deed (end_of device other) deed (link_between old device other)) tale.3);
                 }),
           )
         where
@@ -204,16 +198,17 @@ module _ (device other : Device) (row : Sight → Peer → Row Acted) (tells : R
           kept_config true = refl
           kept_config false = refl
 
-          kept_peers : (t : Bool) (traffic : Option Traffic) → ByTraffic row traffic (old.peer device) acted.peer → (one : Device) →
-              OnlyIf (one == device) (Says × ByTraffic row traffic (old.peer one) ((later t).peer one)) (old.peer one) ((later t).peer one)
-          kept_peers true traffic half = peers_made old device acted.peer (λ was is. Says × ByTraffic row traffic was is) (says, half)
-          kept_peers false traffic half = peers_made old device acted.peer (λ was is. Says × ByTraffic row traffic was is) (says, half)
+          kept_peers : (t : Bool) (traffic : Option Traffic) → Says traffic → ByTraffic (told traffic) traffic (old.peer device) acted.peer → (one : Device) →
+              OnlyIf (one == device) (Says traffic × ByTraffic (told traffic) traffic (old.peer one) ((later t).peer one)) (old.peer one) ((later t).peer one)
+          kept_peers true traffic right half = peers_made old device acted.peer (λ was is. Says traffic × ByTraffic (told traffic) traffic was is) (right, half)
+          kept_peers false traffic right half = peers_made old device acted.peer (λ was is. Says traffic × ByTraffic (told traffic) traffic was is) (right, half)
       cases (Refused why) is = rested (λ done. subst IsDone is done)
       cases OutOfMemory is = rested (λ done. subst IsDone is done)
 
 -- ---- a step of a link
 
-module _ (lower upper : Device) (row : Link → Row Link) (ends : (before after : Link) (answer : Answer) → row before after answer → ((¬ IsDone answer) × (after ≡ before)) ⊎ row before after (Done Changed)) (Says : Type 0) (says : Says) (old new : Cluster) (answer : Answer) where
+module _ (lower upper : Device) (row : Link → Row Link) (ends : (before after : Link) (answer : Answer) → row before after answer → ((¬ IsDone answer) × (after ≡ before)) ⊎ (IsDone answer × row before after (Done Changed)))
+    (Says : Type 0) (old new : Cluster) (answer : Answer) (says : IsDone answer → Says) where
   record OneLinkMade (later : Cluster) : Type 0 where
     pub config : later.config ≡ old.config
     pub peers : (one : Device) → later.peer one ≡ old.peer one
@@ -224,129 +219,115 @@ module _ (lower upper : Device) (row : Link → Row Link) (ends : (before after 
       ⊎_elim
       (λ stays. inl (stays.0, same ∙ same_cluster (with_link old lower upper after) old refl (λ one. refl) (same_links old lower upper after stays.1)))
       (λ done. inr (subst (λ c. OneLinkMade c) (sym same)
-      (record { config = refl; peers = λ one. refl; links = links_made old lower upper after (λ was is. Says × row was is (Done Changed)) (says, done) })))
+      (record { config = refl; peers = λ one. refl; links = links_made old lower upper after (λ was is. Says × row was is (Done Changed)) (says done.0, done.1) })))
       (ends (old.link lower upper) after answer made)
 
-connect_ends : (before after : Link) (answer : Answer) → ConnectRow before after answer → ((¬ IsDone answer) × (after ≡ before)) ⊎ ConnectRow before after (Done Changed)
+connect_ends : (before after : Link) (answer : Answer) → ConnectRow before after answer → ((¬ IsDone answer) × (after ≡ before)) ⊎ (IsDone answer × ConnectRow before after (Done Changed))
 connect_ends before after answer (inl up) = inl ((λ done. subst IsDone up.1.1 done), up.1.0)
 connect_ends before after answer (inr (down, inl full)) = inl ((λ done. subst IsDone full.1.1 done), full.1.0)
-connect_ends before after answer (inr (down, inr (more, made))) = inr (inr (down, inr (more, (made.0, refl))))
+connect_ends before after answer (inr (down, inr (more, made))) = inr (subst IsDone (sym made.1) tt, inr (down, inr (more, (made.0, refl))))
 
-lose_ends : (before after : Link) (answer : Answer) → LoseRow before after answer → ((¬ IsDone answer) × (after ≡ before)) ⊎ LoseRow before after (Done Changed)
+lose_ends : (before after : Link) (answer : Answer) → LoseRow before after answer → ((¬ IsDone answer) × (after ≡ before)) ⊎ (IsDone answer × LoseRow before after (Done Changed))
 lose_ends before after answer (inl down) = inl ((λ done. subst IsDone down.1.1 done), down.1.0)
-lose_ends before after answer (inr (up, made)) = inr (inr (up, (made.0, refl)))
+lose_ends before after answer (inr (up, made)) = inr (subst IsDone (sym made.1) tt, inr (up, (made.0, refl)))
 
 -- ---- every step
 
-abbrev event_of : Step → Option ℕ → Option Traffic → Logged
-event_of step failed traffic = record { step = step; failed = failed; traffic = traffic }
-
--- of a row that stays where it isn't done
-either : (row : Replica → Row Replica) (answer : Answer) → ((before after : Replica) (answer : Answer) → row before after answer → Stays before after answer) → (before after : Replica) → row before after answer → StaysOrChanges before after answer
-either row answer stays before after made undone = inl (stays before after answer made undone)
-
 module _ (old new : Cluster) (answer : Answer) where
-  of_folder : (device : Device) (folder : Folder) (row : Replica → Row Replica) (step : Step) (there : IsThere old.config step) (given failed : Option ℕ) (told : failed ≡ failed_told step None given) (says : SaysNoMore step failed None)
-      → (FolderMade device folder row (SaysNoMore step failed None) says old new answer new → IsMadeBy (event_of step failed None) old new)
-      → ((before after : Replica) → row before after answer → StaysOrChanges before after answer)
-      → AtReplica device folder row old new answer → HasHalves step given old new answer
-  of_folder device folder row step there given failed told says made ends here =
-      ⊎_elim (λ stays. inl stays) (λ half. inr (event_of step failed None, refl, told, there, made half)) (folder_made device folder row (SaysNoMore step failed None) says old new answer ends here)
+  -- what is logged of the step
+  abbrev event_of : Step → Option ℕ → Option Traffic → Logged
+  event_of step failed traffic = logged_of (record { step = step; failed = failed; answer = answer }) traffic
 
-  over_link : (device other : Device) (row : Sight → Peer → Row Acted) (tells : RowTells row) (rests : Rests row) (step : Step) (there : IsThere old.config step) (given failed : Option ℕ) (told : (traffic : Option Traffic) → failed ≡ failed_told step traffic given) (Says : Type 0) (says : Says)
-      → ((traffic : Option Traffic) → LinkMade device other row tells rests Says says old new answer traffic new → IsMadeBy (event_of step failed traffic) old new)
-      → OverLink device other row old new answer → HasHalves step given old new answer
-  over_link device other row tells rests step there given failed told Says says made here =
-      ⊎_elim (λ stays. inl stays) (λ half. inr (event_of step failed half.0, refl, told half.0, there, made half.0 half.1)) (link_made device other row tells rests Says says old new answer here)
+  abbrev SaysRight : Step → Option ℕ → Option Traffic → Type 0
+  SaysRight step failed traffic = SaysNoMore step (failed_told step (kept_told answer) traffic failed) (kept_told answer) traffic
 
-  -- a delivery that answers nothing calls no store, and its event tells of no call that failed
-  of_delivery : (device other : Device) → IsThere old.config (Deliver device other) → (failed : Option ℕ) → OverLink device other (DeliverRow other failed) old new answer → HasHalves (Deliver device other) failed old new answer
-  of_delivery device other there failed here =
-      ⊎_elim (λ stays. inl stays)
-      (λ half.
-      let traffic = half.0 in
-      let says = none_unless (has_answered traffic) failed in
-      inr (
-        event_of (Deliver device other) (failed_told (Deliver device other) traffic failed) traffic,
-        refl,
-        refl,
-        there,
-        record {
-          config = half.1.config;
-          peers = λ one. only_mapped (old.peer one) (new.peer one) (one == device) (λ both. (says, call_is_told other failed traffic (old.peer one) (new.peer one) both.1)) (half.1.peers one);
-          links = λ a b. only_mapped (old.link a b) (new.link a b) (if nat_lt device other then (a == device) && (b == other) else (a == other) && (b == device)) (λ both. (says, both.1)) (half.1.links a b);
-        },
-      ))
-      (link_made device other (DeliverRow other failed) (deliver_tells other failed) (deliver_rests other failed) ⊤ tt old new answer here)
+  of_folder : (device : Device) (folder : Folder) (row told : Replica → Row Replica) (step : Step) (there : IsThere old.config step) (failed : Option ℕ)
+      → (FolderMade device folder row told (SaysRight step failed None) old new answer new → IsMadeBy (event_of step failed None) old new)
+      → ((before after : Replica) → row before after answer → RowTold step (failed_told step (kept_told answer) None failed) (told before) before after answer)
+      → AtReplica device folder row old new answer → HasHalves step failed old new answer
+  of_folder device folder row told step there failed made tells here =
+      ⊎_elim (λ stays. inl stays) (λ half. inr (None, there, made half)) (folder_made device folder row told (SaysRight step failed None) old new answer tells here)
 
-  of_link : (lower upper : Device) (row : Link → Row Link) (ends : (before after : Link) (answer : Answer) → row before after answer → ((¬ IsDone answer) × (after ≡ before)) ⊎ row before after (Done Changed)) (step : Step) (there : IsThere old.config step) (given : Option ℕ) (told : None ≡ failed_told step None given) (says : SaysNoMore step None None)
-      → (OneLinkMade lower upper row ends (SaysNoMore step None None) says old new answer new → IsMadeBy (event_of step None None) old new)
-      → AtLink lower upper row old new answer → HasHalves step given old new answer
-  of_link lower upper row ends step there given told says made here =
-      ⊎_elim (λ stays. inl stays) (λ half. inr (event_of step None None, refl, told, there, made half)) (one_link_made lower upper row ends (SaysNoMore step None None) says old new answer here)
+  over_link : (device other : Device) (row : Sight → Peer → Row Acted) (tells : RowTells row) (rests : Rests row) (told : Option Traffic → Sight → Peer → Row Acted)
+      (tell : (traffic : Option Traffic) (old new : Peer) → ByTraffic row traffic old new → ByTraffic (told traffic) traffic old new)
+      (step : Step) (there : IsThere old.config step) (failed : Option ℕ) (says : (traffic : Option Traffic) → IsDone answer → SaysRight step failed traffic)
+      → ((traffic : Option Traffic) → LinkMade device other row tells rests told tell (SaysRight step failed) old new answer says traffic new → IsMadeBy (event_of step failed traffic) old new)
+      → OverLink device other row old new answer → HasHalves step failed old new answer
+  over_link device other row tells rests told tell step there failed says made here =
+      ⊎_elim (λ stays. inl stays) (λ half. inr (half.0, there, made half.0 half.1)) (link_made device other row tells rests told tell (SaysRight step failed) old new answer says here)
+
+  of_link : (lower upper : Device) (row : Link → Row Link) (ends : (before after : Link) (answer : Answer) → row before after answer → ((¬ IsDone answer) × (after ≡ before)) ⊎ (IsDone answer × row before after (Done Changed)))
+      (step : Step) (there : IsThere old.config step) (failed : Option ℕ) (says : IsDone answer → SaysRight step failed None)
+      → (OneLinkMade lower upper row ends (SaysRight step failed None) old new answer says new → IsMadeBy (event_of step failed None) old new)
+      → AtLink lower upper row old new answer → HasHalves step failed old new answer
+  of_link lower upper row ends step there failed says made here =
+      ⊎_elim (λ stays. inl stays) (λ half. inr (None, there, made half)) (one_link_made lower upper row ends (SaysRight step failed None) old new answer says here)
 
   of_restart : (device : Device) → IsThere old.config (Restart device) → (failed : Option ℕ) → RestartRow device old new answer → HasHalves (Restart device) failed old new answer
   of_restart device there failed made =
       inr (
-        event_of (Restart device) None None,
-        refl,
-        refl,
+        None,
         there,
-        subst (λ c. IsMadeBy (event_of (Restart device) None None) old c) (sym made.0)
+        subst (λ c. IsMadeBy (event_of (Restart device) failed None) old c) (sym made.0)
             (record {
               config = refl;
-              peers = peers_made old device (restarted (old.peer device)) (λ was is. SaysNoMore (Restart device) None None × (is ≡ restarted was)) ((refl, refl), refl);
+              peers = peers_made old device (restarted (old.peer device)) (λ was is. SaysRight (Restart device) failed None × (is ≡ restarted was)) (says, refl);
               links = λ a b. cases (old.link a b) ((a == device) || (b == device));
             }),
       )
     where
-      cases : (link : Link) (t : Bool) → OnlyIf t (SaysNoMore (Restart device) None None × ((if t then lost link else link) ≡ lost link)) link (if t then lost link else link)
-      cases link true = ((refl, refl), refl)
+      says : SaysRight (Restart device) failed None
+      says = (refl, done_told answer (subst IsDone (sym made.1) tt), refl)
+
+      cases : (link : Link) (t : Bool) → OnlyIf t (SaysRight (Restart device) failed None × ((if t then lost link else link) ≡ lost link)) link (if t then lost link else link)
+      cases link true = (says, refl)
       cases link false = refl
 
   row_has_halves : (step : Step) → IsThere old.config step → (failed : Option ℕ) → StepRow step failed old new answer → HasHalves step failed old new answer
   row_has_halves (Edit device folder name node) there failed =
-      of_folder device folder (EditRow name node failed) (Edit device folder name node) there failed failed refl refl
-      (λ half. record { config = half.config; peers = half.peers; links = half.links }) (either (EditRow name node failed) answer (edit_stays name node failed))
+      of_folder device folder (EditRow name node failed) (EditRow name node None) (Edit device folder name node) there failed
+      (λ half. record { config = half.config; peers = half.peers; links = half.links }) (λ before after made. edit_told device folder name failed before after answer node made)
   row_has_halves (Remove device folder name) there failed =
-      of_folder device folder (RemoveRow name failed) (Remove device folder name) there failed failed refl refl
-      (λ half. record { config = half.config; peers = half.peers; links = half.links }) (either (RemoveRow name failed) answer (remove_stays name failed))
+      of_folder device folder (RemoveRow name failed) (RemoveRow name None) (Remove device folder name) there failed
+      (λ half. record { config = half.config; peers = half.peers; links = half.links }) (λ before after made. remove_told device folder name failed before after answer made)
   row_has_halves (Scan device folder name) there failed =
-      of_folder device folder (ScanRow device name failed) (Scan device folder name) there failed failed refl refl
-      (λ half. record { config = half.config; peers = half.peers; links = half.links }) (either (ScanRow device name failed) answer (scan_stays device name failed))
+      of_folder device folder (ScanRow device name failed) (ScanRow device name None) (Scan device folder name) there failed
+      (λ half. record { config = half.config; peers = half.peers; links = half.links }) (λ before after made. scan_told device folder name failed before after answer made)
   row_has_halves (Override device folder name) there failed =
-      of_folder device folder (OverrideRow device name) (Override device folder name) there failed None refl (refl, refl)
-      (λ half. record { config = half.config; peers = half.peers; links = half.links }) (either (OverrideRow device name) answer (override_stays device name))
+      of_folder device folder (OverrideRow device name) (OverrideRow device name) (Override device folder name) there failed
+      (λ half. record { config = half.config; peers = half.peers; links = half.links }) (λ before after made. override_told device folder name failed before after answer made)
   row_has_halves (Revert device folder name) there failed =
-      of_folder device folder (RevertRow device name failed) (Revert device folder name) there failed failed refl refl
-      (λ half. record { config = half.config; peers = half.peers; links = half.links }) (either (RevertRow device name failed) answer (revert_stays device name failed))
+      of_folder device folder (RevertRow device name failed) (RevertRow device name None) (Revert device folder name) there failed
+      (λ half. record { config = half.config; peers = half.peers; links = half.links }) (λ before after made. revert_told device folder name failed before after answer made)
   row_has_halves (Connect one other) there failed =
-      of_link one other ConnectRow connect_ends (Connect one other) there failed refl (refl, refl) (λ half. record { config = half.config; peers = half.peers; links = half.links })
+      of_link one other ConnectRow connect_ends (Connect one other) there failed (λ done. (refl, done_told answer done, refl)) (λ half. record { config = half.config; peers = half.peers; links = half.links })
   row_has_halves (Lose one other) there failed =
-      of_link one other LoseRow lose_ends (Lose one other) there failed refl (refl, refl) (λ half. record { config = half.config; peers = half.peers; links = half.links })
+      of_link one other LoseRow lose_ends (Lose one other) there failed (λ done. (refl, done_told answer done, refl)) (λ half. record { config = half.config; peers = half.peers; links = half.links })
   row_has_halves (Begin device other) there failed =
-      over_link device other (BeginRow other) (begin_tells other) (begin_rests other) (Begin device other) there failed None (λ traffic. refl) (SaysNoMore (Begin device other) None None) refl
-      (λ traffic half. record { config = half.config; peers = half.peers; links = half.links })
-  row_has_halves (Deliver device other) there failed = of_delivery device other there failed
+      over_link device other (BeginRow other) (begin_tells other) (begin_rests other) (λ traffic. BeginRow other) (λ traffic was is half. half) (Begin device other) there failed
+      (λ traffic done. (refl, done_told answer done)) (λ traffic half. record { config = half.config; peers = half.peers; links = half.links })
+  row_has_halves (Deliver device other) there failed =
+      over_link device other (DeliverRow other failed) (deliver_tells other failed) (deliver_rests other failed) (λ traffic. DeliverRow other (only_call (has_answered traffic) 1 failed)) (call_is_told other failed) (Deliver device other) there failed
+      (λ traffic done. (told_may_fail (has_answered traffic) 1 failed, done_told answer done)) (λ traffic half. record { config = half.config; peers = half.peers; links = half.links })
   row_has_halves (Announce device other folder) there failed =
-      over_link device other (AnnounceRow other folder) (announce_tells other folder) (announce_rests other folder) (Announce device other folder) there failed None (λ traffic. refl) (SaysNoMore (Announce device other folder) None None) refl
-      (λ traffic half. record { config = half.config; peers = half.peers; links = half.links })
+      over_link device other (AnnounceRow other folder) (announce_tells other folder) (announce_rests other folder) (λ traffic. AnnounceRow other folder) (λ traffic was is half. half) (Announce device other folder) there failed
+      (λ traffic done. (refl, done_told answer done)) (λ traffic half. record { config = half.config; peers = half.peers; links = half.links })
   row_has_halves (StartPull device folder name) there failed =
-      of_folder device folder (StartPullRow device name) (StartPull device folder name) there failed None refl (refl, refl)
-      (λ half. record { config = half.config; peers = half.peers; links = half.links }) (either (StartPullRow device name) answer (start_pull_stays device name))
+      of_folder device folder (StartPullRow device name) (StartPullRow device name) (StartPull device folder name) there failed
+      (λ half. record { config = half.config; peers = half.peers; links = half.links }) (λ before after made. start_pull_told device folder name failed before after answer made)
   row_has_halves (Ask device other folder name) there failed =
-      over_link device other (AskRow other folder name) (ask_tells other folder name) (ask_rests other folder name) (Ask device other folder name) there failed None (λ traffic. refl) (SaysNoMore (Ask device other folder name) None None) refl
-      (λ traffic half. record { config = half.config; peers = half.peers; links = half.links })
+      over_link device other (AskRow other folder name) (ask_tells other folder name) (ask_rests other folder name) (λ traffic. AskRow other folder name) (λ traffic was is half. half) (Ask device other folder name) there failed
+      (λ traffic done. (refl, done_told answer done)) (λ traffic half. record { config = half.config; peers = half.peers; links = half.links })
   row_has_halves (Finish device folder name) there failed =
-      of_folder device folder (FinishRow device name failed) (Finish device folder name) there failed failed refl refl
-      (λ half. record { config = half.config; peers = half.peers; links = half.links }) (λ before after. finish_ends device name failed before after answer)
+      of_folder device folder (FinishRow device name failed) (FinishRow device name (only_call (kept_told answer) 4 failed)) (Finish device folder name) there failed
+      (λ half. record { config = half.config; peers = half.peers; links = half.links }) (λ before after made. finished_told device folder name failed before after answer made)
   row_has_halves (Restart device) there failed = of_restart device there failed
 
 pub step_has_halves_lem : StepHasHalves
-step_has_halves_lem step failed old new answer (inl (grows, same)) = inl ((λ done. subst IsDone same.1 done), same.0)
-step_has_halves_lem step failed old new answer (inr (inl (missing, same))) = inl ((λ done. subst IsDone same.1 done), same.0)
-step_has_halves_lem step failed old new answer (inr (inr (not_apart, row))) =
+step_has_halves_lem made old new (inl (grows, same)) = inl ((λ done. subst IsDone same.1 done), same.0)
+step_has_halves_lem made old new (inr (inl (missing, same))) = inl ((λ done. subst IsDone same.1 done), same.0)
+step_has_halves_lem made old new (inr (inr (not_apart, row))) =
     ⊎_elim
-    (λ there. row_has_halves old new answer step there failed row)
+    (λ there. row_has_halves old new made.answer made.step there made.failed row)
     (λ apart. absurd (not_apart apart))
-    (there_decided old.config step)
+    (there_decided old.config made.step)

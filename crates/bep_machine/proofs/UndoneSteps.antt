@@ -45,7 +45,7 @@ copying_left name pull failed own node old new answer row =
     (λ there undone. inl (settling_stays name pull 3 failed own node old new answer there.1 undone))
     ends))))
 
-finish_left : (device : Device) (name : FileName) (failed : Option ℕ) (old new : Replica) (answer : Answer) → FinishRow device name failed old new answer → StaysOr (KeepsCopy device name old new) old new answer
+pub finish_left : (device : Device) (name : FileName) (failed : Option ℕ) (old new : Replica) (answer : Answer) → FinishRow device name failed old new answer → StaysOr (KeepsCopy device name old new) old new answer
 finish_left device name failed old new answer row = refused_or row (λ more. ⊎_elim (λ wanted. ending more.0 more.1 wanted.0 wanted.1) (λ dropped undone. inl (stays_done dropped.1 undone)) more.2)
   where
     ending : (pull : Pull) → get old.pulls name ≡ Some pull → IsStillWanted device old name pull.target → EndingRow name pull failed old new answer → StaysOr (KeepsCopy device name old new) old new answer

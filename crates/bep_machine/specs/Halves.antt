@@ -9,14 +9,14 @@ use Rattle.bep_machine.specs.declared.moved.Moved.{Moved}
 use Rattle.bep_machine.specs.declared.moved.Moved.TheVariants.{Changed}
 use Rattle.bep_machine.specs.declared.step.Step.{Step}
 use Rattle.bep_machine.specs.declared.step.Step.TheVariants.{Edit, Remove, Scan, Override, Revert, Connect, Lose, Begin, Deliver, Announce, StartPull, Ask, Finish, Restart}
-use Rattle.bep_machine.specs.Answer.{Answer, Done, Row}
+use Rattle.bep_machine.specs.Answer.{Answer, Done, Refused, OutOfMemory, Row}
 use Rattle.bep_machine.specs.Replica.{Replica}
 use Rattle.bep_machine.specs.Local.{EditRow, RemoveRow, ScanRow, OverrideRow, RevertRow}
 use Rattle.bep_machine.specs.Pull.{StartPullRow, FinishRow}
 use Rattle.bep_machine.specs.Link.{Link, End, Sight, Deed, lost, end_of, sight_of, sending, losing, after_deed}
 use Rattle.bep_machine.specs.Peer.{Peer, Acted, with_replica}
 use Rattle.bep_machine.specs.Exchange.{BeginRow, DeliverRow, AnnounceRow, AskRow}
-use Rattle.bep_machine.specs.Steps.{ConnectRow, LoseRow, restarted}
+use Rattle.bep_machine.specs.Steps.{ConnectRow, LoseRow, restarted, Event}
 
 -- ---- what a step touches
 
@@ -73,10 +73,12 @@ pub record Traffic : Type 0 where
   pub epoch : ℕ
   pub done : Exchanged
 
--- an event of a log: the step, which call of the store failed in it, and what it did over a link
+-- an event of a log: the step, which call of the store failed in it, whether it kept a conflict copy and then failed, and
+-- what it did over a link
 pub record Logged : Type 0 where
   pub step : Step
   pub failed : Option ℕ
+  pub kept : Bool
   pub traffic : Option Traffic
 
 -- whether what was taken was answered: only then a delivery calls a store
@@ -88,29 +90,66 @@ abbrev pub has_answered : Option Traffic → Bool
 has_answered None = false
 has_answered (Some traffic) = was_answered traffic.done
 
--- the call of the store that failed, as the step's event tells it: a step that calls no store tells of none
-abbrev pub failed_told : Step → Option Traffic → Option ℕ → Option ℕ
-failed_told (Edit device folder name node) traffic failed = failed
-failed_told (Remove device folder name) traffic failed = failed
-failed_told (Scan device folder name) traffic failed = failed
-failed_told (Revert device folder name) traffic failed = failed
-failed_told (Deliver device other) traffic failed = if has_answered traffic then failed else None
-failed_told (Finish device folder name) traffic failed = failed
-failed_told step traffic failed = None
+-- A step that is logged was done, or it kept a conflict copy and then failed: its answer tells which.
+abbrev pub kept_told : Answer → Bool
+kept_told (Done moved) = false
+kept_told (Refused why) = true
+kept_told OutOfMemory = true
 
--- An event says no more than its step has to say: only a step over a link tells of traffic, and only one that calls a store
--- tells of a call that failed. (Which call that is isn't asked: of one that the step doesn't make, as of none, all succeed.)
-abbrev pub SaysNoMore : Step → Option ℕ → Option Traffic → Type 0
-SaysNoMore (Edit device folder name node) failed traffic = traffic ≡ None
-SaysNoMore (Remove device folder name) failed traffic = traffic ≡ None
-SaysNoMore (Scan device folder name) failed traffic = traffic ≡ None
-SaysNoMore (Revert device folder name) failed traffic = traffic ≡ None
-SaysNoMore (Finish device folder name) failed traffic = traffic ≡ None
-SaysNoMore (Deliver device other) failed traffic = has_answered traffic ≡ false → failed ≡ None
-SaysNoMore (Begin device other) failed traffic = failed ≡ None
-SaysNoMore (Announce device other folder) failed traffic = failed ≡ None
-SaysNoMore (Ask device other folder name) failed traffic = failed ≡ None
-SaysNoMore step failed traffic = (failed ≡ None) × (traffic ≡ None)
+-- the number of the call that failed, if that call was made and has this number
+abbrev pub only_call : Bool → ℕ → Option ℕ → Option ℕ
+only_call true call (Some failed) = if failed == call then Some failed else None
+only_call true call None = None
+only_call false call failed = None
+
+-- The call of the store that failed, as the step's event tells it: the read for an answer, or the last call of a pull's end
+-- that has kept a copy. Where any other call that it makes fails, a step is refused and isn't logged.
+abbrev pub failed_told : Step → Bool → Option Traffic → Option ℕ → Option ℕ
+failed_told (Edit device folder name node) kept traffic failed = None
+failed_told (Remove device folder name) kept traffic failed = None
+failed_told (Scan device folder name) kept traffic failed = None
+failed_told (Override device folder name) kept traffic failed = None
+failed_told (Revert device folder name) kept traffic failed = None
+failed_told (Connect one other) kept traffic failed = None
+failed_told (Lose one other) kept traffic failed = None
+failed_told (Begin device other) kept traffic failed = None
+failed_told (Deliver device other) kept traffic failed = only_call (has_answered traffic) 1 failed
+failed_told (Announce device other folder) kept traffic failed = None
+failed_told (StartPull device folder name) kept traffic failed = None
+failed_told (Ask device other folder name) kept traffic failed = None
+failed_told (Finish device folder name) kept traffic failed = only_call kept 4 failed
+failed_told (Restart device) kept traffic failed = None
+
+-- what is logged of a step that was made, and of what it did over a link
+abbrev pub logged_of : Event → Option Traffic → Logged
+logged_of made traffic = record {
+  step = made.step;
+  failed = failed_told made.step (kept_told made.answer) traffic made.failed;
+  kept = kept_told made.answer;
+  traffic = traffic;
+}
+
+-- no call failed, or this one, if it was made
+abbrev pub MayFail : Bool → ℕ → Option ℕ → Type 0
+MayFail made call failed = (failed ≡ None) ⊎ ((made ≡ true) × (failed ≡ Some call))
+
+-- An event says no more than its step has to say. A call that failed is one that the step makes, in a step that is logged.
+-- Only the end of a pull keeps a copy and then fails. Only a step over a link tells of traffic.
+abbrev pub SaysNoMore : Step → Option ℕ → Bool → Option Traffic → Type 0
+SaysNoMore (Edit device folder name node) failed kept traffic = (failed ≡ None) × (kept ≡ false) × (traffic ≡ None)
+SaysNoMore (Remove device folder name) failed kept traffic = (failed ≡ None) × (kept ≡ false) × (traffic ≡ None)
+SaysNoMore (Scan device folder name) failed kept traffic = (failed ≡ None) × (kept ≡ false) × (traffic ≡ None)
+SaysNoMore (Override device folder name) failed kept traffic = (failed ≡ None) × (kept ≡ false) × (traffic ≡ None)
+SaysNoMore (Revert device folder name) failed kept traffic = (failed ≡ None) × (kept ≡ false) × (traffic ≡ None)
+SaysNoMore (Connect one other) failed kept traffic = (failed ≡ None) × (kept ≡ false) × (traffic ≡ None)
+SaysNoMore (Lose one other) failed kept traffic = (failed ≡ None) × (kept ≡ false) × (traffic ≡ None)
+SaysNoMore (Begin device other) failed kept traffic = (failed ≡ None) × (kept ≡ false)
+SaysNoMore (Deliver device other) failed kept traffic = MayFail (has_answered traffic) 1 failed × (kept ≡ false)
+SaysNoMore (Announce device other folder) failed kept traffic = (failed ≡ None) × (kept ≡ false)
+SaysNoMore (StartPull device folder name) failed kept traffic = (failed ≡ None) × (kept ≡ false) × (traffic ≡ None)
+SaysNoMore (Ask device other folder name) failed kept traffic = (failed ≡ None) × (kept ≡ false)
+SaysNoMore (Finish device folder name) failed kept traffic = MayFail kept 4 failed × (traffic ≡ None)
+SaysNoMore (Restart device) failed kept traffic = (failed ≡ None) × (kept ≡ false) × (traffic ≡ None)
 
 -- what was done to the link
 abbrev pub deed_told : Exchanged → Deed
@@ -133,11 +172,16 @@ abbrev pub IsDone : Answer → Type 0
 IsDone (Done moved) = ⊤
 IsDone answer = ⊥
 
--- a replica makes a row, and it wasn't refused, or yet changed something (a pull may keep a conflict copy and end then)
-abbrev pub InFolder : Folder → (Replica → Row Replica) → Peer → Peer → Type 0
-InFolder folder row old new =
+-- a step that was done; or one that failed, and had changed something before
+abbrev pub Ends : Bool → Answer → Replica → Replica → Type 0
+Ends false answer before after = IsDone answer
+Ends true answer before after = (¬ IsDone answer) × (after ≢ before)
+
+-- a replica makes a row, and ends so
+abbrev pub InFolder : Folder → (Replica → Row Replica) → Bool → Peer → Peer → Type 0
+InFolder folder row kept old new =
     (before after : Replica) × (answer : Answer) × (get old.replicas folder ≡ Some before) × row before after answer ×
-    (IsDone answer ⊎ (after ≢ before)) × (new ≡ with_replica old folder after)
+    Ends kept answer before after × (new ≡ with_replica old folder after)
 
 -- the device makes a row at the sight of a link that the event tells of, and does to it what the event says
 abbrev pub ByTraffic : (Sight → Peer → Row Acted) → Option Traffic → Peer → Peer → Type 0
@@ -146,21 +190,21 @@ ByTraffic row (Some traffic) old new =
     (moved : Moved) × row (sight_told traffic) old (record { peer = new; deed = deed_told traffic.done }) (Done moved)
 
 -- what the step does to the device that it names first
-abbrev pub PeerHalf : Step → Option ℕ → Option Traffic → Peer → Peer → Type 0
-PeerHalf (Edit device folder name node) failed traffic = InFolder folder (EditRow name node failed)
-PeerHalf (Remove device folder name) failed traffic = InFolder folder (RemoveRow name failed)
-PeerHalf (Scan device folder name) failed traffic = InFolder folder (ScanRow device name failed)
-PeerHalf (Override device folder name) failed traffic = InFolder folder (OverrideRow device name)
-PeerHalf (Revert device folder name) failed traffic = InFolder folder (RevertRow device name failed)
-PeerHalf (Connect one other) failed traffic = λ old new. ⊥
-PeerHalf (Lose one other) failed traffic = λ old new. ⊥
-PeerHalf (Begin device other) failed traffic = ByTraffic (BeginRow other) traffic
-PeerHalf (Deliver device other) failed traffic = ByTraffic (DeliverRow other failed) traffic
-PeerHalf (Announce device other folder) failed traffic = ByTraffic (AnnounceRow other folder) traffic
-PeerHalf (StartPull device folder name) failed traffic = InFolder folder (StartPullRow device name)
-PeerHalf (Ask device other folder name) failed traffic = ByTraffic (AskRow other folder name) traffic
-PeerHalf (Finish device folder name) failed traffic = InFolder folder (FinishRow device name failed)
-PeerHalf (Restart device) failed traffic = λ old new. new ≡ restarted old
+abbrev pub PeerHalf : Step → Option ℕ → Bool → Option Traffic → Peer → Peer → Type 0
+PeerHalf (Edit device folder name node) failed kept traffic = InFolder folder (EditRow name node failed) kept
+PeerHalf (Remove device folder name) failed kept traffic = InFolder folder (RemoveRow name failed) kept
+PeerHalf (Scan device folder name) failed kept traffic = InFolder folder (ScanRow device name failed) kept
+PeerHalf (Override device folder name) failed kept traffic = InFolder folder (OverrideRow device name) kept
+PeerHalf (Revert device folder name) failed kept traffic = InFolder folder (RevertRow device name failed) kept
+PeerHalf (Connect one other) failed kept traffic = λ old new. ⊥
+PeerHalf (Lose one other) failed kept traffic = λ old new. ⊥
+PeerHalf (Begin device other) failed kept traffic = ByTraffic (BeginRow other) traffic
+PeerHalf (Deliver device other) failed kept traffic = ByTraffic (DeliverRow other failed) traffic
+PeerHalf (Announce device other folder) failed kept traffic = ByTraffic (AnnounceRow other folder) traffic
+PeerHalf (StartPull device folder name) failed kept traffic = InFolder folder (StartPullRow device name) kept
+PeerHalf (Ask device other folder name) failed kept traffic = ByTraffic (AskRow other folder name) traffic
+PeerHalf (Finish device folder name) failed kept traffic = InFolder folder (FinishRow device name failed) kept
+PeerHalf (Restart device) failed kept traffic = λ old new. new ≡ restarted old
 
 -- ---- the half of a link
 
@@ -180,14 +224,20 @@ Carries end (Some traffic) old new =
 
 -- what the step does to a link that it touches
 abbrev pub LinkHalf : Step → Option Traffic → Link → Link → Type 0
+LinkHalf (Edit device folder name node) traffic = λ old new. ⊥
+LinkHalf (Remove device folder name) traffic = λ old new. ⊥
+LinkHalf (Scan device folder name) traffic = λ old new. ⊥
+LinkHalf (Override device folder name) traffic = λ old new. ⊥
+LinkHalf (Revert device folder name) traffic = λ old new. ⊥
 LinkHalf (Connect one other) traffic = λ old new. ConnectRow old new (Done Changed)
 LinkHalf (Lose one other) traffic = λ old new. LoseRow old new (Done Changed)
 LinkHalf (Begin device other) traffic = Carries (end_of device other) traffic
 LinkHalf (Deliver device other) traffic = Carries (end_of device other) traffic
 LinkHalf (Announce device other folder) traffic = Carries (end_of device other) traffic
+LinkHalf (StartPull device folder name) traffic = λ old new. ⊥
 LinkHalf (Ask device other folder name) traffic = Carries (end_of device other) traffic
+LinkHalf (Finish device folder name) traffic = λ old new. ⊥
 LinkHalf (Restart device) traffic = λ old new. new ≡ lost old
-LinkHalf step traffic = λ old new. ⊥
 
 -- ---- replay
 
@@ -200,12 +250,12 @@ OnlyIf false half old new = new ≡ old
 abbrev pub PeerStep : Device → Logged → Peer → Peer → Type 0
 PeerStep device event old new =
     OnlyIf (touches_device (guards_of event.step) device)
-    (SaysNoMore event.step event.failed event.traffic × PeerHalf event.step event.failed event.traffic old new) old new
+    (SaysNoMore event.step event.failed event.kept event.traffic × PeerHalf event.step event.failed event.kept event.traffic old new) old new
 
 abbrev pub LinkStep : Device → Device → Logged → Link → Link → Type 0
 LinkStep lower upper event old new =
     OnlyIf (touches_link (guards_of event.step) lower upper)
-    (SaysNoMore event.step event.failed event.traffic × LinkHalf event.step event.traffic old new) old new
+    (SaysNoMore event.step event.failed event.kept event.traffic × LinkHalf event.step event.traffic old new) old new
 
 -- the events of a log, one after the other, lead from one state of an object to another
 abbrev pub Replays : {S : Type 0} → (Logged → S → S → Type 0) → S → List Logged → S → Type 0

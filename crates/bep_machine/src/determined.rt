@@ -1,6 +1,6 @@
-//! A run is determined by its steps, and by which calls of stores fail in them. Each function does nothing; its contract is
-//! the law.
-ghost use Rattle.bep_machine.specs.Determined.{RunsAreDetermined, StepsAreDetermined};
+//! A run is determined by its steps, and by which calls of stores fail in them; a replay by its base and its events. Each
+//! function does nothing; its contract is the law.
+ghost use Rattle.bep_machine.specs.Determined.{DevicesReplayOneWay, LinksReplayOneWay, RunsAreDetermined, StepsAreDetermined};
 
 use crate::steps_keep_sound;
 use bep_choice::laws::choice_is_unique;
@@ -23,4 +23,15 @@ pub fn runs_are_determined()
 {
     steps_are_determined();
     steps_keep_sound();
+}
+
+/// Two replays of one base by one list of events end in one state: of a device that isn't among the others with which it
+/// shares its folders, and of a link.
+pub fn replays_are_determined()
+    ensures devices { DevicesReplayOneWay }
+    ensures links { LinksReplayOneWay }
+{
+    choice_is_unique();
+    merge_exists();
+    bump_exists();
 }

@@ -1,6 +1,8 @@
 //! A step is what it does to each device and each link, and a run is what its events make of each. Each function does
 //! nothing; its contract is the law.
-ghost use Rattle.bep_machine.specs.HalfLaws.{HalvesMakeTheStep, StepHasHalves, BeginIsTold, DeliverIsTold, AnnounceIsTold, AskIsTold, DevicesReplayTheirOwn, LinksReplayTheirOwn, RunReplays, ReplaysRun};
+ghost use Rattle.bep_machine.specs.HalfLaws.{HalvesMakeTheStep, StepHasHalves, EditIsTold, RemoveIsTold, ScanIsTold, OverrideIsTold, RevertIsTold, StartPullIsTold, FinishIsTold, BeginIsTold, DeliverIsTold, AnnounceIsTold, AskIsTold, TrafficIsOne, ConnectIsTold, LoseIsTold, RestartIsTold, DevicesReplayTheirOwn, LinksReplayTheirOwn, ReplaysKeepSharing, ReplaysKeepIds, RunReplays, ReplaysRun, ReplaysAreThere};
+
+use crate::steps_keep_sound;
 
 /// Where each device and each link that an event touches makes its half, and all others stay, the event's step was made.
 pub fn halves_make_the_step()
@@ -13,18 +15,38 @@ pub fn step_has_halves()
     ensures { StepHasHalves }
 {}
 
-/// What a device does over a link that it is lent makes, where it is done, the halves of one event, which tells of it.
+/// What is logged of an action makes of the device, and of the link that it was lent, what the action did. So it is of a
+/// step in a folder that is done, or that fails and yet changed something; of a step over a link that is done; of a link
+/// that comes up or is lost; and of a restart, at the device and at each of its links. No other traffic tells what was done
+/// to a link.
 pub fn actions_are_told()
+    ensures edit { EditIsTold }
+    ensures remove { RemoveIsTold }
+    ensures scan { ScanIsTold }
+    ensures override_one { OverrideIsTold }
+    ensures revert { RevertIsTold }
+    ensures start_pull { StartPullIsTold }
+    ensures finish { FinishIsTold }
     ensures begin { BeginIsTold }
     ensures deliver { DeliverIsTold }
     ensures announce { AnnounceIsTold }
     ensures ask { AskIsTold }
+    ensures traffic { TrafficIsOne }
+    ensures connect { ConnectIsTold }
+    ensures lose { LoseIsTold }
+    ensures restart { RestartIsTold }
 {}
 
 /// A device, or a link, replays a log exactly where it replays those events of it that touch it.
 pub fn own_events_replay()
     ensures devices { DevicesReplayTheirOwn }
     ensures links { LinksReplayTheirOwn }
+{}
+
+/// A replay changes neither which folders a device has nor, of each, its kind, who shares it, and the id of its index.
+pub fn replays_keep_folders()
+    ensures sharing { ReplaysKeepSharing }
+    ensures ids { ReplaysKeepIds }
 {}
 
 /// Of every run there is a log that tells of all its steps that were done, and that each device and each link replays.
@@ -39,4 +61,13 @@ pub fn replays_run()
     ensures { ReplaysRun }
 {
     halves_make_the_step();
+}
+
+/// The devices and links of a sound cluster replay a log. Its events touch only what is there, and its edits put nodes. Then
+/// all that its steps name is there, and the cluster to which the log leads is sound.
+pub fn replays_are_there()
+    ensures { ReplaysAreThere }
+{
+    halves_make_the_step();
+    steps_keep_sound();
 }

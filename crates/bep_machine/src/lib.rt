@@ -22,7 +22,7 @@ mod step;
 mod undone;
 
 pub use calm::{quiet_steps_keep_calm, quiet_steps_keep_records};
-pub use determined::{runs_are_determined, steps_are_determined};
+pub use determined::{replays_are_determined, runs_are_determined, steps_are_determined};
 pub use effects::{
     finish_adopts, finish_drops, override_wins, revert_takes_back, scan_records, start_pull_begins,
     users_change_files, wanted_is_newer,
@@ -32,8 +32,8 @@ pub use finite::clusters_are_finite;
 pub use free::{firm_stays_put, runs_are_free, steps_are_free};
 pub use gapless::{runs_are_gapless, same_point_same_index};
 pub use halves::{
-    actions_are_told, halves_make_the_step, own_events_replay, replays_run, run_replays,
-    step_has_halves,
+    actions_are_told, halves_make_the_step, own_events_replay, replays_are_there,
+    replays_keep_folders, replays_run, run_replays, step_has_halves,
 };
 pub use headline::{settled_stays_put, settled_stays_settled};
 pub use limits::{MAX_EPOCH, MAX_OUTSTANDING, MAX_REQUEST_ID};
