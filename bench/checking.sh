@@ -13,8 +13,8 @@ fi
 work=$(mktemp -d)
 trap 'rm -rf "$work"' EXIT
 
-# The first call builds the program, if it isn't built.
-"$top/syncaudit" check < "$top/examples/one-equal-file.json" > /dev/null
+. "$top/release/choose.sh"
+choose
 . "$top/bench/measure.sh"
 
 mkdir -p "$work/serde/src" "$work/serde/.cargo"
@@ -47,7 +47,7 @@ PROGRAM
 for kind in settled flights devices names bytes; do
   make_document "$kind"
   measure serde_json "$work/serde/target/release/parse"
-  measure check "$top/crates/syncaudit/out/syncaudit" check
+  measure check "$program" check
   grep -qx true "$work/serde_json.out"
   grep -qx settled "$work/check.out"
   echo "== $kind"

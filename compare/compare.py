@@ -5,7 +5,7 @@ examples, on documents with something as great as it may be or one more, and on 
     compare/compare.py [COUNT [SEED]]
 
 COUNT random documents (1000 if not given): small clusters, most of them nearly settled, two of five with a mistake made
-somewhere in their tree or text, a few at a limit. The program must be built, as ./syncaudit does it on its first run.
+somewhere in their tree or text, a few at a limit. The program must be built, as SYNCAUDIT_BUILD=1 ./syncaudit does.
 """
 
 import pathlib

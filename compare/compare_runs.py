@@ -4,8 +4,8 @@
     compare/compare_runs.py [COUNT [SEED]]
 
 COUNT scenarios (1000 if not given): random folders, devices and links, and up to 200 steps, most of them such that there
-is something to do; one of ten has a mistake made somewhere. The program must be built, as ./syncaudit does it on its first
-run. `compare/compare_runs.py 1 NUMBER` makes that one again.
+is something to do; one of ten has a mistake made somewhere. The program must be built, as SYNCAUDIT_BUILD=1
+./syncaudit does. `compare/compare_runs.py 1 NUMBER` makes that one again.
 """
 
 import random

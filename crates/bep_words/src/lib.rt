@@ -12,6 +12,7 @@
 #![tactic(auto)]
 
 mod mode;
+mod release;
 mod told;
 
 pub use mode::{Ending, Mode, faultless_words_ask, mode_of};

@@ -3,6 +3,7 @@ ghost use Rattle.std.specs.Prelude.{◌≡◌, IfOk, false, map};
 ghost use Rattle.clap.specs.Words.{FailsBy, app_of, fault_of, first_value, found_of, new_app, rule_of, subcommand_rows_of};
 ghost use Rattle.bep_words.specs.Mode.{Asks, FaultlessWordsAsk, IsCommand, ending_of, explain_app, flag, form_of, is_set, is_true, program, run_app, top_level};
 
+use crate::release::RELEASE;
 use bep_lines::Form;
 use clap::{Arg, ArgAction, ArgMatches, Command, Error};
 use std::alloc::{AllocError, Global};
@@ -96,7 +97,7 @@ fn top_command<'a>(alloc: Global) -> Result<Command<'a>, AllocError>
     let named = Command::new(alloc, "syncaudit").bin_name("syncaudit")?;
     Ok(
         named
-            .version("0.1.0")
+            .version(RELEASE)
             .about("Says whether a Syncthing cluster is settled, and if not, why")
             .after_help(COMMANDS_HELP)
             .subcommand_required(true)

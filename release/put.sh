@@ -1,0 +1,38 @@
+# shellcheck shell=bash
+# Puts what release/files lists below a prefix, for the scripts that have read lib.sh and have chosen 'program'.
+
+packages=/usr/share/gocode
+
+# has_exporter: the exporter's sources are there, and Go with Syncthing's packages, which builds it.
+has_exporter() {
+  [ -d "$top/export" ] && command -v go > /dev/null 2>&1 && [ -d "$packages/src/github.com/syncthing/syncthing/lib/db" ]
+}
+
+# build_exporter TO: builds the exporter, which needs no C library. Its bytes don't tell where that was.
+build_exporter() {
+  CGO_ENABLED=0 GO111MODULE=off GOPATH=$top/export:$packages \
+    go build -trimpath -buildmode=pie -ldflags='-s -w' -o "$1" syncthing-audit
+}
+
+# put MODE FILE TO: puts a file of the repository, or the program or the exporter, in this place.
+put() {
+  mkdir -p "$(dirname "$3")"
+  case $2 in
+    syncaudit) install -m "$1" "$program" "$3" ;;
+    exporter) build_exporter "$3" ;;
+    *) install -m "$1" "$top/$2" "$3" ;;
+  esac
+}
+
+# put_all PREFIX: puts all that is listed below the prefix, and tells each place.
+put_all() {
+  local mode file place
+  while read -r mode file place; do
+    if [ "$file" = exporter ] && ! has_exporter; then
+      echo "without Go and Syncthing's packages there is no $place" >&2
+    else
+      put "$mode" "$file" "$1/$place"
+      echo "$1/$place"
+    fi
+  done < <(grep '^[0-9]' "$release/files")
+}
