@@ -1,10 +1,9 @@
-"""explained.py PROGRAM DOCUMENT: compares what `explain --json` writes of a document with what `explain` writes: status,
-verdict, and the reason and place of each failure, in order. Says what differs."""
+"""Compares what `explain --json` writes of a document with what `explain` writes: the status, the verdict, and the reason
+and place of each failure, in order."""
 
 import json
 import re
 import subprocess
-import sys
 
 
 def run(program, words, document):
@@ -42,18 +41,20 @@ def lines_of(document):
     return [line_of(failure) for failure in document["failures"]] or ["settled"]
 
 
-def main(program, document):
+def difference(program, document):
+    """What differs, if anything does."""
     status, text = run(program, ["explain"], document)
     json_status, written = run(program, ["explain", "--json"], document)
     if written.count("\n") != 1 or not written.endswith("\n"):
-        sys.exit(f"{document}: this isn't one line: {written!r}")
-    told = json.loads(written)
+        return f"this isn't one line: {written!r}"
+    try:
+        told = json.loads(written)
+    except ValueError:
+        return f"this isn't JSON: {written!r}"
     wanted = [line for line in text.splitlines() if not line.startswith("  ")]
     if json_status != status or lines_of(told) != wanted:
-        sys.exit(f"{document}: with --json the status is {json_status} and it tells {lines_of(told)}, not {status}, {wanted}")
+        return f"with --json the status is {json_status} and it tells {lines_of(told)}, not {status}, {wanted}"
     details = sum(len(failure["details"]) for failure in told.get("failures", []))
     if details != len(re.findall("^  ", text, re.M)):
-        sys.exit(f"{document}: with --json there are {details} details, and not as many as lines")
-
-
-main(*sys.argv[1:])
+        return f"with --json there are {details} details, and not as many as lines"
+    return ""

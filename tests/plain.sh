@@ -1,5 +1,5 @@
 #!/usr/bin/env bash
-# plain.sh PROGRAM PLAIN: runs the plain checker on each document that rows.sh and pieces.sh have the program audit, and
+# plain.sh PROGRAM PLAIN: runs the plain checker on each document that rows.py and pieces.sh have the program audit, and
 # compares its report with the program's; of a document that is refused it writes none. The last line is 'N passed, M failed'.
 set -euo pipefail
 program=$(readlink -m "$1")
@@ -21,7 +21,7 @@ done
 # What the program is to audit, each document once.
 mkdir "$work/kept" "$work/documents"
 export PROGRAM=$program KEPT=$work/kept
-./rows.sh keeper.sh > /dev/null &
+./rows.py keeper.sh > /dev/null &
 running=$!
 ./pieces.sh keeper.sh > /dev/null || true
 wait "$running" || true

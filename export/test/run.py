@@ -1,12 +1,12 @@
 #!/usr/bin/env python3
 """Runs the tests of the audit of real devices: Go's, and each class of cases against real Syncthing devices in a process of its own,
-side by side. The last line is 'N passed, M failed'.
+side by side. The last line is 'N passed, M failed', and ', K skipped' after it where something was.
 
     export/test/run.py [SECONDS]
 
-It installs nothing. Where something is missing it says what, runs nothing and has status 0. With SECONDS, cases that
-aren't begun by then are told, and count as neither; so do all where building takes longer. What was begun goes on to
-its end, for which it has more time than a slow machine needs: what hangs fails.
+It installs nothing. Where something is missing it says what, and skips all; a class and Go's tests count as one each
+then. With SECONDS, cases that aren't begun by then are skipped; so are all where building takes longer. What was begun
+goes on to its end, for which it has more time than a slow machine needs: what hangs fails.
 """
 
 import os
@@ -25,6 +25,8 @@ HERE = Path(__file__).resolve().parent
 CLASSES = [("large_folders", "LargeFiles"), ("large_folders", "LargeFolder"), ("large_folders", "ManyFiles"), ("three_devices", "LeftBehind"), ("three_devices", "EachKind"),
            ("two_devices", "Conflict"), ("two_devices", "TwoDevices"), ("two_devices", "SendOnly"),
            ("two_devices", "ReceiveOnly"), ("three_devices", "Chain"), ("three_devices", "ThreeDevices")]
+# The classes and Go's tests.
+ALL = len(CLASSES) + 1
 SIDE_BY_SIDE = 4
 SYNCTHING = "syncthing v1.19"
 # Go's tests take no second. One of the others fails by itself where a wait takes 300; this is for what else may hang.
@@ -125,8 +127,8 @@ def run_class(module, name, environment, deadline):
 
 
 def run_classes(environment, deadline):
-    """Runs all classes, some side by side, and gives how many cases passed and failed, and the classes with cases that
-    weren't begun."""
+    """Runs all classes, some side by side, and gives how many cases passed and failed, and of each class how many weren't
+    begun, with a line that says so."""
     passed = failed = 0
     unfinished = []
     with ThreadPoolExecutor(SIDE_BY_SIDE) as workers:
@@ -134,34 +136,38 @@ def run_classes(environment, deadline):
         for (_, name), count in zip(CLASSES, counts):
             passed, failed = passed + count[0], failed + count[1]
             if count[2]:
-                unfinished.append(f"cases of {name} that weren't begun in time")
+                unfinished.append((count[2], f"{count[2]} cases of {name} weren't begun in time"))
     return passed, failed, unfinished
 
 
 def main():
     lacking = missing()
     if lacking:
-        print("tests of the audit of real devices skipped; missing:", ", ".join(lacking))
-        print("0 passed, 0 failed")
-        return 0
+        return told(0, 0, [(ALL, f"all tests of the audit of real devices; missing: {', '.join(lacking)}")])
     deadline = time.monotonic() + (float(sys.argv[1]) if len(sys.argv) > 1 else 3600)
     with tempfile.TemporaryDirectory(prefix="syncthing-audit-tests-") as made:
         passed, failed, unfinished = run_all(Path(made), deadline)
-    for what in unfinished:
-        print("skipped:", what)
-    print(f"{passed} passed, {failed} failed")
+    return told(passed, failed, unfinished)
+
+
+def told(passed, failed, unfinished):
+    """Prints what was skipped, and the last line; gives the status."""
+    for _, what in unfinished:
+        print("SKIPPED:", what)
+    skipped = sum(number for number, _ in unfinished)
+    print(f"{passed} passed, {failed} failed" + (f", {skipped} skipped" if skipped else ""))
     return int(failed > 0)
 
 
 def run_all(room, deadline):
-    """Builds the audit and runs all tests; gives how many passed and failed, and what wasn't begun."""
+    """Builds the audit and runs all tests; gives how many passed and failed, and what was skipped."""
     from exporting import PROGRAM, STAND_IN, UNTIL, auditor, go_environment
     program = auditor()
     print("tests of the audit of real devices, answered by", "compare/ in place of the program" if program == str(STAND_IN) else program)
     for_go = go_environment(room)
     status = build(room, for_go, deadline)
     if status is None:
-        return 0, 0, ["all; building wasn't done in time"]
+        return 0, 0, [(ALL, "all tests of the audit of real devices; building wasn't done in time")]
     if status != 0:
         return 0, 1, []
     passed, failed = run_go(for_go)
