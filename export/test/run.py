@@ -29,7 +29,7 @@ CLASSES = [("large_folders", "LargeFiles"), ("large_folders", "LargeFolder"), ("
 ALL = len(CLASSES) + 1
 SIDE_BY_SIDE = 4
 SYNCTHING = "syncthing v1.19"
-# Go's tests take no second. One of the others fails by itself where a wait takes 300; this is for what else may hang.
+# Go's tests take some seconds. One of the others fails by itself where a wait takes 300; this is for what else may hang.
 SECONDS_OF_GO = 120
 SECONDS_OF_A_CASE = 600
 

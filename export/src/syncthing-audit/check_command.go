@@ -36,7 +36,9 @@ func runCheck(words []string, output, log io.Writer) (int, error) {
 	}
 	defer opened.close()
 	tellDevices(log, opened.devices)
+	endProgress := opened.startProgress(log, asked)
 	answer, err := answerOf(opened, asked, program)
+	endProgress()
 	if err != nil {
 		return 0, err
 	}
@@ -66,7 +68,7 @@ func answerOf(opened *inputs, asked options, program ask.Program) (*finding.Answ
 		}
 		replies = append(replies, replied{one, reply})
 	})
-	options := audit.Options{LeaveOut: asked.leaveOut, WithBytes: asked.bytes}
+	options := audit.Options{LeaveOut: asked.leaveOut, WithBytes: asked.bytes, Refused: opened.skip}
 	answer, err := audit.Collect(plan, options, pool.Ask)
 	if failed := pool.Close(); failed != nil {
 		return nil, failed

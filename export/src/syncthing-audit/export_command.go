@@ -37,7 +37,9 @@ func runExport(words []string, output, log io.Writer) (int, error) {
 		return 0, err
 	}
 	to := &outlet{output: output, directory: asked.into}
-	answer, err := audit.Collect(plan, audit.Options{LeaveOut: asked.leaveOut, WithBytes: asked.bytes}, to.take)
+	endProgress := opened.startProgress(log, asked)
+	answer, err := audit.Collect(plan, audit.Options{LeaveOut: asked.leaveOut, WithBytes: asked.bytes, Refused: opened.skip}, to.take)
+	endProgress()
 	if err != nil {
 		return 0, err
 	}

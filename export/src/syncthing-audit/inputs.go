@@ -17,7 +17,27 @@ import (
 type inputs struct {
 	devices []*join.Device
 	pool    *disk.Pool
+	bytes   int64 // that the indexes of homes say will be hashed
 	closers []func()
+}
+
+// skip has no bytes read from now on.
+func (i *inputs) skip() {
+	if i.pool != nil {
+		i.pool.Skip()
+	}
+}
+
+// startProgress begins to tell how far the hashing is; what it gives ends that.
+func (i *inputs) startProgress(log io.Writer, asked options) func() {
+	if i.pool == nil {
+		return func() {}
+	}
+	total := i.bytes
+	if asked.names != "" {
+		total = 0
+	}
+	return startProgress(log, total, i.pool.Hashed)
 }
 
 func (i *inputs) close() {
@@ -98,6 +118,7 @@ func (i *inputs) deviceOf(home *device.Home, asked options) (*gather.Device, err
 			return nil, fmt.Errorf("%s: %w", home.Dir, err)
 		}
 		i.closers = append(i.closers, index.Close)
+		i.bytes += index.Bytes()
 		made.Folders = append(made.Folders, index)
 	}
 	return made, nil

@@ -39,6 +39,7 @@ func runPart(words []string, output, log io.Writer) (int, error) {
 	if len(read.Folders) == 0 {
 		return 0, &wrongUsage{"the device has no such folder"}
 	}
+	defer opened.startProgress(log, asked)()
 	if asked.output == "" {
 		return statusDone, writePart(output, read)
 	}

@@ -58,6 +58,9 @@ func (i *Index) Disk() fs.Filesystem { return i.files.MtimeFS(i.Config.Filesyste
 // Max gives the greatest sequence of the device's own index.
 func (i *Index) Max() int64 { return i.snapshot.Sequence(protocol.LocalDeviceID) }
 
+// Bytes gives the bytes of all files that the device's own index has.
+func (i *Index) Bytes() int64 { return i.snapshot.LocalSize().Bytes }
+
 // Folder gives what a part's head says of the folder. A view that was never filled isn't told.
 func (i *Index) Folder() part.Folder {
 	made := part.Folder{ID: i.Config.ID, Label: i.Config.Label, Kind: kindOf(i.Config.Type), Path: i.Config.Filesystem().URI(),

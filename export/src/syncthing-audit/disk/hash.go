@@ -38,6 +38,7 @@ type Pool struct {
 	tasks   chan func()
 	workers sync.WaitGroup
 	hashed  int64
+	skips   uint32
 	sums    chooser
 }
 
@@ -64,6 +65,9 @@ func (p *Pool) Close() {
 
 // Hashed gives how many bytes were hashed up to now.
 func (p *Pool) Hashed() int64 { return atomic.LoadInt64(&p.hashed) }
+
+// Skip has no bytes read from now on: contents are those of no file then, for callers that look for other things alone.
+func (p *Pool) Skip() { atomic.StoreUint32(&p.skips, 1) }
 
 // Job is a file that is being hashed.
 type Job struct {
@@ -115,6 +119,9 @@ func (j *Job) fail(err error) {
 
 // hash hashes one piece of a file.
 func (p *Pool) hash(job *Job, offset int64) error {
+	if atomic.LoadUint32(&p.skips) == 1 {
+		return nil
+	}
 	length := job.file.Node.Size - offset
 	if length > pieceBytes {
 		length = pieceBytes

@@ -74,16 +74,15 @@ func (d *Device) Choose(isChosen func(id string) bool) {
 	}
 }
 
-// Whole says why a part isn't whole, once its folders were read.
+// Whole reads what is left of a part, once its folders were read, and says why it isn't whole.
 func (d *Device) Whole() error {
-	whole, is := d.Stream.(interface{ Whole() error })
-	if !is {
-		return nil
+	for {
+		if _, err := d.Stream.Next(); err == io.EOF {
+			return nil
+		} else if err != nil {
+			return fmt.Errorf("%s: %w", d.From, err)
+		}
 	}
-	if err := whole.Whole(); err != nil {
-		return fmt.Errorf("%s: %w", d.From, err)
-	}
-	return nil
 }
 
 // begin goes to the first name of a folder, past folders that aren't audited.

@@ -1,7 +1,5 @@
 package part
 
-import "io"
-
 // linesAhead is how many lines of a part are read ahead.
 const linesAhead = 256
 
@@ -49,17 +47,6 @@ func (a *Ahead) Next() (Line, error) {
 	next := <-a.lines
 	a.err = next.err
 	return next.line, next.err
-}
-
-// Whole reads what is left, and says why the part isn't whole.
-func (a *Ahead) Whole() error {
-	for {
-		if _, err := a.Next(); err == io.EOF {
-			return nil
-		} else if err != nil {
-			return err
-		}
-	}
 }
 
 // Close ends the reading, and waits until nothing of it runs any more.

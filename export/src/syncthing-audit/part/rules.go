@@ -7,6 +7,7 @@ import (
 	"math"
 
 	"github.com/syncthing/syncthing/lib/protocol"
+	"syncthing-audit/limits"
 )
 
 // checkHead says why a part's head is none.
@@ -125,6 +126,11 @@ func (r *rules) end() error {
 
 // checkName says why a name's line is none.
 func checkName(one *Name, in *Folder) error {
+	if len(one.Out) == 0 {
+		if err := limits.CheckName(string(one.Name)); err != nil {
+			return fmt.Errorf("%q: %w", one.Name, err)
+		}
+	}
 	if one.Own != nil {
 		if err := checkRecord(one.Own, in.Max); err != nil {
 			return fmt.Errorf("the own record of %q: %w", one.Name, err)
@@ -164,8 +170,10 @@ func checkRecord(one *Record, greatest int64) error {
 		return fmt.Errorf("its type is %d", one.Type)
 	case (one.Content != nil) != (isFile(one.Type) && !one.Deleted):
 		return errors.New("it has a content and is no file, or the other way round")
-	case (one.Target != "") != (one.Type == symlink && !one.Deleted):
-		return errors.New("it has a target and is no symlink, or the other way round")
+	case one.Type == symlink && !one.Deleted && limits.CheckTarget(one.Target) != nil:
+		return limits.CheckTarget(one.Target)
+	case one.Target != "" && (one.Type != symlink || one.Deleted):
+		return errors.New("it has a target and is no symlink")
 	case one.ModifiedNs < 0 || one.ModifiedNs > 999999999:
 		return errors.New("its nanoseconds are over 999999999")
 	case one.ModifiedBy == 0:
@@ -178,6 +186,9 @@ func checkRecord(one *Record, greatest int64) error {
 
 // checkVersion says why a version is none.
 func checkVersion(counters [][2]uint64) error {
+	if len(counters) > limits.MostCounters {
+		return fmt.Errorf("its version has over %d counters", limits.MostCounters)
+	}
 	for place, one := range counters {
 		if one[0] == 0 || one[1] == 0 || one[1] > math.MaxInt64 || place > 0 && counters[place-1][0] >= one[0] {
 			return errors.New("its version is none")
@@ -193,8 +204,10 @@ func checkNode(one *Node, isOut bool) error {
 		return fmt.Errorf("its type is %d", one.Type)
 	case one.ModifiedNs < 0 || one.ModifiedNs > 999999999 || one.Size < 0:
 		return errors.New("its time or size is none")
-	case (one.Target != "") != (one.Type == symlink) && !isOut:
-		return errors.New("it has a target and is no symlink, or the other way round")
+	case one.Type == symlink && !isOut && limits.CheckTarget(one.Target) != nil:
+		return limits.CheckTarget(one.Target)
+	case one.Target != "" && one.Type != symlink:
+		return errors.New("it has a target and is no symlink")
 	case (len(one.Contents) > 0) != isFile(one.Type) && !isOut:
 		return errors.New("it has a content and is no file, or the other way round")
 	}

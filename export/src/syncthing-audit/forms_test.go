@@ -1,0 +1,272 @@
+package main
+
+import (
+	"bytes"
+	"crypto/sha256"
+	"fmt"
+	"math/rand"
+	"os"
+	"path/filepath"
+	"reflect"
+	"sort"
+	"testing"
+	"time"
+
+	"github.com/syncthing/syncthing/lib/fs"
+	"github.com/syncthing/syncthing/lib/ignore"
+	"github.com/syncthing/syncthing/lib/protocol"
+	"syncthing-audit/ask"
+	"syncthing-audit/device"
+	"syncthing-audit/disk"
+	"syncthing-audit/finding"
+	"syncthing-audit/gather"
+	"syncthing-audit/join"
+	"syncthing-audit/part"
+)
+
+const (
+	namesOfARound   = 120
+	devicesOfARound = 3
+	block           = protocol.MinBlockSize
+)
+
+// contents are what files have here: of one block and of two, some of one size, some of one first block.
+var contents = [][]byte{{}, []byte("a"), []byte("b"), []byte("longer"), bytes.Repeat([]byte("x"), block), bytes.Repeat([]byte("x"), block+5),
+	append(bytes.Repeat([]byte("x"), block), "other"...)}
+
+// drawn is a folder at one device, drawn at random: what its index and its views say, and a directory.
+type drawn struct {
+	id    string
+	about part.Folder
+	own   []device.Entry
+	views map[string][]device.Entry
+	path  string
+}
+
+func (d *drawn) Folder() part.Folder                { return d.about }
+func (d *drawn) Disk() fs.Filesystem                { return fs.NewFilesystem(fs.FilesystemTypeBasic, d.path) }
+func (d *drawn) Patterns() (*ignore.Matcher, error) { return ignore.New(d.Disk()), nil }
+func (d *drawn) Max() int64                         { return d.about.Max }
+
+func (d *drawn) Own(_ string, take func(device.Entry) bool) error {
+	return give(d.own, take)
+}
+
+func (d *drawn) View(of part.View, _ string, take func(device.Entry) bool) error {
+	return give(d.views[of.Device], take)
+}
+
+func give(entries []device.Entry, take func(device.Entry) bool) error {
+	for _, one := range entries {
+		if !take(one) {
+			break
+		}
+	}
+	return nil
+}
+
+// draw draws a folder at all devices.
+func draw(t *testing.T, random *rand.Rand) []*drawn {
+	devices := make([]*drawn, devicesOfARound)
+	for place := range devices {
+		id := protocol.DeviceID{7: byte(place + 1)}.String()
+		devices[place] = &drawn{id: id, path: t.TempDir(), views: map[string][]device.Entry{},
+			about: part.Folder{ID: "docs", Kind: []string{"send-receive", "receive-only"}[random.Intn(2)], IndexID: 1, Max: namesOfARound, Directory: id}}
+	}
+	for place, one := range devices {
+		for other, two := range devices {
+			if other != place {
+				one.about.Sharing = append(one.about.Sharing, part.Sharing{Device: two.id})
+				one.about.Views = append(one.about.Views, part.View{Device: two.id, IndexID: 1, Max: namesOfARound})
+			}
+		}
+	}
+	for number := int64(1); number <= namesOfARound; number++ {
+		drawName(t, random, devices, fmt.Sprintf("%03d", number), number)
+	}
+	return devices
+}
+
+// drawName draws what the devices have of one name: mostly what one of them has, else something else.
+func drawName(t *testing.T, random *rand.Rand, devices []*drawn, name string, sequence int64) {
+	usual := drawRecord(random, sequence)
+	pick := func() device.Entry {
+		made := usual
+		if random.Intn(4) == 0 {
+			made = drawRecord(random, sequence)
+		}
+		made.Name = name
+		return made
+	}
+	for _, one := range devices {
+		own := pick()
+		if random.Intn(8) > 0 {
+			one.own = append(one.own, own)
+		}
+		if random.Intn(6) == 0 {
+			own = drawRecord(random, sequence)
+		}
+		putNode(t, filepath.Join(one.path, name), own, random.Intn(12) == 0)
+		for _, view := range one.about.Views {
+			if random.Intn(3) > 0 {
+				one.views[view.Device] = append(one.views[view.Device], pick())
+			}
+		}
+	}
+}
+
+// drawRecord draws a record.
+func drawRecord(random *rand.Rand, sequence int64) device.Entry {
+	record := &part.Record{ModifiedS: int64(random.Intn(2) + 1000), ModifiedBy: uint64(random.Intn(2) + 1), Sequence: sequence,
+		Version: [][2]uint64{{1, uint64(random.Intn(2) + 1)}, {2, uint64(random.Intn(2) + 1)}}, Invalid: random.Intn(10) == 0}
+	made := device.Entry{Record: record}
+	switch random.Intn(10) {
+	case 0:
+		record.Deleted = true
+	case 1:
+		record.Type = int(protocol.FileInfoTypeDirectory)
+	case 2:
+		record.Type, record.Target = int(protocol.FileInfoTypeSymlink), []string{"here", "there"}[random.Intn(2)]
+	default:
+		data := contents[random.Intn(len(contents))]
+		size := int64(block)
+		if len(data) <= block {
+			size <<= random.Intn(2)
+		}
+		for offset := 0; offset == 0 || offset < len(data); offset += block {
+			end := offset + block
+			if end > len(data) {
+				end = len(data)
+			}
+			made.Blocks = append(made.Blocks, sha256.Sum256(data[offset:end]))
+		}
+		record.Content = &part.Content{Size: int64(len(data)), BlockSize: size, Hash: disk.HashOf(made.Blocks)}
+	}
+	return made
+}
+
+// putNode puts what a record says onto a disk, with another time where that is asked for.
+func putNode(t *testing.T, path string, entry device.Entry, isLate bool) {
+	record := entry.Record
+	var err error
+	switch {
+	case record.Deleted:
+		return
+	case record.Content == nil && record.Target != "":
+		err = os.Symlink(record.Target, path)
+	case record.Content == nil:
+		err = os.Mkdir(path, 0o755)
+	default:
+		err = os.WriteFile(path, dataOf(record.Content), 0o644)
+	}
+	if err == nil && record.Target == "" {
+		when := time.Unix(record.ModifiedS, 0)
+		if isLate {
+			when = when.Add(time.Nanosecond)
+		}
+		err = os.Chtimes(path, when, when)
+	}
+	if err != nil {
+		t.Fatal(err)
+	}
+}
+
+// dataOf gives the bytes of a content.
+func dataOf(content *part.Content) []byte {
+	for _, data := range contents {
+		hashes := [][32]byte{}
+		for offset := 0; offset == 0 || offset < len(data); offset += block {
+			end := offset + block
+			if end > len(data) {
+				end = len(data)
+			}
+			hashes = append(hashes, sha256.Sum256(data[offset:end]))
+		}
+		if int64(len(data)) == content.Size && disk.HashOf(hashes) == content.Hash {
+			return data
+		}
+	}
+	panic("no such content")
+}
+
+// auditor gives the program that answers, or what stands for it.
+func auditor() ask.Program {
+	for _, path := range []string{os.Getenv("SYNCAUDIT"), "../../../crates/syncaudit/out/syncaudit"} {
+		if _, err := os.Stat(path); err == nil {
+			return ask.Program{Path: path}
+		}
+	}
+	return ask.Program{Path: "../../test/stand_in.py"}
+}
+
+// failures gives what an audit of the devices finds, in one form of documents.
+func failures(t *testing.T, devices []*drawn, withBytes bool) []finding.Failure {
+	pool := disk.NewPool(2)
+	defer pool.Close()
+	opened := &inputs{}
+	defer opened.close()
+	for _, one := range devices {
+		stream := (&gather.Device{ID: one.id, Folders: []gather.Folder{one}, Bytes: withBytes, Pool: pool}).Stream()
+		opened.closers = append(opened.closers, stream.Close)
+		opened.devices = append(opened.devices, join.NewDevice(stream, one.id))
+	}
+	answer, err := answerOf(opened, options{bytes: withBytes, jobs: 1}, auditor())
+	if err != nil || len(answer.Refusals) > 0 {
+		t.Fatal(err, answer.Refusals)
+	}
+	return answer.Folders[0].Failures
+}
+
+// firsts gives the first failure of each name: the verdict on the folder that has this name alone.
+func firsts(failures []finding.Failure) map[string]finding.Failure {
+	made := map[string]finding.Failure{}
+	for _, one := range failures {
+		if _, there := made[one.Name]; !there {
+			made[one.Name] = one
+		}
+	}
+	return made
+}
+
+// Stand-ins and bytes give the same verdict, on each name by itself and on all together; and all that fails is the same
+// but for a StoreUnclean where an earlier reason fails, too.
+func TestBothFormsSayTheSame(t *testing.T) {
+	seen := map[string]bool{}
+	for seed := int64(1); seed <= 2; seed++ {
+		devices := draw(t, rand.New(rand.NewSource(seed)))
+		standIns, withBytes := failures(t, devices, false), failures(t, devices, true)
+		if !reflect.DeepEqual(firsts(standIns), firsts(withBytes)) || standIns[0] != withBytes[0] {
+			t.Errorf("seed %d: %v, %v", seed, firsts(standIns), firsts(withBytes))
+		}
+		if one, other := withoutUnclean(standIns), withoutUnclean(withBytes); !reflect.DeepEqual(one, other) {
+			t.Errorf("seed %d: %v, %v", seed, one, other)
+		}
+		for _, one := range standIns {
+			seen[one.Reason] = true
+		}
+	}
+	for _, reason := range []string{"NotWinner", "RecordMissing", "RecordDiffers", "LocalOnly", "StoreDiffers", "StoreUnclean", "ViewAhead"} {
+		if !seen[reason] {
+			t.Errorf("no %s was drawn", reason)
+		}
+	}
+}
+
+// withoutUnclean gives the failures without each StoreUnclean at a place where the record or the disk isn't the winner's.
+func withoutUnclean(failures []finding.Failure) []finding.Failure {
+	differs := map[finding.Failure]bool{}
+	for _, one := range failures {
+		switch one.Reason {
+		case "RecordDiffers", "LocalOnly", "StoreDiffers":
+			differs[finding.Failure{Reason: "StoreUnclean", Name: one.Name, Device: one.Device}] = true
+		}
+	}
+	var made []finding.Failure
+	for _, one := range failures {
+		if !differs[one] {
+			made = append(made, one)
+		}
+	}
+	sort.SliceStable(made, func(a, b int) bool { return made[a].Name < made[b].Name })
+	return made
+}
