@@ -1,10 +1,10 @@
 #!/usr/bin/env python3
-"""Compares the program with the second reading on each document that tests/pieces.sh puts together: check documents as
-compare.py does, scenarios as compare_runs.py does.
+"""Compares the program with the second reading on each document that tests/pieces.sh and tests/steps.py put together:
+check documents as compare.py does, scenarios as compare_runs.py does.
 
     compare/compare_pieces.py
 
-The script is run on a program that keeps what it reads, and then runs the true one; so its rows are tried by the way.
+The scripts are run on a program that keeps what it reads, and then runs the true one; so their rows are tried by the way.
 """
 
 import os
@@ -21,10 +21,11 @@ from compare import PROGRAM, TOP, compare, kind_of, tell_difference
 def put_together(folder):
     """The documents that the rows ask the program about, each with its command, each once."""
     told = os.environ | {"KEPT": str(folder), "PROGRAM": str(PROGRAM)}
-    ran = subprocess.run([TOP / "tests/pieces.sh", TOP / "tests/keeper.sh"], env=told, capture_output=True, text=True, check=False)
-    print(ran.stdout.rstrip())
-    if ran.returncode != 0:
-        sys.exit("the rows fail")
+    for script in ("pieces.sh", "steps.py"):
+        ran = subprocess.run([TOP / "tests" / script, TOP / "tests/keeper.sh"], env=told, capture_output=True, text=True, check=False)
+        print(ran.stdout.rstrip())
+        if ran.returncode != 0:
+            sys.exit("the rows fail")
     documents = {("run" if path.name.startswith("run.") else "check", path.read_bytes()) for path in folder.iterdir()}
     return sorted(documents)
 

@@ -1,6 +1,6 @@
 #!/usr/bin/env bash
-# pieces.sh PROGRAM: runs the built program on documents and scenarios that are put together of pieces, many of which differ
-# in one piece, and compares what it tells. The rows stand in the files of pieces/. What is due was worked out by hand, by
+# pieces.sh PROGRAM: runs the built program on check documents that are put together of pieces, many of which differ in one
+# piece, and compares what it tells. The rows stand in the scripts of pieces/. What is due was worked out by hand, by
 # docs/DOCUMENTS.md; a hash is that of 'sha256sum'. The last line is 'N passed, M failed'.
 # shellcheck disable=SC2034 # the files of pieces/ use the pieces
 set -euo pipefail
@@ -61,31 +61,7 @@ letters() {
   printf "n%.0s" $(seq "$1")
 }
 
-# ended [KIND]: the steps on standard input that are refused, and the document of their end. Devices 1 and 2 share a folder,
-# which device 2 has in this kind.
-ended() {
-  { "$program" run --document 2>&1 || true; } <<< '{"version":1,"folders":[{"folder":"docs","devices":[
-    {"device":1,"kind":"send-receive","index_id":11},{"device":2,"kind":"'"${1:-send-receive}"'","index_id":12}]}],
-    "links":[[1,2]],"steps":['"$(sed '/^$/d' | paste -sd,)"']}'
-}
-
-# Both begin a session over a new connection, and each learns how far the other's index goes. These are five steps.
-meet() {
-  echo '["connect",1,2],["begin",1,2],["begin",2,1],["deliver",2,1],["deliver",1,2]'
-}
-
-# Device 1 tells of its next records. These are two steps.
-tell() {
-  echo '["announce",1,2,"docs"],["deliver",2,1]'
-}
-
-# take NAME: device 2 pulls the file of device 1. These are five steps.
-take() {
-  echo '["pull",2,"docs","NAME"],["ask",2,1,"docs","NAME"],["deliver",1,2],["deliver",2,1],["finish",2,"docs","NAME"]' |
-    sed "s/NAME/$1/g"
-}
-
-for part in documents records lists cuts choices runs devices; do
+for part in documents records lists cuts choices; do
   # shellcheck source=/dev/null
   source "tests/pieces/$part.sh"
 done

@@ -1,6 +1,6 @@
 #!/usr/bin/env bash
-# plain.sh PROGRAM PLAIN: runs the plain checker on each document that rows.py and pieces.sh have the program audit, and
-# compares its report with the program's; of a document that is refused it writes none. The last line is 'N passed, M failed'.
+# plain.sh PROGRAM PLAIN: runs the plain checker on each document that rows.py, pieces.sh and steps.py have the program
+# audit, and compares its report with the program's; of a document that is refused it writes none. The last line is 'N passed, M failed'.
 set -euo pipefail
 program=$(readlink -m "$1")
 plain=$(readlink -m "$2")
@@ -21,10 +21,10 @@ done
 # What the program is to audit, each document once.
 mkdir "$work/kept" "$work/documents"
 export PROGRAM=$program KEPT=$work/kept
-./rows.py keeper.sh > /dev/null &
-running=$!
-./pieces.sh keeper.sh > /dev/null || true
-wait "$running" || true
+for script in rows.py pieces.sh steps.py; do
+  "./$script" keeper.sh > /dev/null &
+done
+wait
 for kept in "$work"/kept/check.*; do
   mv "$kept" "$work/documents/$(sha256sum < "$kept" | cut -c 1-64)"
 done

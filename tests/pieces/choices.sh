@@ -6,6 +6,14 @@
 hello='"name":"hello","type":0,"size":5,"blocks":["2cf24dba5fb0a30e26e83b2ac5b9e29e1b161e5c1fa7425e73043362938b9824"],
   "modified_s":5,"modified_by":7,"version":[[7,1]],"sequence":1'
 
+# first_row: the device of the first row of the certificate on standard input; what is no certificate is given on.
+first_row() {
+  python3 -c '
+import json, sys
+told = sys.stdin.read().strip()
+print(json.loads(told)["certificate"][0]["device"] if told.startswith("{") else told)'
+}
+
 # winner PIECE PIECE PIECE: the device whose record wins where devices 2, 3 and 4 have a file with these further members, of
 # which one that is there already takes the place of the one before; device 1 has none.
 winner() {
@@ -14,8 +22,7 @@ winner() {
     devices+=",{\"device\":$number,\"kind\":\"send-receive\",\"index_id\":1,\"max\":9,\"own\":[{$hello$piece}]}"
     number=$((number + 1))
   done
-  first_line certify <<< "$begin$folder$device$devices]}]},\"certificate\":[]}" |
-    sed -E 's/^\{"certificate":\[\{"device":([0-9]+),.*/\1/; s/^not settled: //'
+  first_line certify <<< "$begin$folder$device$devices]}]},\"certificate\":[]}" | first_row | sed 's/^not settled: //'
 }
 
 # Of what isn't below another, what isn't deleted is before what is, then the later time, the smaller 'modified_by' and the

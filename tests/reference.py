@@ -1,0 +1,119 @@
+#!/usr/bin/env python3
+"""reference.py: says whether docs/reference/ is what the comments of the crates say, and tries on small files what is read
+of them. The last line is 'N passed, M failed'."""
+
+import sys
+from pathlib import Path
+
+from counting import Count
+
+DOCS = Path(__file__).resolve().parents[1] / "docs"
+sys.path[1:1] = [str(DOCS), str(DOCS / "generate")]
+
+from definitions import definitions  # noqa: E402
+from rust import exported, items, module_comment  # noqa: E402
+from write_reference import check, pages  # noqa: E402
+
+SOURCE = """//! What is kept.
+//!
+//! More of it.
+use other::Thing;
+
+/// One of them.
+#[derive(Clone)]
+pub struct One<T> {
+    pub field: T,
+}
+
+impl<T: Copy> One<T> {
+    /// A new one.
+    pub fn new(
+        value: T,
+        count: u64,
+    ) -> Self
+        requires { count < 3 }
+        ensures value { result.field ≡ value }
+
+        ensures { count
+            ≡ count }
+    {
+        inner(value)
+    }
+
+    fn hidden(&self) {}
+
+    /// It is short.
+    pub fn short(&self) -> bool { true }
+}
+
+impl Keep for One<u8> {
+    /// Keeps it.
+    fn keep(&self) {
+    }
+
+    fn silent(&self) {
+    }
+}
+
+/// Both are the same.
+pub fn both_are_one()
+    ensures same { one ≡ other }
+    ensures other { other ≡ one }
+{}
+
+// Not for callers.
+fn helper() {}
+"""
+
+DEFINITIONS = """-- What holds of them.
+-- In two lines.
+use Rattle.std.specs.Prelude.{ℕ}
+
+-- it is small
+abbrev pub IsSmall : ℕ → Type 0
+IsSmall n = n < 3
+
+pub record Pair (n : ℕ) : Type 0 where
+  pub first : ℕ
+
+-- not given out
+Hidden : Type 0
+
+unfoldable pub twice : ℕ → ℕ
+pub mod Inner
+"""
+
+
+def found_items():
+    """What is read of a source file: names, heads, clauses, and what is public or a law."""
+    return [(item.full_name, item.head, item.comment, item.clauses, item.is_law) for item in items(SOURCE) if item.is_public]
+
+
+WANTED_ITEMS = [
+    ("One", "", ["One of them."], [], False),
+    ("One::new", "fn new(value: T, count: u64) -> Self", ["A new one."], ["requires", "value", "ensures"], False),
+    ("One::short", "fn short(&self) -> bool", ["It is short."], [], False),
+    ("One::keep", "fn keep(&self)", ["Keeps it."], [], False),
+    ("both_are_one", "fn both_are_one()", ["Both are the same."], ["same", "other"], True),
+]
+
+
+def main():
+    count = Count("reference")
+
+    def expect(what, wanted, told):
+        count.says(what, "" if told == wanted else f"{told} is read, and not {wanted}")
+
+    expect("a module's comment", ["What is kept.", "", "More of it."], module_comment(SOURCE))
+    expect("the items of a file", WANTED_ITEMS, found_items())
+    expect("what a module gives on", ({"Small", "large", "Huge"}, ["laws"]),
+           exported("mod inner;\npub mod laws;\npub use inner::{\n    Small, large,\n};\npub use other::Big as Huge;\n"))
+    head, found = definitions(DEFINITIONS)
+    expect("the head of definitions", ["What holds of them.", "In two lines."], head)
+    expect("definitions", [("IsSmall", ["it is small"]), ("Pair", []), ("twice", [])],
+           [(one.name, one.comment) for one in found])
+    check(count, pages())
+    return count.told()
+
+
+sys.exit(main())
