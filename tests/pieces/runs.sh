@@ -193,6 +193,10 @@ told=$(tests/large.sh messages | sed '$s/.*/,["edit",2,"docs",{"name":"other","t
   { "$program" run 2> /dev/null || true; } | grep '^step ')
 expect 'a full link' 'step 3078: 152 LinkFull' "$told"
 
+# A request that comes where no answer can be sent waits until one can be.
+told=$(tests/large.sh request | { "$program" run 2> /dev/null || true; } | grep '^step ')
+expect 'a request over a full link' 'step 3084: 152 LinkFull' "$told"
+
 # A link's smaller device comes first.
 linked() {
   first_line run <<< '{"version":1,"folders":[{"folder":"docs","devices":[
