@@ -38,6 +38,14 @@ steps() {
       echo '["announce",1,2,"docs"]'
       each 1024 '["edit",1,"docs",{"name":"hello","type":0,"modified_s":&}],["scan",1,"docs","hello"],["announce",1,2,"docs"]'
       ;;
+    request)
+      echo '["edit",1,"docs",{"name":"hello","type":0,"modified_s":1,"text":"hello"}],["scan",1,"docs","hello"]'
+      meet
+      tell
+      echo '["pull",2,"docs","hello"],["ask",2,1,"docs","hello"]'
+      each 1024 '["edit",1,"docs",{"name":"todo","type":0,"modified_s":&}],["scan",1,"docs","todo"],["announce",1,2,"docs"]'
+      echo '["deliver",1,2],["deliver",2,1],["deliver",1,2]'
+      ;;
     records)
       directories 1500
       meet

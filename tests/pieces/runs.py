@@ -126,14 +126,25 @@ def on_its_way(program):
         program.expect(what, wanted, program.ended(begin + more).link())
 
 
+def large(kind):
+    """A scenario that comes to a limit."""
+    return subprocess.run([HERE.parent / "large.sh", kind], capture_output=True, text=True, check=True).stdout
+
+
+def refused_steps(program, text):
+    """The lines that tell which steps of the scenario are refused."""
+    lines, _ = program.run(["run"], text)
+    return [line for line in lines if line.startswith("step ")]
+
+
 def full_link(program):
-    """Where one end is full, the other takes a message."""
-    text = subprocess.run([HERE.parent / "large.sh", "messages"], capture_output=True, text=True, check=True).stdout
-    full = json.loads(text)
+    """Where one end is full, the other takes a message. A request that comes where no answer can be sent waits until one
+    can be."""
+    full = json.loads(large("messages"))
     full["steps"] += [["edit", 2, "docs", {"name": "other", "type": 1, "modified_s": 1}], ["scan", 2, "docs", "other"],
                       ["announce", 2, 1, "docs"]]
-    lines, _ = program.run(["run"], json.dumps(full))
-    program.expect("a full link", ["step 3078: 152 LinkFull"], [line for line in lines if line.startswith("step ")])
+    program.expect("a full link", ["step 3078: 152 LinkFull"], refused_steps(program, json.dumps(full)))
+    program.expect("a request over a full link", ["step 3084: 152 LinkFull"], refused_steps(program, large("request")))
 
 
 def links(program):
