@@ -80,18 +80,25 @@ def page(crate):
     return "\n\n".join([f"# {crate}", "\n".join(comment), *parts]) + "\n" if parts else "", names
 
 
+OVERVIEW = """# Reference
+
+What the comments of the crates say, crate by crate, lowest first. [names.md](names.md) says where each name stands.
+
+Of a call the names of its contract's clauses are given; the clauses themselves stand above its body. A clause without a
+name is `ensures`, and `requires` is what a caller must meet. A law is a call that does nothing: its contract holds of
+everything that it speaks of.
+
+`docs/write_reference.py` writes these pages, and `./test` fails where they aren't current.
+
+"""
+
+
 def overview(told):
-    """The first page: each crate with the first sentence of its comment."""
-    lines = [f"- [{crate}]({crate}.md): {comment}" for crate, comment in told]
-    return "\n".join(["# Reference", "", "What the comments of the crates say, crate by crate, lowest first. "
-                      "[names.md](names.md) says where each name stands.", "", "Of a call the names of its contract's "
-                      "clauses are given; the clauses themselves stand above its body. A clause without a name is `ensures`, "
-                      "and `requires` is what a caller must meet. A law is a call that does nothing: its contract holds "
-                      "of everything that it speaks of.", "", "`docs/write_reference.py` writes these pages, and `./test` "
-                      "fails where they aren't current.", "", *lines]) + "\n"
+    """The first page: each crate with the first paragraph of its comment."""
+    return OVERVIEW + "".join(f"- [{crate}]({crate}.md): {comment}\n" for crate, comment in told)
 
 
-def first_sentence(comment):
+def first_paragraph(comment):
     """The first paragraph of a comment, on one line."""
     lines = comment[:comment.index("")] if "" in comment else comment
     return " ".join(lines)
@@ -112,7 +119,7 @@ def pages():
         text, names = page(crate)
         if text:
             made[f"{crate}.md"] = text
-            told.append((crate, first_sentence(read(crate)[0])))
+            told.append((crate, first_paragraph(read(crate)[0])))
             places += [(name, crate, file) for name, file in names]
     return made | {"README.md": overview(told), "names.md": name_list(places)}
 

@@ -78,7 +78,8 @@ def items(text):
         item, block = ITEM.match(bare), OWNER.match(line)
         if item and not line.startswith("     "):
             is_public = bool(item[1]) or (is_open and bool(comment))
-            made = Item(item[3], item[2], owner if item[2] in ("fn", "const") and line.startswith(" ") else "", is_public, comment=comment)
+            is_inside = item[2] in ("fn", "const") and line.startswith(" ")
+            made = Item(item[3], item[2], owner if is_inside else "", is_public, comment=comment)
             if item[2] == "fn":
                 read_call(made, lines[number:])
             found.append(made)
