@@ -51,10 +51,10 @@ class LargeFolder(Exporting):
         room = self.room / "documents"
         ran = self.export("--bytes", "--into", str(room))
         self.assertEqual((ran.returncode, ran.stdout), (0, ""), ran.stderr)
-        documents = [json.loads(path.read_bytes()) for path in sorted(room.iterdir())]
+        documents = [json.loads(path.read_bytes()) for path in sorted(room.glob("cut-*.json"))]
         names = [[node["name"] for node in one["cut"]["folders"][0]["devices"][0]["store"]] for one in documents]
         self.assertEqual(names, [["a.bin", "b.bin"], ["c.bin", "text"]])
-        for path in room.iterdir():
+        for path in room.glob("cut-*.json"):
             with path.open("rb") as cut:
                 certified = run([self.auditor, "certify"], stdin=cut, check=True)
             self.assertLessEqual(len(certified.stdout.encode()), 64 * MEGA)
@@ -142,13 +142,28 @@ class ManyFiles(unittest.TestCase):
         counts = f"folder {FOLDER}: 5050 names, 0 deleted, 2 devices"
         self.assertEqual(self.check(*words), ["settled", counts])
         rot(self.room / "device2" / "files" / "00049" / "99.bin", 99)
-        lines = self.check(*words)
-        self.assertEqual((len(lines), lines[1]), (3, counts))
-        self.assertIn(f"not settled: StoreDiffers {FOLDER} 00049/99.bin on ", lines[0])
         parts = [self.room / f"{number}.part" for number in (1, 2)]
         for home, part in zip(homes, parts):
             run([self.programs / PROGRAM, "part", "--home", home, "-o", part], check=True)
-        self.assertEqual(self.check(*parts), lines)
+        lines = self.check(*parts)
+        self.assertEqual((len(lines), lines[1]), (3, counts))
+        self.assertIn(f"not settled: StoreDiffers {FOLDER} 00049/99.bin on ", lines[0])
+        self.assert_sum(parts, lines)
+
+    def assert_sum(self, parts, lines):
+        """The answers to exported documents, each in a process of its own, join to the same lines."""
+        into = self.room / "documents"
+        run([self.programs / PROGRAM, "export", *parts, "--into", into], check=True)
+        documents = sorted(into.glob("cut-*.json"))
+        self.assertGreater(len(documents), 1)
+        ran = run([self.programs / PROGRAM, "sum", into])
+        self.assertEqual((ran.returncode, ran.stdout), (2, ""))
+        self.assertIn("a document has no answer yet", ran.stderr)
+        answer = f"{auditor()} certify < $1 > $1.c; {auditor()} check < $1.c; {auditor()} explain < $1.c"
+        for one in documents:
+            one.with_suffix(".reply").write_text(run(["sh", "-c", answer, "-", one]).stdout)
+        ran = run([self.programs / PROGRAM, "sum", into])
+        self.assertEqual((ran.returncode, ran.stdout.splitlines()), (1, lines), ran.stderr)
 
 
 if __name__ == "__main__":

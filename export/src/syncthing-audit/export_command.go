@@ -50,7 +50,7 @@ func runExport(words []string, output, log io.Writer) (int, error) {
 	report.Rest(log, answer)
 	if to.directory != "" {
 		fmt.Fprintf(log, "syncthing-audit: %d documents in %s\n", to.count, to.directory)
-		return statusDone, nil
+		return statusDone, (&exported{answer, to.written}).save(to.directory)
 	}
 	_, err = output.Write(to.kept)
 	return statusDone, err
@@ -65,6 +65,7 @@ type outlet struct {
 	directory string
 	count     int
 	kept      []byte
+	written   []exportedDocument
 }
 
 // take is given each document.
@@ -80,12 +81,18 @@ func (o *outlet) take(one *document.Document) error {
 	if err := os.MkdirAll(o.directory, 0o777); err != nil {
 		return err
 	}
-	path := filepath.Join(o.directory, fmt.Sprintf("cut-%04d.json", o.count))
+	name := fmt.Sprintf("cut-%04d.json", o.count)
+	o.written = append(o.written, exportedDocument{name, one.Folder})
+	return writeNew(filepath.Join(o.directory, name), one.Written)
+}
+
+// writeNew writes a file that isn't there yet.
+func writeNew(path string, text []byte) error {
 	file, err := os.OpenFile(path, os.O_WRONLY|os.O_CREATE|os.O_EXCL, 0o666)
 	if err != nil {
 		return err
 	}
-	if _, err := file.Write(one.Written); err != nil {
+	if _, err := file.Write(text); err != nil {
 		file.Close()
 		return err
 	}

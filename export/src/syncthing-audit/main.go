@@ -26,7 +26,7 @@ var errTold = errors.New("refused")
 // command is one of the program's commands.
 type command func(words []string, output, log io.Writer) (int, error)
 
-var commands = map[string]command{"part": runPart, "check": runCheck, "export": runExport}
+var commands = map[string]command{"part": runPart, "check": runCheck, "export": runExport, "sum": runSum}
 
 func main() {
 	output, err := takeStandardOutput()

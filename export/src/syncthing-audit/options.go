@@ -30,12 +30,15 @@ type options struct {
 var usage = fmt.Sprintf(`usage: syncthing-audit part [--home DIR] [--folder ID ..] [--names PREFIX] -o FILE
        syncthing-audit check [--home DIR ..] [PART ..] [--folder ID ..]
        syncthing-audit export [--home DIR ..] [PART ..] --into DIR
+       syncthing-audit sum DIR
 
 Says whether stopped Syncthing devices are in step, and where not which device is wrong.
 
   part    reads a device's index and hashes its files, and writes what it found: no file's bytes, no private key
   check   joins the parts of all devices that share a folder, and has syncaudit answer
   export  writes the check documents of such an answer, for 'syncaudit certify' and 'syncaudit check'
+  sum     joins the answers to exported documents, cut-0001.reply and so on: what 'syncaudit check' and then
+          'syncaudit explain' write of each
 
   --home DIR           a device's home on this machine: config.xml, cert.pem and index-v0.14.0.db
   --folder ID          only this folder (may be given more than once; all folders if it isn't)

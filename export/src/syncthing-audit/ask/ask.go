@@ -57,21 +57,42 @@ func (p Program) Ask(folder string, document []byte) (*Reply, error) {
 	if status != 0 {
 		return nil, &Failed{statusRefused, fmt.Sprintf("'%s certify' answered %q", p.Path, firstLine(certified))}
 	}
-	status, report, err := p.run("check", certified)
+	_, report, err := p.run("check", certified)
 	if err != nil {
 		return nil, err
 	}
-	reply, line, err := readReport(folder, string(report))
-	if err != nil || line == settled {
-		return reply, err
+	if firstLine(report) != settled {
+		_, explanation, err := p.run("explain", certified)
+		if err != nil {
+			return nil, err
+		}
+		report = append(report, explanation...)
 	}
-	if _, report, err = p.run("explain", certified); err != nil {
+	return ReadReply(folder, string(report))
+}
+
+// ReadReply reads what 'check' writes of a document of one folder, and behind it what 'explain' writes, which may be
+// missing of a document that is settled.
+func ReadReply(folder, text string) (*Reply, error) {
+	lines := strings.SplitAfterN(text, "\n", 3)
+	if len(lines) < 3 {
+		return nil, &Failed{statusRefused, fmt.Sprintf("syncaudit's report is %q", text)}
+	}
+	reply, line, err := readReport(folder, lines[0]+lines[1])
+	if err != nil {
 		return nil, err
 	}
-	if reply.Failures, err = readFailures(folder, string(report)); err != nil {
+	explanation := lines[2]
+	if line == settled {
+		if explanation != "" && explanation != settled+"\n" {
+			return nil, &Failed{statusRefused, fmt.Sprintf("syncaudit's answers differ: %q and %q", line, firstLine([]byte(explanation)))}
+		}
+		return reply, nil
+	}
+	if reply.Failures, err = readFailures(folder, explanation); err != nil {
 		return nil, err
 	}
-	if first := Line(folder, &reply.Failures[0]); status == 0 || "not settled: "+first != line {
+	if first := Line(folder, &reply.Failures[0]); "not settled: "+first != line {
 		return nil, &Failed{statusRefused, fmt.Sprintf("syncaudit's answers differ: %q and %q", line, first)}
 	}
 	return reply, nil

@@ -56,6 +56,29 @@ func TestReports(t *testing.T) {
 	}
 }
 
+func TestReplies(t *testing.T) {
+	const counts = "folder docs: 2 names, 1 deleted, 3 devices\n"
+	cases := []struct {
+		text     string
+		good     bool
+		failures int
+	}{
+		{"settled\n" + counts, true, 0},
+		{"settled\n" + counts + "settled\n", true, 0},
+		{"not settled: NotWinner docs a\n" + counts + "NotWinner docs a\n  winner: none\nLocalOnly docs b on 1\n", true, 2},
+		{"not settled: NotWinner docs a\n" + counts, false, 0},
+		{"not settled: NotWinner docs a\n" + counts + "NotWinner docs b\n", false, 0},
+		{"settled\n" + counts + "NotWinner docs b\n", false, 0},
+		{"settled\n", false, 0}, {"settled", false, 0}, {"", false, 0},
+	}
+	for _, one := range cases {
+		reply, err := ReadReply("docs", one.text)
+		if (err == nil) != one.good || err == nil && len(reply.Failures) != one.failures {
+			t.Errorf("%q: %v, %v", one.text, reply, err)
+		}
+	}
+}
+
 func TestProgramsThatFail(t *testing.T) {
 	cases := []struct {
 		program string

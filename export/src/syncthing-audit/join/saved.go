@@ -1,0 +1,31 @@
+package join
+
+import (
+	"encoding/json"
+
+	"syncthing-audit/part"
+)
+
+// savedMember is a member as JSON: without the rest of its part.
+type savedMember struct {
+	Head  *part.Head
+	From  string
+	About *part.Folder
+}
+
+func (m Member) MarshalJSON() ([]byte, error) {
+	return json.Marshal(savedMember{m.Head, m.From, m.About})
+}
+
+func (m *Member) UnmarshalJSON(text []byte) error {
+	var read savedMember
+	if err := json.Unmarshal(text, &read); err != nil {
+		return err
+	}
+	m.Device = &Device{Head: read.Head, From: read.From}
+	if read.Head != nil {
+		m.Number = read.Head.Number()
+	}
+	m.About = read.About
+	return nil
+}
