@@ -1,5 +1,5 @@
 # shellcheck shell=bash
-# What ./install puts below a prefix.
+# What ./install puts below a prefix, and what ./package packs.
 
 release_of release
 rm -rf "$place/out/built"
@@ -7,13 +7,39 @@ mkdir -p "$place/docs"
 cp docs/DOCUMENTS.md docs/*.schema.json docs/syncaudit.1 "$place/docs"
 cp -r completions "$place"
 status=0
-"$place/install" "$work/prefix" > "$work/output" || status=$?
+"$place/install" "$work/prefix" > "$work/output" 2> "$work/error" || status=$?
 expect "install has status $status" [ "$status" = 0 ]
-for file in bin/syncaudit share/man/man1/syncaudit.1 share/bash-completion/completions/syncaudit \
-  share/zsh/site-functions/_syncaudit share/fish/vendor_completions.d/syncaudit.fish \
-  share/doc/syncaudit/DOCUMENTS.md share/doc/syncaudit/check-document.schema.json \
-  share/doc/syncaudit/explanation.schema.json share/doc/syncaudit/scenario.schema.json; do
+files=(bin/syncaudit share/man/man1/syncaudit.1 share/bash-completion/completions/syncaudit
+  share/zsh/site-functions/_syncaudit share/fish/vendor_completions.d/syncaudit.fish
+  share/doc/syncaudit/DOCUMENTS.md share/doc/syncaudit/check-document.schema.json
+  share/doc/syncaudit/explanation.schema.json share/doc/syncaudit/scenario.schema.json)
+for file in "${files[@]}"; do
   expect "install puts no $file below its prefix" [ -f "$work/prefix/$file" ]
   expect "install doesn't say that it puts $file" says "$work/prefix/$file" "$work/output"
 done
 expect "what install puts isn't the release" [ "$("$work/prefix/bin/syncaudit" it)" = 'release: it' ]
+
+# ---- packages
+
+cp package README.md CHANGELOG.md "$place"
+echo 'date 2001-02-03' >> "$place/release/manifest"
+status=0
+"$place/package" > "$work/output" 2> "$work/error" || status=$?
+expect "package has status $status" [ "$status" = 0 ]
+tar -C "$work" -xf "$place/out/syncaudit-1.2.3-linux-x86_64.tar.gz"
+for file in "${files[@]}" README.md; do
+  expect "the archive has no $file" [ -f "$work/syncaudit-1.2.3-linux-x86_64/$file" ]
+done
+if command -v dpkg-deb > /dev/null 2>&1; then
+  dpkg-deb -R "$place/out/syncaudit_1.2.3_amd64.deb" "$work/deb"
+  for file in bin/syncaudit share/man/man1/syncaudit.1.gz share/zsh/vendor-completions/_syncaudit share/doc/syncaudit/copyright; do
+    expect "the Debian package has no $file" [ -f "$work/deb/usr/$file" ]
+  done
+  expect "the Debian package's sums aren't those of its files" \
+    env -C "$work/deb" md5sum --quiet --check DEBIAN/md5sums
+fi
+change_sources
+status=0
+"$place/package" > "$work/output" 2>&1 || status=$?
+expect "package packs a release of other sources" [ "$status" = 1 ]
+expect "package doesn't say what is to be done: $(cat "$work/output")" says 'release/make makes a new one' "$work/output"
