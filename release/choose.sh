@@ -21,8 +21,8 @@ runs_here() {
 fault_of_release() {
   if [ -n "${SYNCAUDIT_BUILD:-}" ]; then
     echo "SYNCAUDIT_BUILD is set, so the release isn't run"
-  elif ! [ -f "$release/syncaudit" ] || ! [ -f "$release/manifest" ]; then
-    echo "there is no release/syncaudit with its manifest"
+  elif ! [ -x "$release/syncaudit" ] || ! [ -f "$release/manifest" ]; then
+    echo "release/ has no program that can be run, with its manifest"
   elif ! is_whole "$release"; then
     echo "release/syncaudit isn't the program that release/manifest names: its sha256 is $(sum_of "$release/syncaudit")"
   elif ! runs_here; then

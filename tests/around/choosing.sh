@@ -38,11 +38,15 @@ script check it
 expect "a release for a later C library isn't refused: $status $(cat "$work/error")" is_refused 'glibc 99.0 or later'
 rm "$place/release/manifest"
 script check it
-expect "without a manifest the script doesn't refuse: $status $(cat "$work/error")" is_refused 'no release/syncaudit with its manifest'
+expect "without a manifest the script doesn't refuse: $status $(cat "$work/error")" is_refused 'has no program that can be run'
+release_of release
+chmod -x "$place/release/syncaudit"
+script check it
+expect "a release that can't be run isn't refused: $status $(cat "$work/error")" is_refused 'has no program that can be run'
 release_of release
 rm "$place/release/syncaudit"
 script check it
-expect "without a release the script doesn't refuse: $status $(cat "$work/error")" is_refused 'no release/syncaudit with its manifest'
+expect "without a release the script doesn't refuse: $status $(cat "$work/error")" is_refused 'has no program that can be run'
 release_of release
 change_sources
 script check it
