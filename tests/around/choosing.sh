@@ -51,7 +51,7 @@ release_of release
 change_sources
 script check it
 expect "a release of other sources isn't run where nothing can be built" answers 'release: check it'
-expect "the script doesn't say that sources have changed: $(cat "$work/error")" tells 'sources have changed since'
+expect "the script doesn't say that these are other sources: $(cat "$work/error")" tells 'running one of other sources'
 release_of release
 export SYNCAUDIT_BUILD=1
 script check it
@@ -86,5 +86,5 @@ expect "what was built here of other sources is run in place of the release" ans
 change_sources
 script check it
 expect "where both are of other sources, what was built here isn't run" answers 'built: check it'
-expect "the script doesn't say that sources have changed: $(cat "$work/error")" tells 'sources have changed since'
+expect "the script doesn't say that these are other sources: $(cat "$work/error")" tells 'running one of other sources'
 rm -r "$place/out"
