@@ -20,9 +20,9 @@ runs_here() {
 # Why the release isn't run. Nothing where it is.
 fault_of_release() {
   if [ -n "${SYNCAUDIT_BUILD:-}" ]; then
-    echo "SYNCAUDIT_BUILD is set, so the release isn't run"
-  elif ! [ -f "$release/syncaudit" ] || ! [ -f "$release/manifest" ]; then
-    echo "there is no release/syncaudit with its manifest"
+    echo "SYNCAUDIT_BUILD is set"
+  elif ! [ -x "$release/syncaudit" ] || ! [ -f "$release/manifest" ]; then
+    echo "release/ has no program that can be run, with its manifest"
   elif ! is_whole "$release"; then
     echo "release/syncaudit isn't the program that release/manifest names: its sha256 is $(sum_of "$release/syncaudit")"
   elif ! runs_here; then
@@ -38,18 +38,20 @@ take() {
   which="$2 ($(told toolchain "$1"))"
 }
 
-# Takes a program of other sources where the one of these can't be built: whoever has no kit wants an answer too.
+# take_as_it_is FAULT: takes a program of other sources where the one of these can't be built: whoever has no kit wants an
+# answer too.
 take_as_it_is() {
+  local why="$1, and the command 'rt' of the Rattle kit, which builds the program, isn't on PATH"
   if [ -n "${SYNCAUDIT_BUILD:-}" ]; then
-    fail $no_toolchain "SYNCAUDIT_BUILD is set, and the command 'rt' of the Rattle kit, which builds the program, isn't on PATH"
+    fail $no_toolchain "$why: nothing was run"
   elif is_whole "$built"; then
     take "$built" "built here of other sources than these"
   elif is_whole "$release" && runs_here; then
     take "$release" "the release, of other sources than these"
   else
-    fail $no_toolchain "$1, and the command 'rt' of the Rattle kit, which builds the program, isn't on PATH: nothing was run"
+    fail $no_toolchain "$why: nothing was run"
   fi
-  echo "syncaudit: sources have changed since the program was built, and 'rt', which builds it anew, isn't on PATH: running it as it is" >&2
+  echo "syncaudit: $why: running one of other sources" >&2
 }
 
 # Sets 'program' to the program's file, and 'which' to what tells which one it is.

@@ -28,8 +28,9 @@ program_crates() {
 # paths. These are src/ of the program's crates, crates.txt and HANDLES. Definitions and proofs leave no byte in it.
 sources_digest() (
   cd "${1:-$top}" || exit
-  mapfile -t folders < <(program_crates . | sed 's|\(.*\):.*|crates/\1/src|')
-  find crates.txt HANDLES "${folders[@]}" -type f ! -name '.*' | LC_ALL=C sort | xargs -d '\n' sha256sum | sum_of /dev/stdin
+  folders=$(program_crates . | sed 's|\(.*\):.*|crates/\1/src|')
+  # shellcheck disable=SC2086 # each word is a folder
+  find crates.txt HANDLES $folders -type f ! -name '.*' | LC_ALL=C sort | xargs -d '\n' sha256sum | sha256sum | cut -d ' ' -f 1
 )
 
 # sum_of FILE: its sha256.

@@ -11,7 +11,7 @@ has_exporter() {
 # build_exporter TO: builds the exporter, which needs no C library. Its bytes don't tell where that was.
 build_exporter() {
   CGO_ENABLED=0 GO111MODULE=off GOPATH=$top/export:$packages \
-    go build -trimpath -buildmode=pie -ldflags='-s -w' -o "$1" syncthing-audit
+    go build -trimpath -buildmode=pie -ldflags='-s -w' -o "$1" syncthing-audit < /dev/null
 }
 
 # put MODE FILE TO: puts a file of the repository, or the program or the exporter, in this place.
@@ -27,12 +27,12 @@ put() {
 # put_all PREFIX: puts all that is listed below the prefix, and tells each place.
 put_all() {
   local mode file place
-  while read -r mode file place; do
+  grep '^[0-9]' "$release/files" | while read -r mode file place; do
     if [ "$file" = exporter ] && ! has_exporter; then
       echo "without Go and Syncthing's packages there is no $place" >&2
     else
       put "$mode" "$file" "$1/$place"
       echo "$1/$place"
     fi
-  done < <(grep '^[0-9]' "$release/files")
+  done
 }

@@ -38,16 +38,20 @@ script check it
 expect "a release for a later C library isn't refused: $status $(cat "$work/error")" is_refused 'glibc 99.0 or later'
 rm "$place/release/manifest"
 script check it
-expect "without a manifest the script doesn't refuse: $status $(cat "$work/error")" is_refused 'no release/syncaudit with its manifest'
+expect "without a manifest the script doesn't refuse: $status $(cat "$work/error")" is_refused 'has no program that can be run'
+release_of release
+chmod -x "$place/release/syncaudit"
+script check it
+expect "a release that can't be run isn't refused: $status $(cat "$work/error")" is_refused 'has no program that can be run'
 release_of release
 rm "$place/release/syncaudit"
 script check it
-expect "without a release the script doesn't refuse: $status $(cat "$work/error")" is_refused 'no release/syncaudit with its manifest'
+expect "without a release the script doesn't refuse: $status $(cat "$work/error")" is_refused 'has no program that can be run'
 release_of release
 change_sources
 script check it
 expect "a release of other sources isn't run where nothing can be built" answers 'release: check it'
-expect "the script doesn't say that sources have changed: $(cat "$work/error")" tells 'sources have changed since'
+expect "the script doesn't say that these are other sources: $(cat "$work/error")" tells 'running one of other sources'
 release_of release
 export SYNCAUDIT_BUILD=1
 script check it
@@ -82,5 +86,5 @@ expect "what was built here of other sources is run in place of the release" ans
 change_sources
 script check it
 expect "where both are of other sources, what was built here isn't run" answers 'built: check it'
-expect "the script doesn't say that sources have changed: $(cat "$work/error")" tells 'sources have changed since'
+expect "the script doesn't say that these are other sources: $(cat "$work/error")" tells 'running one of other sources'
 rm -r "$place/out"
