@@ -7,7 +7,6 @@ import (
 
 	"syncthing-audit/ask"
 	"syncthing-audit/audit"
-	"syncthing-audit/document"
 	"syncthing-audit/finding"
 	"syncthing-audit/join"
 	"syncthing-audit/report"
@@ -57,17 +56,8 @@ func answerOf(opened *inputs, asked options, program ask.Program) (*finding.Answ
 	if err != nil {
 		return nil, err
 	}
-	type replied struct {
-		document *document.Document
-		reply    *ask.Reply
-	}
-	var replies []replied
-	pool := ask.NewPool(program, asked.jobs, func(one *document.Document, reply *ask.Reply) {
-		if len(reply.Failures) == 0 {
-			one.Rows = nil
-		}
-		replies = append(replies, replied{one, reply})
-	})
+	replies := audit.NewReplies()
+	pool := ask.NewPool(program, asked.jobs, replies.Take)
 	options := audit.Options{LeaveOut: asked.leaveOut, WithBytes: asked.bytes, Refused: opened.skip}
 	answer, err := audit.Collect(plan, options, pool.Ask)
 	if failed := pool.Close(); failed != nil {
@@ -76,16 +66,7 @@ func answerOf(opened *inputs, asked options, program ask.Program) (*finding.Answ
 	if err != nil {
 		return nil, err
 	}
-	folders := map[string]*finding.Folder{}
-	for _, one := range answer.Folders {
-		folders[one.ID] = one
-	}
-	for _, one := range replies {
-		audit.Merge(folders[one.document.Folder], one.document, one.reply)
-	}
-	for _, one := range answer.Folders {
-		one.Sort()
-	}
+	replies.AddTo(answer)
 	return answer, nil
 }
 

@@ -95,7 +95,8 @@ func drawName(t *testing.T, random *rand.Rand, devices []*drawn, name string, se
 		if random.Intn(4) == 0 {
 			made = drawRecord(random, sequence)
 		}
-		made.Name = name
+		record := *made.Record
+		made.Name, made.Record = name, &record
 		return made
 	}
 	for _, one := range devices {

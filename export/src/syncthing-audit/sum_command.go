@@ -67,10 +67,7 @@ func sumOf(directory string) (*finding.Answer, error) {
 	if err := json.Unmarshal(text, &read); err != nil || read.Answer == nil {
 		return nil, fmt.Errorf("refused: %s isn't what 'export' writes: %v", filepath.Join(directory, restName), err)
 	}
-	folders := map[string]*finding.Folder{}
-	for _, one := range read.Answer.Folders {
-		folders[one.ID] = one
-	}
+	replies := audit.NewReplies()
 	for _, one := range read.Documents {
 		path := filepath.Join(directory, strings.TrimSuffix(filepath.Base(one.File), ".json")+".reply")
 		text, err := os.ReadFile(path)
@@ -81,13 +78,8 @@ func sumOf(directory string) (*finding.Answer, error) {
 		if err != nil {
 			return nil, fmt.Errorf("refused: %s: %w", path, err)
 		}
-		if folders[one.Folder] == nil {
-			return nil, fmt.Errorf("refused: %s has no folder %s", restName, one.Folder)
-		}
-		audit.Merge(folders[one.Folder], &document.Document{}, reply)
+		replies.Take(&document.Document{Folder: one.Folder}, reply)
 	}
-	for _, one := range read.Answer.Folders {
-		one.Sort()
-	}
+	replies.AddTo(read.Answer)
 	return read.Answer, nil
 }

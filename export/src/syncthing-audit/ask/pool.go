@@ -13,12 +13,20 @@ type Pool struct {
 	workers sync.WaitGroup
 	mutex   sync.Mutex
 	take    func(*document.Document, *Reply)
+	next    int              // the place of the document whose reply is due
+	early   map[int]answered // by their documents' places
 	err     error
 }
 
-// NewPool starts so many workers; each reply is given to take, one at a time, in any order.
+// answered is a document with its reply.
+type answered struct {
+	document *document.Document
+	reply    *Reply
+}
+
+// NewPool starts so many workers; each reply is given to take, one at a time, in the order of the documents' places.
 func NewPool(program Program, workers int, take func(*document.Document, *Reply)) *Pool {
-	made := &Pool{program: program, asked: make(chan *document.Document), take: take}
+	made := &Pool{program: program, asked: make(chan *document.Document), take: take, early: map[int]answered{}}
 	for next := 0; next < workers; next++ {
 		made.workers.Add(1)
 		go made.work()
@@ -34,13 +42,29 @@ func (p *Pool) work() {
 		}
 		reply, err := p.program.Ask(one.Folder, one.Written)
 		one.Written = nil
-		p.mutex.Lock()
-		if err == nil {
-			p.take(one, reply)
-		} else if p.err == nil {
+		p.put(answered{one, reply}, err)
+	}
+}
+
+// put takes a reply, and gives on those that are due.
+func (p *Pool) put(one answered, err error) {
+	p.mutex.Lock()
+	defer p.mutex.Unlock()
+	if err != nil {
+		if p.err == nil {
 			p.err = err
 		}
-		p.mutex.Unlock()
+		return
+	}
+	p.early[one.document.Place] = one
+	for {
+		due, is := p.early[p.next]
+		if !is {
+			return
+		}
+		delete(p.early, p.next)
+		p.next++
+		p.take(due.document, due.reply)
 	}
 }
 

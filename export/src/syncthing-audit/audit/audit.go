@@ -5,7 +5,6 @@ import (
 	"errors"
 	"fmt"
 
-	"syncthing-audit/ask"
 	"syncthing-audit/document"
 	"syncthing-audit/finding"
 	"syncthing-audit/join"
@@ -109,20 +108,4 @@ func (c *collector) folder(folder *join.Folder) error {
 		return next.give(next.builder.Take())
 	}
 	return nil
-}
-
-// Merge adds an answer to what was found in its document's folder.
-func Merge(to *finding.Folder, one *document.Document, reply *ask.Reply) {
-	to.Names += reply.Names
-	to.Deleted += reply.Deleted
-	to.Failures = append(to.Failures, reply.Failures...)
-	failed := map[string]bool{}
-	for _, failure := range reply.Failures {
-		failed[failure.Name] = true
-	}
-	for _, row := range one.Rows {
-		if failed[row.Name] {
-			to.Rows[row.Name] = row
-		}
-	}
 }

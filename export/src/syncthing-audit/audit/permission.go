@@ -23,7 +23,7 @@ func (n *names) addPermissions(row *join.Row) {
 	}
 	if differs {
 		n.found.Permissions = append(n.found.Permissions, finding.Permissions{Name: row.Name, At: at})
-		n.found.Rows[row.Name] = row
+		n.found.Keep(row)
 	}
 }
 

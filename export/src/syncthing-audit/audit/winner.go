@@ -68,5 +68,5 @@ func (n *names) addUnwon(row *join.Row) {
 	}
 	n.found.Unwon = append(n.found.Unwon, made)
 	n.found.Failures = append(n.found.Failures, finding.Failure{Reason: "NotWinner", Name: row.Name})
-	n.found.Rows[row.Name] = row
+	n.found.Keep(row)
 }

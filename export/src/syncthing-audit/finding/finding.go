@@ -38,7 +38,18 @@ type Folder struct {
 	Permissions []Permissions
 	LeftOut     []*LeftOut // names that were left out on request
 	Outside     Outside
-	Rows        map[string]*join.Row // of the names of failures, permissions and names without a winner
+	Rows        map[string]*join.Row // of names that something is told of; of no more than MostRows
+}
+
+// MostRows is of how many names a folder keeps all that its devices have: the first ones with something to tell. Where
+// more fail, as on a device that is behind as a whole, the others are told without.
+const MostRows = 10000
+
+// Keep keeps all that the devices have of a name, if there is room.
+func (f *Folder) Keep(row *join.Row) {
+	if len(f.Rows) < MostRows {
+		f.Rows[row.Name] = row
+	}
 }
 
 // Failure is a reason why a folder isn't settled, at a name and, from RecordMissing on, a device.

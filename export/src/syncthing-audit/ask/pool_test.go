@@ -1,0 +1,50 @@
+package ask
+
+import (
+	"os"
+	"path/filepath"
+	"reflect"
+	"testing"
+
+	"syncthing-audit/document"
+)
+
+// aProgram gives a program that does what these lines of a shell do.
+func aProgram(t *testing.T, lines string) Program {
+	path := filepath.Join(t.TempDir(), "program")
+	if err := os.WriteFile(path, []byte("#!/bin/sh\n"+lines+"\n"), 0o700); err != nil {
+		t.Fatal(err)
+	}
+	return Program{path}
+}
+
+// answersOf gives the places of the documents in the order in which their replies come.
+func answersOf(program Program, count int) ([]int, error) {
+	var places []int
+	pool := NewPool(program, 4, func(one *document.Document, _ *Reply) { places = append(places, one.Place) })
+	for place := 0; place < count; place++ {
+		if pool.Ask(&document.Document{Folder: "docs", Place: place, Written: []byte{byte('0' + place%10)}}) != nil {
+			break
+		}
+	}
+	err := pool.Close()
+	return places, err
+}
+
+// The first document takes the longest, and its reply comes first.
+func TestRepliesComeInOrder(t *testing.T) {
+	program := aProgram(t, `read -r text; case $1$text in certify0) sleep 0.3;; esac
+case $1 in certify) echo "$text";; *) echo settled; echo "folder docs: 1 names, 0 deleted, 2 devices";; esac`)
+	places, err := answersOf(program, 8)
+	if err != nil || !reflect.DeepEqual(places, []int{0, 1, 2, 3, 4, 5, 6, 7}) {
+		t.Errorf("%v, %v", places, err)
+	}
+}
+
+func TestOneFailureEndsAll(t *testing.T) {
+	program := aProgram(t, `read -r text; case $text in 3) echo "refused: 184 Range"; exit 2;; esac
+case $1 in certify) echo "$text";; *) echo settled; echo "folder docs: 1 names, 0 deleted, 2 devices";; esac`)
+	if places, err := answersOf(program, 8); err == nil {
+		t.Errorf("%v without an error", places)
+	}
+}

@@ -1,0 +1,130 @@
+package disk
+
+import (
+	"bytes"
+	"context"
+	"errors"
+	"os"
+	"path/filepath"
+	"reflect"
+	"testing"
+
+	"github.com/syncthing/syncthing/lib/fs"
+	"github.com/syncthing/syncthing/lib/protocol"
+	"github.com/syncthing/syncthing/lib/scanner"
+	"syncthing-audit/part"
+)
+
+// nodeAt gives the node of a file as it is found.
+func nodeAt(t *testing.T, path string) *part.Node {
+	info, err := os.Stat(path)
+	if err != nil {
+		t.Fatal(err)
+	}
+	return &part.Node{Size: info.Size(), ModifiedS: info.ModTime().Unix(), ModifiedNs: info.ModTime().Nanosecond()}
+}
+
+// scanned gives the block hashes that Syncthing's own scanner makes.
+func scanned(t *testing.T, data []byte, blockSize int) [][32]byte {
+	blocks, err := scanner.Blocks(context.Background(), bytes.NewReader(data), blockSize, int64(len(data)), nil, false)
+	if err != nil {
+		t.Fatal(err)
+	}
+	var hashes [][32]byte
+	for _, one := range blocks {
+		var hash [32]byte
+		copy(hash[:], one.Hash)
+		hashes = append(hashes, hash)
+	}
+	return hashes
+}
+
+// The hashes are those of Syncthing's own scanner, for each block size, also across the pieces that workers hash.
+func TestContents(t *testing.T) {
+	room := t.TempDir()
+	pool := NewPool(3)
+	defer pool.Close()
+	const small = protocol.MinBlockSize
+	cases := []struct {
+		bytes int
+		sizes []int64
+	}{
+		{0, []int64{small}}, {1, []int64{small, 4 * small}}, {small, []int64{small, 2 * small}}, {small + 1, []int64{small, 2 * small}},
+		{9*small + 7, []int64{2 * small, small, 4 * small}}, {pieceBytes + 5, []int64{protocol.MaxBlockSize, 4 * small}},
+	}
+	for _, one := range cases {
+		data := make([]byte, one.bytes)
+		for place := 0; place < len(data); place += 1000 {
+			data[place] = byte(place / 1000)
+		}
+		path := filepath.Join(room, "file")
+		if err := os.WriteFile(path, data, 0o600); err != nil {
+			t.Fatal(err)
+		}
+		file := File{Disk: fs.NewFilesystem(fs.FilesystemTypeBasic, room), Name: "file", Node: nodeAt(t, path), BlockSizes: one.sizes, Keep: true}
+		found, _, kept, err := pool.Begin(file).Wait()
+		if err != nil || !bytes.Equal(kept, data) {
+			t.Errorf("%d bytes: %v, %d kept", one.bytes, err, len(kept))
+			continue
+		}
+		for place, size := range one.sizes {
+			expected := part.Content{Size: int64(one.bytes), BlockSize: size, Hash: HashOf(scanned(t, data, int(size)))}
+			if found[place] != expected {
+				t.Errorf("%d bytes in blocks of %d: %v", one.bytes, size, found[place])
+			}
+		}
+	}
+}
+
+func TestFilesThatChange(t *testing.T) {
+	room := t.TempDir()
+	path := filepath.Join(room, "file")
+	pool := NewPool(1)
+	defer pool.Close()
+	if err := os.WriteFile(path, make([]byte, 100), 0o600); err != nil {
+		t.Fatal(err)
+	}
+	cases := []struct {
+		why    string
+		change func(*part.Node)
+	}{
+		{"it is shorter", func(n *part.Node) { n.Size++ }},
+		{"it is longer", func(n *part.Node) { n.Size-- }},
+		{"it has another time", func(n *part.Node) { n.ModifiedNs ^= 1 }},
+	}
+	for _, one := range cases {
+		node := nodeAt(t, path)
+		one.change(node)
+		file := File{Disk: fs.NewFilesystem(fs.FilesystemTypeBasic, room), Name: "file", Node: node, BlockSizes: []int64{protocol.MinBlockSize}}
+		if _, _, _, err := pool.Begin(file).Wait(); !errors.Is(err, ErrChanged) {
+			t.Errorf("%s: %v", one.why, err)
+		}
+	}
+}
+
+func TestBlocksThatDiffer(t *testing.T) {
+	hashes := func(text string) [][32]byte {
+		var made [][32]byte
+		for _, one := range []byte(text) {
+			made = append(made, [32]byte{one})
+		}
+		return made
+	}
+	cases := []struct {
+		recorded, found string
+		count           int64
+		ranges          [][2]int64
+	}{
+		{"abc", "abc", 0, nil}, {"abc", "axc", 1, [][2]int64{{1, 1}}}, {"abcde", "axxdx", 3, [][2]int64{{1, 2}, {4, 4}}},
+		{"ab", "abc", 1, [][2]int64{{2, 2}}}, {"abc", "a", 2, [][2]int64{{1, 2}}},
+	}
+	for _, one := range cases {
+		made := compare(hashes(one.recorded), hashes(one.found))
+		if made == nil {
+			made = &part.Differ{}
+		}
+		if made.Count != one.count || !reflect.DeepEqual(made.Ranges, one.ranges) {
+			t.Errorf("%s, %s: %+v", one.recorded, one.found, made)
+		}
+	}
+}

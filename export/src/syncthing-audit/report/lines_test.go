@@ -1,0 +1,67 @@
+package report
+
+import (
+	"strings"
+	"testing"
+
+	"syncthing-audit/finding"
+	"syncthing-audit/join"
+	"syncthing-audit/part"
+)
+
+// folderOf gives a folder of so many devices with these failures.
+func folderOf(id string, devices int, failures ...finding.Failure) *finding.Folder {
+	made := &finding.Folder{ID: id, Names: 2, Failures: failures}
+	for number := 1; number <= devices; number++ {
+		made.Members = append(made.Members, join.Member{Device: &join.Device{Head: &part.Head{}, Number: uint64(number)}})
+	}
+	return made
+}
+
+func TestVerdicts(t *testing.T) {
+	differs := finding.Failure{Reason: "StoreDiffers", Name: "b", Device: 1}
+	unwon := finding.Failure{Reason: "NotWinner", Name: "z"}
+	left := folderOf("docs", 2)
+	left.LeftOut = []*finding.LeftOut{{Name: "x", Names: 1, Why: []finding.Reason{{Member: 0, Kind: part.Special, Why: "a fifo"}}}}
+	cases := []struct {
+		why     string
+		answer  finding.Answer
+		verdict string
+	}{
+		{"all in step", finding.Answer{Folders: []*finding.Folder{folderOf("docs", 2)}}, "settled"},
+		{"a folder at one device alone", finding.Answer{Folders: []*finding.Folder{folderOf("docs", 2), folderOf("pics", 1)}}, "settled as far as audited"},
+		{"a name that was left out", finding.Answer{Folders: []*finding.Folder{left}}, "settled as far as audited"},
+		{"a device that was left out", finding.Answer{Folders: []*finding.Folder{folderOf("docs", 2)},
+			LeftOut: []finding.Refusal{{Kind: part.Absent, Folder: "docs"}}}, "settled as far as audited"},
+		{"the least folder of one reason", finding.Answer{Folders: []*finding.Folder{folderOf("docs", 2, differs), folderOf("pics", 2, differs)}},
+			"not settled: StoreDiffers docs b on 1"},
+		{"the reason that is told first", finding.Answer{Folders: []*finding.Folder{folderOf("docs", 2, differs), folderOf("pics", 2, unwon)}},
+			"not settled: NotWinner pics z"},
+	}
+	for _, one := range cases {
+		if verdict := Verdict(&one.answer); verdict != one.verdict {
+			t.Errorf("%s: %q, not %q", one.why, verdict, one.verdict)
+		}
+	}
+}
+
+func TestLines(t *testing.T) {
+	folder := folderOf("docs", 2, finding.Failure{Reason: "NotWinner", Name: "new file"})
+	folder.Unwon = []finding.Unwon{{Name: "new file", At: []finding.Cause{{Member: 1, Kind: finding.Unscanned}}}}
+	folder.Permissions = []finding.Permissions{{Name: "a", At: []finding.Bits{{Has: true, Index: 0o644, OnDisk: true, Disk: 0o600}, {}}}}
+	folder.LeftOut = []*finding.LeftOut{{Name: "odd\xff", Names: 1, Bytes: 3, Why: []finding.Reason{{Member: 0, Kind: part.OddName, Why: "not UTF-8"}}}}
+	folder.Outside = finding.Outside{Names: 4, Bytes: 7}
+	var written strings.Builder
+	Lines(&written, &finding.Answer{Folders: []*finding.Folder{folder}})
+	const expected = `not settled: NotWinner docs new\x20file
+folder docs: 2 names, 0 deleted, 2 devices
+NotWinner docs new\x20file
+no winner: docs new\x20file on 2: unscanned
+permissions: docs a 1 index 0644 disk 0600
+left out: docs odd\xff on 1: not UTF-8 (names, 1 names, 3 bytes)
+ignored: docs 4 names, 7 bytes, on no device's index
+`
+	if written.String() != expected {
+		t.Errorf("%s\nnot\n%s", written.String(), expected)
+	}
+}
