@@ -4,6 +4,7 @@ pub mod BatchFacts
 pub mod AfterFacts
 pub mod LawFacts
 pub mod MadeFacts
+pub mod GoodFacts
 pub mod OrderFacts
 pub mod PlaceFacts
 pub mod PutFacts

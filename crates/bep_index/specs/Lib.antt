@@ -2,6 +2,7 @@ pub mod After
 pub mod Batch
 pub mod Change
 pub mod Count
+pub mod Good
 pub mod Index
 pub mod IndexError
 pub mod Laws

@@ -5,6 +5,7 @@ ghost use Rattle.std.specs.Vec.Iter.{into_iter_items};
 ghost use Rattle.bep_index.specs.Batch.{IsBatch, last_sequence, with_all};
 ghost use Rattle.bep_index.specs.Change.{given_back};
 ghost use Rattle.bep_index.specs.Count.{new_names};
+ghost use Rattle.bep_index.specs.Good.{AllGood};
 
 use crate::Batch;
 use bep_map::NameMap;
@@ -47,7 +48,9 @@ pub(crate) fn put_batch(
     ensures err { OnErr result (map.new ≡ map.old) }
     ensures empty { batch ≡ [] → IsOk result }
     ensures a_batch { IsBatch batch }
+    ensures good { AllGood batch }
 {
+    batch.records_are_good();
     put_all(map, alloc, &mut batch.into_vec().into_iter())
 }
 

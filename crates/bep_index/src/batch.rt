@@ -1,7 +1,9 @@
 //! The records of one Index or IndexUpdate.
 ghost use Rattle.std.specs.Prelude.{◌≡◌, ◌↔◌, IsTrue, IsOk, IfOk, IfErr};
 ghost use Rattle.bep_index.specs.Batch.{Rises, HasNo, NamesDiffer, IsBatch};
+ghost use Rattle.bep_index.specs.Good.{AllGood};
 
+use crate::good::all_are_good;
 use crate::{IndexError, MAX_RECORDS, MAX_SEQUENCE};
 use bep_record::{Duplicate, Items, Name, Record};
 use std::alloc::{AllocError, Global};
@@ -26,12 +28,13 @@ impl Model for Batch {
     ghost use Rattle.std.specs.Prelude.{List};
     ghost use Rattle.bep_record.specs.declared.entry.Entry.{Entry};
     ghost use Rattle.bep_index.specs.Batch.{IsBatch};
+    ghost use Rattle.bep_index.specs.Good.{AllGood};
 
     ghost Value = { List Entry };
 
     ghost view = { λ batch. batch.records };
 
-    ghost invariant = { λ batch. IsBatch batch.records };
+    ghost invariant = { λ batch. IsBatch batch.records × AllGood batch.records };
 }
 
 impl Batch {
@@ -45,6 +48,7 @@ impl Batch {
         if !is_batch(records.as_slice()) {
             return Err(IndexError::BatchBad);
         }
+        all_are_good(records.as_slice());
         Ok(Batch {
             records: Items::new(records),
         })
@@ -65,6 +69,13 @@ impl Batch {
     {
         let Batch { records } = self;
         records.into_vec()
+    }
+
+    /// The records are well formed, and so are their versions. It does nothing.
+    pub fn records_are_good(&self)
+        ensures { AllGood self.now }
+    {
+        let _ = &self.records;
     }
 
     /// An equal batch of its own, or want of memory.

@@ -2,6 +2,7 @@
 ghost use Rattle.std.specs.Prelude.{◌≡◌, ◌↔◌, ◌+◌, ◌≤◌, ℕ, take, drop, slice_get, IfOk, IfErr, OnOk, OnErr, IsErrOf};
 ghost use Rattle.std.specs.Option.{option_copied};
 ghost use Rattle.std.specs.FinMap as map;
+ghost use Rattle.bep_index.specs.Good.{AreGood};
 ghost use Rattle.bep_index.specs.Index.{IsIndex, IsSequenceFull, IsIndexFull, IsPutError, after_put, numbered};
 ghost use Rattle.bep_index.specs.After.{IsAfter};
 ghost use Rattle.bep_index.specs.declared.limits.TheConstants.{MAX_NAMES, MAX_RECORDS};
@@ -9,6 +10,7 @@ ghost use Rattle.bep_index.specs.Batch.{IsBatch};
 ghost use Rattle.bep_index.specs.Order.{in_order, count_up_to};
 ghost use Rattle.bep_index.specs.Change.{IsLastChange, taken_back};
 
+use crate::good::{old_is_good, record_is_good};
 use crate::number::renumber;
 use crate::records::Records;
 use crate::{IndexError, IndexId, MAX_NAMES, MAX_SEQUENCE, Undo};
@@ -48,12 +50,13 @@ impl Model for Index {
 
     ghost use Rattle.std.specs.FinMap.{empty};
     ghost use Rattle.bep_index.specs.Batch.{with_all};
+    ghost use Rattle.bep_index.specs.Good.{AreGood};
     ghost use Rattle.bep_index.specs.Index.{IsIndex};
     ghost use Rattle.bep_index.specs.Order.{AreInOrder};
 
     ghost view = { λ index. record { id = index.id; sequence = index.sequence; records = with_all empty index.records } };
 
-    ghost invariant = { λ index. IsIndex (record { id = index.id; sequence = index.sequence; records = with_all empty index.records }) × AreInOrder index.records };
+    ghost invariant = { λ index. IsIndex (record { id = index.id; sequence = index.sequence; records = with_all empty index.records }) × AreInOrder index.records × AreGood (with_all empty index.records) };
 }
 
 impl Index {
@@ -74,6 +77,15 @@ impl Index {
         ensures { result ≡ self.now.id }
     {
         self.id
+    }
+
+    /// The records are well formed, and so are their versions; the id is 1 or more. It does nothing.
+    pub fn records_are_good(&self)
+        ensures good { AreGood self.now.records }
+        ensures an_index { IsIndex self.now }
+        ensures id { 1 ≤ self.now.id }
+    {
+        self.id.number();
     }
 
     /// The greatest sequence number that was given, 0 where none was.
@@ -156,6 +168,7 @@ impl Index {
         ensures err { OnErr result (self.new ≡ self.old) }
     {
         let (name, entry) = self.next_record(entry)?;
+        record_is_good(&entry);
         let old = self.records.put(self.alloc, entry)?;
         self.sequence += 1;
         Ok(Undo {
@@ -205,6 +218,7 @@ impl Index {
         ensures { self.new ≡ taken_back undo self.old }
     {
         let Undo { name, old, .. } = undo;
+        old_is_good(old.as_ref());
         self.records.give_back(&name, old);
         self.sequence -= 1;
     }

@@ -15,6 +15,7 @@ mod all;
 mod batch;
 mod change;
 mod error;
+mod good;
 mod id;
 mod index;
 mod laws;
@@ -29,6 +30,7 @@ mod view;
 pub use batch::Batch;
 pub use change::Undo;
 pub use error::IndexError;
+pub use good::record_is_good;
 pub use id::IndexId;
 pub use index::Index;
 pub use laws::{

@@ -3,6 +3,7 @@ ghost use Rattle.std.specs.Prelude.{◌≡◌, ◌↔◌, ◌⊎◌, ◌<◌, �
 ghost use Rattle.std.specs.Option.{option_copied};
 ghost use Rattle.std.specs.FinMap as map;
 ghost use Rattle.bep_index.specs.Batch.{last_sequence, with_all};
+ghost use Rattle.bep_index.specs.Good.{AreGood};
 ghost use Rattle.bep_index.specs.View.{IsView, IsOld, cleared, replaced, amended};
 ghost use Rattle.bep_index.specs.declared.error.IndexError.TheVariants.{Memory};
 
@@ -44,11 +45,12 @@ impl Model for View {
 
     ghost coded = { listing_code entry.the_row.coded };
 
+    ghost use Rattle.bep_index.specs.Good.{AreGood};
     ghost use Rattle.bep_index.specs.View.{IsView};
 
     ghost view = { λ view. record { id = view.id; sequence = view.sequence; records = view.records } };
 
-    ghost invariant = { λ view. IsView (record { id = view.id; sequence = view.sequence; records = view.records }) };
+    ghost invariant = { λ view. IsView (record { id = view.id; sequence = view.sequence; records = view.records }) × AreGood view.records };
 }
 
 impl View {
@@ -88,6 +90,14 @@ impl View {
         ensures a_view { IsView self.now }
     {
         self.records.values()
+    }
+
+    /// The records are well formed, and so are their versions. It does nothing.
+    pub fn records_are_good(&self)
+        ensures good { AreGood self.now.records }
+        ensures a_view { IsView self.now }
+    {
+        let _ = &self.records;
     }
 
     /// Forgets all, and takes this index id with sequence 0. Takes no memory.

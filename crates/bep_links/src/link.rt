@@ -4,6 +4,7 @@ ghost use Rattle.std.specs.Option.{option_copied};
 ghost use Rattle.bep_record.specs.declared.limits.TheConstants.{MAX_MESSAGES};
 ghost use Rattle.bep_machine.specs.declared.limits.TheConstants.{MAX_EPOCH};
 ghost use Rattle.bep_machine.specs.Link.{connected, lost, queue_to, first_of_queue};
+ghost use Rattle.bep_machine.specs.Sound.{IsSoundLink};
 ghost use Rattle.bep_machine.specs.Steps.{ConnectRow, LoseRow};
 ghost use Rattle.bep_links.specs.Link.{IsLink, new_link, with_queue_to};
 ghost use Rattle.bep_links.specs.LinkError.{answer_of};
@@ -95,6 +96,15 @@ impl Link {
         ensures a_link { IsLink self.now }
     {
         self.epoch
+    }
+
+    /// The link is sound: at most 1024 messages are on their way to each end, and none while it is down; those with
+    /// records have batches of well-formed ones. It does nothing.
+    pub fn link_is_sound(&self)
+        ensures { IsSoundLink self.now.link }
+    {
+        self.to_lower.queue_is_sound();
+        self.to_upper.queue_is_sound();
     }
 
     /// The message at this place, from 0, among those on their way to this end.

@@ -1,12 +1,13 @@
 //! What is on its way to one end of a link.
-ghost use Rattle.std.specs.Prelude.{◌≡◌, ◌⊎◌, ◌↔◌, ◌≤◌, ◌++◌, ◌∷◌, [], length, drop, nat_le, slice_get, IfOk, IfErr, OnOk, OnErr, IsErrOf};
+ghost use Rattle.std.specs.Prelude.{◌≡◌, ◌⊎◌, ◌↔◌, ◌<◌, ◌≤◌, ◌++◌, ◌∷◌, [], length, drop, nat_le, slice_get, IfOk, IfErr, OnOk, OnErr, IsErrOf};
 ghost use Rattle.std.specs.Option.{option_copied};
 ghost use Rattle.bep_record.specs.declared.limits.TheConstants.{MAX_MESSAGES};
 ghost use Rattle.bep_machine.specs.Link.{first_of_queue};
+ghost use Rattle.bep_machine.specs.Sound.{IsSoundQueue};
 ghost use Rattle.bep_links.specs.declared.error.LinkError.TheVariants.{Memory};
 
 use crate::LinkError;
-use bep_machine::Message;
+use bep_machine::{Message, message_is_sound};
 use bep_record::MAX_MESSAGES;
 use std::alloc::{AllocError, Global};
 use std::collections::VecDeque;
@@ -24,15 +25,15 @@ impl Drop for Queue {
 }
 
 impl Model for Queue {
-    ghost use Rattle.std.specs.Prelude.{List, ◌≤◌, length};
-    ghost use Rattle.bep_record.specs.declared.limits.TheConstants.{MAX_MESSAGES};
+    ghost use Rattle.std.specs.Prelude.{List};
     ghost use Rattle.bep_machine.specs.declared.message.Message.{Message};
+    ghost use Rattle.bep_machine.specs.Sound.{IsSoundQueue};
 
     ghost Value = { List Message };
 
     ghost view = { λ queue. queue.messages.items };
 
-    ghost invariant = { λ queue. length queue.messages.items ≤ MAX_MESSAGES };
+    ghost invariant = { λ queue. IsSoundQueue queue.messages.items };
 }
 
 impl Queue {
@@ -43,6 +44,13 @@ impl Queue {
         Queue {
             messages: VecDeque::new(alloc),
         }
+    }
+
+    /// There are at most 1024, and those with records have batches of well-formed ones. It does nothing.
+    pub(crate) fn queue_is_sound(&self)
+        ensures { IsSoundQueue self.now }
+    {
+        let _ = &self.messages;
     }
 
     /// Whether no message more can be added.
@@ -71,6 +79,17 @@ impl Queue {
         if self.is_full() {
             return Err(LinkError::LinkFull);
         }
+        self.add(message)?;
+        Ok(())
+    }
+
+    // Adds the message last, where there is room for it; without memory the queue is as before.
+    fn add(&mut self, message: Message) -> Result<(), AllocError>
+        requires { length self.old < MAX_MESSAGES }
+        ensures ok { OnOk result (self.new ≡ self.old ++ message ∷ []) }
+        ensures err { OnErr result (self.new ≡ self.old) }
+    {
+        message_is_sound(&message);
         self.messages.push_back(message)?;
         Ok(())
     }

@@ -16,7 +16,8 @@ use Rattle.bep_machine.specs.Link.{Sight}
 use Rattle.bep_machine.specs.Peer.{Session, Peer, Acted, with_session}
 use Rattle.bep_machine.specs.Exchange.{SharesWith, sent_up_to, index_message, SendingRow, CursorRow, AnnounceRow}
 use Rattle.bep_machine.specs.Cluster.{Config}
-use Rattle.bep_machine.specs.Sound.{AllGood, IsSoundMessage, IsSoundSession, IsSoundPeer}
+use Rattle.bep_index.specs.Good.{AllGood}
+use Rattle.bep_machine.specs.Sound.{IsSoundMessage, IsSoundSession, IsSoundPeer}
 use Rattle.bep_machine.proofs.SoundMaps.{each_after_insert}
 use Rattle.bep_machine.proofs.PeerKept.{sound_with_session}
 use Rattle.bep_machine.proofs.ActedKept.{SoundActed, KeepsPeer, stayed, sent, in_session}

@@ -8,7 +8,7 @@ use Rattle.bep_index.specs.Listing.{IsRecord}
 use Rattle.bep_index.specs.After.{AreRecords, IsAfter}
 use Rattle.bep_index.specs.Batch.{Rises, HasNo, NamesDiffer, IsBatch}
 use Rattle.bep_index.specs.declared.limits.TheConstants.{MAX_RECORDS}
-use Rattle.bep_machine.specs.Sound.{IsGood, AreGood, AllGood}
+use Rattle.bep_index.specs.Good.{IsGood, AreGood, AllGood}
 
 rises_from_zero : (low : ℕ) (batch : List Entry) → Rises low batch → Rises 0 batch
 rises_from_zero low [] rises = tt

@@ -17,7 +17,8 @@ use Rattle.bep_model.specs.Tables.{Device, FileName}
 use Rattle.bep_machine.specs.Answer.{Answer}
 use Rattle.bep_machine.specs.Replica.{Replica, Pull, own_at, node_at, pull_at, HasContentOf, Wants, with_node, without_pull}
 use Rattle.bep_machine.specs.Pull.{FinishRow, EndingRow, SettlingRow, IsStillWanted, IsConflictDue, IsAdopted, EndsWith, timed}
-use Rattle.bep_machine.specs.Sound.{IsGood, IsSoundReplica}
+use Rattle.bep_index.specs.Good.{IsGood}
+use Rattle.bep_machine.specs.Sound.{IsSoundReplica}
 use Rattle.bep_machine.proofs.CalmParts.{IsCalmThere, IsCalmReplica, GoesOn, IsQuietChange}
 use Rattle.bep_machine.proofs.CalmRows.{at_answers, at_becomes}
 use Rattle.bep_machine.proofs.CalmScan.{same_file, nothing_is_quiet}

@@ -15,7 +15,8 @@ use Rattle.bep_machine.specs.Replica.{Replica, view_of, with_view}
 use Rattle.bep_machine.specs.Peer.{Session, Peer}
 use Rattle.bep_machine.specs.Exchange.{SharesWith, NamesShared, known_under, cursor_after, renewed, all_renewed, with_cursor, cursors_for, configured_by}
 use Rattle.bep_machine.specs.Cluster.{Config}
-use Rattle.bep_machine.specs.Sound.{AreGood, IsSoundSession, IsSoundPeer}
+use Rattle.bep_index.specs.Good.{AreGood}
+use Rattle.bep_machine.specs.Sound.{IsSoundSession, IsSoundPeer}
 use Rattle.bep_machine.proofs.SoundMaps.{each_after_insert}
 use Rattle.bep_machine.proofs.FoldersKept.{AllSound, AllSound_after, KeepsFolders, KeepsFolders-refl, KeepsFolders-trans, KeepsFolders-insert}
 use Rattle.bep_machine.proofs.PeerKept.{shares_still, sound_with_folders, sound_with_session}

@@ -14,7 +14,8 @@ use Rattle.bep_machine.specs.Link.{Sight}
 use Rattle.bep_machine.specs.Peer.{Session, Peer, Acted, with_replica}
 use Rattle.bep_machine.specs.Exchange.{SharesWith, IsNamed, ViewRow, RequestRow, MessageRow, WaitingRow, DeliverRow, configured_by}
 use Rattle.bep_machine.specs.Cluster.{Config}
-use Rattle.bep_machine.specs.Sound.{AreGood, IsSoundMessage, IsSoundSession, IsSoundPeer}
+use Rattle.bep_index.specs.Good.{AreGood}
+use Rattle.bep_machine.specs.Sound.{IsSoundMessage, IsSoundSession, IsSoundPeer}
 use Rattle.bep_machine.proofs.LowerLaws.{LowerLaws}
 use Rattle.bep_machine.proofs.FoundAfter.{value_of}
 use Rattle.bep_machine.proofs.LinkKept.{one_sent}

@@ -9,7 +9,8 @@ use Rattle.bep_machine.specs.declared.moved.Moved.TheVariants.{Changed}
 use Rattle.bep_machine.specs.Replica.{Replica, own_at, version_of, with_record}
 use Rattle.bep_machine.specs.Local.{Fails, PutRow}
 use Rattle.bep_machine.specs.Effects.{HasRoom}
-use Rattle.bep_machine.specs.Sound.{IsGood, IsSoundReplica}
+use Rattle.bep_index.specs.Good.{IsGood}
+use Rattle.bep_machine.specs.Sound.{IsSoundReplica}
 
 -- no store call failed
 pub none_fails : (call : ℕ) → ¬ Fails call None

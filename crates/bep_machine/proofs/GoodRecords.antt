@@ -14,7 +14,7 @@ use Rattle.bep_blocks.specs.Plain.{plain_blocks}
 use Rattle.bep_blocks.specs.Laws.{NothingIsOneBlock, NothingHasItsHash, PlainIsCutWhole}
 use Rattle.bep_model.specs.Tables.{Device, FileName}
 use Rattle.bep_machine.specs.Local.{blocks_of_kind, block_size_of_kind, record_of_node, deletion_of}
-use Rattle.bep_machine.specs.Sound.{IsGood}
+use Rattle.bep_index.specs.Good.{IsGood}
 
 -- ---- records of one body
 

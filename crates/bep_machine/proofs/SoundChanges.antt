@@ -16,7 +16,8 @@ use Rattle.bep_index.specs.Laws.{PutsKeepAnIndex}
 use Rattle.bep_model.specs.Tables.{Device, FileName}
 use Rattle.bep_machine.specs.Replica.{Pull, Replica, own_at, node_at, version_of, with_record, with_node, with_pull, without_pull}
 use Rattle.bep_machine.specs.Pull.{new_pull, ArePullsFull}
-use Rattle.bep_machine.specs.Sound.{IsGood, AreReceived, IsSoundPull, IsSoundReplica}
+use Rattle.bep_index.specs.Good.{IsGood}
+use Rattle.bep_machine.specs.Sound.{AreReceived, IsSoundPull, IsSoundReplica}
 use Rattle.bep_machine.proofs.SoundParts.{SoundChange}
 use Rattle.bep_machine.proofs.SoundMaps.{IfAny, if_any, each_after_insert, each_after_remove, len-remove_le}
 use Rattle.bep_machine.proofs.GoodRecords.{good_under}

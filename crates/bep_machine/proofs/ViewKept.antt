@@ -17,7 +17,8 @@ use Rattle.bep_model.specs.Tables.{Device, Folder}
 use Rattle.bep_machine.specs.Replica.{Replica, view_of, with_view}
 use Rattle.bep_machine.specs.Peer.{Peer, is_shared_with}
 use Rattle.bep_machine.specs.Exchange.{SharesWith}
-use Rattle.bep_machine.specs.Sound.{AreGood, AllGood, IsSoundView, IsSoundReplica}
+use Rattle.bep_index.specs.Good.{AreGood, AllGood}
+use Rattle.bep_machine.specs.Sound.{IsSoundView, IsSoundReplica}
 use Rattle.bep_machine.proofs.SoundParts.{SoundChange}
 use Rattle.bep_machine.proofs.LinkSteps.{member_from_any}
 

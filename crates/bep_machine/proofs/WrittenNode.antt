@@ -14,7 +14,8 @@ use Rattle.bep_model.specs.Tables.{FileName}
 use Rattle.bep_store.specs.Store.{at_time}
 use Rattle.bep_machine.specs.Replica.{Pull}
 use Rattle.bep_machine.specs.Pull.{written, timed, EndsWith}
-use Rattle.bep_machine.specs.Sound.{IsGood, AreReceived, IsSoundPull}
+use Rattle.bep_index.specs.Good.{IsGood}
+use Rattle.bep_machine.specs.Sound.{AreReceived, IsSoundPull}
 use Rattle.bep_machine.proofs.SoundMaps.{IfAny}
 
 -- the sizes of cuts, one after the other

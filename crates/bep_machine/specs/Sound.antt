@@ -2,19 +2,15 @@
 -- configuration (the limits are this project's profile).
 use Rattle.std.specs.Prelude.{◌≡◌, ◌≢◌, ◌↔◌, ◌<◌, ◌≤◌, ℕ, ⊤, false, List, [], ◌∷◌, length, Option, Some, None, IsSome, Contains}
 use Rattle.std.specs.FinMap.{empty, get, len}
-use Rattle.bep_map.specs.NameMap.{ByName}
 use Rattle.bep_record.specs.declared.block.Block.{Block}
-use Rattle.bep_record.specs.declared.entry.Entry.{Entry}
 use Rattle.bep_record.specs.declared.node.NodeParts.{NodeParts}
 use Rattle.bep_record.specs.declared.limits.TheConstants.{MAX_MESSAGES, MAX_PULLS}
-use Rattle.bep_record.specs.Entry.{IsWellFormed}
 use Rattle.bep_record.specs.Node.{IsNode}
-use Rattle.bep_record.specs.Vector.{IsVersion, most_counters}
 use Rattle.bep_index.specs.Listing.{Listing}
 use Rattle.bep_index.specs.Index.{IsIndex}
 use Rattle.bep_index.specs.View.{IsView}
 use Rattle.bep_index.specs.Batch.{IsBatch}
-use Rattle.bep_index.specs.After.{IsAmong}
+use Rattle.bep_index.specs.Good.{AllGood, AreGood, IsGood}
 use Rattle.bep_index.specs.declared.send.Plan.{Plan}
 use Rattle.bep_model.specs.Tables.{Device, Folder, FileName}
 use Rattle.bep_machine.specs.declared.limits.TheConstants.{MAX_OUTSTANDING}
@@ -26,20 +22,6 @@ use Rattle.bep_machine.specs.Peer.{Session, Peer}
 use Rattle.bep_machine.specs.Exchange.{SharesWith}
 use Rattle.bep_machine.specs.Cluster.{Config, Cluster}
 use Rattle.bep_machine.specs.Steps.{SharesFolder}
-
--- ---- records
-
--- a record is well formed, and so is its version
-pub record IsGood (entry : Entry) : Type 0 where
-  pub formed : IsWellFormed entry
-  pub version : IsVersion entry.version
-  pub few : length entry.version ≤ most_counters
-
-abbrev pub AreGood : ByName Entry → Type 0
-AreGood records = (name : FileName) (entry : Entry) → get records name ≡ Some entry → IsGood entry
-
-abbrev pub AllGood : List Entry → Type 0
-AllGood batch = (entry : Entry) → IsAmong entry batch → IsGood entry
 
 -- ---- a replica
 

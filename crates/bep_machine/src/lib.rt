@@ -45,6 +45,6 @@ pub use link_effects::{
 pub use message::{Announced, Code, Message, Request, Response};
 pub use moved::Moved;
 pub use refusal::Refusal;
-pub use sound::steps_keep_sound;
+pub use sound::{message_is_sound, steps_keep_sound};
 pub use step::Step;
 pub use undone::undone_steps_leave_all;

@@ -8,6 +8,7 @@ ghost use Rattle.bep_map.specs.contracts.device_map.DeviceMap.{the_row};
 use bep_record::DeviceId;
 use std::alloc::{AllocError, Global};
 use std::collections::BTreeMap;
+use std::collections::btree_map::Values;
 use std::marker::Model;
 use std::mem;
 
@@ -50,6 +51,13 @@ impl<V> DeviceMap<V> {
         ensures { option_copied result ≡ map.get self.now device }
     {
         self.entries.get(&device)
+    }
+
+    /// The values, in the order of their devices.
+    pub fn values(&self) -> Values<'_, DeviceId, V>
+        ensures { result ≡ map.values self.now }
+    {
+        self.entries.values()
     }
 
     /// The device's value, if it has one, to be changed in place.

@@ -1,1 +1,2 @@
 pub mod InsertFacts
+pub mod NodeFacts

@@ -4,6 +4,7 @@ use Rattle.std.specs.FinMap.{get, insert}
 use Rattle.bep_map.specs.NameMap.{ByName}
 use Rattle.bep_record.specs.declared.node.NodeParts.{NodeParts}
 use Rattle.bep_record.specs.declared.limits.TheConstants.{MAX_NANOSECONDS}
+use Rattle.bep_record.specs.Node.{IsNode}
 use Rattle.bep_store.specs.declared.error.StoreError.{StoreError}
 use Rattle.bep_store.specs.declared.error.StoreError.TheVariants.{Fault, Memory}
 
@@ -26,3 +27,7 @@ abbrev pub CountsFault : {A : Type 0} → ℕ → ℕ → Result A StoreError �
 CountsFault old new (Ok _) = new ≡ old
 CountsFault old new (Err Fault) = old < new
 CountsFault old new (Err Memory) = new ≡ old
+
+-- what stands at each name is a node
+abbrev pub AreNodes : ByName NodeParts → Type 0
+AreNodes nodes = (name : List ℕ) (node : NodeParts) → get nodes name ≡ Some node → IsNode node

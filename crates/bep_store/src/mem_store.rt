@@ -33,6 +33,10 @@ impl Model for MemStore {
     ghost coded = { map.code (coded_list coded_ℕ) parts.the_row.coded };
 
     ghost view = { λ store. store.nodes };
+
+    ghost use Rattle.bep_store.specs.Store.{AreNodes};
+
+    ghost invariant = { λ store. AreNodes store.nodes };
 }
 
 impl MemStore {
@@ -64,6 +68,8 @@ impl Store for MemStore {
     }
 
     fn write(&mut self, name: &Name, node: &Node) -> Result<(), StoreError> {
+        // `parts` is called for its clause `is_node`
+        let _parts = node.parts();
         let key = name.copy(self.alloc)?;
         let copy = node.copy(self.alloc)?;
         self.nodes.insert(key, copy)?;
@@ -83,6 +89,7 @@ impl Store for MemStore {
     }
 
     fn faults(&self) -> u64 {
+        let _ = &self.nodes;
         0
     }
 }

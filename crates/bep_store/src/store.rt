@@ -3,7 +3,7 @@ ghost use Rattle.std.specs.Prelude.{◌≡◌, ◌<◌, ℕ, min, IfOk, OnOk, On
 ghost use Rattle.std.specs.FinMap as map;
 ghost use Rattle.bep_map.specs.NameMap.{ByName};
 ghost use Rattle.bep_record.specs.declared.node.NodeParts.{NodeParts};
-ghost use Rattle.bep_store.specs.Store.{after_set_time, CountsFault};
+ghost use Rattle.bep_store.specs.Store.{after_set_time, AreNodes, CountsFault};
 
 use crate::{StoreError, StoreFault};
 use bep_record::{Name, Node};
@@ -53,7 +53,9 @@ pub trait Store: Drop {
         ensures steady { OnOk result (faults self.new ≡ faults self.old) }
         ensures risen { OnErr result (faults self.old < faults self.new) };
 
-    /// How often the store has failed; 18446744073709551615 where it was more often than that.
+    /// How often the store has failed; 18446744073709551615 where it was more often than that. And what each store holds
+    /// are nodes: this is the one call that changes no store, so a store says it here.
     fn faults(&self) -> u64
-        ensures { result ≡ min (faults self.now) u64.MAX };
+        ensures count { result ≡ min (faults self.now) u64.MAX }
+        ensures nodes { AreNodes (contents self.now) };
 }

@@ -2,12 +2,14 @@ use Rattle.std.proofs.Common.{◌≡◌, ◌≢◌, ℕ, List, ◌+◌, ◌≤�
 use Rattle.std.specs.FinMap.{get, insert, len, empty}
 use Rattle.bep_index.specs.Listing.{Listing}
 use Rattle.bep_index.specs.Batch.{with_all}
+use Rattle.bep_index.specs.Good.{AreGood}
 use Rattle.bep_index.specs.Index.{IsIndex, IsSequenceFull, IsIndexFull, numbered, after_put}
 use Rattle.bep_index.specs.Order.{AreInOrder, IsLater}
 use Rattle.bep_index.specs.Change.{Change, taken_back, IsLastChange}
 use Rattle.bep_map.specs.NameMap.{ByName}
 use Rattle.bep_record.specs.declared.entry.Entry.{Entry}
 use Rattle.bep_index.specs.declared.limits.TheConstants.{MAX_NAMES, MAX_SEQUENCE}
+use Rattle.bep_index.proofs.GoodFacts.{good_inserted}
 use Rattle.bep_index.proofs.IndexFacts.{change_of, IsIndex-after_put, taken_back-after_put, IsLastChange-after_put}
 use Rattle.bep_index.proofs.PutFacts.{AreInOrder-put, with_all-put}
 use Rattle.bep_index.proofs.UndoFacts.{next_is_later_than_all}
@@ -54,11 +56,25 @@ in_order c =
     (not_refused c.in_ok-name.ensures.sequence_full) c.in_ok-name.ensures.numbered in
     subst AreInOrder (sym c.in_ok-old.ensures.ok) (AreInOrder-put c.self.inside.records c.in_ok-name.entry c.self.invariant.1 is_later.above is_later.within)
 
+good : (c : goal.After-result-1) → AreGood (with_all empty c.put.new.self)
+good c =
+    subst AreGood (sym (ap (with_all empty) c.in_ok-old.ensures.ok ∙ with_all-put c.self.inside.records c.in_ok-name.entry c.self.invariant.1.names))
+    (good_inserted (with_all empty c.self.inside.records) c.in_ok-name.entry.name c.in_ok-name.entry c.record_is_good.ensures c.self.invariant.2)
+
+-- without memory nothing was put
+pub invariant_of-self : goal.invariant_of-self
+invariant_of-self c =
+    subst
+    (λ (es : List Entry).
+    IsIndex (record { id = c.self.inside.id; sequence = c.self.inside.sequence; records = with_all empty es }) × AreInOrder es × AreGood (with_all empty es))
+    (sym c.in_err-old.ensures.err) c.self.invariant
+
 pub invariant_of-self-2 : goal.invariant_of-self-2
 invariant_of-self-2 c = (
   subst (λ records. IsIndex (record { id = c.self.inside.id; sequence = c.self.inside.sequence + 1; records = records })) (sym (given c))
       (IsIndex-after_put (before c) c.args.entry c.self.invariant.0 (not_full c) (room c)),
   in_order c,
+  good c,
 )
 
 named : (c : goal.After-result-1) → c.in_ok-name.name ≡ c.args.entry.name

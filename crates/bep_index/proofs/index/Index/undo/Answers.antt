@@ -2,9 +2,11 @@ use Rattle.std.proofs.Common.{◌≡◌, ◌∙◌, ◌-◌, ap, sym, subst}
 use Rattle.std.specs.FinMap.{empty}
 use Rattle.bep_index.specs.Listing.{Listing}
 use Rattle.bep_index.specs.Batch.{with_all}
+use Rattle.bep_index.specs.Good.{AreGood, IsGoodIfThere}
 use Rattle.bep_index.specs.Index.{IsIndex}
 use Rattle.bep_index.specs.Change.{Change, IsLastChange, given_back, taken_back}
 use Rattle.bep_index.specs.Order.{AreInOrder, IsGivenBack}
+use Rattle.bep_index.proofs.GoodFacts.{good_given_back}
 use Rattle.bep_index.proofs.UndoFacts.{is_given_back}
 use Rattle.bep_index.proofs.PutFacts.{AreInOrder-back, with_all-back}
 use Rattle.bep_index.proofs.index.Index.undo.Goals as goal
@@ -33,10 +35,14 @@ records : (c : goal.After-drop-name) → with_all empty c.give_back.new.self ≡
 records c =
     ap (with_all empty) c.give_back.ensures ∙ with_all-back c.self.inside.records c.undo.inside.name c.undo.inside.old c.self.invariant.1.names (back c).before
 
+before_good : (c : goal.After-drop-name) → IsGoodIfThere c.undo.inside.old
+before_good c = subst IsGoodIfThere c.as_ref.ensures.value c.old_is_good.ensures
+
 pub invariant_of-self : goal.invariant_of-self
 invariant_of-self c = (
   subst (λ m. IsIndex (record { id = c.self.inside.id; sequence = c.self.inside.sequence - 1; records = m })) (sym (records c)) (last c).before,
   subst AreInOrder (sym c.give_back.ensures) (AreInOrder-back c.self.inside.records c.undo.inside.name c.undo.inside.old c.self.invariant.1 (back c).before),
+  subst AreGood (sym (records c)) (good_given_back (with_all empty c.self.inside.records) c.undo.inside.name c.undo.inside.old (before_good c) c.self.invariant.2),
 )
 
 pub returns : goal.returns

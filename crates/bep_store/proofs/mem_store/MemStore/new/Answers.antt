@@ -1,0 +1,7 @@
+use Rattle.std.proofs.Common.{sym, subst}
+use Rattle.bep_store.specs.Store.{AreNodes}
+use Rattle.bep_store.proofs.NodeFacts.{no_nodes}
+use Rattle.bep_store.proofs.mem_store.MemStore.new.Goals as goal
+
+pub invariant_of-result : goal.invariant_of-result
+invariant_of-result c = subst AreNodes (sym c.new.ensures) no_nodes
