@@ -12,7 +12,7 @@ use Rattle.bep_model.specs.Settled.{IsSettled}
 use Rattle.bep_model.specs.Calm.{Contents, IsCalm, Kept}
 use Rattle.bep_model.specs.Stays.{Stays, KeepsRecords, SameContents}
 use Rattle.bep_machine.specs.declared.step.Step.{Step}
-use Rattle.bep_machine.specs.declared.step.Step.TheVariants.{Edit}
+use Rattle.bep_machine.specs.declared.step.Step.TheVariants.{Edit, Remove, Scan, Override, Revert, Connect, Lose, Begin, Deliver, Announce, StartPull, Ask, Finish, Restart}
 use Rattle.bep_machine.specs.Answer.{Answer}
 use Rattle.bep_machine.specs.Cluster.{Cluster}
 use Rattle.bep_machine.specs.Steps.{IsStep, Event, IsRun, IsQuiet, AreQuiet}
@@ -23,7 +23,19 @@ use Rattle.bep_machine.specs.Gapless.{HasNoGap, IsGapless, IsApart, IsFresh}
 -- what a user puts into a folder is a node
 abbrev pub IsSoundStep : Step → Type 0
 IsSoundStep (Edit device folder name node) = IsNode node
-IsSoundStep step = ⊤
+IsSoundStep (Remove device folder name) = ⊤
+IsSoundStep (Scan device folder name) = ⊤
+IsSoundStep (Override device folder name) = ⊤
+IsSoundStep (Revert device folder name) = ⊤
+IsSoundStep (Connect one other) = ⊤
+IsSoundStep (Lose one other) = ⊤
+IsSoundStep (Begin device other) = ⊤
+IsSoundStep (Deliver device other) = ⊤
+IsSoundStep (Announce device other folder) = ⊤
+IsSoundStep (StartPull device folder name) = ⊤
+IsSoundStep (Ask device other folder name) = ⊤
+IsSoundStep (Finish device folder name) = ⊤
+IsSoundStep (Restart device) = ⊤
 
 abbrev pub AreSound : List Event → Type 0
 AreSound [] = ⊤

@@ -114,10 +114,20 @@ StepRow (Restart device) failed = RestartRow device
 
 -- steps that grow nothing never want memory
 abbrev pub Grows : Step → Type 0
+Grows (Edit device folder name node) = ⊤
+Grows (Remove device folder name) = ⊤
+Grows (Scan device folder name) = ⊤
+Grows (Override device folder name) = ⊤
+Grows (Revert device folder name) = ⊤
 Grows (Connect one other) = ⊥
 Grows (Lose one other) = ⊥
+Grows (Begin device other) = ⊤
+Grows (Deliver device other) = ⊤
+Grows (Announce device other folder) = ⊤
+Grows (StartPull device folder name) = ⊤
+Grows (Ask device other folder name) = ⊤
+Grows (Finish device folder name) = ⊤
 Grows (Restart device) = ⊥
-Grows step = ⊤
 
 -- a step may want memory, and leaves all as it was then; else it is refused where something that it names isn't there,
 -- or makes its row
@@ -143,9 +153,18 @@ IsRun old (event ∷ more) new = (next : Cluster) × IsStep event.step event.fai
 abbrev pub IsQuiet : Step → Type 0
 IsQuiet (Edit device folder name node) = ⊥
 IsQuiet (Remove device folder name) = ⊥
+IsQuiet (Scan device folder name) = ⊤
 IsQuiet (Override device folder name) = ⊥
 IsQuiet (Revert device folder name) = ⊥
-IsQuiet step = ⊤
+IsQuiet (Connect one other) = ⊤
+IsQuiet (Lose one other) = ⊤
+IsQuiet (Begin device other) = ⊤
+IsQuiet (Deliver device other) = ⊤
+IsQuiet (Announce device other folder) = ⊤
+IsQuiet (StartPull device folder name) = ⊤
+IsQuiet (Ask device other folder name) = ⊤
+IsQuiet (Finish device folder name) = ⊤
+IsQuiet (Restart device) = ⊤
 
 abbrev pub AreQuiet : List Event → Type 0
 AreQuiet [] = ⊤

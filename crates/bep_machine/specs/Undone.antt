@@ -4,7 +4,7 @@ use Rattle.std.specs.Prelude.{◌≡◌, ◌⊎◌, ℕ, Option, Some, None}
 use Rattle.std.specs.FinMap.{get}
 use Rattle.bep_model.specs.Tables.{Device, FileName}
 use Rattle.bep_machine.specs.declared.step.Step.{Step}
-use Rattle.bep_machine.specs.declared.step.Step.TheVariants.{Finish}
+use Rattle.bep_machine.specs.declared.step.Step.TheVariants.{Edit, Remove, Scan, Override, Revert, Connect, Lose, Begin, Deliver, Announce, StartPull, Ask, Finish, Restart}
 use Rattle.bep_machine.specs.Answer.{Answer}
 use Rattle.bep_machine.specs.Cluster.{Cluster, with_peer}
 use Rattle.bep_machine.specs.Halves.{IsDone}
@@ -22,10 +22,22 @@ KeepsCopy device name old new =
 
 -- all is as before, save that the end of a pull may have kept a conflict copy
 abbrev pub LeavesAll : Step → Cluster → Cluster → Type 0
+LeavesAll (Edit device folder name node) old new = new ≡ old
+LeavesAll (Remove device folder name) old new = new ≡ old
+LeavesAll (Scan device folder name) old new = new ≡ old
+LeavesAll (Override device folder name) old new = new ≡ old
+LeavesAll (Revert device folder name) old new = new ≡ old
+LeavesAll (Connect one other) old new = new ≡ old
+LeavesAll (Lose one other) old new = new ≡ old
+LeavesAll (Begin device other) old new = new ≡ old
+LeavesAll (Deliver device other) old new = new ≡ old
+LeavesAll (Announce device other folder) old new = new ≡ old
+LeavesAll (StartPull device folder name) old new = new ≡ old
+LeavesAll (Ask device other folder name) old new = new ≡ old
 LeavesAll (Finish device folder name) old new =
     (new ≡ old) ⊎ ((before after : Replica) × (get (old.peer device).replicas folder ≡ Some before) × KeepsCopy device name before after ×
     (new ≡ with_peer old device (with_replica (old.peer device) folder after)))
-LeavesAll step old new = new ≡ old
+LeavesAll (Restart device) old new = new ≡ old
 
 -- a step that is refused, or wants memory
 abbrev pub UndoneStepsLeaveAll : Type 0
