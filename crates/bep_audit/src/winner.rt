@@ -12,7 +12,7 @@ ghost use Rattle.bep_audit.specs.Group.{IsGroupOf};
 use crate::candidates::winner_among;
 use crate::owns::Owns;
 use bep_model::{Row, winner_is_unique};
-use bep_record::{DeviceId, FolderName, Name, Record};
+use bep_record::{DeviceId, FolderName, Name, Record, Same};
 use bep_tables::{Cut, TableEntry, cut_says, entries_are_held};
 
 /// The device and the record that win the name in the folder; `None` exactly where the name has no winner. The record
@@ -72,12 +72,5 @@ pub(crate) fn is_winner_in<'a>(cut: &'a Cut, group: &[TableEntry<'a>], row: &Row
 fn is_of_row(one: &(DeviceId, &Record), row: &Row) -> bool
     ensures { IsTrue result ↔ (candidate_of one.now ≡ (row.now.device, row.now.entry)) }
 {
-    one.0 == row.device && is_same(one.1, &row.entry)
-}
-
-// Whether the records are equal in all fields, the sequence too.
-fn is_same(one: &Record, other: &Record) -> bool
-    ensures { IsTrue result ↔ (one.now ≡ other.now) }
-{
-    one.same_entry(other) && one.entry().sequence == other.entry().sequence
+    one.0 == row.device && one.1.same(&row.entry)
 }

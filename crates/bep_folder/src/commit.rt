@@ -16,7 +16,7 @@ use crate::traced::Traced;
 use crate::{FolderError, Replica, ScanResult};
 use bep_index::Index;
 use bep_machine::Moved;
-use bep_record::{DeviceId, FolderKind, Node, NodeParts, Record};
+use bep_record::{DeviceId, FolderKind, Node, Record, Same};
 use bep_store::Store;
 use std::alloc::Global;
 
@@ -125,18 +125,8 @@ fn same_node(one: Option<&Node>, other: Option<&Node>) -> bool
     ensures { IsTrue result ↔ (option_copied one.entry ≡ option_copied other.entry) }
 {
     match (one, other) {
-        (Some(one), Some(other)) => same_parts(one.parts(), other.parts()),
+        (Some(one), Some(other)) => one.same(other),
         (None, None) => true,
         _ => false,
     }
-}
-
-fn same_parts(one: &NodeParts, other: &NodeParts) -> bool
-    ensures { IsTrue result ↔ (one.now ≡ other.now) }
-{
-    one.kind == other.kind
-        && one.bytes.as_slice() == other.bytes.as_slice()
-        && one.target == other.target
-        && one.modified_s == other.modified_s
-        && one.modified_ns == other.modified_ns
 }

@@ -5,7 +5,7 @@ ghost use Rattle.bep_index.specs.Good.{AllGood};
 
 use crate::good::all_are_good;
 use crate::{IndexError, MAX_RECORDS, MAX_SEQUENCE};
-use bep_record::{Duplicate, Items, Name, Record};
+use bep_record::{Duplicate, Items, Name, Record, Same};
 use std::alloc::{AllocError, Global};
 use std::marker::Model;
 
@@ -85,6 +85,12 @@ impl Batch {
         Ok(Batch {
             records: self.records.duplicate(alloc)?,
         })
+    }
+}
+
+impl Same for Batch {
+    fn same(&self, other: &Batch) -> bool {
+        self.records.same(&other.records)
     }
 }
 

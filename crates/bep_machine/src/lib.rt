@@ -17,6 +17,7 @@ mod link_effects;
 mod message;
 mod moved;
 mod refusal;
+mod same;
 mod sound;
 mod step;
 mod undone;

@@ -32,6 +32,7 @@ mod limits;
 mod name;
 mod node;
 mod record;
+mod same;
 mod target;
 mod text;
 mod vector;
@@ -55,5 +56,6 @@ pub use limits::{
 pub use name::Name;
 pub use node::{Node, NodeParts};
 pub use record::Record;
+pub use same::Same;
 pub use target::Target;
 pub use vector::{Order, Vector};

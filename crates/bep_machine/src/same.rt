@@ -1,0 +1,81 @@
+//! Comparison of messages and of steps in all that they hold.
+
+use crate::{Announced, Message, Request, Response, Step};
+use bep_record::Same;
+
+impl Same for Announced {
+    fn same(&self, other: &Announced) -> bool {
+        self.folder == other.folder
+            && self.index_id == other.index_id
+            && self.sequence == other.sequence
+            && self.known_id == other.known_id
+            && self.known_sequence == other.known_sequence
+    }
+}
+
+impl Same for Request {
+    fn same(&self, other: &Request) -> bool {
+        self.id == other.id
+            && self.folder == other.folder
+            && self.name == other.name
+            && self.offset == other.offset
+            && self.size == other.size
+            && self.hash == other.hash
+    }
+}
+
+impl Same for Response {
+    fn same(&self, other: &Response) -> bool {
+        self.id == other.id
+            && self.code == other.code
+            && self.bytes.as_slice() == other.bytes.as_slice()
+    }
+}
+
+impl Same for Message {
+    fn same(&self, other: &Message) -> bool {
+        match (self, other) {
+            (Message::ClusterConfig(named), Message::ClusterConfig(others)) => named.same(others),
+            (Message::Index(folder, batch), Message::Index(name, records)) => {
+                folder == name && batch.same(records)
+            }
+            (Message::IndexUpdate(folder, batch), Message::IndexUpdate(name, records)) => {
+                folder == name && batch.same(records)
+            }
+            (Message::Request(request), Message::Request(other)) => request.same(other),
+            (Message::Response(response), Message::Response(other)) => response.same(other),
+            _ => false,
+        }
+    }
+}
+
+// A letter is the device, the other end, the folder or the name of the first step, and the word is that of the second.
+impl Same for Step {
+    fn same(&self, other: &Step) -> bool {
+        match (self, other) {
+            (Step::Edit(d, f, n, node), Step::Edit(device, folder, name, held)) => {
+                d == device && f == folder && n == name && node.same(held)
+            }
+            (Step::Remove(d, f, n), Step::Remove(device, folder, name))
+            | (Step::Scan(d, f, n), Step::Scan(device, folder, name))
+            | (Step::Override(d, f, n), Step::Override(device, folder, name))
+            | (Step::Revert(d, f, n), Step::Revert(device, folder, name))
+            | (Step::StartPull(d, f, n), Step::StartPull(device, folder, name))
+            | (Step::Finish(d, f, n), Step::Finish(device, folder, name)) => {
+                d == device && f == folder && n == name
+            }
+            (Step::Connect(d, e), Step::Connect(device, end))
+            | (Step::Lose(d, e), Step::Lose(device, end))
+            | (Step::Begin(d, e), Step::Begin(device, end))
+            | (Step::Deliver(d, e), Step::Deliver(device, end)) => d == device && e == end,
+            (Step::Announce(d, e, f), Step::Announce(device, end, folder)) => {
+                d == device && e == end && f == folder
+            }
+            (Step::Ask(d, e, f, n), Step::Ask(device, end, folder, name)) => {
+                d == device && e == end && f == folder && n == name
+            }
+            (Step::Restart(d), Step::Restart(device)) => d == device,
+            _ => false,
+        }
+    }
+}
