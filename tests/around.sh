@@ -1,6 +1,7 @@
 #!/usr/bin/env bash
 # around.sh PROGRAM: compares what stands around the built program with it: the man page and the completions with its
-# help. And tries the scripts that run, build and install it (around/). The last line is 'N passed, M failed'.
+# help, and the schemas with one another. Gives it a silent pipe. And tries the scripts that run, build and
+# install it (around/). The last line is 'N passed, M failed'.
 set -euo pipefail
 program=$(readlink -m "$1")
 cd "$(dirname "$0")/.."
@@ -107,6 +108,39 @@ expect "no subcommand in the program's help" [ -n "$(helped)" ]
 # The help's lines are as long as the terminal allows.
 expect "the man page's statuses aren't those of 'check --help': $(statuses)" \
   grep -qF "$(statuses)" <(help_of check | tr '\n' ' ')
+
+# ---- words that aren't followed, while nothing comes on standard input
+
+mkfifo "$work/silent"
+exec 9<> "$work/silent"
+for words in '' --help --version 'check --help' jump 'check now'; do
+  status=0
+  # shellcheck disable=SC2086 # the words are several
+  timeout 20 "$program" $words <&9 > "$work/output" 2> "$work/error" || status=$?
+  expect "'syncaudit $words' waits for standard input, or ends with $status" [ "$status" = 3 ]
+done
+exec 9>&-
+
+# ---- the schemas
+
+# names_another: a schema names another file.
+names_another() {
+  grep -qE '"\$ref": "[^#]' docs/*.schema.json
+}
+
+for schema in docs/*.schema.json; do
+  id=urn:syncaudit:$(basename "$schema" .schema.json)
+  expect "the \$id of $schema isn't $id" grep -qF "\"\$id\": \"$id\"" "$schema"
+done
+expect "a schema names another one" eval '! names_another'
+# What two of them define by one name is the same in both.
+if command -v python3 > /dev/null 2>&1; then
+  expect "what the explanation's schema takes over isn't what the check document's has" python3 -c '
+import json
+check, explanation = (json.load(open(f"docs/{name}.schema.json"))["$defs"] for name in ("check-document", "explanation"))
+both = check.keys() & explanation.keys()
+assert "record" in both and all(check[name] == explanation[name] for name in both)'
+fi
 
 # ---- the scripts
 

@@ -5,7 +5,19 @@ release_of release
 rm -rf "$place/out/built"
 mkdir -p "$place/docs"
 cp docs/DOCUMENTS.md docs/*.schema.json docs/syncaudit.1 "$place/docs"
-cp -r completions "$place"
+cp -r completions examples "$place"
+
+# The examples that the help of a command or the man page names.
+examples_named() {
+  {
+    cat docs/syncaudit.1
+    for command in $(helped); do
+      help_of "$command"
+    done
+  } | tr -d '\\' | grep -o 'examples/[a-z/-]*\.json' | sort -u
+}
+
+expect "no example in the help and the man page: $(examples_named)" [ "$(examples_named | wc -l)" -ge 4 ]
 status=0
 "$place/install" "$work/prefix" > "$work/output" 2> "$work/error" || status=$?
 expect "install has status $status" [ "$status" = 0 ]
@@ -13,6 +25,7 @@ files=(bin/syncaudit share/man/man1/syncaudit.1 share/bash-completion/completion
   share/zsh/site-functions/_syncaudit share/fish/vendor_completions.d/syncaudit.fish
   share/doc/syncaudit/DOCUMENTS.md share/doc/syncaudit/check-document.schema.json
   share/doc/syncaudit/explanation.schema.json share/doc/syncaudit/scenario.schema.json)
+mapfile -O "${#files[@]}" -t files < <(examples_named | sed 's,^,share/doc/syncaudit/,')
 for file in "${files[@]}"; do
   expect "install puts no $file below its prefix" [ -f "$work/prefix/$file" ]
   expect "install doesn't say that it puts $file" says "$work/prefix/$file" "$work/output"
