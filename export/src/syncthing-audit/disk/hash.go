@@ -135,6 +135,17 @@ func (p *Pool) hash(job *Job, offset int64) error {
 	for place, size := range job.file.BlockSizes {
 		cuts[place] = &cutter{sum: p.sums.new(length), size: size, hashes: job.hashes[place][offset/size:]}
 	}
+	if err := p.read(file, job, offset, length, cuts); err != nil {
+		return err
+	}
+	for _, cut := range cuts {
+		cut.end()
+	}
+	return nil
+}
+
+// read reads a piece of a file, and gives its bytes to all cutters.
+func (p *Pool) read(file io.ReaderAt, job *Job, offset, length int64, cuts []*cutter) error {
 	buffer := buffers.Get().(*[readBytes]byte)
 	defer buffers.Put(buffer)
 	for done := int64(0); done < length; {
@@ -155,9 +166,6 @@ func (p *Pool) hash(job *Job, offset int64) error {
 		}
 		done += int64(len(next))
 		atomic.AddInt64(&p.hashed, int64(len(next)))
-	}
-	for _, cut := range cuts {
-		cut.end()
 	}
 	return nil
 }
