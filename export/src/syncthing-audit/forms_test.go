@@ -46,6 +46,7 @@ type drawn struct {
 func (d *drawn) Folder() part.Folder                { return d.about }
 func (d *drawn) Disk() fs.Filesystem                { return fs.NewFilesystem(fs.FilesystemTypeBasic, d.path) }
 func (d *drawn) Patterns() (*ignore.Matcher, error) { return ignore.New(d.Disk()), nil }
+func (d *drawn) Check() error                       { return nil }
 func (d *drawn) Max() int64                         { return d.about.Max }
 
 func (d *drawn) Own(_ string, take func(device.Entry) bool) error {

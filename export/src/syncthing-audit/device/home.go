@@ -30,6 +30,7 @@ type Home struct {
 	ID      protocol.DeviceID
 	Config  config.Configuration
 	lock    *os.File
+	before  listing // the index before it was copied
 	copied  string
 	backend backend.Backend
 	index   *db.Lowlevel
@@ -110,10 +111,16 @@ func (h *Home) openIndex() error {
 	} else if err != nil {
 		return err
 	}
+	if h.before, err = listingOf(database); err != nil {
+		return err
+	}
 	if h.copied, err = os.MkdirTemp("", "syncthing-audit-"); err != nil {
 		return err
 	}
 	if err := copyFiles(database, h.copied); err != nil {
+		return err
+	}
+	if err := h.checkUnchanged(); err != nil {
 		return err
 	}
 	if err := checkWhole(h.copied); err != nil {

@@ -58,6 +58,9 @@ func (i *Index) Disk() fs.Filesystem { return i.files.MtimeFS(i.Config.Filesyste
 // Max gives the greatest sequence of the device's own index.
 func (i *Index) Max() int64 { return i.snapshot.Sequence(protocol.LocalDeviceID) }
 
+// Check says whether the index is still as it was when it was opened.
+func (i *Index) Check() error { return i.home.checkUnchanged() }
+
 // Bytes gives the bytes of all files that the device's own index has.
 func (i *Index) Bytes() int64 { return i.snapshot.LocalSize().Bytes }
 

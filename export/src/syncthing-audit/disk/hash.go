@@ -15,7 +15,7 @@ import (
 
 const (
 	// pieceBytes is how much of a file one worker hashes: a multiple of each block size.
-	pieceBytes = 4 * protocol.MaxBlockSize
+	pieceBytes = protocol.MaxBlockSize
 	// readBytes is how much is read at once: it divides each block size.
 	readBytes = protocol.MinBlockSize
 )
@@ -37,15 +37,16 @@ type File struct {
 type Pool struct {
 	tasks   chan func()
 	workers sync.WaitGroup
+	hashing chan struct{} // one for each that hashes at this moment
 	hashed  int64
 	skips   uint32
 	sums    chooser
 }
 
-// NewPool starts so many workers.
-func NewPool(workers int) *Pool {
-	made := &Pool{tasks: make(chan func(), workers)}
-	for next := 0; next < workers; next++ {
+// NewPool starts a pool in which so many hash at once. Twice as many read, so that there is always something to hash.
+func NewPool(hashers int) *Pool {
+	made := &Pool{tasks: make(chan func(), hashers), hashing: make(chan struct{}, hashers)}
+	for next := 0; next < 2*hashers; next++ {
 		made.workers.Add(1)
 		go func() {
 			defer made.workers.Done()
@@ -135,6 +136,17 @@ func (p *Pool) hash(job *Job, offset int64) error {
 	for place, size := range job.file.BlockSizes {
 		cuts[place] = &cutter{sum: p.sums.new(length), size: size, hashes: job.hashes[place][offset/size:]}
 	}
+	if err := p.read(file, job, offset, length, cuts); err != nil {
+		return err
+	}
+	for _, cut := range cuts {
+		cut.end()
+	}
+	return nil
+}
+
+// read reads a piece of a file, and gives its bytes to all cutters.
+func (p *Pool) read(file io.ReaderAt, job *Job, offset, length int64, cuts []*cutter) error {
 	buffer := buffers.Get().(*[readBytes]byte)
 	defer buffers.Put(buffer)
 	for done := int64(0); done < length; {
@@ -147,17 +159,16 @@ func (p *Pool) hash(job *Job, offset int64) error {
 		} else if err != nil {
 			return fmt.Errorf("it can't be read: %w", err)
 		}
+		p.hashing <- struct{}{}
 		for _, cut := range cuts {
 			cut.write(next)
 		}
+		<-p.hashing
 		if job.data != nil {
 			copy(job.data[offset+done:], next)
 		}
 		done += int64(len(next))
 		atomic.AddInt64(&p.hashed, int64(len(next)))
-	}
-	for _, cut := range cuts {
-		cut.end()
 	}
 	return nil
 }

@@ -19,7 +19,8 @@ type Folder interface {
 	Patterns() (*ignore.Matcher, error)
 	Own(prefix string, take func(device.Entry) bool) error
 	View(of part.View, prefix string, take func(device.Entry) bool) error
-	Max() int64 // the greatest sequence of the device's own index, now
+	Max() int64   // the greatest sequence of the device's own index, now
+	Check() error // whether the index is still the one that is read
 }
 
 // Device is a device that is to be read.
@@ -50,6 +51,9 @@ func (d *Device) Run(head *part.Head, sink part.Sink) error {
 		}
 		end := &part.End{Folder: about.ID, Last: place == len(d.Folders)-1}
 		if err := d.names(one, about, end, sink); err != nil {
+			return err
+		}
+		if err := one.Check(); err != nil {
 			return err
 		}
 		end.Max = one.Max()
