@@ -16,4 +16,4 @@ mod release;
 mod told;
 
 pub use mode::{Ending, Mode, faultless_words_ask, mode_of};
-pub use told::{Unfollowed, mode_told};
+pub use told::{Unfollowed, mode_told, why_of};

@@ -2,9 +2,11 @@
 ghost use Rattle.std.specs.Prelude.{◌≡◌, [], IfErr, IfOk, map};
 ghost use Rattle.clap.specs.Words.{fault_of};
 ghost use Rattle.bep_words.specs.Mode.{Asks, program};
+ghost use Rattle.bep_words.specs.Told as spec;
 ghost use Rattle.bep_words.specs.declared.told.Unfollowed.TheVariants.{Memory};
 
 use crate::mode::{Mode, mode_of};
+use clap::Error;
 use clap::error::ErrorKind;
 use std::convert::AsStr;
 
@@ -24,12 +26,31 @@ pub fn mode_told<P: AllocGlobal + Eprint, S: AsStr>(rt: &P, words: &[S]) -> Resu
     ensures asked { IfOk result (Asks (map S.text words.entry.now)) }
     ensures memory { fault_of program (map S.text words.entry.now) ≡ [] → IfErr result (λ why. why ≡ Memory) }
 {
-    match mode_of(rt.alloc(), words) {
+    tell(rt, mode_of(rt.alloc(), words))
+}
+
+/// Why the words with this error aren't followed: memory only where the error is want of it.
+pub fn why_of(error: &Error) -> Unfollowed
+    ensures { result ≡ spec.why_of error.now }
+{
+    match error.kind() {
+        ErrorKind::OutOfMemory => Unfollowed::Memory,
+        _ => Unfollowed::Usage,
+    }
+}
+
+// What clap answers, after the text of its error is told on standard error; want of memory is told by the caller.
+fn tell<P: Eprint>(rt: &P, answer: Result<Mode, Error>) -> Result<Mode, Unfollowed>
+    ensures { result ≡ spec.told_of answer }
+{
+    match answer {
         Ok(mode) => Ok(mode),
-        Err(error) if error.kind() == ErrorKind::OutOfMemory => Err(Unfollowed::Memory),
         Err(error) => {
-            let _ = eprint!(rt; "{error}");
-            Err(Unfollowed::Usage)
+            let why = why_of(&error);
+            if why == Unfollowed::Usage {
+                let _ = eprint!(rt; "{error}");
+            }
+            Err(why)
         }
     }
 }
