@@ -1,0 +1,5 @@
+mod Ties
+mod FromReplicas
+mod FromFlights
+mod FromTables
+mod FromSound

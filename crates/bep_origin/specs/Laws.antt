@@ -1,0 +1,8 @@
+-- Every cut is of a sound cluster; the function of src/laws.rt has this as its contract.
+use Rattle.bep_tables.specs.declared.cut.CutParts.{CutParts}
+use Rattle.bep_tables.specs.Cut.{IsCut, tables_of}
+use Rattle.bep_origin.specs.FromCut.{HasCluster, IsGoodCut}
+
+-- so it is where the cut's parts are what their types keep
+abbrev pub CutsHaveClusters : Type 0
+CutsHaveClusters = (cut : CutParts) → IsCut cut → IsGoodCut cut → HasCluster (tables_of cut)

@@ -1,0 +1,2 @@
+pub mod FromCut
+pub mod Laws

@@ -1,0 +1,12 @@
+//! That every cut is of a sound cluster. The function does nothing; its contract is the law.
+ghost use Rattle.bep_origin.specs.Laws.{CutsHaveClusters};
+
+use bep_index::batch_records_are_found;
+
+/// Every cut is of a sound cluster, where its parts are what their types keep; the cluster has no session, and its links
+/// carry the cut's messages alone.
+pub fn cuts_have_clusters()
+    ensures { CutsHaveClusters }
+{
+    batch_records_are_found();
+}
