@@ -11,6 +11,7 @@ import (
 
 	"github.com/syncthing/syncthing/lib/protocol"
 	"syncthing-audit/document"
+	"syncthing-audit/finding"
 	"syncthing-audit/join"
 	"syncthing-audit/limits"
 	"syncthing-audit/part"
@@ -76,17 +77,23 @@ func zipped(text []byte) io.Reader {
 
 // audited audits a part with another one, and checks each document.
 func audited(t *testing.T, text, other []byte) error {
+	_, err := answerOf(t, text, other)
+	return err
+}
+
+// answerOf gives what is found in two parts, with all left out that may be.
+func answerOf(t *testing.T, text, other []byte) (*finding.Answer, error) {
 	var devices []*join.Device
 	for _, one := range [][]byte{text, other} {
 		read, err := part.NewReader(zipped(one))
 		if err != nil {
-			return err
+			return nil, err
 		}
 		devices = append(devices, join.NewDevice(read, "a part"))
 	}
 	plan, err := join.NewPlan(devices, nil)
 	if err != nil {
-		return err
+		return nil, err
 	}
 	all := map[string]bool{}
 	for _, kind := range part.Kinds {
@@ -101,7 +108,7 @@ func audited(t *testing.T, text, other []byte) error {
 	if err == nil && len(answer.Devices) != 2 {
 		t.Errorf("%d devices", len(answer.Devices))
 	}
-	return err
+	return answer, err
 }
 
 // Whatever a part says, it is audited or refused with a reason, and nothing panics.
@@ -153,4 +160,22 @@ func TestPartsThatAreRefused(t *testing.T) {
 			t.Errorf("%s: it was taken", one.why)
 		}
 	}
+}
+
+// All names below a directory that one device can't read are left out together, and counted.
+func TestNamesBelowWhatCannotBeRead(t *testing.T) {
+	text, other := aPart(t, 1), string(aPart(t, 2))
+	lines := strings.SplitAfter(other, "\n")
+	below := strings.Replace(strings.Replace(lines[3], `"name":"b"`, `"name":"f/x"`, 1), `"sequence":2`, `"sequence":8`, 1)
+	end := strings.Replace(lines[8], `"names":6`, `"names":7`, 1)
+	answer, err := answerOf(t, text, []byte(strings.Join(lines[:8], "")+below+end))
+	if err != nil {
+		t.Fatal(err)
+	}
+	for _, one := range answer.Folders[0].LeftOut {
+		if one.Name == "f/" && one.Below && one.Names == 1 {
+			return
+		}
+	}
+	t.Errorf("%+v", answer.Folders[0].LeftOut)
 }
