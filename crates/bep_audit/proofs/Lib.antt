@@ -26,3 +26,4 @@ pub mod WinnerSaid
 pub mod OwnFacts
 pub mod WonWalk
 pub mod CertifierFacts
+pub mod LooseFacts

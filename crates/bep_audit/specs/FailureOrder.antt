@@ -8,7 +8,7 @@ use Rattle.bep_model.specs.Verdict.{number_of}
 use Rattle.bep_audit.specs.declared.failure.Failure as lends
 use Rattle.bep_audit.specs.Walk.{Failure, failure_cmp, failure_shown}
 
-place_total : IsTotalOrder place_cmp
+pub place_total : IsTotalOrder place_cmp
 place_total =
     then_total (on_total (λ (place : Place). place.folder) nat_list_cmp_total)
     (then_total (on_total (λ (place : Place). place.name) nat_list_cmp_total)

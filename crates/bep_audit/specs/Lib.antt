@@ -7,6 +7,7 @@ pub mod Group
 pub mod Grouped
 pub mod Held
 pub mod Known
+pub mod Loose
 pub mod Missing
 pub mod Search
 pub mod Share

@@ -18,11 +18,13 @@ mod error;
 mod failing;
 mod failure;
 mod faultless;
+mod firm;
 mod foreign;
 mod group;
 mod group_row;
 mod known;
 mod least;
+mod loose;
 mod missing;
 mod missing_held;
 mod missing_on_its_way;
@@ -34,12 +36,13 @@ mod verdict;
 mod walk;
 mod winner;
 
-pub use bep_model::Reason;
+pub use bep_model::{FirmReason, Reason};
 pub use certifier::certify;
 pub use checkers::{REASONS, check, check_plain};
 pub use error::CertifyError;
 pub use failing::meets_asked;
 pub use failure::Failure;
+pub use firm::{FirmVerdict, firm_verdict};
 pub use known::is_known;
 pub use rows::{Certificate, compare_row, compare_rows, find_row, first_disordered};
 pub use share::{

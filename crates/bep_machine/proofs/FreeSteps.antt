@@ -105,12 +105,12 @@ module _ (old : Cluster) (sound : IsSound old) where
         ap (looked_up own_at entry.name) (said_where_shared old device folder (replica.kind, fit.kind) ∙ here) ∙ own
 
     batch_is_own : (device : Device) (folder : Folder) (batch : List Entry) → Contains old.config.devices device → AreOwn (old.peer device) folder batch → (full shared : Bool) (flight : Flight) → Contains (flight_when shared folder full batch) flight → CarriesOwn (tables_of_cluster old) device flight
-    batch_is_own device folder batch there own full true flight carries entry member =
+    batch_is_own device folder batch there own full true flight carries entry member valid =
         let same : record { folder = folder; full = full; records = batch } ≡ flight = Contains-one _ flight carries in
         let in_batch = subst (λ (one : Flight). Contains one.records entry) (sym same) member in
         subst (λ (one : Flight). (tables_of_cluster old).own device one.folder entry.name ≡ Some entry) same
         (own_is_said device folder own.0 entry there own.1 (own.2 entry ((among entry batch).1 in_batch)))
-    batch_is_own device folder batch there own full false flight carries entry member = absurd (not_in_none flight carries)
+    batch_is_own device folder batch there own full false flight carries entry member valid = absurd (not_in_none flight carries)
 
     sent_is_own : (sender receiver : Device) (message : Message) → SendsOwn old sender receiver message → (flight : Flight) → Contains (flights_of old.config sender receiver message) flight → CarriesOwn (tables_of_cluster old) sender flight
     sent_is_own sender receiver (messages.Index folder batch) sends flight carries = batch_is_own sender folder batch sends.0 sends.1 true (both_share old.config sender receiver folder) flight carries
@@ -171,4 +171,4 @@ runs_are_free_lem keep_sound free cluster later (event ∷ more) sound run quiet
 pub firm_stays_put_lem : RunsAreFree → FirmStaysFirm → (tables : Tables) (rows : List CertificateRow) → IsFirm tables rows → FirmStaysPut tables rows
 firm_stays_put_lem free stays tables rows firm cluster later events sound says run quiet =
     let between = free cluster later events sound run quiet in
-    stays tables (tables_of_cluster later) between.0 rows firm (subst (λ (t : Tables). IsFreeRun t between.0 (tables_of_cluster later)) says between.1)
+    stays tables rows firm (tables_of_cluster later) between.0 (subst (λ (t : Tables). IsFreeRun t between.0 (tables_of_cluster later)) says between.1)

@@ -122,9 +122,9 @@ module _ (t : Tables) (rows : List Row) (firm : IsFirm t rows) where
     IsOwnSomewhere : Folder → FileName → Entry → Type 0
     IsOwnSomewhere folder name entry = (sender : Device) × Shares t sender folder × (t.own sender folder name ≡ Some entry)
 
-    flown_before : (device : Device) (folder : Folder) (name : FileName) (entry : Entry) → IsFlying new device folder name entry → IsFlying t device folder name entry ⊎ IsOwnSomewhere folder name entry
+    flown_before : (device : Device) (folder : Folder) (name : FileName) (entry : Entry) → entry.invalid ≡ false → IsFlying new device folder name entry → IsFlying t device folder name entry ⊎ IsOwnSomewhere folder name entry
     unfolding IsOwnSomewhere
-    flown_before device folder name entry flying =
+    flown_before device folder name entry valid flying =
         let shares = shared_before flying.sender folder flying.shares in
         ⊎_elim
         (λ was. inl (record { sender = flying.sender; shares = shares; flight = flying.flight; sent = was; same_folder = flying.same_folder; carried = flying.carried; same_name = flying.same_name }))
@@ -133,7 +133,7 @@ module _ (t : Tables) (rows : List Row) (firm : IsFirm t rows) where
           flying.sender,
           shares,
           subst (λ (in_folder : Folder). t.own flying.sender in_folder name ≡ Some entry) flying.same_folder
-              (subst (λ (at_name : FileName). t.own flying.sender flying.flight.folder at_name ≡ Some entry) flying.same_name (carries entry flying.carried)),
+              (subst (λ (at_name : FileName). t.own flying.sender flying.flight.folder at_name ≡ Some entry) flying.same_name (carries entry flying.carried valid)),
         ))
         (step.flying flying.sender device flying.flight flying.sent)
 
@@ -157,7 +157,7 @@ module _ (t : Tables) (rows : List Row) (firm : IsFirm t rows) where
         ⊎_elim
         (λ was. inl (record { known_by = inr (inl was); valid = foreign.valid }))
         (λ own. inr own)
-        (flown_before device folder name entry flying))
+        (flown_before device folder name entry foreign.valid flying))
         (λ target. inl (had_before device folder name entry shares foreign.valid (inr target)))
         rest)
         foreign.known_by
@@ -261,12 +261,12 @@ module _ (t : Tables) (rows : List Row) (firm : IsFirm t rows) where
 -- ---- every run from it
 
 pub firm_stays_firm_lem : FirmStaysFirm
-firm_stays_firm_lem t later [] rows firm run = (
+firm_stays_firm_lem t rows firm later [] run = (
   subst (λ (one : Tables). IsFirm one rows) (sym run) firm,
   subst (λ (one : Tables). IsUnchanged t one) (sym run) (record { own = λ device folder name shares. refl; node = λ device folder name shares. refl }),
 )
-firm_stays_firm_lem t later (next ∷ more) rows firm run =
-    let rest = firm_stays_firm_lem next later more rows (firm_after t rows firm next run.0) run.1 in
+firm_stays_firm_lem t rows firm later (next ∷ more) run =
+    let rest = firm_stays_firm_lem next rows (firm_after t rows firm next run.0) later more run.1 in
     let shares = shares_stay t rows firm next run.0 in (
       rest.0,
       record {

@@ -10,4 +10,5 @@ pub mod VerdictFound
 pub mod WithoutFacts
 pub mod StaysFacts
 pub mod FirmFacts
+pub mod FirmVerdicts
 mod TwoDevices

@@ -7,6 +7,7 @@ use Rattle.bep_model.specs.declared.row.Row.{Row}
 use Rattle.bep_model.specs.Tables.{Tables, Device, Folder, FileName, Shares}
 use Rattle.bep_model.specs.Foreign.{IsForeign}
 use Rattle.bep_model.specs.Settled.{AtEachShare, IsSettled}
+use Rattle.bep_model.specs.Free.{IsFreeRun}
 
 -- two versions are equal: each is at most the other (BEP v1, 'Vector')
 abbrev pub AreEqual : List (ℕ × ℕ) → List (ℕ × ℕ) → Type 0
@@ -32,3 +33,7 @@ pub record IsFirm (t : Tables) (rows : List Row) : Type 0 where
 pub record IsUnchanged (before after : Tables) : Type 0 where
   pub own : (device : Device) (folder : Folder) (name : FileName) → Shares before device folder → after.own device folder name ≡ before.own device folder name
   pub node : (device : Device) (folder : Folder) (name : FileName) → Shares before device folder → after.node device folder name ≡ before.node device folder name
+
+-- after every run of free peers the tables are firm for the same rows, and nothing has changed
+abbrev pub StaysFirm : Tables → List Row → Type 0
+StaysFirm t rows = (later : Tables) (between : List Tables) → IsFreeRun t between later → IsFirm later rows × IsUnchanged t later

@@ -36,10 +36,10 @@ MayRecord t device folder name =
 abbrev pub MayWrite : Tables → Device → Folder → Type 0
 MayWrite t device folder = (name : FileName) × MayWant t device folder name
 
--- a device may send its own records
+-- a device may send its own records, and any that are marked invalid
 abbrev pub CarriesOwn : Tables → Device → Flight → Type 0
 CarriesOwn t sender flight =
-    (entry : Entry) → Contains flight.records entry → t.own sender flight.folder entry.name ≡ Some entry
+    (entry : Entry) → Contains flight.records entry → entry.invalid ≡ false → t.own sender flight.folder entry.name ≡ Some entry
 
 -- What may become of a cluster in one step: each sharing device's records and files stay, or it had leave to change them;
 -- it has nothing from elsewhere but what it had, or was on its way to it; and what is on its way was so before, or is sent.

@@ -12,8 +12,9 @@ use Rattle.bep_model.specs.WithoutWinner.{IsWithoutWinner, IsFirstWithoutWinner,
 use Rattle.bep_model.specs.Reasons.{Place, Asks, first_disordered}
 use Rattle.bep_model.specs.Verdict.{Verdict, number_of, IsVerdict}
 use Rattle.bep_model.specs.Calm.{IsCalm, contents_of, Kept}
-use Rattle.bep_model.specs.Free.{IsFreeRun}
-use Rattle.bep_model.specs.Firm.{IsFirm, IsUnchanged}
+use Rattle.bep_model.specs.Firm.{IsFirm, StaysFirm}
+use Rattle.bep_model.specs.declared.firm_reason.FirmReason.{FirmReason}
+use Rattle.bep_model.specs.FirmVerdict.{FirmVerdict, AsksFirm, IsFirmVerdict}
 
 -- settled is that no reason fails anywhere
 abbrev pub SettledIsFaultless : Type 0
@@ -90,4 +91,13 @@ CalmIsSettledAgain =
 
 -- what is firm stays firm, under the same rows, and nothing changes, whatever free peers do
 abbrev pub FirmStaysFirm : Type 0
-FirmStaysFirm = (t later : Tables) (between : List Tables) (rows : List Row) → IsFirm t rows → IsFreeRun t between later → IsFirm later rows × IsUnchanged t later
+FirmStaysFirm = (t : Tables) (rows : List Row) → IsFirm t rows → StaysFirm t rows
+
+-- a settled cut is firm exactly where none of the four reasons fails anywhere
+abbrev pub FirmIsFaultless : Type 0
+FirmIsFaultless = (t : Tables) (rows : List Row) →
+    IsFirm t rows ↔ (IsSettled t rows × ((reason : FirmReason) (place : Place) → AsksFirm t rows reason place))
+
+-- there is one verdict at most
+abbrev pub FirmVerdictIsUnique : Type 0
+FirmVerdictIsUnique = (t : Tables) (rows : List Row) (one other : FirmVerdict) → IsFirmVerdict t rows one → IsFirmVerdict t rows other → one ≡ other

@@ -9,5 +9,6 @@ pub mod Calm
 pub mod Stays
 pub mod Free
 pub mod Firm
+pub mod FirmVerdict
 pub mod Examples
 pub mod Laws

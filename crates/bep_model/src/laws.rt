@@ -1,5 +1,5 @@
 //! What follows from the definitions alone. Each function does nothing; its contract is the law.
-ghost use Rattle.bep_model.specs.Laws.{RowsRiseInOrder, NumbersAreWithin, NumbersDiffer, WinnerIsUnique, SettledIsFaultless, VerdictIsUnique, VerdictExists, SettledIsListOfWinners, ListOfWinnersIsUnique, CertificateIsUnique, WinnersAreSettledIfAny, WinnersLeaveNoneOut, FirstWithoutIsUnique, WinnersOrFirstWithout, SettledIsCalm, CalmStays, CalmIsSettledAgain, FirmStaysFirm};
+ghost use Rattle.bep_model.specs.Laws.{RowsRiseInOrder, NumbersAreWithin, NumbersDiffer, WinnerIsUnique, SettledIsFaultless, VerdictIsUnique, VerdictExists, SettledIsListOfWinners, ListOfWinnersIsUnique, CertificateIsUnique, WinnersAreSettledIfAny, WinnersLeaveNoneOut, FirstWithoutIsUnique, WinnersOrFirstWithout, SettledIsCalm, CalmStays, CalmIsSettledAgain, FirmStaysFirm, FirmIsFaultless, FirmVerdictIsUnique};
 
 use bep_choice::laws::{choice_exists, choice_is_unique};
 
@@ -85,4 +85,14 @@ pub fn calm_is_settled_again()
 /// the very files that it had.
 pub fn firm_stays_firm()
     ensures { FirmStaysFirm }
+{}
+
+/// A settled cut is firm exactly where none of the four reasons fails anywhere.
+pub fn firm_is_faultless()
+    ensures { FirmIsFaultless }
+{}
+
+/// A cut and a list of rows have one verdict at most, also where firm is asked for.
+pub fn firm_verdict_is_unique()
+    ensures { FirmVerdictIsUnique }
 {}

@@ -13,16 +13,19 @@
 #![tactic(auto)]
 
 pub mod examples;
+mod firm_reason;
 mod flight;
 mod laws;
 mod reason;
 mod row;
 
+pub use firm_reason::FirmReason;
 pub use flight::Flight;
 pub use laws::{
-    calm_is_settled_again, calm_stays, certificate_is_unique, firm_stays_firm,
-    reasons_are_numbered, rows_rise_in_order, settled_is_calm, settled_is_faultless,
-    verdict_exists, verdict_is_unique, winner_is_unique, winners_or_first_without,
+    calm_is_settled_again, calm_stays, certificate_is_unique, firm_is_faultless, firm_stays_firm,
+    firm_verdict_is_unique, reasons_are_numbered, rows_rise_in_order, settled_is_calm,
+    settled_is_faultless, verdict_exists, verdict_is_unique, winner_is_unique,
+    winners_or_first_without,
 };
 pub use reason::Reason;
 pub use row::Row;

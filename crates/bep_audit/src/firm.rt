@@ -1,0 +1,139 @@
+//! Whether a cut and a certificate are firm: settled, and no version is beyond the winner's.
+ghost use Rattle.std.specs.Prelude.{◌≡◌, ◌↔◌, IfOk, IsTrue, map, option_map};
+ghost use Rattle.bep_model.specs.Firm.{IsFirm, StaysFirm};
+ghost use Rattle.bep_model.specs.FirmVerdict.{IsFirmVerdict};
+ghost use Rattle.bep_model.specs.Settled.{IsSettled, Rise};
+ghost use Rattle.bep_machine.specs.FreeLaws.{FirmStaysPut};
+ghost use Rattle.bep_tables.specs.Cut.{tables_of};
+ghost use Rattle.bep_tables.specs.Listed.{listed};
+ghost use Rattle.bep_audit.specs.declared.firm.FirmVerdict.TheVariants.{Firm};
+ghost use Rattle.bep_audit.specs.Loose.{loose_cmp, loose_shown, firm_shown, asked_by, AsksVersion, AsksEntry, AsksEntries};
+ghost use Rattle.bep_audit.specs.Search.{FindsFirst};
+
+use crate::loose::{Looseness, precedes};
+use crate::{Certificate, Verdict, check, find_row};
+use bep_machine::firm_stays_put;
+use bep_model::{FirmReason, Reason, Row, firm_is_faultless, firm_stays_firm};
+use bep_record::{DeviceId, FolderName, Name, Record};
+use bep_tables::{Cut, Held, Source, Table, TableEntry, entries_are_held};
+use std::alloc::{AllocError, Global};
+
+/// What the auditor finds where it is asked for firm, lent from what it was asked about.
+#[derive(Clone, Copy, Debug, PartialEq, Eq)]
+pub enum FirmVerdict<'a> {
+    /// The cut and the certificate are firm.
+    Firm,
+    /// They aren't settled: the first reason that fails, and where.
+    Unsettled(Reason, &'a FolderName, &'a Name, Option<DeviceId>),
+    /// They are settled and not firm: the first of the four further reasons that fails, and where.
+    Loose(FirmReason, &'a FolderName, &'a Name, DeviceId),
+}
+
+/// Whether the cut and the certificate are firm; if not, why they aren't settled, or else the first of the four further
+/// reasons that fails, at its first place. Want of memory is the only error.
+///
+/// Where it answers `Firm`, nothing is recorded or written any more, whatever free peers do: each sharing device has the
+/// very records and files that it had, times included, and the cut is firm for the same rows. So it is after every list of
+/// further steps without local edits of this project's peers.
+pub fn firm_verdict<'a>(
+    alloc: Global,
+    cut: &'a Cut,
+    certificate: &'a Certificate,
+) -> Result<FirmVerdict<'a>, AllocError>
+    ensures verdict { IfOk result (λ verdict. IsFirmVerdict (tables_of cut.now) certificate.now (firm_shown verdict)) }
+    ensures firm { IfOk result (λ verdict. (verdict ≡ Firm) ↔ IsFirm (tables_of cut.now) certificate.now) }
+    ensures stays_firm { IfOk result (λ verdict. verdict ≡ Firm → StaysFirm (tables_of cut.now) certificate.now) }
+    ensures stays_put { IfOk result (λ verdict. verdict ≡ Firm → FirmStaysPut (tables_of cut.now) certificate.now) }
+{
+    match check(alloc, cut, certificate) {
+        Ok(Verdict::Settled) => firm_or_loose(alloc, cut, certificate),
+        Ok(Verdict::Not(reason, folder, name, device)) => Ok(FirmVerdict::Unsettled(
+            reason, folder, name, device,
+        )),
+        Err(error) => Err(error),
+    }
+}
+
+// What it answers of a settled cut.
+fn firm_or_loose<'a>(
+    alloc: Global,
+    cut: &'a Cut,
+    certificate: &'a Certificate,
+) -> Result<FirmVerdict<'a>, AllocError>
+    requires { IsSettled (tables_of cut.now) certificate.now }
+    ensures verdict { IfOk result (λ verdict. IsFirmVerdict (tables_of cut.now) certificate.now (firm_shown verdict)) }
+    ensures firm { IfOk result (λ verdict. (verdict ≡ Firm) ↔ IsFirm (tables_of cut.now) certificate.now) }
+    ensures stays_firm { IfOk result (λ verdict. verdict ≡ Firm → StaysFirm (tables_of cut.now) certificate.now) }
+    ensures stays_put { IfOk result (λ verdict. verdict ≡ Firm → FirmStaysPut (tables_of cut.now) certificate.now) }
+{
+    firm_is_faultless();
+    firm_stays_firm();
+    firm_stays_put();
+    entries_are_held();
+    let _folders = cut.folders();
+    let table = Table::of(alloc, cut)?;
+    match least_loose(certificate.rows(), table.entries()) {
+        None => Ok(FirmVerdict::Firm),
+        Some(one) => Ok(FirmVerdict::Loose(one.reason, one.folder, one.name, one.device)),
+    }
+}
+
+// The least that the entries of a cut are asked in vain.
+fn least_loose<'a>(rows: &[Row], table: &[TableEntry<'a>]) -> Option<Looseness<'a>>
+    requires { Rise rows.now }
+    ensures { FindsFirst loose_cmp (AsksEntries rows.now (map listed table.now)) (option_map loose_shown result) }
+{
+    let mut least = None;
+    for entry in table {
+        let here = loose_at(rows, entry);
+        if precedes(&here, &least) {
+            least = here;
+        }
+    }
+    least
+}
+
+// What the entry is asked in vain.
+fn loose_at<'a>(rows: &[Row], entry: &TableEntry<'a>) -> Option<Looseness<'a>>
+    requires { Rise rows.now }
+    ensures { FindsFirst loose_cmp (AsksEntry rows.now (listed entry.now)) (option_map loose_shown result) }
+{
+    let Held::Record(source, found) = entry.held else {
+        return None;
+    };
+    let Some(row) = find_row(rows, entry.folder, entry.name) else {
+        return None;
+    };
+    if meets_version(source, found, &row.entry) {
+        return None;
+    }
+    Some(Looseness {
+        reason: asked_by(source),
+        folder: entry.folder,
+        name: entry.name,
+        device: entry.device,
+    })
+}
+
+// Whether a record from there meets what it is asked beside the winner.
+fn meets_version(source: Source, found: &Record, winner: &Record) -> bool
+    ensures { IsTrue result ↔ AsksVersion source found.now winner.now }
+{
+    let (version, least) = (&found.entry().version, &winner.entry().version);
+    match source {
+        Source::Own => version.is_at_most(least) && least.is_at_most(version),
+        Source::View | Source::Flight | Source::Pull => version.is_at_most(least),
+    }
+}
+
+// The reason that asks something of records from there.
+fn asked_by(source: Source) -> FirmReason
+    ensures { result ≡ asked_by source }
+{
+    match source {
+        Source::Own => FirmReason::VersionDiffers,
+        Source::View => FirmReason::ViewNotBelow,
+        Source::Flight => FirmReason::FlightNotBelow,
+        Source::Pull => FirmReason::PullNotBelow,
+    }
+}

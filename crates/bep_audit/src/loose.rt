@@ -1,0 +1,67 @@
+//! What keeps a settled cut from being firm, with its place.
+ghost use Rattle.std.specs.Prelude.{◌≡◌, option_map};
+ghost use Rattle.bep_model.specs.FirmVerdict.{firm_number_of};
+ghost use Rattle.bep_audit.specs.Loose.{loose_cmp, loose_shown, precedes};
+ghost use Rattle.bep_audit.specs.Shown.{place_shown};
+
+use crate::spot::Spot;
+use bep_model::FirmReason;
+use bep_record::{DeviceId, FolderName, Name};
+use std::cmp::Ordering;
+
+/// A reason for which a settled cut isn't firm, and where, lent.
+#[derive(Clone, Copy, Debug)]
+pub(crate) struct Looseness<'a> {
+    /// The reason.
+    pub reason: FirmReason,
+    /// The folder.
+    pub folder: &'a FolderName,
+    /// The name.
+    pub name: &'a Name,
+    /// The device.
+    pub device: DeviceId,
+}
+
+impl<'a> Looseness<'a> {
+    // How two stand: by reason, then by folder, name and device.
+    fn compare(&self, other: &Looseness<'_>) -> Ordering
+        ensures { result ≡ loose_cmp (loose_shown self.now) (loose_shown other.now) }
+    {
+        let reasons = number_of(self.reason).cmp(&number_of(other.reason));
+        reasons.then(self.spot().compare(&other.spot()))
+    }
+
+    // Its place.
+    fn spot(&self) -> Spot<'a>
+        ensures { place_shown result ≡ (loose_shown self.now).place }
+    {
+        Spot {
+            folder: self.folder,
+            name: self.name,
+            device: Some(self.device),
+        }
+    }
+}
+
+/// Whether this one comes before the least so far; each may be missing.
+pub(crate) fn precedes(here: &Option<Looseness<'_>>, least: &Option<Looseness<'_>>) -> bool
+    ensures { result ≡ precedes (option_map loose_shown here.now) (option_map loose_shown least.now) }
+{
+    match (here, least) {
+        (None, _) => false,
+        (Some(_), None) => true,
+        (Some(here), Some(least)) => here.compare(least).is_lt(),
+    }
+}
+
+// The place of the reason in the order in which reasons are told, from 1.
+fn number_of(reason: FirmReason) -> u32
+    ensures { result ≡ firm_number_of reason }
+{
+    match reason {
+        FirmReason::VersionDiffers => 1,
+        FirmReason::ViewNotBelow => 2,
+        FirmReason::FlightNotBelow => 3,
+        FirmReason::PullNotBelow => 4,
+    }
+}
