@@ -156,13 +156,13 @@ class ManyFiles(unittest.TestCase):
         run([self.programs / PROGRAM, "export", *parts, "--into", into], check=True)
         documents = sorted(into.glob("cut-*.json"))
         self.assertGreater(len(documents), 1)
-        ran = run([self.programs / PROGRAM, "sum", into])
+        ran = run([self.programs / PROGRAM, "sum", into, "--lines"])
         self.assertEqual((ran.returncode, ran.stdout), (2, ""))
         self.assertIn("a document has no answer yet", ran.stderr)
         answer = f"{auditor()} certify < $1 > $1.c; {auditor()} check < $1.c; {auditor()} explain < $1.c"
         for one in documents:
             one.with_suffix(".reply").write_text(run(["sh", "-c", answer, "-", one]).stdout)
-        ran = run([self.programs / PROGRAM, "sum", into])
+        ran = run([self.programs / PROGRAM, "sum", into, "--lines"])
         self.assertEqual((ran.returncode, ran.stdout.splitlines()), (1, lines), ran.stderr)
 
 

@@ -210,7 +210,8 @@ class TwoDevices(Exporting):
             path.unlink()
 
     def test_usage(self):
-        for words in ((), ("now",), ("check",), ("part",), ("check", "--leave-out", "everything", "x"), ("check", "--bytes", "x")):
+        for words in ((), ("now",), ("check",), ("part",), ("check", "--leave-out", "everything", "x"), ("check", "--bytes", "x"),
+                      ("check", "--lines", "--json", "x")):
             self.assertEqual(run([self.program, *words]).returncode, 3, words)
         asked = run([self.program, "--help"])
         self.assertEqual((asked.returncode, asked.stdout[:6], asked.stderr), (0, "usage:", ""))

@@ -2,7 +2,6 @@ package main
 
 import (
 	"flag"
-	"fmt"
 	"io"
 
 	"syncthing-audit/ask"
@@ -16,11 +15,14 @@ import (
 func runCheck(words []string, output, log io.Writer) (int, error) {
 	asked, err := readOptions("check", words, func(flags *flag.FlagSet, read *options) {
 		inputFlags(flags, read)
-		flags.BoolVar(&read.lines, "lines", false, "")
+		answerFlags(flags, read)
 		flags.StringVar(&read.program, "syncaudit", defaultProgram(), "")
 	})
 	if err == nil {
 		err = asked.checkInputs()
+	}
+	if err == nil {
+		err = asked.checkForm()
 	}
 	if err != nil {
 		return 0, err
@@ -34,7 +36,9 @@ func runCheck(words []string, output, log io.Writer) (int, error) {
 		return 0, err
 	}
 	defer opened.close()
-	tellDevices(log, opened.devices)
+	if asked.lines {
+		tellDevices(log, opened.devices)
+	}
 	endProgress := opened.startProgress(log, asked)
 	answer, err := answerOf(opened, asked, program)
 	endProgress()
@@ -45,9 +49,7 @@ func runCheck(words []string, output, log io.Writer) (int, error) {
 		report.Refusals(log, answer)
 		return 0, errTold
 	}
-	report.Lines(output, answer)
-	fmt.Fprint(log, meaning)
-	return statusOfAnswer(answer), nil
+	return tell(output, log, asked, answer)
 }
 
 // answerOf audits what was opened.

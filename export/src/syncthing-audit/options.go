@@ -21,6 +21,7 @@ type options struct {
 	leaveOut map[string]bool
 	bytes    bool
 	lines    bool
+	json     bool
 	into     string
 	output   string
 	program  string
@@ -46,7 +47,8 @@ Says whether stopped Syncthing devices are in step, and where not which device i
   -o FILE              where the part goes; standard output if it isn't given
   --leave-out KINDS    leave out what can't be audited, by kinds with commas between, and say so:
                        %s
-  --lines              print the verdict and all that fails, a line each, in syncaudit's words
+  --lines              in place of a summary for people: the verdict and all that fails, a line each, in syncaudit's words
+  --json               in place of it: the summary for programs; audit.schema.json is its schema
   --bytes              documents with the bytes of files (from homes alone), as others may want to read them
   --into DIR           write the documents there, as cut-0001.json and so on
   --syncaudit FILE     the program that answers; if it isn't given, $SYNCAUDIT, or syncaudit on PATH

@@ -13,7 +13,6 @@ import (
 	"syncthing-audit/audit"
 	"syncthing-audit/document"
 	"syncthing-audit/finding"
-	"syncthing-audit/report"
 )
 
 // restName is the file beside exported documents with what no document says.
@@ -40,10 +39,13 @@ func (e *exported) save(directory string) error {
 // runSum joins the answers to exported documents.
 func runSum(words []string, output, log io.Writer) (int, error) {
 	asked, err := readOptions("sum", words, func(flags *flag.FlagSet, read *options) {
-		flags.BoolVar(&read.lines, "lines", false, "")
+		answerFlags(flags, read)
 	})
 	if err == nil && (len(asked.parts) != 1 || len(asked.homes) > 0) {
 		err = &wrongUsage{"'sum' has one directory, to which documents were exported"}
+	}
+	if err == nil {
+		err = asked.checkForm()
 	}
 	if err != nil {
 		return 0, err
@@ -52,9 +54,7 @@ func runSum(words []string, output, log io.Writer) (int, error) {
 	if err != nil {
 		return 0, err
 	}
-	report.Lines(output, answer)
-	fmt.Fprint(log, meaning)
-	return statusOfAnswer(answer), nil
+	return tell(output, log, asked, answer)
 }
 
 // sumOf reads the answers that stand beside exported documents.

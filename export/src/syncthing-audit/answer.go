@@ -1,0 +1,41 @@
+package main
+
+import (
+	"flag"
+	"fmt"
+	"io"
+	"time"
+
+	"syncthing-audit/finding"
+	"syncthing-audit/report"
+	"syncthing-audit/summary"
+)
+
+// answerFlags are the flags of commands that tell an answer.
+func answerFlags(flags *flag.FlagSet, read *options) {
+	flags.BoolVar(&read.lines, "lines", false, "")
+	flags.BoolVar(&read.json, "json", false, "")
+}
+
+// checkForm says what is wrong with the form that is asked for.
+func (o *options) checkForm() error {
+	if o.lines && o.json {
+		return &wrongUsage{"--lines and --json are two forms of the answer: choose one"}
+	}
+	return nil
+}
+
+// tell tells an answer in the form that was asked for, and gives the exit status.
+func tell(output, log io.Writer, asked options, answer *finding.Answer) (int, error) {
+	var err error
+	switch {
+	case asked.lines:
+		report.Lines(output, answer)
+	case asked.json:
+		err = summary.Of(answer).WriteJSON(output)
+	default:
+		summary.Of(answer).Print(output, time.Local)
+	}
+	fmt.Fprint(log, meaning)
+	return statusOfAnswer(answer), err
+}

@@ -1,0 +1,134 @@
+package summary
+
+import "strings"
+
+// labels are the names of devices for a person, by their ids.
+type labels map[string]string
+
+// of gives a device's name.
+func (l labels) of(id string) string {
+	if name := l[id]; name != "" {
+		return name
+	}
+	return id
+}
+
+// all gives several names.
+func (l labels) all(ids []string) string {
+	names := []string{}
+	for _, one := range ids {
+		names = append(names, l.of(one))
+	}
+	return strings.Join(names, ", ")
+}
+
+// adviceOf says what to do about a name, each thing once.
+func adviceOf(file *File, named labels) []string {
+	made := []string{}
+	for next := range file.Faults {
+		made = addOnce(made, adviceOfFault(&file.Faults[next], file, named))
+	}
+	if len(file.Permissions) > 0 {
+		made = addOnce(made, "'chmod' it to what it should be and let Syncthing scan, or choose 'Ignore Permissions' for the folder")
+	}
+	return made
+}
+
+// addOnce adds a text that isn't there yet.
+func addOnce(all []string, text string) []string {
+	for _, one := range all {
+		if one == text {
+			return all
+		}
+	}
+	return append(all, text)
+}
+
+// source says from where a file can be had, or where else to look.
+func source(file *File, named labels) string {
+	if len(file.Have) == 0 {
+		return "no audited device has the recorded bytes: look among old versions and backups, and copy them to "
+	}
+	return "copy it from " + named.of(file.Have[0]) + " to "
+}
+
+// withTime says how a file is copied so that Syncthing doesn't take it for a change.
+const withTime = " with its time (cp -p, or rsync --times --ignore-times) while Syncthing is stopped there"
+
+// adviceOfFault says what to do about one fault.
+func adviceOfFault(one *Fault, file *File, named labels) string {
+	at := named.of(one.Device)
+	switch one.Cause {
+	case OtherBytes:
+		return "Syncthing won't repair it, since size and time are as recorded: " + source(file, named) + at + withTime +
+			". If the bytes on " + at + " are the right ones, 'touch' the file there and let Syncthing scan: it then sends them to all"
+	case Changed:
+		return changedAdvice(one, file, at, named)
+	case Missing:
+		return missingAdvice(one, file, at, named)
+	case Back:
+		return "to have it gone, delete it on " + at + " before Syncthing scans there: a scan takes it for a new file" + spreads(one)
+	case Behind, Conflicting:
+		return behindAdvice(one, at)
+	case LocalChange:
+		return "'Revert Local Changes' on " + at + " takes back what was changed there, for all such files of the folder: added files are " +
+			"deleted, so copy elsewhere what is to stay. To have the change everywhere, make the folder 'Send & Receive' there"
+	case LocalAddition:
+		return "'Revert Local Changes' on " + at + " deletes it: copy it elsewhere first if it is to stay. To have it everywhere, make the " +
+			"folder 'Send & Receive' there"
+	case NotScanned:
+		if one.Kind == receiveOnly {
+			return "start Syncthing on " + at + " and 'Rescan': it stays there as a local addition, which 'Revert Local Changes' would delete"
+		}
+		return "start Syncthing on " + at + " and 'Rescan': it then goes to all"
+	case OnlySeen, NewerKnown:
+		return "start Syncthing on all of these devices and let them connect: they then tell each other what they have"
+	case OtherTime:
+		return "start Syncthing on " + at + " and 'Rescan'"
+	case OtherBlocks:
+		return "nothing is lost: the bytes are the same. Once the devices connect, Syncthing takes one of the records"
+	}
+	return "audit it by itself: --names with this name tells more"
+}
+
+const (
+	receiveOnly = "receive-only"
+	sendOnly    = "send-only"
+)
+
+// spreads says where a change goes that a scan finds.
+func spreads(one *Fault) string {
+	if one.Kind == receiveOnly {
+		return ", a local addition"
+	}
+	return " and sends it to all"
+}
+
+func changedAdvice(one *Fault, file *File, at string, named labels) string {
+	undo := "if the change isn't wanted, first " + source(file, named) + at + withTime
+	if one.Kind == receiveOnly {
+		return "start Syncthing on " + at + " and 'Rescan': the change stays there as a local one, which 'Revert Local Changes' takes back"
+	}
+	return "start Syncthing on " + at + " and 'Rescan': the change then goes to all. " + strings.ToUpper(undo[:1]) + undo[1:]
+}
+
+func missingAdvice(one *Fault, file *File, at string, named labels) string {
+	if one.Kind == receiveOnly {
+		return "see that the folder's disk is mounted on " + at + ". After a 'Rescan', 'Revert Local Changes' there brings it back; it also " +
+			"deletes files that were added there"
+	}
+	return "see that the folder's disk is mounted on " + at + ", before Syncthing starts there: a scan takes it for deleted, and then all devices " +
+		"delete it. To keep it, first " + source(file, named) + at + withTime
+}
+
+func behindAdvice(one *Fault, at string) string {
+	switch {
+	case one.Kind == sendOnly:
+		return at + " only sends: it doesn't take what others change. 'Override Changes' there undoes their changes on all devices, and deletes " +
+			"what they added; to take the changes, make the folder 'Send & Receive' there"
+	case one.Cause == Conflicting:
+		return "start Syncthing on all of these devices: it keeps one version, and the other one as a conflict copy"
+	}
+	return "start Syncthing on " + at + " and on a device that has it, and let them finish. If it stays among the 'Out of Sync Items', see " +
+		"whether the device is paused, connected, or out of space"
+}

@@ -1,0 +1,168 @@
+package summary
+
+import (
+	"time"
+
+	"github.com/syncthing/syncthing/lib/protocol"
+	"syncthing-audit/part"
+)
+
+// Cause is what is wrong with a name on a device.
+type Cause string
+
+// Causes.
+const (
+	OtherBytes    Cause = "other-bytes"     // on the disk, while size and time are as recorded: no scan sees it
+	Changed       Cause = "changed-on-disk" // since the last scan
+	Missing       Cause = "missing-on-disk" // the device's index has it
+	Back          Cause = "back-on-disk"    // the device's index has it as deleted
+	Behind        Cause = "behind"          // the device hasn't taken what another one has
+	Conflicting   Cause = "conflicting"     // changed there and elsewhere, neither on top of the other
+	OtherBlocks   Cause = "other-blocks"    // the same bytes, recorded in blocks of another size
+	LocalChange   Cause = "local-change"    // on a receive-only folder
+	LocalAddition Cause = "local-addition"  // on a receive-only folder; no other device has it
+	NotScanned    Cause = "not-scanned"     // on the disk, and in no index
+	OnlySeen      Cause = "only-seen"       // another device's index is said to have it
+	OtherTime     Cause = "other-time"      // the right bytes with another time or size than recorded
+	NewerKnown    Cause = "newer-known"     // the device knows of a version that it could still take
+	Permissions   Cause = "permissions"     // beside the verdict
+	Differs       Cause = "differs"         // details weren't kept
+)
+
+// Fault is what is wrong on a device.
+type Fault struct {
+	Device   string   `json:"device"`
+	Cause    Cause    `json:"cause"`
+	Kind     string   `json:"kind"`               // of the folder at the device
+	Deletion bool     `json:"deletion,omitempty"` // what the device is behind with, or changed, is a deletion
+	Due      *State   `json:"due,omitempty"`      // what it should have
+	Recorded *State   `json:"recorded,omitempty"`
+	Found    *State   `json:"found,omitempty"` // on its disk
+	Blocks   *Blocks  `json:"blocks,omitempty"`
+	Reasons  []string `json:"reasons"` // in syncaudit's words
+}
+
+// State is what a record or a disk says of a name.
+type State struct {
+	Type     string    `json:"type"`
+	Deleted  bool      `json:"deleted,omitempty"`
+	Size     int64     `json:"size"`
+	Modified time.Time `json:"modified"`
+	Target   string    `json:"target,omitempty"`
+}
+
+// Blocks are those of a file that differ from what is recorded, counted from 0.
+type Blocks struct {
+	Count    int64      `json:"count"`
+	Of       int64      `json:"of"`
+	Size     int64      `json:"size"`
+	Ranges   [][2]int64 `json:"ranges"` // first and last; not all where there are many
+	Recorded string     `json:"recorded_sha256,omitempty"`
+	Found    string     `json:"found_sha256,omitempty"`
+}
+
+func typeOf(number int) string {
+	switch protocol.FileInfoType(number) {
+	case protocol.FileInfoTypeDirectory:
+		return "directory"
+	case protocol.FileInfoTypeFile:
+		return "file"
+	}
+	return "symlink"
+}
+
+// recorded gives the state that a record says.
+func recorded(one *part.Record) *State {
+	if one == nil {
+		return nil
+	}
+	made := &State{Type: typeOf(one.Type), Deleted: one.Deleted, Modified: time.Unix(one.ModifiedS, int64(one.ModifiedNs)), Target: one.Target}
+	if one.Content != nil {
+		made.Size = one.Content.Size
+	}
+	return made
+}
+
+// found gives the state on a disk.
+func found(one *part.Node) *State {
+	if one == nil {
+		return nil
+	}
+	return &State{Type: typeOf(one.Type), Size: one.Size, Modified: time.Unix(one.ModifiedS, int64(one.ModifiedNs)), Target: one.Target}
+}
+
+// onDisk gives how a device's disk differs from its own record; nothing where it doesn't.
+func onDisk(at *part.Name) Cause {
+	own, disk := at.Own, at.Disk
+	isThere := own != nil && !own.Deleted
+	switch {
+	case !isThere && disk == nil:
+		return ""
+	case own == nil:
+		return NotScanned
+	case !isThere:
+		return Back
+	case disk == nil:
+		return Missing
+	case own.Type != disk.Type || own.Target != disk.Target:
+		return Changed
+	case own.Content == nil:
+		return ""
+	}
+	isLate := own.Content.Size != disk.Size || own.ModifiedS != disk.ModifiedS || own.ModifiedNs != disk.ModifiedNs
+	switch {
+	case disk.Differ != nil && isLate:
+		return Changed
+	case disk.Differ != nil:
+		return OtherBytes
+	case isLate:
+		return OtherTime
+	}
+	return ""
+}
+
+// blocksOf gives which blocks of a device's file differ from its own record.
+func blocksOf(at *part.Name) *Blocks {
+	if at.Disk == nil || at.Disk.Differ == nil || at.Own == nil || at.Own.Content == nil {
+		return nil
+	}
+	differ, content := at.Disk.Differ, at.Own.Content
+	made := &Blocks{Count: differ.Count, Size: content.BlockSize, Ranges: differ.Ranges}
+	if content.BlockSize > 0 {
+		made.Of = (content.Size + content.BlockSize - 1) / content.BlockSize
+	}
+	if differ.First.Recorded != nil {
+		made.Recorded = differ.First.Recorded.String()
+	}
+	if differ.First.Found != nil {
+		made.Found = differ.First.Found.String()
+	}
+	return made
+}
+
+// isBelow says whether a version is at most another one everywhere.
+func isBelow(version, other [][2]uint64) bool {
+	values := map[uint64]uint64{}
+	for _, one := range other {
+		values[one[0]] = one[1]
+	}
+	for _, one := range version {
+		if one[1] > values[one[0]] {
+			return false
+		}
+	}
+	return true
+}
+
+// hasContent says whether a disk's file, cut somehow, has a content.
+func hasContent(disk *part.Node, content *part.Content) bool {
+	if disk == nil || content == nil {
+		return false
+	}
+	for _, one := range disk.Contents {
+		if one == *content {
+			return true
+		}
+	}
+	return false
+}

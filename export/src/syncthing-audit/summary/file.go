@@ -1,0 +1,257 @@
+package summary
+
+import (
+	"sort"
+
+	"syncthing-audit/finding"
+	"syncthing-audit/join"
+	"syncthing-audit/part"
+)
+
+// Text is a name, which may be no text.
+type Text = part.Bytes
+
+// File is a name of which something is to be told.
+type File struct {
+	Name        Text     `json:"name"`
+	Size        int64    `json:"size"`
+	Faults      []Fault  `json:"faults"`
+	Have        []string `json:"have_recorded"` // devices whose index and disk have what is due
+	Follows     []Follow `json:"follows"`       // what fails for want of the above
+	Permissions []Mode   `json:"permissions"`   // where they differ
+	Advice      []string `json:"advice"`
+	hasDetails  bool
+}
+
+// Follow is a reason of syncaudit that goes away with the faults.
+type Follow struct {
+	Device string `json:"device"`
+	Reason string `json:"reason"`
+}
+
+// Mode are the permissions of a name at a device: in octal digits.
+type Mode struct {
+	Device string `json:"device"`
+	Index  string `json:"index,omitempty"`
+	Disk   string `json:"disk,omitempty"`
+}
+
+// filesOf gives all names of a folder of which something is to be told, rising.
+func filesOf(folder *finding.Folder, named labels) []*File {
+	made := map[string]*File{}
+	get := func(name string) *File {
+		if made[name] == nil {
+			made[name] = &File{Name: Text(name), Faults: []Fault{}, Have: []string{}, Follows: []Follow{}, Permissions: []Mode{}}
+		}
+		return made[name]
+	}
+	unwon := map[string]bool{}
+	for next := range folder.Unwon {
+		unwon[folder.Unwon[next].Name] = true
+		addUnwon(get(folder.Unwon[next].Name), folder, &folder.Unwon[next])
+	}
+	failures := map[string][]finding.Failure{}
+	for _, one := range folder.Failures {
+		if !unwon[one.Name] {
+			failures[one.Name] = append(failures[one.Name], one)
+		}
+	}
+	for name, all := range failures {
+		read := &reader{folder: folder, row: folder.Rows[name], file: get(name), reasons: map[int][]string{}}
+		read.read(all)
+	}
+	for next := range folder.Permissions {
+		get(folder.Permissions[next].Name).Permissions = modesOf(folder, &folder.Permissions[next])
+	}
+	files := make([]*File, 0, len(made))
+	for name, one := range made {
+		one.hasDetails = folder.Rows[name] != nil
+		one.Size = sizeOf(folder.Rows[name])
+		one.Advice = adviceOf(one, named)
+		files = append(files, one)
+	}
+	sort.Slice(files, func(a, b int) bool { return files[a].Name < files[b].Name })
+	return files
+}
+
+// sizeOf gives the most bytes that a device has, or records, of a name.
+func sizeOf(row *join.Row) int64 {
+	most := int64(0)
+	if row == nil {
+		return most
+	}
+	for _, at := range row.At {
+		if at == nil {
+			continue
+		}
+		for _, one := range []*State{recorded(at.Own), found(at.Disk)} {
+			if one != nil && one.Size > most {
+				most = one.Size
+			}
+		}
+	}
+	return most
+}
+
+// unwonCauses are the causes of names without a winner.
+var unwonCauses = map[string]Cause{finding.Unscanned: NotScanned, finding.LocalChange: LocalAddition, finding.OnlySeen: OnlySeen}
+
+// addUnwon adds what each device has of a name without a winner.
+func addUnwon(file *File, folder *finding.Folder, one *finding.Unwon) {
+	row := folder.Rows[one.Name]
+	for _, at := range one.At {
+		member := folder.Members[at.Member]
+		fault := Fault{Device: member.Head.Device, Cause: unwonCauses[at.Kind], Kind: kindOf(member), Reasons: []string{"NotWinner"}}
+		if row != nil && row.At[at.Member] != nil {
+			fault.Recorded, fault.Found = recorded(row.At[at.Member].Own), found(row.At[at.Member].Disk)
+			fault.Deletion = fault.Recorded != nil && fault.Recorded.Deleted
+		}
+		file.Faults = append(file.Faults, fault)
+	}
+}
+
+func kindOf(member join.Member) string {
+	if member.About == nil {
+		return ""
+	}
+	return member.About.Kind
+}
+
+// reader reads what is wrong with a name that has a winner.
+type reader struct {
+	folder  *finding.Folder
+	row     *join.Row // all that the devices have of it, if that was kept
+	file    *File
+	reasons map[int][]string // of each member
+	winner  *part.Record
+}
+
+// read adds the faults of a name, and what follows from them.
+func (r *reader) read(failures []finding.Failure) {
+	for _, one := range failures {
+		member := r.member(one.Device)
+		r.reasons[member] = append(r.reasons[member], one.Reason)
+	}
+	r.findWinner()
+	for member := range r.folder.Members {
+		r.addFaults(member)
+	}
+	for member, one := range r.folder.Members {
+		for _, reason := range []string{"ViewAhead", "FlightAhead", "PullAhead"} {
+			if r.has(member, reason) && !r.isFaulty(one.Head.Device) {
+				r.addAhead(member, reason)
+			}
+		}
+	}
+	if len(r.reasons[-1]) > 0 {
+		r.file.Faults = append(r.file.Faults, Fault{Cause: Differs, Reasons: r.reasons[-1]})
+	}
+}
+
+// addAhead adds that a device knows of a version that it could still take: as what follows from a fault, or by itself.
+func (r *reader) addAhead(member int, reason string) {
+	if len(r.file.Faults) == 0 || r.file.Faults[0].Cause == NewerKnown {
+		r.add(member, NewerKnown)
+		return
+	}
+	r.file.Follows = append(r.file.Follows, Follow{r.folder.Members[member].Head.Device, reason})
+}
+
+// isFaulty says whether a fault of the device is told.
+func (r *reader) isFaulty(device string) bool {
+	for _, one := range r.file.Faults {
+		if one.Device == device {
+			return true
+		}
+	}
+	return false
+}
+
+// member gives the place of the device with this number, or -1.
+func (r *reader) member(number uint64) int {
+	for place, one := range r.folder.Members {
+		if one.Number == number {
+			return place
+		}
+	}
+	return -1
+}
+
+// has says whether a member has one of these reasons.
+func (r *reader) has(member int, reasons ...string) bool {
+	for _, one := range r.reasons[member] {
+		for _, other := range reasons {
+			if one == other {
+				return true
+			}
+		}
+	}
+	return false
+}
+
+// at gives what a member has of the name.
+func (r *reader) at(member int) *part.Name {
+	if r.row == nil || r.row.At[member] == nil {
+		return nil
+	}
+	return r.row.At[member]
+}
+
+// findWinner finds what is due: what each device records of which no reason says otherwise. The devices that have it on
+// their disks, too, are those that have the recorded bytes.
+func (r *reader) findWinner() {
+	for member, one := range r.folder.Members {
+		if r.has(member, "RecordMissing", "RecordDiffers", "LocalOnly") {
+			continue
+		}
+		if at := r.at(member); at != nil && at.Own != nil && r.winner == nil {
+			r.winner = at.Own
+		}
+		if !r.has(member, "StoreDiffers") {
+			r.file.Have = append(r.file.Have, one.Head.Device)
+		}
+	}
+}
+
+// addFaults adds what is wrong at a member.
+func (r *reader) addFaults(member int) {
+	at := r.at(member)
+	disk := Cause("")
+	if at != nil {
+		disk = onDisk(at)
+	}
+	isBehind := r.has(member, "RecordMissing", "RecordDiffers")
+	switch {
+	case r.has(member, "LocalOnly"):
+		r.add(member, LocalChange)
+	case isBehind && at != nil && r.winner != nil && hasContent(at.Disk, r.winner.Content):
+		r.add(member, OtherBlocks)
+	case isBehind && at != nil && at.Own != nil && r.winner != nil && !isBelow(at.Own.Version, r.winner.Version):
+		r.add(member, Conflicting)
+	case isBehind:
+		r.add(member, Behind)
+	case at == nil && r.has(member, "StoreDiffers"):
+		r.add(member, Differs)
+	case at == nil && r.has(member, "StoreUnclean"):
+		r.add(member, OtherTime)
+	}
+	if r.has(member, "StoreDiffers", "StoreUnclean") && disk != "" {
+		r.add(member, disk)
+	} else if r.has(member, "StoreDiffers") && at != nil && !isBehind && !r.has(member, "LocalOnly") {
+		r.add(member, Differs)
+	}
+}
+
+// add adds a fault with what is known of it.
+func (r *reader) add(member int, cause Cause) {
+	one := r.folder.Members[member]
+	made := Fault{Device: one.Head.Device, Cause: cause, Kind: kindOf(one), Due: recorded(r.winner), Reasons: r.reasons[member]}
+	if at := r.at(member); at != nil {
+		made.Recorded, made.Found = recorded(at.Own), found(at.Disk)
+		if cause == OtherBytes || cause == Changed {
+			made.Blocks = blocksOf(at)
+		}
+	}
+	made.Deletion = cause == Behind && made.Due != nil && made.Due.Deleted || cause == LocalChange && made.Recorded != nil && made.Recorded.Deleted
+	r.file.Faults = append(r.file.Faults, made)
+}

@@ -1,0 +1,72 @@
+package summary
+
+import "strings"
+
+// rest prints what was left out, not asked for or not compared.
+func (p *printer) rest(s *Summary) {
+	p.line("")
+	for _, folder := range s.Folders {
+		p.leftOut(folder)
+		if len(folder.Devices) < 2 {
+			p.line("alone: %s is audited on one device, so there is nothing to compare it with", folder.ID)
+		}
+	}
+	for _, one := range s.LeftOut {
+		p.line("left out: %s of %s: %s", one.Folder, one.Device, one.Why)
+	}
+	if len(s.NotAsked) > 0 {
+		p.line("not asked for: %s", p.notAsked(s))
+	}
+	p.line("not compared: %s", strings.Join(s.NotCompared, ", "))
+}
+
+// leftOut prints the names of a folder that were left out, by kind, and those outside it.
+func (p *printer) leftOut(folder *Folder) {
+	if len(folder.LeftOut) > 0 {
+		names, bytes := int64(0), int64(0)
+		for _, one := range folder.LeftOut {
+			names += one.Names
+			bytes += one.Bytes
+		}
+		p.line("left out of %s: %s, %s", folder.ID, counted(names, "name", "names"), size(bytes))
+		for _, one := range folder.LeftOut {
+			p.left(one)
+		}
+	}
+	if folder.Ignored.Names > 0 {
+		p.line("outside %s: %s, %s, which .stignore keeps out on each device that has them", folder.ID,
+			counted(folder.Ignored.Names, "name", "names"), size(folder.Ignored.Bytes))
+	}
+}
+
+// left prints a name that was left out.
+func (p *printer) left(one Names) {
+	name := Quoted(string(one.Name))
+	if one.Below {
+		name += " and all below it (" + counted(one.Names, "name", "names") + ")"
+	}
+	for _, why := range one.Why {
+		at := ""
+		if why.Device != "" {
+			at = p.named.of(why.Device) + ": "
+		}
+		p.line("  %s, %s: %s%s", name, size(one.Bytes), at, why.Why)
+	}
+}
+
+// notAsked gives the folders that weren't asked for, each with its devices.
+func (p *printer) notAsked(s *Summary) string {
+	var folders []string
+	devices := map[string][]string{}
+	for _, one := range s.NotAsked {
+		if devices[one.Folder] == nil {
+			folders = append(folders, one.Folder)
+		}
+		devices[one.Folder] = append(devices[one.Folder], one.Device)
+	}
+	words := []string{}
+	for _, one := range folders {
+		words = append(words, one+" ("+p.named.all(devices[one])+")")
+	}
+	return counted(int64(len(folders)), "folder", "folders") + ": " + strings.Join(words, ", ")
+}

@@ -1,0 +1,242 @@
+// Package summary has what an audit found as a person asks for it: one entry a file, with what is wrong on which device,
+// who has the recorded bytes, and what to do. Its JSON is docs/audit.schema.json.
+package summary
+
+import (
+	"strings"
+	"time"
+	"unicode"
+
+	"syncthing-audit/finding"
+	"syncthing-audit/join"
+)
+
+// Version is the version of the JSON.
+const Version = 1
+
+// Verdicts.
+const (
+	InStep    = "in-step"
+	AsFar     = "in-step-as-far-as-audited"
+	NotInStep = "not-in-step"
+)
+
+// Summary is what was found in all folders.
+type Summary struct {
+	Version     int        `json:"version"`
+	Verdict     string     `json:"verdict"`
+	Devices     []Device   `json:"devices"`
+	Folders     []*Folder  `json:"folders"`
+	LeftOut     []LeftOut  `json:"left_out"`  // devices, and folders as a whole
+	NotAsked    []NotAsked `json:"not_asked"` // folders of these devices
+	NotCompared []string   `json:"not_compared"`
+}
+
+// Device is a device that was audited.
+type Device struct {
+	ID   string    `json:"id"`
+	Name string    `json:"name"`
+	Read time.Time `json:"read"` // when its files were read
+	From string    `json:"from"`
+}
+
+// Folder is what was found in a folder.
+type Folder struct {
+	ID      string   `json:"id"`
+	Label   string   `json:"label"`
+	Verdict string   `json:"verdict"`
+	Names   int64    `json:"names"`
+	Deleted int64    `json:"deleted"`
+	Bytes   int64    `json:"bytes_hashed"`
+	Devices []Member `json:"devices"`
+	Wrong   int64    `json:"names_wrong"` // files, directories and symlinks that keep the folder from being in step
+	Files   []*File  `json:"files"`
+	Groups  []*Group `json:"groups"`
+	LeftOut []Names  `json:"left_out"`
+	Ignored Count    `json:"ignored"`
+}
+
+// Member is a device that shares a folder.
+type Member struct {
+	Device string `json:"device"`
+	Kind   string `json:"kind"`
+	Path   string `json:"path"`
+}
+
+func memberOf(one join.Member) Member {
+	made := Member{Device: one.Head.Device, Kind: kindOf(one)}
+	if one.About != nil {
+		made.Path = one.About.Path
+	}
+	return made
+}
+
+// Count is of names that .stignore keeps out of the folder everywhere.
+type Count struct {
+	Names int64 `json:"names"`
+	Bytes int64 `json:"bytes"`
+}
+
+// Names are a name that was left out on request, or all names below it.
+type Names struct {
+	Name  Text      `json:"name"`
+	Below bool      `json:"below"`
+	Names int64     `json:"names"`
+	Bytes int64     `json:"bytes"`
+	Why   []WhyLeft `json:"why"`
+}
+
+// WhyLeft is why a name was left out; without a device where it is of all.
+type WhyLeft struct {
+	Device string `json:"device,omitempty"`
+	Kind   string `json:"kind"`
+	Why    string `json:"why"`
+}
+
+// LeftOut is a device that was left out of a folder.
+type LeftOut struct {
+	Folder string `json:"folder"`
+	Device string `json:"device"`
+	Kind   string `json:"kind"`
+	Why    string `json:"why"`
+}
+
+// NotAsked is a folder that a device has and that wasn't audited.
+type NotAsked struct {
+	Folder string `json:"folder"`
+	Device string `json:"device"`
+}
+
+// notCompared is what no audit compares.
+var notCompared = []string{"owners", "extended attributes", "old versions"}
+
+// Of gives the summary of an answer.
+func Of(answer *finding.Answer) *Summary {
+	made := &Summary{Version: Version, Verdict: verdictOf(answer), Devices: []Device{}, Folders: []*Folder{}, LeftOut: []LeftOut{},
+		NotAsked: notAsked(answer), NotCompared: notCompared}
+	for _, one := range answer.Devices {
+		made.Devices = append(made.Devices, Device{ID: one.ID, Name: one.Name, Read: one.Made, From: one.From})
+	}
+	named := made.labels()
+	for _, one := range answer.Folders {
+		made.Folders = append(made.Folders, folderOf(answer, one, named))
+	}
+	for _, one := range answer.LeftOut {
+		made.LeftOut = append(made.LeftOut, LeftOut{one.Folder, one.Device, one.Kind, one.Why})
+	}
+	return made
+}
+
+// lengthOfShort is how much of an id tells devices of one name apart.
+const lengthOfShort = 7
+
+// labels gives each device's name for a person: the configured one, with the id's beginning where two have the same.
+func (s *Summary) labels() labels {
+	count := map[string]int{}
+	for _, one := range s.Devices {
+		count[one.Name]++
+	}
+	made := labels{}
+	for _, one := range s.Devices {
+		short := one.ID
+		if len(short) > lengthOfShort {
+			short = short[:lengthOfShort]
+		}
+		made[one.ID] = printable(one.Name)
+		if one.Name == "" {
+			made[one.ID] = short
+		} else if count[one.Name] > 1 {
+			made[one.ID] += " (" + short + ")"
+		}
+	}
+	return made
+}
+
+// printable gives a device's name without what moves a terminal's cursor.
+func printable(name string) string {
+	return strings.Map(func(one rune) rune {
+		if !unicode.IsPrint(one) {
+			return '?'
+		}
+		return one
+	}, name)
+}
+
+func verdictOf(answer *finding.Answer) string {
+	_, first := answer.First()
+	switch {
+	case first != nil:
+		return NotInStep
+	case answer.IsPartial():
+		return AsFar
+	}
+	return InStep
+}
+
+// folderOf gives the summary of a folder.
+func folderOf(answer *finding.Answer, from *finding.Folder, named labels) *Folder {
+	made := &Folder{ID: from.ID, Label: from.Label, Verdict: InStep, Names: from.Names, Deleted: from.Deleted, Bytes: from.Bytes,
+		Devices: []Member{}, Files: []*File{}, Groups: []*Group{}, LeftOut: []Names{}, Ignored: Count(from.Outside)}
+	switch {
+	case len(from.Failures) > 0:
+		made.Verdict = NotInStep
+	case answer.IsPart(from):
+		made.Verdict = AsFar
+	}
+	for _, one := range from.Members {
+		made.Devices = append(made.Devices, memberOf(one))
+	}
+	made.Files, made.Groups = fold(filesOf(from, named), named)
+	for _, one := range made.Files {
+		if len(one.Faults) > 0 {
+			made.Wrong++
+		}
+	}
+	for _, one := range made.Groups {
+		if one.Cause != Permissions {
+			made.Wrong += one.Names
+		}
+	}
+	for _, one := range from.LeftOut {
+		made.LeftOut = append(made.LeftOut, namesOf(from, one))
+	}
+	return made
+}
+
+// namesOf gives what was left out.
+func namesOf(folder *finding.Folder, one *finding.LeftOut) Names {
+	made := Names{Name: Text(one.Name), Below: one.Below, Names: one.Names, Bytes: one.Bytes, Why: []WhyLeft{}}
+	for _, why := range one.Why {
+		device := ""
+		if why.Member >= 0 {
+			device = folder.Members[why.Member].Head.Device
+		}
+		made.Why = append(made.Why, WhyLeft{device, why.Kind, why.Why})
+	}
+	return made
+}
+
+// notAsked gives the folders of these devices that weren't asked for.
+func notAsked(answer *finding.Answer) []NotAsked {
+	asked := map[string]bool{}
+	for _, one := range answer.Folders {
+		asked[one.ID] = true
+	}
+	for _, one := range answer.LeftOut {
+		asked[one.Folder] = true
+	}
+	made := []NotAsked{}
+	seen := map[NotAsked]bool{}
+	for _, folder := range answer.Folders {
+		for _, member := range folder.Members {
+			for _, has := range member.Head.Folders {
+				one := NotAsked{has.ID, member.Head.Device}
+				if !asked[has.ID] && !seen[one] {
+					seen[one] = true
+					made = append(made, one)
+				}
+			}
+		}
+	}
+	return made
+}

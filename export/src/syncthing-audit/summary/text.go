@@ -1,0 +1,228 @@
+package summary
+
+import (
+	"fmt"
+	"io"
+	"strconv"
+	"strings"
+	"time"
+)
+
+// printer prints a summary for a person.
+type printer struct {
+	to    io.Writer
+	named labels
+	zone  *time.Location
+}
+
+// Print prints a summary for a person, with times of this zone.
+func (s *Summary) Print(to io.Writer, zone *time.Location) {
+	p := &printer{to, s.labels(), zone}
+	for _, one := range s.Folders {
+		p.folder(one)
+	}
+	for _, folder := range s.Folders {
+		for _, one := range folder.Groups {
+			p.group(folder, one)
+		}
+		for _, one := range folder.Files {
+			p.file(folder, one)
+		}
+	}
+	p.rest(s)
+}
+
+func (p *printer) line(format string, words ...interface{}) { fmt.Fprintf(p.to, format+"\n", words...) }
+
+// folder prints the one line of a folder.
+func (p *printer) folder(one *Folder) {
+	verdict := "in step"
+	switch one.Verdict {
+	case NotInStep:
+		verdict = "NOT in step, " + counted(one.Wrong, "name is wrong", "names are wrong")
+	case AsFar:
+		verdict = "in step as far as audited"
+	}
+	label := ""
+	if one.Label != "" && one.Label != one.ID {
+		label = " (" + printable(one.Label) + ")"
+	}
+	devices := []string{}
+	for _, member := range one.Devices {
+		devices = append(devices, member.Device)
+	}
+	p.line("%s%s: %s; %s (%s deleted), %s hashed on %s", one.ID, label, verdict, counted(one.Names, "name", "names"), thousands(one.Deleted),
+		size(one.Bytes), p.named.all(devices))
+}
+
+// group prints names with the same fault as one entry.
+func (p *printer) group(folder *Folder, one *Group) {
+	p.line("\n%s in %s: %s%s", counted(one.Names, "name", "names"), folder.ID, size(one.Bytes), p.unsized(one))
+	if one.Cause == Permissions {
+		p.modes(one.Modes)
+	}
+	for _, device := range one.Devices {
+		p.line("  %s: %s", p.named.of(device), wordsOf[one.Cause])
+	}
+	first := []string{}
+	for _, name := range one.First {
+		first = append(first, Quoted(string(name)))
+	}
+	p.line("  the first: %s", strings.Join(first, " "))
+	if len(one.Have) > 0 && one.Cause != Permissions {
+		p.line("  as recorded on: %s", p.named.all(one.Have))
+	}
+	p.advice(one.Advice)
+}
+
+func (p *printer) unsized(one *Group) string {
+	if one.Unsized == 0 {
+		return ""
+	}
+	return fmt.Sprintf(", without %s whose details weren't kept", counted(one.Unsized, "name", "names"))
+}
+
+// file prints the entry of a name.
+func (p *printer) file(folder *Folder, one *File) {
+	about := "in " + folder.ID
+	if one.Size > 0 {
+		about += ", " + size(one.Size)
+	}
+	p.line("\n%s  (%s)", Quoted(string(one.Name)), about)
+	for next := range one.Faults {
+		p.fault(&one.Faults[next])
+	}
+	p.modes(one.Permissions)
+	if len(one.Faults) > 0 && !isOfNobody(one) {
+		have := "no audited device"
+		if len(one.Have) > 0 {
+			have = p.named.all(one.Have)
+		}
+		p.line("  as recorded on: %s", have)
+	}
+	if len(one.Follows) > 0 {
+		p.line("  so %s can still take another version of it, until that is mended", p.named.all(devicesOf(one.Follows)))
+	}
+	p.advice(one.Advice)
+}
+
+// isOfNobody says whether a name has no winner, so that there is nothing that devices should have.
+func isOfNobody(one *File) bool {
+	for _, fault := range one.Faults {
+		if len(fault.Reasons) == 1 && fault.Reasons[0] == "NotWinner" {
+			return true
+		}
+	}
+	return false
+}
+
+func devicesOf(follows []Follow) []string {
+	made := []string{}
+	for _, one := range follows {
+		made = addOnce(made, one.Device)
+	}
+	return made
+}
+
+// wordsOf say what is wrong.
+var wordsOf = map[Cause]string{
+	OtherBytes:    "other bytes on the disk; size and time are as recorded, so no scan sees it",
+	Changed:       "changed on the disk since the last scan",
+	Missing:       "missing on the disk",
+	Back:          "on the disk, though it is deleted",
+	Behind:        "behind: hasn't taken what is newest",
+	Conflicting:   "changed there and elsewhere",
+	OtherBlocks:   "the same bytes, recorded in blocks of another size",
+	LocalChange:   "changed on this receive-only device",
+	LocalAddition: "added on this receive-only device; no other has it",
+	NotScanned:    "on the disk, and no scan has seen it",
+	OnlySeen:      "known from another device, which doesn't have it",
+	OtherTime:     "the recorded bytes with another time than recorded",
+	NewerKnown:    "knows of another version that it could still take",
+	Differs:       "differs; details weren't kept",
+}
+
+// fault prints what is wrong on a device, and since when.
+func (p *printer) fault(one *Fault) {
+	p.line("  %s: %s%s", p.named.of(one.Device), p.wordsOf(one), p.since(one))
+	if one.Blocks == nil || one.Blocks.Of < 1 {
+		return
+	}
+	p.line("    %s of %s differ (of %s each, counted from 0): %s", thousands(one.Blocks.Count), counted(one.Blocks.Of, "block", "blocks"),
+		size(one.Blocks.Size), ranges(one.Blocks))
+	if one.Blocks.Recorded != "" && one.Blocks.Found != "" {
+		p.line("    the first of them: SHA-256 %s.. recorded, %s.. on the disk", one.Blocks.Recorded[:8], one.Blocks.Found[:8])
+	}
+}
+
+func (p *printer) wordsOf(one *Fault) string {
+	switch {
+	case one.Cause == Behind && one.Deletion:
+		return "behind: hasn't deleted it yet"
+	case one.Cause == Behind && one.Recorded == nil:
+		return "behind: doesn't have it yet"
+	case one.Cause == LocalChange && one.Deletion:
+		return "deleted on this receive-only device"
+	case one.Cause == Changed && one.Recorded != nil && one.Found != nil && one.Recorded.Type != one.Found.Type:
+		return fmt.Sprintf("a %s on the disk, recorded as a %s", one.Found.Type, one.Recorded.Type)
+	}
+	return wordsOf[one.Cause]
+}
+
+// since says of when a fault is, as far as that is known.
+func (p *printer) since(one *Fault) string {
+	switch {
+	case one.Cause == OtherBytes && one.Recorded != nil:
+		return " (recorded " + p.when(one.Recorded.Modified) + ")"
+	case one.Cause == LocalChange && one.Recorded != nil:
+		return " (" + p.when(one.Recorded.Modified) + ")"
+	case one.Found != nil && one.Found.Type == "file" && (one.Cause == Changed || one.Cause == NotScanned || one.Cause == OtherTime ||
+		one.Cause == Back || one.Cause == LocalAddition):
+		return " (since " + p.when(one.Found.Modified) + ")"
+	case one.Cause == Behind && one.Due != nil:
+		return " (since " + p.when(one.Due.Modified) + ")"
+	}
+	return ""
+}
+
+func (p *printer) when(at time.Time) string { return at.In(p.zone).Format("2006-01-02 15:04:05 MST") }
+
+// ranges gives blocks as numbers.
+func ranges(blocks *Blocks) string {
+	words := []string{}
+	told := int64(0)
+	for _, one := range blocks.Ranges {
+		told += one[1] - one[0] + 1
+		if one[0] == one[1] {
+			words = append(words, strconv.FormatInt(one[0], 10))
+		} else {
+			words = append(words, fmt.Sprintf("%d-%d", one[0], one[1]))
+		}
+	}
+	if told < blocks.Count {
+		words = append(words, "..")
+	}
+	return strings.Join(words, ", ")
+}
+
+// modes prints permissions that differ.
+func (p *printer) modes(all []Mode) {
+	if len(all) == 0 {
+		return
+	}
+	words := []string{}
+	for _, one := range all {
+		word := p.named.of(one.Device) + " " + one.Index
+		if one.Disk != "" && one.Disk != one.Index {
+			word += " recorded, " + one.Disk + " on the disk"
+		}
+		words = append(words, word)
+	}
+	p.line("  permissions differ (they don't count for the verdict): %s", strings.Join(words, "; "))
+}
+
+func (p *printer) advice(all []string) {
+	for _, one := range all {
+		p.line("  to do: %s.", one)
+	}
+}

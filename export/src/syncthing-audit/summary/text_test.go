@@ -1,0 +1,200 @@
+package summary
+
+import (
+	"fmt"
+	"strings"
+	"testing"
+	"time"
+
+	"syncthing-audit/finding"
+	"syncthing-audit/join"
+	"syncthing-audit/part"
+)
+
+const (
+	laptop = "LAPTOP1-AAAAAAA"
+	server = "SERVER1-AAAAAAA"
+	phone  = "PHONE01-AAAAAAA"
+)
+
+var ids = []string{laptop, server, phone}
+
+// started is when all that is recorded here was changed, and later when some of it was changed again.
+const (
+	started = 1600000000
+	later   = 1600000060
+)
+
+// answerOf gives an answer of one folder, docs, at so many devices, numbered from 1.
+func answerOf(devices int, fill func(*finding.Folder)) *finding.Answer {
+	folder := &finding.Folder{ID: "docs", Label: "Documents", Names: 1204, Deleted: 4, Bytes: 335200000, Rows: map[string]*join.Row{}}
+	answer := &finding.Answer{Folders: []*finding.Folder{folder}}
+	for place, name := range []string{"laptop", "server", "phone"}[:devices] {
+		head := &part.Head{Device: ids[place], Name: name, Folders: []part.Folder{{ID: "docs", Kind: "send-receive", Path: "/srv/docs"}}}
+		device := &join.Device{Head: head, Number: uint64(place + 1)}
+		folder.Members = append(folder.Members, join.Member{Device: device, About: &head.Folders[0]})
+		answer.Devices = append(answer.Devices, finding.Device{ID: ids[place], Number: device.Number, Name: name})
+	}
+	fill(folder)
+	folder.Sort()
+	return answer
+}
+
+// file gives what a device in step has of a file of three blocks.
+func file(version uint64, hash byte) *part.Name {
+	content := part.Content{Size: 300000, BlockSize: 131072, Hash: part.Hash{hash}}
+	return &part.Name{Own: &part.Record{ModifiedS: started, ModifiedBy: 1, Version: [][2]uint64{{1, version}}, Sequence: 1, Content: &content},
+		Disk: &part.Node{ModifiedS: started, Size: 300000, Contents: []part.Content{content}}}
+}
+
+// with gives the same with a change.
+func with(one *part.Name, change func(*part.Name)) *part.Name {
+	change(one)
+	return one
+}
+
+// rotten has one block of other bytes.
+func rotten(one *part.Name) {
+	one.Disk.Contents[0].Hash = part.Hash{99}
+	one.Disk.Differ = &part.Differ{Count: 1, Ranges: [][2]int64{{2, 2}}, First: part.Pair{Recorded: &part.Hash{0xab, 0xcd}, Found: &part.Hash{0x12}}}
+}
+
+// fails adds a name with its reasons, such as 'StoreDiffers 2'.
+func fails(folder *finding.Folder, name string, row []*part.Name, reasons ...string) {
+	for _, one := range reasons {
+		failure := finding.Failure{Name: name}
+		fmt.Sscan(one, &failure.Reason, &failure.Device)
+		folder.Failures = append(folder.Failures, failure)
+	}
+	if row != nil {
+		folder.Rows[name] = &join.Row{Name: name, At: row}
+	}
+}
+
+// unwon adds a name without a winner.
+func unwon(folder *finding.Folder, name string, member int, kind string, has *part.Name) {
+	folder.Unwon = append(folder.Unwon, finding.Unwon{Name: name, At: []finding.Cause{{Member: member, Kind: kind}}})
+	fails(folder, name, nil, "NotWinner")
+	row := make([]*part.Name, len(folder.Members))
+	row[member] = has
+	folder.Rows[name] = &join.Row{Name: name, At: row}
+}
+
+const (
+	lineOfFolder = "docs (Documents): NOT in step, 1 name is wrong; 1,204 names (4 deleted), 335.2 MB hashed on laptop, server\n"
+	lastLine     = "\nnot compared: owners, extended attributes, old versions\n"
+)
+
+func TestWhatAPersonReads(t *testing.T) {
+	cases := []struct {
+		why     string
+		devices int
+		fill    func(*finding.Folder)
+		text    string
+	}{
+		{"all in step", 2, func(*finding.Folder) {},
+			"docs (Documents): in step; 1,204 names (4 deleted), 335.2 MB hashed on laptop, server\n" + lastLine},
+		{"a file of other bytes", 2, func(folder *finding.Folder) {
+			fails(folder, "my budget.txt", []*part.Name{file(1, 1), with(file(1, 1), rotten)}, "StoreDiffers 2")
+		}, lineOfFolder + `
+'my budget.txt'  (in docs, 300.0 kB)
+  server: other bytes on the disk; size and time are as recorded, so no scan sees it (recorded 2020-09-13 12:26:40 UTC)
+    1 of 3 blocks differ (of 131.1 kB each, counted from 0): 2
+    the first of them: SHA-256 abcd0000.. recorded, 12000000.. on the disk
+  as recorded on: laptop
+  to do: Syncthing won't repair it, since size and time are as recorded: copy it from laptop to server with its time (cp -p, or rsync --times --ignore-times) while Syncthing is stopped there. If the bytes on server are the right ones, 'touch' the file there and let Syncthing scan: it then sends them to all.
+` + lastLine},
+		{"a missing file", 2, func(folder *finding.Folder) {
+			fails(folder, "a", []*part.Name{file(1, 1), with(file(1, 1), func(one *part.Name) { one.Disk = nil })}, "StoreDiffers 2")
+		}, lineOfFolder + `
+a  (in docs, 300.0 kB)
+  server: missing on the disk
+  as recorded on: laptop
+  to do: see that the folder's disk is mounted on server, before Syncthing starts there: a scan takes it for deleted, and then all devices delete it. To keep it, first copy it from laptop to server with its time (cp -p, or rsync --times --ignore-times) while Syncthing is stopped there.
+` + lastLine},
+		{"a device that is behind, and what others still see of it", 3, func(folder *finding.Folder) {
+			old := with(file(1, 2), func(one *part.Name) { one.Own.ModifiedS = started - 60; one.Disk.ModifiedS = started - 60 })
+			fails(folder, "a", []*part.Name{file(2, 1), old, file(2, 1)}, "RecordDiffers 2", "StoreDiffers 2", "ViewAhead 2", "ViewAhead 3")
+		}, `docs (Documents): NOT in step, 1 name is wrong; 1,204 names (4 deleted), 335.2 MB hashed on laptop, server, phone
+
+a  (in docs, 300.0 kB)
+  server: behind: hasn't taken what is newest (since 2020-09-13 12:26:40 UTC)
+  as recorded on: laptop, phone
+  so phone can still take another version of it, until that is mended
+  to do: start Syncthing on server and on a device that has it, and let them finish. If it stays among the 'Out of Sync Items', see whether the device is paused, connected, or out of space.
+` + lastLine},
+		{"a device that is behind as a whole", 2, func(folder *finding.Folder) {
+			for next := 0; next < 7; next++ {
+				row := []*part.Name{file(1, 1), nil}
+				if next == 6 {
+					row = nil
+				}
+				fails(folder, fmt.Sprint("photo ", next), row, "RecordMissing 2", "StoreDiffers 2")
+			}
+		}, `docs (Documents): NOT in step, 7 names are wrong; 1,204 names (4 deleted), 335.2 MB hashed on laptop, server
+
+7 names in docs: 1.8 MB, without 1 name whose details weren't kept
+  server: behind: hasn't taken what is newest
+  the first: 'photo 0' 'photo 1' 'photo 2'
+  as recorded on: laptop
+  to do: start Syncthing on server and on a device that has it, and let them finish. If it stays among the 'Out of Sync Items', see whether the device is paused, connected, or out of space.
+` + lastLine},
+		{"a file that was added on a receive-only device", 2, func(folder *finding.Folder) {
+			folder.Members[1].About.Kind = "receive-only"
+			unwon(folder, "added", 1, finding.LocalChange, file(1, 1))
+		}, lineOfFolder + `
+added  (in docs, 300.0 kB)
+  server: added on this receive-only device; no other has it (since 2020-09-13 12:26:40 UTC)
+  to do: 'Revert Local Changes' on server deletes it: copy it elsewhere first if it is to stay. To have it everywhere, make the folder 'Send & Receive' there.
+` + lastLine},
+		{"a file that no scan has seen", 2, func(folder *finding.Folder) {
+			unwon(folder, "new", 0, finding.Unscanned, with(file(1, 1), func(one *part.Name) { one.Own = nil; one.Disk.ModifiedS = later }))
+		}, lineOfFolder + `
+new  (in docs, 300.0 kB)
+  laptop: on the disk, and no scan has seen it (since 2020-09-13 12:27:40 UTC)
+  to do: start Syncthing on laptop and 'Rescan': it then goes to all.
+` + lastLine},
+		{"permissions that differ", 2, func(folder *finding.Folder) {
+			folder.Permissions = []finding.Permissions{{Name: "a", At: []finding.Bits{{Has: true, Index: 0o644, OnDisk: true, Disk: 0o600}, {Has: true, Index: 0o644}}}}
+		}, `docs (Documents): in step; 1,204 names (4 deleted), 335.2 MB hashed on laptop, server
+
+a  (in docs)
+  permissions differ (they don't count for the verdict): laptop 0644 recorded, 0600 on the disk; server 0644
+  to do: 'chmod' it to what it should be and let Syncthing scan, or choose 'Ignore Permissions' for the folder.
+` + lastLine},
+		{"what was left out, and what wasn't asked for", 2, func(folder *finding.Folder) {
+			folder.LeftOut = []*finding.LeftOut{{Name: "odd\xff", Names: 1, Bytes: 3000000, Why: []finding.Reason{{Member: 0, Kind: part.OddName, Why: "its name isn't UTF-8"}}}}
+			folder.Outside = finding.Outside{Names: 4, Bytes: 7}
+			folder.Members[1].Head.Folders = append(folder.Members[1].Head.Folders, part.Folder{ID: "music"})
+		}, `docs (Documents): in step as far as audited; 1,204 names (4 deleted), 335.2 MB hashed on laptop, server
+
+left out of docs: 1 name, 3.0 MB
+  $'odd\377', 3.0 MB: laptop: its name isn't UTF-8
+outside docs: 4 names, 7 bytes, which .stignore keeps out on each device that has them
+not asked for: 1 folder: music (server)
+not compared: owners, extended attributes, old versions
+`},
+		{"one device alone", 1, func(*finding.Folder) {},
+			`docs (Documents): in step as far as audited; 1,204 names (4 deleted), 335.2 MB hashed on laptop
+
+alone: docs is audited on one device, so there is nothing to compare it with
+not compared: owners, extended attributes, old versions
+`},
+	}
+	for _, one := range cases {
+		var written strings.Builder
+		Of(answerOf(one.devices, one.fill)).Print(&written, time.UTC)
+		if written.String() != one.text {
+			t.Errorf("%s:\n%s\nnot\n%s", one.why, written.String(), one.text)
+		}
+	}
+}
+
+func TestNamesForAShell(t *testing.T) {
+	for name, quoted := range map[string]string{"a/b-c.txt": "a/b-c.txt", "-rf": "'-rf'", "it's": `'it'\''s'`, "über": "über", "a\nb": `$'a\012b'`,
+		"odd\xff'": `$'odd\377\''`, "~": "'~'", "$HOME": "'$HOME'", "": "''", "\u202e": `$'\342\200\256'`} {
+		if Quoted(name) != quoted {
+			t.Errorf("%q is quoted as %s, not %s", name, Quoted(name), quoted)
+		}
+	}
+}
