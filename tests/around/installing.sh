@@ -24,7 +24,8 @@ expect "install has status $status" [ "$status" = 0 ]
 files=(bin/syncaudit share/man/man1/syncaudit.1 share/bash-completion/completions/syncaudit
   share/zsh/site-functions/_syncaudit share/fish/vendor_completions.d/syncaudit.fish
   share/doc/syncaudit/DOCUMENTS.md share/doc/syncaudit/check-document.schema.json
-  share/doc/syncaudit/explanation.schema.json share/doc/syncaudit/scenario.schema.json)
+  share/doc/syncaudit/explanation.schema.json share/doc/syncaudit/scenario.schema.json
+  share/doc/syncaudit/audit.schema.json)
 mapfile -O "${#files[@]}" -t files < <(examples_named | sed 's,^,share/doc/syncaudit/,')
 for file in "${files[@]}"; do
   expect "install puts no $file below its prefix" [ -f "$work/prefix/$file" ]

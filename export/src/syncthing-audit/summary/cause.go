@@ -127,7 +127,7 @@ func blocksOf(at *part.Name) *Blocks {
 		return nil
 	}
 	differ, content := at.Disk.Differ, at.Own.Content
-	made := &Blocks{Count: differ.Count, Size: content.BlockSize, Ranges: differ.Ranges}
+	made := &Blocks{Count: differ.Count, Size: content.BlockSize, Ranges: append([][2]int64{}, differ.Ranges...)}
 	if content.BlockSize > 0 {
 		made.Of = (content.Size + content.BlockSize - 1) / content.BlockSize
 	}

@@ -12,9 +12,11 @@ import (
 )
 
 const (
-	laptop = "LAPTOP1-AAAAAAA"
-	server = "SERVER1-AAAAAAA"
-	phone  = "PHONE01-AAAAAAA"
+	laptop = "LAPTOPA" + restOfID
+	server = "SERVERA" + restOfID
+	phone  = "PHONEAA" + restOfID
+
+	restOfID = "-AAAAAAA-AAAAAAA-AAAAAAA-AAAAAAA-AAAAAAA-AAAAAAA-AAAAAAA"
 )
 
 var ids = []string{laptop, server, phone}

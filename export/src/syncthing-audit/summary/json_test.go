@@ -1,0 +1,68 @@
+package summary
+
+import (
+	"encoding/json"
+	"errors"
+	"os/exec"
+	"strings"
+	"testing"
+
+	"syncthing-audit/finding"
+	"syncthing-audit/part"
+)
+
+// statusOfMissing is that of the script where Python's jsonschema isn't installed.
+const statusOfMissing = 77
+
+// full gives an answer in which as much as may be is told.
+func full(folder *finding.Folder) {
+	fails(folder, "rotten", []*part.Name{file(1, 1), with(file(1, 1), rotten)}, "StoreDiffers 2")
+	fails(folder, "behind", []*part.Name{file(2, 1), file(1, 2)}, "RecordDiffers 2", "StoreDiffers 2", "ViewAhead 2", "ViewAhead 3")
+	fails(folder, "odd", nil, "NameUnknown 0")
+	fails(folder, "kept", nil, "StoreDiffers 1")
+	for _, name := range []string{"1", "2", "3", "4", "5", "6"} {
+		fails(folder, name, []*part.Name{file(1, 1), nil}, "RecordMissing 2")
+	}
+	unwon(folder, "new", 0, finding.Unscanned, with(file(1, 1), func(one *part.Name) { one.Own = nil }))
+	folder.Permissions = []finding.Permissions{{Name: "rotten", At: []finding.Bits{{Has: true, Index: 0o644, OnDisk: true, Disk: 0o600}, {}}}}
+	folder.LeftOut = []*finding.LeftOut{{Name: "odd\xff", Names: 1, Why: []finding.Reason{{Member: -1, Kind: part.Large, Why: "large"}, {Member: 0, Kind: part.OddName}}}}
+	folder.Members[1].Head.Folders = append(folder.Members[1].Head.Folders, part.Folder{ID: "music"})
+}
+
+// What is written is what the schema says, and what the schema says is looked at: a document of other words is none.
+func TestSchema(t *testing.T) {
+	answer := answerOf(2, full)
+	answer.LeftOut = []finding.Refusal{{Kind: part.Absent, Folder: "docs", Device: "phone", Why: "no part of it is given"}}
+	var written strings.Builder
+	for _, one := range []*finding.Answer{answer, answerOf(1, func(*finding.Folder) {}), {}} {
+		if err := Of(one).WriteJSON(&written); err != nil {
+			t.Fatal(err)
+		}
+	}
+	text := written.String()
+	if told, err := validate(t, text); err != nil {
+		t.Fatal(told)
+	}
+	if told, err := validate(t, strings.Replace(text, `"other-bytes"`, `"rot"`, 1)); err == nil || !strings.Contains(told, "'rot' is not one of") {
+		t.Errorf("a cause of another name is taken: %s", told)
+	}
+	var read map[string]interface{}
+	if err := json.Unmarshal([]byte(text[:strings.Index(text, "\n")]), &read); err != nil {
+		t.Fatal(err)
+	}
+	if read["verdict"] != NotInStep {
+		t.Errorf("the verdict is %v", read["verdict"])
+	}
+}
+
+// validate has lines judged by the schema; without Python's jsonschema it skips the test.
+func validate(t *testing.T, text string) (string, error) {
+	asked := exec.Command("../../../test/audit_schema.py")
+	asked.Stdin = strings.NewReader(text)
+	told, err := asked.CombinedOutput()
+	var ended *exec.ExitError
+	if errors.As(err, &ended) && ended.ExitCode() == statusOfMissing {
+		t.Skip("Python's jsonschema isn't installed")
+	}
+	return string(told), err
+}
