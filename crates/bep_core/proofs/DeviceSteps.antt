@@ -1,5 +1,5 @@
 -- What a device did within one of its folders, as the cluster answers it.
-use Rattle.std.proofs.Common.{◌≡◌, ℕ, get_or, Option, Some, None, Result, sym, ap, subst, ◌∙◌}
+use Rattle.std.proofs.Common.{◌≡◌, ℕ, get_or, option_map, Option, Some, None, Result, Ok, Err, refl, sym, ap, subst, ◌∙◌, rules}
 use Rattle.std.specs.List.{position}
 use Rattle.bep_model.specs.Tables.{Device, Folder}
 use Rattle.bep_machine.specs.declared.moved.Moved.{Moved}
@@ -9,16 +9,20 @@ use Rattle.bep_machine.specs.Cluster.{Cluster}
 use Rattle.bep_machine.specs.Replica.{Replica}
 use Rattle.bep_machine.specs.Steps.{AtReplica, IsStep, SharesFolder}
 use Rattle.bep_peer.specs.declared.error.PeerError.{PeerError}
-use Rattle.bep_peer.specs.Member.{Member}
+use Rattle.bep_peer.specs.Member.{Member, Remains, untold}
 use Rattle.bep_peer.specs.PeerError.{Gives as GivesThere}
-use Rattle.bep_peer.specs.Within.{StepWithin}
+use Rattle.bep_peer.specs.Within.{StepWithin, TellsFault as TellsThere}
 use Rattle.bep_core.specs.declared.why.Why.{Why}
 use Rattle.bep_network.specs.Network.{Network, IsNetwork, is_number, cluster_of, failed_at}
+use Rattle.bep_core.specs.Applying.{maker_of}
+use Rattle.bep_core.specs.Counts.{AnswersFault, IsCounted, TellsFault}
+use Rattle.bep_core.specs.declared.why.Why.TheVariants.{Refused}
 use Rattle.bep_core.specs.Why.{Gives, answer_of}
 use Rattle.bep_core.specs.Within.{row_of, step_of}
 use Rattle.bep_core.specs.declared.folder_steps.Within.{Within}
 use Rattle.bep_core.specs.declared.folder_steps.Within.TheVariants.{Edit, Remove, Scan, Override, Revert, Pull, Finish}
 use Rattle.bep_core.proofs.AtLinks.{none_found}
+use Rattle.bep_core.proofs.Counted.{counted_at, counted_none}
 use Rattle.bep_core.proofs.OneDevice.{Replaces, with_member, network_after, failed_now}
 use Rattle.bep_peer.proofs.RowsKeep.{Keeps, edit_keeps, remove_keeps, scan_keeps, override_keeps, revert_keeps, start_keeps, finish_keeps}
 use Rattle.bep_core.proofs.Within.{StepOf, absent, carried, replaces, whichever, within, within_keeps}
@@ -43,6 +47,29 @@ row_keeps (Revert name) number failed replica = revert_keeps number name failed 
 row_keeps (Pull name) number failed replica = start_keeps number name replica
 row_keeps (Finish name) number failed replica = finish_keeps number name failed replica
 
+-- the device makes the step
+makes_within : (what : Within) (device : Device) (folder : Folder) → maker_of (step_of what device folder) ≡ Some device
+makes_within (Edit name node) device folder = refl
+makes_within (Remove name) device folder = refl
+makes_within (Scan name) device folder = refl
+makes_within (Override name) device folder = refl
+makes_within (Revert name) device folder = refl
+makes_within (Pull name) device folder = refl
+makes_within (Finish name) device folder = refl
+
+-- and answers where its store fails
+told_within : (what : Within) (device : Device) (folder : Folder) (old : Cluster) (failed : Option ℕ) (result : Result Moved Why) → AnswersFault failed result → TellsFault (step_of what device folder) old failed result
+told_within (Edit name node) device folder old failed result tells = tells
+told_within (Remove name) device folder old failed result tells = tells
+told_within (Scan name) device folder old failed result tells = tells
+told_within (Override name) device folder old failed result tells = tells
+told_within (Revert name) device folder old failed result tells = tells
+told_within (Pull name) device folder old failed result tells = tells
+told_within (Finish name) device folder old failed result tells = tells
+
+answers_fault : (member : Member) (result : Result Moved PeerError) → TellsThere member result → AnswersFault member.trace.failed (answer_of result)
+answers_fault member result tells = search rules
+
 -- what the device does in the folder
 module _ (device : Device) (folder : Folder) (what : Within) where
   abbrev step : Option ℕ → Cluster → Row Cluster
@@ -56,6 +83,12 @@ module _ (device : Device) (folder : Folder) (what : Within) where
   none_within self network failed seen rules none =
       is_step what device folder failed (cluster_of self) (cluster_of self) (Refuses NotShared)
       (absent self device folder (AtReplica device folder (row device failed) (cluster_of self)) (subst IsNetwork seen rules) (none_found (is_number device) self.members none))
+
+  pub none_counts : (self : Network) → position (is_number device) self.members ≡ None → IsCounted (step_of what device folder) self self (Err (Refused NotShared))
+  none_counts self none =
+      let absent = none_found (is_number device) self.members none in
+      counted_none (step_of what device folder) device (makes_within what device folder) self (Err (Refused NotShared)) self (absent ∙ sym (ap (option_map untold) absent)) (λ other apart. refl)
+      (told_within what device folder (cluster_of self) None (Err (Refused NotShared)) refl)
 
   module _ (self network : Network) (seen : network ≡ self) (rules : IsNetwork network) (place : ℕ) (was after : Member)
       (found : position (is_number device) self.members ≡ Some place) (value : was ≡ get_or network.members place was)
@@ -79,3 +112,10 @@ module _ (device : Device) (folder : Folder) (what : Within) where
         (λ answer made. is_step what device folder after.trace.failed (cluster_of network) (cluster_of (with_member network place after)) answer
         (within folder (row device after.trace.failed) network rules device place was after replaced answer made))
         result (subst (λ (number : Device). GivesThere (StepWithin folder (row number after.trace.failed) was) after result) replaced.number given))))
+
+    -- and its stores alone were called
+    pub within_counts : Remains was after → TellsThere after result → (answer : Result Moved Why) → answer ≡ answer_of result → IsCounted (step_of what device folder) self (with_member network place after) answer
+    within_counts rest tells answer same =
+        subst (λ (n : Network). IsCounted (step_of what device folder) n (with_member network place after) answer) seen
+        (counted_at (step_of what device folder) device (makes_within what device folder) network answer place was after replaced network.links rest
+        (told_within what device folder (cluster_of network) after.trace.failed answer (subst (AnswersFault after.trace.failed) (sym same) (answers_fault after result tells))))

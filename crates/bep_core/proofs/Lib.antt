@@ -3,9 +3,12 @@ mod FoldersAt
 mod Begun
 mod SameFolders
 mod OneDevice
+mod Counted
+mod Delivered
 mod Lift
 mod AtLinks
 mod Within
+mod Untold
 mod DeviceSteps
 mod SessionsKeep
 mod SharedBetween

@@ -1,5 +1,5 @@
 -- What became of a link, as the cluster answers it.
-use Rattle.std.proofs.Common.{◌≡◌, ℕ, get_or, Some, None, Result, Contains, ap, subst, ◌∙◌}
+use Rattle.std.proofs.Common.{◌≡◌, ℕ, List, get_or, Some, None, Result, Contains, refl, ap, subst, ◌∙◌}
 use Rattle.std.specs.List.{position}
 use Rattle.bep_model.specs.Tables.{Device}
 use Rattle.bep_machine.specs.declared.moved.Moved.{Moved}
@@ -11,9 +11,12 @@ use Rattle.bep_links.specs.Link.{LinkBetween}
 use Rattle.bep_core.specs.declared.why.Why.{Why}
 use Rattle.bep_core.specs.declared.link_steps.Between.{Between}
 use Rattle.bep_core.specs.declared.link_steps.Between.TheVariants.{Connect, Lose}
+use Rattle.bep_core.specs.Applying.{maker_of}
 use Rattle.bep_core.specs.Between.{row_of, step_of}
+use Rattle.bep_core.specs.Counts.{IsCounted, TellsFault}
 use Rattle.bep_network.specs.Network.{Network, IsNetwork, is_between, cluster_of}
 use Rattle.bep_core.specs.Why.{Gives}
+use Rattle.bep_core.proofs.Counted.{counted_links}
 use Rattle.bep_core.proofs.AtLinks.{FirmStepOf, at_link, no_link, none_found, passed, replaces_link}
 use Rattle.bep_core.proofs.Lift.{ReplacesLink, network_after_link, with_between}
 
@@ -22,6 +25,20 @@ is_step : (what : Between) (lower upper : Device) (old new : Cluster) (answer : 
     FirmStepOf (Contains old.config.links (lower, upper)) (AtLink lower upper (row_of what) old) old new answer → IsStep (step_of what lower upper) None old new answer
 is_step Connect lower upper old new answer made = made
 is_step Lose lower upper old new answer made = made
+
+-- no device makes the step, so no store is called
+none_makes : (what : Between) (lower upper : Device) → maker_of (step_of what lower upper) ≡ None
+none_makes Connect lower upper = refl
+none_makes Lose lower upper = refl
+
+silent_between : (what : Between) (lower upper : Device) (old : Cluster) (result : Result Moved Why) → TellsFault (step_of what lower upper) old None result
+silent_between Connect lower upper old result = refl
+silent_between Lose lower upper old result = refl
+
+pub between_counts : (what : Between) (lower upper : Device) (self network : Network) → network ≡ self → (links : List LinkBetween) (result : Result Moved Why) → IsCounted (step_of what lower upper) self (record network { links = links }) result
+between_counts what lower upper self network seen links result =
+    subst (λ (n : Network). IsCounted (step_of what lower upper) n (record network { links = links }) result) seen
+    (counted_links (step_of what lower upper) (none_makes what lower upper) network links result (silent_between what lower upper (cluster_of network) result))
 
 module _ (what : Between) (lower upper : Device) (self : Network) where
   -- there is no such link

@@ -29,7 +29,7 @@ either_way device other = cases (nat_lt device other)
     cases false = inr refl
 
 -- the link between the two, whichever is named first
-link_found : (network : Network) (device other : Device) → link_between (cluster_of network) device other ≡ link_of (between_at network.links (in_order device other).0 (in_order device other).1)
+pub link_found : (network : Network) (device other : Device) → link_between (cluster_of network) device other ≡ link_of (between_at network.links (in_order device other).0 (in_order device other).1)
 link_found network device other = cases (nat_lt device other)
   where
     cases : (b : Bool) → (if b then link_of (between_at network.links device other) else link_of (between_at network.links other device)) ≡ link_of (between_at network.links (ordered b device other).0 (ordered b device other).1)
@@ -72,7 +72,7 @@ module _ (network : Network) (rules : IsNetwork network) (device other : Device)
     linked = ((rules.joined device was r.found).linked other).1 (subst (λ (n : Device). AreLinked (config_of network) n other) (sym r.number) linked);
   }
 
-  other_is : (one : Device) → Joins lent one → one ≡ other
+  pub other_is : (one : Device) → Joins lent one → one ≡ other
   other_is one joins = other_end had.ends was.number one other joins.ends ends_are
 
   linked_there : (one : Device) → Joins lent one → AreLinked (config_of network) device other

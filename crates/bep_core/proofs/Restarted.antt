@@ -1,5 +1,5 @@
 -- A device that starts again, and each of whose links is lost, is a step of the whole cluster.
-use Rattle.std.proofs.Common.{◌≡◌, ◌==◌, ◌||◌, ◌&&◌, ℕ, Bool, true, false, cond, if◌then◌else◌, List, [], ◌∷◌, map, get_or, Option, Some, None, option_map, refl, sym, ap, subst, ◌∙◌, inl, inr}
+use Rattle.std.proofs.Common.{◌≡◌, ◌==◌, ◌||◌, ◌&&◌, ℕ, Bool, true, false, cond, if◌then◌else◌, List, [], ◌∷◌, map, get_or, Option, Some, None, Ok, Err, option_map, refl, sym, ap, subst, ◌∙◌, inl, inr}
 use Rattle.std.specs.List.{position}
 use Rattle.std.proofs.Math.Path.{fun_ext}
 use Rattle.std.specs.Cmp.Lexicographic.{nat_list_cmp_total}
@@ -15,10 +15,14 @@ use Rattle.bep_machine.specs.Peer.{Peer}
 use Rattle.bep_machine.specs.Replica.{Replica}
 use Rattle.bep_machine.specs.Steps.{IsStep, restarted, without_pulls}
 use Rattle.bep_links.specs.Link.{LinkBetween}
-use Rattle.bep_peer.specs.Member.{Member, tables_of}
+use Rattle.bep_peer.specs.declared.trace.Trace.{Trace}
+use Rattle.bep_peer.specs.Member.{Member, Remains, nothing_told, tables_of, untold}
 use Rattle.bep_network.specs.Network.{Network, IsNetwork, is_between as joins, is_number, cluster_of, ends_of, numbers_of, sharing_of, member_at, between_at, peer_of, link_of}
 use Rattle.bep_core.specs.Restart.{left_by}
 use Rattle.bep_peer.proofs.Mapped.{get-changed}
+use Rattle.bep_core.specs.Counts.{IsCounted}
+use Rattle.bep_core.specs.declared.why.Why.TheVariants.{Refused}
+use Rattle.bep_core.proofs.Counted.{counted_at, counted_none}
 use Rattle.bep_core.proofs.Lift.{joins_ends, network_after_links}
 use Rattle.bep_core.proofs.OneDevice.{Replaces, with_member, one_device, network_after}
 use Rattle.bep_peer.proofs.RowsKeep.{outline}
@@ -98,6 +102,10 @@ restarts network device place was after r is failed =
 pub none_restarts : (network : Network) (device : Device) (failed : Option ℕ) → member_at network.members device ≡ None → IsStep (Restart device) failed (cluster_of network) (cluster_of network) (Refuses NotShared)
 none_restarts network device failed none = inr (inl (not_listed network.members device none, (refl, refl)))
 
+pub none_restarted_counts : (network : Network) (device : Device) → member_at network.members device ≡ None → IsCounted (Restart device) network network (Err (Refused NotShared))
+none_restarted_counts network device none =
+    counted_none (Restart device) device refl network (Err (Refused NotShared)) network (none ∙ sym (ap (option_map untold) none)) (λ other apart. refl) refl
+
 module _ (self network : Network) (seen : network ≡ self) (rules : IsNetwork network) (device : Device) (place : ℕ) (was after : Member) (links : List LinkBetween)
     (found : position (is_number device) self.members ≡ Some place) (value : was ≡ get_or network.members place was)
     (is : tables_of after ≡ restarted (tables_of was)) (numbered : after.number ≡ was.number) (linked : after.linked ≡ was.linked)
@@ -122,3 +130,9 @@ module _ (self network : Network) (seen : network ≡ self) (rules : IsNetwork n
       subst (λ (n : Network). IsStep (Restart device) failed (cluster_of n) (cluster_of (later links)) (Done Changed)) seen
       (subst (λ (all : List LinkBetween). IsStep (Restart device) failed (cluster_of network) (cluster_of (later all)) (Done Changed)) (sym left)
       (restarts network device place was after replaced is failed))
+
+  -- no store was called
+  pub restart_counts : Remains was after → after.trace ≡ nothing_told → IsCounted (Restart device) self (later links) (Ok Changed)
+  restart_counts rest silent =
+      subst (λ (n : Network). IsCounted (Restart device) n (later links) (Ok Changed)) seen
+      (counted_at (Restart device) device refl network (Ok Changed) place was after replaced links rest (ap (λ (t : Trace). t.failed) silent))

@@ -1,5 +1,5 @@
 -- A device that looks at a name, and then records what it found, makes a scan.
-use Rattle.std.proofs.Common.{◌≡◌, Option, Some, None, IsSome, option_map, Result, Ok, Err, refl, sym, ap, subst, ◌∙◌, inl, inr, ⊎_elim}
+use Rattle.std.proofs.Common.{◌≡◌, ◌<◌, ℕ, Option, Some, None, IsSome, option_map, Result, Ok, Err, refl, sym, ap, subst, ◌∙◌, inl, inr, ⊎_elim, rules}
 use Rattle.std.specs.FinMap.{get}
 use Rattle.std.specs.Cmp.Lexicographic.{nat_list_cmp_total}
 use Rattle.std.proofs.lemmas.Map.Lookups.{exact_bytes}
@@ -16,9 +16,10 @@ use Rattle.bep_folder.specs.Held.{Held}
 use Rattle.bep_folder.specs.ScanResult.{Scanned}
 use Rattle.bep_peer.specs.declared.error.PeerError.{PeerError}
 use Rattle.bep_peer.specs.declared.error.PeerError.TheVariants.{Refused, Stale, Memory}
-use Rattle.bep_peer.specs.Member.{Member, tables_of}
+use Rattle.bep_peer.specs.Faults.{HaveSameFaults}
+use Rattle.bep_peer.specs.Member.{HasFailed, Member, Remains, tables_of}
 use Rattle.bep_peer.specs.PeerError.{Gives}
-use Rattle.bep_peer.specs.Within.{CommitsWithin, FindsWithin, OnlyFolder, StepWithin}
+use Rattle.bep_peer.specs.Within.{CommitsWithin, FindsWithin, OnlyFolder, StepWithin, TellsFault}
 use Rattle.bep_network.proofs.Changed.{tables_at}
 
 -- the folder's replica, among the device's tables
@@ -66,6 +67,12 @@ refused folder name old new (Refused StoreFault) failed same only =
       ),
     ))
 refused folder name old new (Refused refusal) there same only = absurd there
+
+abbrev looking : PeerError → Result (Option NodeParts) PeerError
+looking error = Err error
+
+abbrev scanning : PeerError → Result Moved PeerError
+scanning error = Err error
 
 pub look_failed : (folder : Folder) (name : FileName) (old new : Member) (error : PeerError) (result : Result Moved PeerError) → result ≡ Err error →
     FindsWithin folder name old new (Err error) → tables_of new ≡ tables_of old → OnlyFolder folder old new →
@@ -115,3 +122,44 @@ module _ (folder : Folder) (name : FileName) (old looked new : Member) (node : O
       cases (Err Memory) made = from_start _ made
       cases (Err (Refused refusal)) made = from_start _ made.1
       cases (Ok moved) made = from_start _ made.1
+
+-- ---- what the stores count
+
+-- the look's refusal is the scan's
+pub fault_again : (member : Member) (error : PeerError) → TellsFault member (looking error) → TellsFault member (scanning error)
+fault_again member error tells = search rules
+
+module _ (old looked new : Member) (same : tables_of looked ≡ tables_of old) (unfailed : HaveSameFaults old looked) where
+  -- what failed after the look failed in the scan
+  failed_since : HasFailed looked new → HasFailed old new
+  failed_since failed =
+      let earlier = still_there looked old failed.folder failed.was (sym same) failed.before in
+      record {
+        folder = failed.folder;
+        was = earlier.0;
+        now = failed.now;
+        before = earlier.1;
+        after = failed.after;
+        rose = subst (λ (faults : ℕ). faults < failed.now.faults) (unfailed failed.folder earlier.0 failed.was earlier.1 failed.before) failed.rose;
+      }
+
+  -- and nothing else did
+  failed_then : HasFailed old new → HasFailed looked new
+  failed_then failed =
+      let later = still_there old looked failed.folder failed.was same failed.before in
+      record {
+        folder = failed.folder;
+        was = later.0;
+        now = failed.now;
+        before = later.1;
+        after = failed.after;
+        rose = subst (λ (faults : ℕ). faults < failed.now.faults) (sym (unfailed failed.folder failed.was later.0 failed.before later.1)) failed.rose;
+      }
+
+  -- so the scan tells what the commit tells
+  pub scan_remains : Remains old looked → Remains looked new → Remains old new
+  scan_remains before after = record {
+    number = after.number ∙ before.number;
+    linked = after.linked ∙ before.linked;
+    failed = (λ told. failed_since (after.failed.0 told), λ failed. after.failed.1 (failed_then failed));
+  }

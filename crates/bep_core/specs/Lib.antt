@@ -1,5 +1,6 @@
 pub mod Applying
 pub mod Begin
+pub mod Counts
 pub mod Reached
 pub mod Restart
 pub mod Why

@@ -5,6 +5,7 @@ ghost use Rattle.bep_machine.specs.Laws.{IsSoundStep};
 ghost use Rattle.bep_machine.specs.Steps.{IsStep};
 ghost use Rattle.bep_machine.specs.Undone.{LeavesAll};
 ghost use Rattle.bep_core.specs.Applying.{failed_by, failed_in, maker_of};
+ghost use Rattle.bep_core.specs.Counts.{IsCounted};
 ghost use Rattle.bep_network.specs.Network.{cluster_of};
 ghost use Rattle.bep_core.specs.Reached.{IsReached};
 ghost use Rattle.bep_core.specs.Why.{Gives};
@@ -21,12 +22,15 @@ use bep_store::Store;
 impl<S: Store> Cluster<S> {
     /// Makes the step, and answers what it did. Refuses `NotShared` where something that the step names isn't there, and
     /// then what the table of steps has for it; else only for want of memory. After an error all is as before, save that
-    /// the end of a pull may have kept a conflict copy. Where no store of the kind ever fails, no call of one failed. What an
-    /// edit puts is a node, as its type keeps.
+    /// the end of a pull may have kept a conflict copy. A call of a store is told to have failed exactly where the count of
+    /// faults of one of the device's stores rose in this step, and exactly where that is answered, by `StoreFault` or by the
+    /// response to a request; no other device is touched. Where no store of the kind ever fails, no call of one failed. What
+    /// an edit puts is a node, as its type keeps.
     ///
     /// BEP v1; the steps are this project's profile.
     pub fn apply(&mut self, step: Step) -> Result<Moved, Why>
         ensures step { Gives (IsStep step (failed_by step self.new.members) (cluster_of self.old)) (cluster_of self.new) result }
+        ensures counts { IsCounted step self.old self.new result }
         ensures err { OnErr result (LeavesAll step (cluster_of self.old) (cluster_of self.new)) }
         ensures only { result ≢ Err ConfigBad }
         ensures node { IsSoundStep step }
@@ -52,7 +56,8 @@ impl<S: Store> Cluster<S> {
 
     // Makes the step.
     fn make(&mut self, step: Step) -> Result<Moved, Why>
-        ensures { Gives (IsStep step (failed_by step self.new.members) (cluster_of self.old)) (cluster_of self.new) result }
+        ensures step { Gives (IsStep step (failed_by step self.new.members) (cluster_of self.old)) (cluster_of self.new) result }
+        ensures counts { IsCounted step self.old self.new result }
     {
         match step {
             Step::Edit(device, folder, name, node) => self.within(

@@ -2,10 +2,12 @@
 ghost use Rattle.std.specs.Prelude.{◌≡◌, ◌≢◌, Err};
 ghost use Rattle.std.specs.List.{position};
 ghost use Rattle.bep_machine.specs.Steps.{IsStep};
+ghost use Rattle.bep_peer.specs.Member.{Remains};
 ghost use Rattle.bep_peer.specs.PeerError.{Gives as GivesThere};
-ghost use Rattle.bep_peer.specs.Within.{StepWithin};
+ghost use Rattle.bep_peer.specs.Within.{StepWithin, TellsFault};
 ghost use Rattle.bep_peer.specs.declared.error.PeerError.TheVariants.{Stale};
 ghost use Rattle.bep_network.specs.Network.{cluster_of, failed_at, is_number};
+ghost use Rattle.bep_core.specs.Counts.{IsCounted};
 ghost use Rattle.bep_core.specs.Within.{row_of, step_of};
 ghost use Rattle.bep_core.specs.Why.{Gives, answer_of};
 
@@ -51,7 +53,8 @@ impl<S: Store> Cluster<S> {
         folder: FolderName,
         step: Within,
     ) -> Result<Moved, Why>
-        ensures { Gives (IsStep (step_of step device folder) (failed_at self.new.members device) (cluster_of self.old)) (cluster_of self.new) result }
+        ensures step { Gives (IsStep (step_of step device folder) (failed_at self.new.members device) (cluster_of self.old)) (cluster_of self.new) result }
+        ensures counts { IsCounted (step_of step device folder) self.old self.new result }
     {
         let Some(place) = self.device_place(device) else {
             return Err(Why::Refused(Refusal::NotShared));
@@ -68,8 +71,8 @@ fn make<S: Store>(
     step: Within,
 ) -> Result<Moved, PeerError>
     ensures step { GivesThere (StepWithin folder.now (row_of step peer.old.number peer.new.trace.failed) peer.old) peer.new result }
-    ensures number { peer.new.number ≡ peer.old.number }
-    ensures linked { peer.new.linked ≡ peer.old.linked }
+    ensures rest { Remains peer.old peer.new }
+    ensures fault { TellsFault peer.new result }
 {
     match step {
         Within::Edit(name, node) => peer.edit(folder, &name, &node),

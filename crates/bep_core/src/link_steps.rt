@@ -3,6 +3,7 @@ ghost use Rattle.std.specs.Prelude.{◌≡◌, None};
 ghost use Rattle.std.specs.List.{position};
 ghost use Rattle.bep_machine.specs.Steps.{IsStep};
 ghost use Rattle.bep_core.specs.Between.{row_of, step_of};
+ghost use Rattle.bep_core.specs.Counts.{IsCounted};
 ghost use Rattle.bep_network.specs.Network.{cluster_of, is_between};
 ghost use Rattle.bep_core.specs.Why.{Gives};
 
@@ -38,7 +39,8 @@ impl<S: Store> Cluster<S> {
         upper: DeviceId,
         step: Between,
     ) -> Result<Moved, Why>
-        ensures { Gives (IsStep (step_of step lower upper) None (cluster_of self.old)) (cluster_of self.new) result }
+        ensures step { Gives (IsStep (step_of step lower upper) None (cluster_of self.old)) (cluster_of self.new) result }
+        ensures counts { IsCounted (step_of step lower upper) self.old self.new result }
     {
         let Some(place) = self.link_place(lower, upper) else {
             return Err(Why::Refused(Refusal::NotShared));

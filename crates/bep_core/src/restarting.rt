@@ -4,6 +4,7 @@ ghost use Rattle.bep_machine.specs.Link.{lost};
 ghost use Rattle.bep_machine.specs.declared.step.Step.TheVariants.{Restart};
 ghost use Rattle.bep_machine.specs.Steps.{IsStep};
 ghost use Rattle.bep_network.specs.Network.{cluster_of, failed_at};
+ghost use Rattle.bep_core.specs.Counts.{IsCounted};
 ghost use Rattle.bep_core.specs.Why.{Gives};
 ghost use Rattle.bep_core.specs.Restart.{left_by};
 
@@ -16,7 +17,8 @@ use bep_store::Store;
 impl<S: Store> Cluster<S> {
     // The device starts again, and all its links are lost.
     pub(crate) fn restart(&mut self, device: DeviceId) -> Result<Moved, Why>
-        ensures { Gives (IsStep (Restart device) (failed_at self.new.members device) (cluster_of self.old)) (cluster_of self.new) result }
+        ensures step { Gives (IsStep (Restart device) (failed_at self.new.members device) (cluster_of self.old)) (cluster_of self.new) result }
+        ensures counts { IsCounted (Restart device) self.old self.new result }
     {
         let Some(place) = self.device_place(device) else {
             return Err(Why::Refused(Refusal::NotShared));

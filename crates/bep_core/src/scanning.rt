@@ -1,8 +1,9 @@
 //! A scan: a device looks at a name, and records what it finds.
 ghost use Rattle.std.specs.Prelude.{◌≡◌, IfOk, IfErr};
 ghost use Rattle.bep_machine.specs.Local.{ScanRow};
+ghost use Rattle.bep_peer.specs.Member.{Remains};
 ghost use Rattle.bep_peer.specs.PeerError.{Gives as GivesThere};
-ghost use Rattle.bep_peer.specs.Within.{StepWithin};
+ghost use Rattle.bep_peer.specs.Within.{StepWithin, TellsFault};
 ghost use Rattle.bep_peer.specs.declared.error.PeerError.TheVariants.{Memory};
 
 use bep_folder::ScanResult;
@@ -20,8 +21,8 @@ pub(crate) fn scan_at<S: Store>(
     name: Name,
 ) -> Result<Moved, PeerError>
     ensures step { GivesThere (StepWithin folder.now (ScanRow peer.old.number name peer.new.trace.failed) peer.old) peer.new result }
-    ensures number { peer.new.number ≡ peer.old.number }
-    ensures linked { peer.new.linked ≡ peer.old.linked }
+    ensures rest { Remains peer.old peer.new }
+    ensures fault { TellsFault peer.new result }
 {
     let node = peer.look(folder, &name)?;
     let scan = scanned(alloc, name, node)?;

@@ -1,12 +1,14 @@
 //! The steps of one device over its link with another one.
-ghost use Rattle.std.specs.Prelude.{◌≡◌, ◌⊎◌, Some, None, IfSome, IfNone};
+ghost use Rattle.std.specs.Prelude.{◌≡◌, ◌≢◌, ◌⊎◌, Some, None, IfSome, IfNone, option_map};
 ghost use Rattle.std.specs.List.{position};
 ghost use Rattle.bep_machine.specs.Steps.{IsStep};
 ghost use Rattle.bep_peer.specs.Lent.{StepOver};
-ghost use Rattle.bep_peer.specs.Member.{Remains};
+ghost use Rattle.bep_model.specs.Tables.{Device};
+ghost use Rattle.bep_peer.specs.Member.{Remains, untold};
 ghost use Rattle.bep_peer.specs.PeerError.{Gives as GivesThere};
-ghost use Rattle.bep_network.specs.Network.{cluster_of, failed_at, in_order, is_between, is_number};
-ghost use Rattle.bep_core.specs.Over.{row_of, shares_of, step_of};
+ghost use Rattle.bep_network.specs.Network.{cluster_of, failed_at, in_order, is_between, is_number, member_at};
+ghost use Rattle.bep_core.specs.Counts.{IsCounted};
+ghost use Rattle.bep_core.specs.Over.{TellsOver, row_of, shares_of, step_of};
 ghost use Rattle.bep_core.specs.Why.{Gives};
 
 use crate::folder_steps::answered;
@@ -53,6 +55,18 @@ impl<S: Store> Cluster<S> {
         Some((place, between))
     }
 
+    // Nothing is told of the device's last action any more, if the device is there; all else stays.
+    fn tell_nothing(&mut self, device: DeviceId)
+        ensures same { cluster_of self.new ≡ cluster_of self.old }
+        ensures untold { member_at self.new.members device ≡ option_map untold (member_at self.old.members device) }
+        ensures others { (other : Device) → other ≢ device → member_at self.new.members other ≡ member_at self.old.members other }
+    {
+        let Some(place) = self.device_place(device) else {
+            return;
+        };
+        let _told = self.peers[place].take_trace();
+    }
+
     // The device makes the step over its link with the other one.
     pub(crate) fn over(
         &mut self,
@@ -60,9 +74,11 @@ impl<S: Store> Cluster<S> {
         other: DeviceId,
         step: Over,
     ) -> Result<Moved, Why>
-        ensures { Gives (IsStep (step_of step device other) (failed_at self.new.members device) (cluster_of self.old)) (cluster_of self.new) result }
+        ensures step { Gives (IsStep (step_of step device other) (failed_at self.new.members device) (cluster_of self.old)) (cluster_of self.new) result }
+        ensures counts { IsCounted (step_of step device other) self.old self.new result }
     {
         let Some((place, between)) = self.places(device, other) else {
+            self.tell_nothing(device);
             return Err(Why::Refused(Refusal::NotShared));
         };
         answered(act(&mut self.peers[place], &mut self.links[between], step))
@@ -73,6 +89,7 @@ impl<S: Store> Cluster<S> {
 fn act<S: Store>(peer: &mut Peer<S>, link: &mut Link, step: Over) -> Result<Moved, PeerError>
     ensures step { GivesThere (StepOver (row_of step peer.new.trace.failed) (shares_of step) (record { member = peer.old; link = link.old })) (record { member = peer.new; link = link.new }) result }
     ensures rest { Remains peer.old peer.new }
+    ensures fault { TellsOver step peer.new.trace result }
 {
     match step {
         Over::Begin => peer.begin(link),

@@ -1,6 +1,9 @@
 -- What a look finds in a folder and what a commit records there, as the device answers it.
-use Rattle.std.proofs.Common.{◌≡◌, ◌⊎◌, Option, Some, None, IsSome, Result, Ok, Err, IfOk, IfErr, IsErrOf, refl, sym, ap, subst, ◌∙◌, inl, inr, ⊎_elim}
+use Rattle.std.proofs.Common.{◌≡◌, ◌⊎◌, Option, Some, None, IsSome, Result, Ok, Err, IfOk, IfErr, IsErrOf, OnOk, refl, sym, ap, subst, ◌∙◌, inl, inr, ⊎_elim}
+use Rattle.std.specs.Cmp.Lexicographic.{nat_list_cmp_total}
 use Rattle.std.specs.FinMap.{get}
+use Rattle.std.proofs.lemmas.Map.Lookups.{exact_bytes}
+use Rattle.bep_facts.specs.Maps.{found_after_insert}
 use Rattle.bep_record.specs.declared.node.NodeParts.{NodeParts}
 use Rattle.bep_model.specs.Tables.{Device, Folder, FileName}
 use Rattle.bep_machine.specs.declared.moved.Moved.{Moved}
@@ -10,10 +13,11 @@ use Rattle.bep_folder.specs.Commit.{Commits, IsFresh}
 use Rattle.bep_folder.specs.declared.error.FolderError.{FolderError}
 use Rattle.bep_folder.specs.declared.error.FolderError.TheVariants as errors
 use Rattle.bep_folder.specs.Held.{Held}
-use Rattle.bep_folder.specs.Makes.{Makes}
+use Rattle.bep_folder.specs.Makes.{CountsFaults, Makes}
 use Rattle.bep_folder.specs.ScanResult.{Scanned}
 use Rattle.bep_peer.specs.declared.error.PeerError.{PeerError}
 use Rattle.bep_peer.specs.Call.{AnswersAt, IsCommitted, IsLooked}
+use Rattle.bep_peer.specs.Faults.{HaveSameFaults}
 use Rattle.bep_peer.specs.Member.{Member, tables_of}
 use Rattle.bep_peer.specs.PeerError.{Gives}
 use Rattle.bep_peer.specs.Within.{CommitsWithin, FindsWithin, IsStale, StepWithin, answer_of, with_folder}
@@ -100,3 +104,23 @@ looks_within {name = name} {folder = folder} {old = old} = either_way (FindsWith
 -- the tables are as before
 pub looks_same : {name : FileName} {folder : Folder} {old new : Member} {result : Result (Option NodeParts) PeerError} → AnswersAt (IsLooked name) folder old new result → tables_of new ≡ tables_of old
 looks_same {folder = folder} {old = old} = either_way (λ m one. tables_of m ≡ tables_of old) (λ none. refl) (λ call. same_tables old folder call.before call.after call.there call.done.read.same)
+
+-- where the folder's count is as before, all are
+same_faults : (old : Member) (folder : Folder) (before after : Held) → get old.folders folder ≡ Some before → after.faults ≡ before.faults → HaveSameFaults old (with_folder old folder after)
+same_faults old folder before after is same name was now had has =
+    ⊎_elim
+    (λ here.
+    let one : was ≡ before = its_value was before (get old.folders folder) (ap (get old.folders) (sym here.0) ∙ had) is in
+    ap (λ (h : Held). h.faults) here.1 ∙ same ∙ ap (λ (h : Held). h.faults) (sym one))
+    (λ apart. ap (λ (h : Held). h.faults) (its_value now was (get old.folders name) apart.1 had))
+    (found_after_insert nat_list_cmp_total exact_bytes old.folders folder after name now has)
+
+looks_counted : (old : Member) (folder : Folder) (before after : Held) (answer : Result (Option NodeParts) FolderError) → get old.folders folder ≡ Some before → CountsFaults before after answer →
+    OnOk (answer_of answer) (HaveSameFaults old (with_folder old folder after))
+looks_counted old folder before after (Ok seen) is counted = same_faults old folder before after is counted.0
+looks_counted old folder before after (Err error) is counted = tt
+
+-- a look that answers what it found counts no fault
+pub looks_unfailed : {name : FileName} {folder : Folder} {old new : Member} {result : Result (Option NodeParts) PeerError} → AnswersAt (IsLooked name) folder old new result → OnOk result (HaveSameFaults old new)
+looks_unfailed {folder = folder} {old = old} = either_way (λ m one. OnOk one (HaveSameFaults old m)) (λ none. tt)
+    (λ call. looks_counted old folder call.before call.after call.answer call.there call.steady.counted)

@@ -3,6 +3,7 @@ pub mod Config
 pub mod Contents
 pub mod Delivered
 pub mod Effect
+pub mod Faults
 pub mod InSession
 pub mod Laws
 pub mod Lent

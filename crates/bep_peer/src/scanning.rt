@@ -1,6 +1,7 @@
 //! What a device finds in the files of one of its folders, and records of them.
-ghost use Rattle.std.specs.Prelude.{◌≡◌, false};
+ghost use Rattle.std.specs.Prelude.{◌≡◌, false, OnOk};
 ghost use Rattle.bep_peer.specs.Call.{IsCommitted, IsLooked};
+ghost use Rattle.bep_peer.specs.Faults.{HaveSameFaults};
 ghost use Rattle.bep_peer.specs.Member.{Remains, tables_of};
 ghost use Rattle.bep_peer.specs.Within.{CommitsWithin, FindsWithin, OnlyFolder, TellsFault};
 
@@ -17,6 +18,7 @@ impl<S: Store> Peer<S> {
     pub fn look(&mut self, folder: &FolderName, name: &Name) -> Result<Option<Node>, PeerError>
         ensures found { FindsWithin folder.now name.now self.old self.new result }
         ensures same { tables_of self.new ≡ tables_of self.old }
+        ensures unfailed { OnOk result (HaveSameFaults self.old self.new) }
         ensures rest { Remains self.old self.new }
         ensures only { OnlyFolder folder.now self.old self.new }
         ensures fault { TellsFault self.new result }

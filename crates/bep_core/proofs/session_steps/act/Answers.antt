@@ -1,9 +1,11 @@
-use Rattle.std.proofs.Common.{◌≡◌, Result, sym, subst}
+use Rattle.std.proofs.Common.{◌≡◌, Result, sym, ap, subst}
 use Rattle.bep_machine.specs.declared.moved.Moved.{Moved}
 use Rattle.bep_peer.specs.declared.error.PeerError.{PeerError}
+use Rattle.bep_peer.specs.declared.trace.Trace.{Trace}
 use Rattle.bep_peer.specs.Lent.{Lent, StepOver}
+use Rattle.bep_peer.specs.Member.{Member}
 use Rattle.bep_peer.specs.PeerError.{Gives}
-use Rattle.bep_core.specs.Over.{row_of, shares_of}
+use Rattle.bep_core.specs.Over.{TellsOver, row_of, shares_of}
 use Rattle.bep_core.specs.declared.session_steps.Over.{Over}
 use Rattle.bep_core.proofs.session_steps.act.Goals as goal
 
@@ -27,3 +29,19 @@ returns-in-Announce-clause-step g c =
 pub returns-in-Ask-clause-step : goal.returns-in-Ask-clause-step
 returns-in-Ask-clause-step g c =
     as_asked (record { member = c.args.peer.now; link = c.args.link.now }) (record { member = c.ask.new.self; link = c.ask.new.link }) c.ask.result c.in-Ask.is c.ask.ensures.step
+
+-- and told of it
+told_as : (trace : Trace) (result : Result Moved PeerError) {asked what : Over} → asked ≡ what → TellsOver what trace result → TellsOver asked trace result
+told_as trace result is tells = subst (λ (step : Over). TellsOver step trace result) (sym is) tells
+
+pub returns-in-Begin-clause-fault : goal.returns-in-Begin-clause-fault
+returns-in-Begin-clause-fault g c = told_as c.begin.new.self.trace c.begin.result c.in-Begin.is (ap (λ (m : Member). m.trace.failed) c.begin.ensures.only)
+
+pub returns-in-Deliver-clause-fault : goal.returns-in-Deliver-clause-fault
+returns-in-Deliver-clause-fault g c = told_as c.deliver.new.self.trace c.deliver.result c.in-Deliver.is c.deliver.ensures.fault
+
+pub returns-in-Announce-clause-fault : goal.returns-in-Announce-clause-fault
+returns-in-Announce-clause-fault g c = told_as c.announce.new.self.trace c.announce.result c.in-Announce.is (ap (λ (m : Member). m.trace.failed) c.announce.ensures.only)
+
+pub returns-in-Ask-clause-fault : goal.returns-in-Ask-clause-fault
+returns-in-Ask-clause-fault g c = told_as c.ask.new.self.trace c.ask.result c.in-Ask.is (ap (λ (m : Member). m.trace.failed) c.ask.ensures.only)
