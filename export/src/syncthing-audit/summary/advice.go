@@ -60,8 +60,8 @@ func adviceOfFault(one *Fault, file *File, named labels) string {
 	at := named.of(one.Device)
 	switch one.Cause {
 	case OtherBytes:
-		return "Syncthing won't repair it, since size and time are as recorded: " + source(file, named) + at + withTime +
-			". If the bytes on " + at + " are the right ones, 'touch' the file there and let Syncthing scan: it then sends them to all"
+		return "Syncthing won't repair it: " + source(file, named) + at + withTime + ". If instead the bytes on " + at + " are the right ones, " +
+			"'touch' the file there and let Syncthing scan: it sends them to all"
 	case Changed:
 		return changedAdvice(one, file, at, named)
 	case Missing:

@@ -148,8 +148,8 @@ func (p *printer) fault(one *Fault) {
 	if one.Blocks == nil || one.Blocks.Of < 1 {
 		return
 	}
-	p.line("    %s of %s differ (of %s each, counted from 0): %s", thousands(one.Blocks.Count), counted(one.Blocks.Of, "block", "blocks"),
-		size(one.Blocks.Size), ranges(one.Blocks))
+	p.line("    blocks that differ: %s (%s of %s, %d KiB each, the first is 0)", ranges(one.Blocks), thousands(one.Blocks.Count),
+		thousands(one.Blocks.Of), one.Blocks.Size>>10)
 	if one.Blocks.Recorded != "" && one.Blocks.Found != "" {
 		p.line("    the first of them: SHA-256 %s.. recorded, %s.. on the disk", one.Blocks.Recorded[:8], one.Blocks.Found[:8])
 	}
@@ -221,8 +221,20 @@ func (p *printer) modes(all []Mode) {
 	p.line("  permissions differ (they don't count for the verdict): %s", strings.Join(words, "; "))
 }
 
+// widthOfText is how long a line of running text grows, about.
+const widthOfText = 100
+
+// advice prints what to do, over as many lines as it takes.
 func (p *printer) advice(all []string) {
 	for _, one := range all {
-		p.line("  to do: %s.", one)
+		line := "  to do:"
+		for _, word := range strings.Split(one+".", " ") {
+			if len(line)+1+len(word) > widthOfText {
+				p.line("%s", line)
+				line = "        "
+			}
+			line += " " + word
+		}
+		p.line("%s", line)
 	}
 }

@@ -101,10 +101,12 @@ func TestWhatAPersonReads(t *testing.T) {
 		}, lineOfFolder + `
 'my budget.txt'  (in docs, 300.0 kB)
   server: other bytes on the disk; size and time are as recorded, so no scan sees it (recorded 2020-09-13 12:26:40 UTC)
-    1 of 3 blocks differ (of 131.1 kB each, counted from 0): 2
+    blocks that differ: 2 (1 of 3, 128 KiB each, the first is 0)
     the first of them: SHA-256 abcd0000.. recorded, 12000000.. on the disk
   as recorded on: laptop
-  to do: Syncthing won't repair it, since size and time are as recorded: copy it from laptop to server with its time (cp -p, or rsync --times --ignore-times) while Syncthing is stopped there. If the bytes on server are the right ones, 'touch' the file there and let Syncthing scan: it then sends them to all.
+  to do: Syncthing won't repair it: copy it from laptop to server with its time (cp -p, or rsync
+         --times --ignore-times) while Syncthing is stopped there. If instead the bytes on server
+         are the right ones, 'touch' the file there and let Syncthing scan: it sends them to all.
 ` + lastLine},
 		{"a missing file", 2, func(folder *finding.Folder) {
 			fails(folder, "a", []*part.Name{file(1, 1), with(file(1, 1), func(one *part.Name) { one.Disk = nil })}, "StoreDiffers 2")
@@ -112,7 +114,10 @@ func TestWhatAPersonReads(t *testing.T) {
 a  (in docs, 300.0 kB)
   server: missing on the disk
   as recorded on: laptop
-  to do: see that the folder's disk is mounted on server, before Syncthing starts there: a scan takes it for deleted, and then all devices delete it. To keep it, first copy it from laptop to server with its time (cp -p, or rsync --times --ignore-times) while Syncthing is stopped there.
+  to do: see that the folder's disk is mounted on server, before Syncthing starts there: a scan
+         takes it for deleted, and then all devices delete it. To keep it, first copy it from laptop
+         to server with its time (cp -p, or rsync --times --ignore-times) while Syncthing is stopped
+         there.
 ` + lastLine},
 		{"a device that is behind, and what others still see of it", 3, func(folder *finding.Folder) {
 			old := with(file(1, 2), func(one *part.Name) { one.Own.ModifiedS = started - 60; one.Disk.ModifiedS = started - 60 })
@@ -123,7 +128,9 @@ a  (in docs, 300.0 kB)
   server: behind: hasn't taken what is newest (since 2020-09-13 12:26:40 UTC)
   as recorded on: laptop, phone
   so phone can still take another version of it, until that is mended
-  to do: start Syncthing on server and on a device that has it, and let them finish. If it stays among the 'Out of Sync Items', see whether the device is paused, connected, or out of space.
+  to do: start Syncthing on server and on a device that has it, and let them finish. If it stays
+         among the 'Out of Sync Items', see whether the device is paused, connected, or out of
+         space.
 ` + lastLine},
 		{"a device that is behind as a whole", 2, func(folder *finding.Folder) {
 			for next := 0; next < 7; next++ {
@@ -139,7 +146,9 @@ a  (in docs, 300.0 kB)
   server: behind: hasn't taken what is newest
   the first: 'photo 0' 'photo 1' 'photo 2'
   as recorded on: laptop
-  to do: start Syncthing on server and on a device that has it, and let them finish. If it stays among the 'Out of Sync Items', see whether the device is paused, connected, or out of space.
+  to do: start Syncthing on server and on a device that has it, and let them finish. If it stays
+         among the 'Out of Sync Items', see whether the device is paused, connected, or out of
+         space.
 ` + lastLine},
 		{"a file that was added on a receive-only device", 2, func(folder *finding.Folder) {
 			folder.Members[1].About.Kind = "receive-only"
@@ -147,7 +156,8 @@ a  (in docs, 300.0 kB)
 		}, lineOfFolder + `
 added  (in docs, 300.0 kB)
   server: added on this receive-only device; no other has it (since 2020-09-13 12:26:40 UTC)
-  to do: 'Revert Local Changes' on server deletes it: copy it elsewhere first if it is to stay. To have it everywhere, make the folder 'Send & Receive' there.
+  to do: 'Revert Local Changes' on server deletes it: copy it elsewhere first if it is to stay. To
+         have it everywhere, make the folder 'Send & Receive' there.
 ` + lastLine},
 		{"a file that no scan has seen", 2, func(folder *finding.Folder) {
 			unwon(folder, "new", 0, finding.Unscanned, with(file(1, 1), func(one *part.Name) { one.Own = nil; one.Disk.ModifiedS = later }))
@@ -162,7 +172,8 @@ new  (in docs, 300.0 kB)
 
 a  (in docs)
   permissions differ (they don't count for the verdict): laptop 0644 recorded, 0600 on the disk; server 0644
-  to do: 'chmod' it to what it should be and let Syncthing scan, or choose 'Ignore Permissions' for the folder.
+  to do: 'chmod' it to what it should be and let Syncthing scan, or choose 'Ignore Permissions' for
+         the folder.
 ` + lastLine},
 		{"what was left out, and what wasn't asked for", 2, func(folder *finding.Folder) {
 			folder.LeftOut = []*finding.LeftOut{{Name: "odd\xff", Names: 1, Bytes: 3000000, Why: []finding.Reason{{Member: 0, Kind: part.OddName, Why: "its name isn't UTF-8"}}}}
