@@ -13,11 +13,12 @@ import tempfile
 from contextlib import contextmanager
 from pathlib import Path
 
+from answers import Answers
 from exporting import Exporting, main, run
 from syncthing import FOLDER, files_of, wait_until, wait_until_in_step
 
 
-class TwoDevices(Exporting):
+class TwoDevices(Answers, Exporting):
     """Two devices that send and receive."""
 
     @contextmanager
@@ -215,6 +216,8 @@ class TwoDevices(Exporting):
             self.assertEqual(run([self.program, *words]).returncode, 3, words)
         asked = run([self.program, "--help"])
         self.assertEqual((asked.returncode, asked.stdout[:6], asked.stderr), (0, "usage:", ""))
+        asked = run([self.program, "--version"])
+        self.assertEqual((asked.returncode, asked.stdout[:16], asked.stderr), (0, "syncthing-audit ", ""))
 
     def test_an_audit_without_its_program(self):
         ran = self.check("--syncaudit", "/nowhere/syncaudit")
@@ -284,6 +287,15 @@ class ReceiveOnly(Exporting):
         self.assertEqual(own, viewed)
         self.assertEqual([(one["name"], one["version"]) for one in own if one.get("invalid")],
                          [("empty", []), ("text", [])])
+
+    def test_a_person_reads_what_reverting_does(self):
+        ran = self.on_homes("check", [device.home for device in self.devices], "--syncaudit", self.auditor)
+        self.assertEqual(ran.returncode, 1, ran.stderr)
+        entries = {entry.split("  (in ")[0]: " ".join(entry.split()) for entry in ran.stdout.split("\n\n")}
+        self.assertIn("'Revert Local Changes' on", entries["added"])
+        self.assertIn("deletes it: copy it elsewhere first", entries["added"])
+        self.assertIn("changed on this receive-only device", entries["text"])
+        self.assertIn("deleted on this receive-only device", entries["empty"])
 
     def test_the_rest_is_settled(self):
         self.assertEqual(self.verdict("--names", "folder"), "settled")

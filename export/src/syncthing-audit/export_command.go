@@ -23,6 +23,9 @@ func runExport(words []string, output, log io.Writer) (int, error) {
 	if err == nil {
 		err = asked.checkInputs()
 	}
+	if err == nil && asked.into == "" && isTerminal(output) {
+		err = &wrongUsage{"a document is nothing to read on a terminal: --into DIR, or a pipe"}
+	}
 	if err != nil {
 		return 0, err
 	}

@@ -9,6 +9,7 @@ import (
 	"syscall"
 
 	"syncthing-audit/ask"
+	"syncthing-audit/leftover"
 )
 
 // Exit statuses; syncaudit's own are the same as far as it has them.
@@ -29,6 +30,7 @@ type command func(words []string, output, log io.Writer) (int, error)
 var commands = map[string]command{"part": runPart, "check": runCheck, "export": runExport, "sum": runSum}
 
 func main() {
+	leftover.WatchSignals()
 	output, err := takeStandardOutput()
 	if err != nil {
 		fmt.Fprintln(os.Stderr, "syncthing-audit:", err)
@@ -56,9 +58,15 @@ func run(words []string, output, log io.Writer) int {
 		fmt.Fprint(output, usage)
 		return statusDone
 	}
-	if len(words) == 0 || commands[words[0]] == nil {
-		fmt.Fprint(log, usage)
-		return statusUsage
+	if len(words) > 0 && words[0] == "--version" {
+		printVersion(output)
+		return statusDone
+	}
+	if len(words) == 0 {
+		return statusOf(&wrongUsage{"no command is given: part, check, export or sum"}, output, log)
+	}
+	if commands[words[0]] == nil {
+		return statusOf(&wrongUsage{fmt.Sprintf("%q is no command: part, check, export and sum are", words[0])}, output, log)
 	}
 	status, err := commands[words[0]](words[1:], output, log)
 	if err == nil {

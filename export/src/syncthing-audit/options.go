@@ -32,6 +32,7 @@ var usage = fmt.Sprintf(`usage: syncthing-audit part [--home DIR] [--folder ID .
        syncthing-audit check [--home DIR ..] [PART ..] [--folder ID ..]
        syncthing-audit export [--home DIR ..] [PART ..] --into DIR
        syncthing-audit sum DIR
+       syncthing-audit --version
 
 Says whether stopped Syncthing devices are in step, and where not which device is wrong.
 

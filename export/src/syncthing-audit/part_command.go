@@ -10,6 +10,7 @@ import (
 	"syncthing-audit/device"
 	"syncthing-audit/disk"
 	"syncthing-audit/gather"
+	"syncthing-audit/leftover"
 	"syncthing-audit/part"
 )
 
@@ -23,6 +24,9 @@ func runPart(words []string, output, log io.Writer) (int, error) {
 	}
 	if len(asked.homes) != 1 || len(asked.parts) > 0 {
 		return 0, &wrongUsage{"a part is made of one --home"}
+	}
+	if asked.output == "" && isTerminal(output) {
+		return 0, &wrongUsage{"a part is nothing to read on a terminal: -o FILE"}
 	}
 	home, err := device.Open(asked.homes[0])
 	if err != nil {
@@ -61,11 +65,11 @@ func writePart(to io.Writer, read *gather.Device) error {
 
 // writeFile writes a file, which is there whole or not at all.
 func writeFile(path string, write func(io.Writer) error) error {
-	file, err := os.CreateTemp(filepath.Dir(path), ".syncthing-audit-")
+	file, err := leftover.File(filepath.Dir(path), ".syncthing-audit-")
 	if err != nil {
 		return err
 	}
-	defer os.Remove(file.Name())
+	defer leftover.Remove(file.Name())
 	buffered := bufio.NewWriter(file)
 	err = write(buffered)
 	if err == nil {

@@ -37,6 +37,7 @@ func (n *names) row(row *join.Row) error {
 func (n *names) audit(row *join.Row) error {
 	n.audited++
 	n.addPermissions(row)
+	n.addConflict(row)
 	if !hasWinner(row) && isKnown(row) {
 		n.addUnwon(row)
 		return nil

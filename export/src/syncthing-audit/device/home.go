@@ -15,6 +15,7 @@ import (
 	"github.com/syncthing/syncthing/lib/db/backend"
 	"github.com/syncthing/syncthing/lib/events"
 	"github.com/syncthing/syncthing/lib/protocol"
+	"syncthing-audit/leftover"
 )
 
 // databaseName is the folder of the index in a home of Syncthing 1.
@@ -39,6 +40,9 @@ type Home struct {
 // Open reads and locks a home and opens a copy of its index. Nothing of the home is changed.
 func Open(dir string) (*Home, error) {
 	id, err := readDeviceID(filepath.Join(dir, "cert.pem"))
+	if errors.Is(err, os.ErrNotExist) {
+		return nil, fmt.Errorf("%w: is this a Syncthing home? 'syncthing --paths' says where it is", err)
+	}
 	if err != nil {
 		return nil, err
 	}
@@ -114,7 +118,7 @@ func (h *Home) openIndex() error {
 	if h.before, err = listingOf(database); err != nil {
 		return err
 	}
-	if h.copied, err = os.MkdirTemp("", "syncthing-audit-"); err != nil {
+	if h.copied, err = leftover.Directory("syncthing-audit-"); err != nil {
 		return err
 	}
 	if err := copyFiles(database, h.copied); err != nil {
@@ -141,7 +145,7 @@ func (h *Home) Close() {
 		h.backend.Close()
 	}
 	if h.copied != "" {
-		os.RemoveAll(h.copied)
+		leftover.Remove(h.copied)
 	}
 	if h.lock != nil {
 		h.lock.Close()

@@ -36,6 +36,7 @@ type Folder struct {
 	Failures    []Failure // what keeps the folder from being settled, in the order in which it is told
 	Unwon       []Unwon   // names without a winner; each is a failure, too
 	Permissions []Permissions
+	Conflicts   []Conflict // copies that a device still has, whether they are in step or not
 	LeftOut     []*LeftOut // names that were left out on request
 	Outside     Outside
 	Rows        map[string]*join.Row // of names that something is told of; of no more than MostRows
@@ -88,6 +89,12 @@ type Permissions struct {
 type Bits struct {
 	Has, OnDisk bool
 	Index, Disk uint32
+}
+
+// Conflict is the copy that Syncthing kept of a file that lost to another version.
+type Conflict struct {
+	Name  string
+	Bytes int64
 }
 
 // LeftOut is a name that wasn't audited, or all names below it.

@@ -6,6 +6,7 @@ import "strings"
 func (p *printer) rest(s *Summary) {
 	p.line("")
 	for _, folder := range s.Folders {
+		p.copies(folder)
 		p.leftOut(folder)
 		if len(folder.Devices) < 2 {
 			p.line("alone: %s is audited on one device, so there is nothing to compare it with", folder.ID)
@@ -18,6 +19,29 @@ func (p *printer) rest(s *Summary) {
 		p.line("not asked for: %s", p.notAsked(s))
 	}
 	p.line("not compared: %s", strings.Join(s.NotCompared, ", "))
+}
+
+// mostCopies is how many conflict copies are told by their names.
+const mostCopies = 10
+
+// copies prints the conflict copies that lie about.
+func (p *printer) copies(folder *Folder) {
+	if len(folder.Copies) == 0 {
+		return
+	}
+	bytes := int64(0)
+	for _, one := range folder.Copies {
+		bytes += one.Bytes
+	}
+	p.line("%s in %s, %s: compare each with its file, and keep what you want of both", counted(int64(len(folder.Copies)), "conflict copy",
+		"conflict copies"), folder.ID, size(bytes))
+	for place, one := range folder.Copies {
+		if place == mostCopies {
+			p.line("  and %s more", thousands(int64(len(folder.Copies)-mostCopies)))
+			break
+		}
+		p.line("  %s", Quoted(string(one.Name)))
+	}
 }
 
 // leftOut prints the names of a folder that were left out, by kind, and those outside it.

@@ -52,6 +52,7 @@ type Folder struct {
 	Wrong   int64    `json:"names_wrong"` // files, directories and symlinks that keep the folder from being in step
 	Files   []*File  `json:"files"`
 	Groups  []*Group `json:"groups"`
+	Copies  []Copy   `json:"conflict_copies"`
 	LeftOut []Names  `json:"left_out"`
 	Ignored Count    `json:"ignored"`
 }
@@ -69,6 +70,12 @@ func memberOf(one join.Member) Member {
 		made.Path = one.About.Path
 	}
 	return made
+}
+
+// Copy is a conflict copy that lies about.
+type Copy struct {
+	Name  Text  `json:"name"`
+	Bytes int64 `json:"bytes"`
 }
 
 // Count is of names that .stignore keeps out of the folder everywhere.
@@ -176,7 +183,7 @@ func verdictOf(answer *finding.Answer) string {
 // folderOf gives the summary of a folder.
 func folderOf(answer *finding.Answer, from *finding.Folder, named labels) *Folder {
 	made := &Folder{ID: from.ID, Label: from.Label, Verdict: InStep, Names: from.Names, Deleted: from.Deleted, Bytes: from.Bytes,
-		Devices: []Member{}, Files: []*File{}, Groups: []*Group{}, LeftOut: []Names{}, Ignored: Count(from.Outside)}
+		Devices: []Member{}, Files: []*File{}, Groups: []*Group{}, Copies: []Copy{}, LeftOut: []Names{}, Ignored: Count(from.Outside)}
 	switch {
 	case len(from.Failures) > 0:
 		made.Verdict = NotInStep
@@ -196,6 +203,9 @@ func folderOf(answer *finding.Answer, from *finding.Folder, named labels) *Folde
 		if one.Cause != Permissions {
 			made.Wrong += one.Names
 		}
+	}
+	for _, one := range from.Conflicts {
+		made.Copies = append(made.Copies, Copy{Text(one.Name), one.Bytes})
 	}
 	for _, one := range from.LeftOut {
 		made.LeftOut = append(made.LeftOut, namesOf(from, one))

@@ -187,6 +187,14 @@ outside docs: 4 names, 7 bytes, which .stignore keeps out on each device that ha
 not asked for: 1 folder: music (server)
 not compared: owners, extended attributes, old versions
 `},
+		{"a conflict copy that lies about", 2, func(folder *finding.Folder) {
+			folder.Conflicts = []finding.Conflict{{Name: "a.sync-conflict-20261126-170000-ABCDEF2.txt", Bytes: 1500000}}
+		}, `docs (Documents): in step; 1,204 names (4 deleted), 335.2 MB hashed on laptop, server
+
+1 conflict copy in docs, 1.5 MB: compare each with its file, and keep what you want of both
+  a.sync-conflict-20261126-170000-ABCDEF2.txt
+not compared: owners, extended attributes, old versions
+`},
 		{"one device alone", 1, func(*finding.Folder) {},
 			`docs (Documents): in step as far as audited; 1,204 names (4 deleted), 335.2 MB hashed on laptop
 

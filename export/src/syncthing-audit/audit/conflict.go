@@ -1,0 +1,25 @@
+package audit
+
+import (
+	"path"
+	"regexp"
+
+	"syncthing-audit/finding"
+	"syncthing-audit/join"
+)
+
+// conflictCopy is how Syncthing names the copy of a file that lost to another version; older releases without a device.
+var conflictCopy = regexp.MustCompile(`\.sync-conflict-[0-9]{8}-[0-9]{6}(-[A-Z2-7]{7})?`)
+
+// addConflict adds a name of a conflict copy that a device still has.
+func (n *names) addConflict(row *join.Row) {
+	if !conflictCopy.MatchString(path.Base(row.Name)) {
+		return
+	}
+	for _, one := range row.At {
+		if one != nil && one.Disk != nil {
+			n.found.Conflicts = append(n.found.Conflicts, finding.Conflict{Name: row.Name, Bytes: sizeOf(row)})
+			return
+		}
+	}
+}

@@ -1,0 +1,75 @@
+// Package leftover makes files and directories that a run needs for itself alone, and takes them away, also where a signal
+// ends the run.
+package leftover
+
+import (
+	"os"
+	"os/signal"
+	"sync"
+	"syscall"
+)
+
+var (
+	mutex sync.Mutex
+	paths = map[string]bool{}
+)
+
+// statusOfSignal is added to a signal's number, as shells do.
+const statusOfSignal = 128
+
+// Directory makes a directory in the temporary one, to be gone in the end.
+func Directory(pattern string) (string, error) {
+	mutex.Lock()
+	defer mutex.Unlock()
+	path, err := os.MkdirTemp("", pattern)
+	if err == nil {
+		paths[path] = true
+	}
+	return path, err
+}
+
+// File makes a file in a directory, to be gone in the end.
+func File(directory, pattern string) (*os.File, error) {
+	mutex.Lock()
+	defer mutex.Unlock()
+	file, err := os.CreateTemp(directory, pattern)
+	if err == nil {
+		paths[file.Name()] = true
+	}
+	return file, err
+}
+
+// Remove takes away what was made, if it is there still.
+func Remove(path string) {
+	mutex.Lock()
+	defer mutex.Unlock()
+	os.RemoveAll(path)
+	delete(paths, path)
+}
+
+// WatchSignals has a signal that ends the program take away all that was made first. A signal that is ignored, as
+// under nohup, stays so.
+func WatchSignals() {
+	told := make(chan os.Signal, 1)
+	for _, one := range []os.Signal{syscall.SIGINT, syscall.SIGTERM, syscall.SIGHUP} {
+		if !signal.Ignored(one) {
+			signal.Notify(told, one)
+		}
+	}
+	go func() {
+		number := (<-told).(syscall.Signal)
+		removeAll()
+		os.Exit(statusOfSignal + int(number))
+	}()
+}
+
+// removeAll takes all away. It keeps the lock, so that nothing is made any more.
+func removeAll() {
+	mutex.Lock()
+	for path := range paths {
+		// A second time, since another thread may have written into a directory meanwhile.
+		if os.RemoveAll(path) != nil {
+			os.RemoveAll(path)
+		}
+	}
+}

@@ -1,0 +1,55 @@
+package main
+
+import (
+	"os"
+	"strings"
+	"testing"
+)
+
+// The version is that of the release.
+func TestVersion(t *testing.T) {
+	manifest, err := os.ReadFile("../../../release/manifest")
+	if err != nil {
+		t.Skip(err)
+	}
+	var written strings.Builder
+	if status := run([]string{"--version"}, &written, &written); status != statusDone || written.String() != "syncthing-audit "+version+"\n" {
+		t.Errorf("%d: %q", status, written.String())
+	}
+	if !strings.HasPrefix(string(manifest), "version "+version+"\n") {
+		t.Errorf("the release's manifest doesn't begin with version %s", version)
+	}
+}
+
+// Each wrong use is told with a reason.
+func TestReasonsOfUsage(t *testing.T) {
+	for words, reason := range map[string]string{
+		"":                          "no command is given",
+		"now":                       `"now" is no command`,
+		"check":                     "no home and no part is given",
+		"check --lines --json x":    "choose one",
+		"check --nothing x":         "-nothing",
+		"part":                      "a part is made of one --home",
+		"part --home x --home y":    "a part is made of one --home",
+		"check --jobs 0 x":          "--jobs is at least 1",
+		"check --leave-out much x":  `"much" is none of`,
+		"sum":                       "'sum' has one directory",
+		"export --bytes --into x y": "parts have no bytes",
+		"check --names a --lines x": "--names is for homes",
+	} {
+		var output, log strings.Builder
+		status := run(strings.Fields(words), &output, &log)
+		if status != statusUsage || output.String() != "" || !strings.Contains(log.String(), reason) {
+			t.Errorf("%q has status %d and tells %q", words, status, log.String())
+		}
+	}
+}
+
+// A directory that is no home is asked about.
+func TestWhatIsNoHome(t *testing.T) {
+	var output, log strings.Builder
+	status := run([]string{"part", "--home", t.TempDir()}, &output, &log)
+	if status != statusRefused || !strings.Contains(log.String(), "is this a Syncthing home?") {
+		t.Errorf("%d: %s", status, log.String())
+	}
+}
