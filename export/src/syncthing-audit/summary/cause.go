@@ -154,13 +154,13 @@ func isBelow(version, other [][2]uint64) bool {
 	return true
 }
 
-// hasContent says whether a disk's file, cut somehow, has a content.
-func hasContent(disk *part.Node, content *part.Content) bool {
-	if disk == nil || content == nil {
+// isCutOtherwise says whether a device has the winner's bytes on its disk and in its record, cut into blocks otherwise.
+func isCutOtherwise(at *part.Name, winner *part.Record) bool {
+	if at == nil || at.Own == nil || at.Own.Content == nil || at.Disk == nil || at.Disk.Differ != nil || winner.Content == nil {
 		return false
 	}
-	for _, one := range disk.Contents {
-		if one == *content {
+	for _, one := range at.Disk.Contents {
+		if one == *winner.Content {
 			return true
 		}
 	}

@@ -41,6 +41,13 @@ func TestCauses(t *testing.T) {
 		{"the same bytes in other blocks", file(2, 1), with(file(1, 2), func(one *part.Name) {
 			one.Disk.Contents = append(one.Disk.Contents, *file(2, 1).Own.Content)
 		}), []string{"RecordDiffers 2", "StoreDiffers 2"}, []Cause{OtherBlocks}},
+		{"none yet, and the bytes on the disk", file(2, 1), with(file(2, 1), func(one *part.Name) { one.Own = nil }),
+			[]string{"RecordMissing 2", "StoreUnclean 2"}, []Cause{Behind, NotScanned}},
+		{"an older version, and the newer bytes on the disk", file(2, 1), with(file(1, 2), func(one *part.Name) {
+			rotten(one)
+			one.Disk.ModifiedS = later
+			one.Disk.Contents = append(one.Disk.Contents, *file(2, 1).Own.Content)
+		}), []string{"RecordDiffers 2", "StoreUnclean 2"}, []Cause{Behind, Changed}},
 		{"a change on a receive-only device", file(2, 1), with(file(1, 2), func(one *part.Name) { one.Own.Invalid = true }),
 			[]string{"LocalOnly 2", "StoreDiffers 2"}, []Cause{LocalChange}},
 		{"an old view", file(2, 1), file(2, 1), []string{"ViewAhead 2"}, []Cause{NewerKnown}},

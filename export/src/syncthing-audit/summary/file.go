@@ -224,7 +224,7 @@ func (r *reader) addFaults(member int) {
 	switch {
 	case r.has(member, "LocalOnly"):
 		r.add(member, LocalChange)
-	case isBehind && at != nil && r.winner != nil && hasContent(at.Disk, r.winner.Content):
+	case isBehind && r.winner != nil && isCutOtherwise(at, r.winner):
 		r.add(member, OtherBlocks)
 	case isBehind && at != nil && at.Own != nil && r.winner != nil && !isBelow(at.Own.Version, r.winner.Version):
 		r.add(member, Conflicting)
