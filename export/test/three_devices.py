@@ -90,6 +90,7 @@ class LeftBehind(Exporting):
         wait_until_in_step(self.one, self.two)
         self.stop()
         self.assertEqual(self.verdict(), self.fault("RecordDiffers", "text", three))
+        self.assert_a_person_reads_of_it_once(three)
         self.assert_parts_are_of_one_moment(before)
 
         (three.files / "empty").write_text("written while it was off")
@@ -102,6 +103,14 @@ class LeftBehind(Exporting):
         self.stop()
         self.assertEqual(self.verdict(), "settled")
 
+    def assert_a_person_reads_of_it_once(self, three):
+        """One entry tells that the third device is behind; what the others know of it isn't told by itself."""
+        ran = self.on_homes("check", [device.home for device in self.devices], "--syncaudit", self.auditor)
+        self.assertEqual(ran.returncode, 1, ran.stderr)
+        entries = [entry for entry in ran.stdout.split("\n\n") if "to do:" in entry]
+        self.assertEqual(len(entries), 1, ran.stdout)
+        self.assertEqual(entries[0].splitlines()[0], f"text  (in {FOLDER}, 14 bytes)")
+        self.assertIn(f"  {three.id[:7]}: behind: hasn't taken what is newest (since ", entries[0])
 
     def assert_parts_are_of_one_moment(self, before):
         """Parts of the three devices say what their homes do; with the first device's part of before they are
