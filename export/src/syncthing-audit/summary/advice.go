@@ -26,12 +26,28 @@ func (l labels) all(ids []string) string {
 func adviceOf(file *File, named labels) []string {
 	made := []string{}
 	for next := range file.Faults {
+		if isReplaced(&file.Faults[next], file) {
+			continue
+		}
 		made = addOnce(made, adviceOfFault(&file.Faults[next], file, named))
 	}
 	if len(file.Permissions) > 0 {
 		made = addOnce(made, "'chmod' it to what it should be and let Syncthing scan, or choose 'Ignore Permissions' for the folder")
 	}
 	return made
+}
+
+// isReplaced says whether a device's other bytes go away by themselves, once it takes what it is behind with.
+func isReplaced(one *Fault, file *File) bool {
+	if one.Cause != OtherBytes {
+		return false
+	}
+	for _, other := range file.Faults {
+		if other.Device == one.Device && other.Cause == Behind {
+			return true
+		}
+	}
+	return false
 }
 
 // addOnce adds a text that isn't there yet.
@@ -60,8 +76,7 @@ func adviceOfFault(one *Fault, file *File, named labels) string {
 	at := named.of(one.Device)
 	switch one.Cause {
 	case OtherBytes:
-		return "Syncthing won't repair it: " + source(file, named) + at + withTime + ". If instead the bytes on " + at + " are the right ones, " +
-			"'touch' the file there and let Syncthing scan: it sends them to all"
+		return otherBytesAdvice(one, file, at, named)
 	case Changed:
 		return changedAdvice(one, file, at, named)
 	case Missing:
@@ -102,6 +117,14 @@ func spreads(one *Fault) string {
 		return ", a local addition"
 	}
 	return " and sends it to all"
+}
+
+func otherBytesAdvice(one *Fault, file *File, at string, named labels) string {
+	mend := "Syncthing won't repair it: " + source(file, named) + at + withTime
+	if one.Kind == receiveOnly {
+		return mend
+	}
+	return mend + ". If instead the bytes on " + at + " are the right ones, 'touch' the file there and let Syncthing scan: it sends them to all"
 }
 
 func changedAdvice(one *Fault, file *File, at string, named labels) string {

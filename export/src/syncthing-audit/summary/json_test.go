@@ -27,6 +27,7 @@ func full(folder *finding.Folder) {
 	folder.Permissions = []finding.Permissions{{Name: "rotten", At: []finding.Bits{{Has: true, Index: 0o644, OnDisk: true, Disk: 0o600}, {}}}}
 	folder.Conflicts = []finding.Conflict{{Name: "a.sync-conflict-20261126-170000.txt", Bytes: 1}}
 	folder.LeftOut = []*finding.LeftOut{{Name: "odd\xff", Names: 1, Why: []finding.Reason{{Member: -1, Kind: part.Large, Why: "large"}, {Member: 0, Kind: part.OddName}}}}
+	folder.Members[0].Head.Prefix = "a"
 	folder.Members[1].Head.Folders = append(folder.Members[1].Head.Folders, part.Folder{ID: "music"})
 }
 

@@ -18,6 +18,11 @@ func (p *printer) rest(s *Summary) {
 	if len(s.NotAsked) > 0 {
 		p.line("not asked for: %s", p.notAsked(s))
 	}
+	for _, one := range s.Devices {
+		if one.Prefix != "" {
+			p.line("not asked for: names on %s that don't begin with %s", p.named.of(one.ID), Quoted(string(one.Prefix)))
+		}
+	}
 	p.line("not compared: %s", strings.Join(s.NotCompared, ", "))
 }
 

@@ -38,6 +38,8 @@ type Device struct {
 	Name string    `json:"name"`
 	Read time.Time `json:"read"` // when its files were read
 	From string    `json:"from"`
+
+	Prefix Text `json:"names_that_begin,omitempty"` // only these were read
 }
 
 // Folder is what was found in a folder.
@@ -121,8 +123,9 @@ var notCompared = []string{"owners", "extended attributes", "old versions"}
 func Of(answer *finding.Answer) *Summary {
 	made := &Summary{Version: Version, Verdict: verdictOf(answer), Devices: []Device{}, Folders: []*Folder{}, LeftOut: []LeftOut{},
 		NotAsked: notAsked(answer), NotCompared: notCompared}
+	prefixes := prefixesOf(answer)
 	for _, one := range answer.Devices {
-		made.Devices = append(made.Devices, Device{ID: one.ID, Name: one.Name, Read: one.Made, From: one.From})
+		made.Devices = append(made.Devices, Device{one.ID, one.Name, one.Made, one.From, prefixes[one.ID]})
 	}
 	named := made.labels()
 	for _, one := range answer.Folders {
@@ -222,6 +225,17 @@ func namesOf(folder *finding.Folder, one *finding.LeftOut) Names {
 			device = folder.Members[why.Member].Head.Device
 		}
 		made.Why = append(made.Why, WhyLeft{device, why.Kind, why.Why})
+	}
+	return made
+}
+
+// prefixesOf gives how the names begin that were read of each device, where not all were.
+func prefixesOf(answer *finding.Answer) map[string]Text {
+	made := map[string]Text{}
+	for _, folder := range answer.Folders {
+		for _, one := range folder.Members {
+			made[one.Head.Device] = Text(one.Head.Prefix)
+		}
 	}
 	return made
 }
