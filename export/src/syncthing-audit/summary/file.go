@@ -37,7 +37,7 @@ type Mode struct {
 }
 
 // filesOf gives all names of a folder of which something is to be told, rising.
-func filesOf(folder *finding.Folder, named labels) []*File {
+func filesOf(folder *finding.Folder) []*File {
 	made := map[string]*File{}
 	get := func(name string) *File {
 		if made[name] == nil {
@@ -67,7 +67,6 @@ func filesOf(folder *finding.Folder, named labels) []*File {
 	for name, one := range made {
 		one.hasDetails = folder.Rows[name] != nil
 		one.Size = sizeOf(folder.Rows[name])
-		one.Advice = adviceOf(one, named)
 		files = append(files, one)
 	}
 	sort.Slice(files, func(a, b int) bool { return files[a].Name < files[b].Name })

@@ -47,15 +47,17 @@ func keyOf(file *File) string {
 // fold tells names with the same fault as one, where there are many.
 func fold(files []*File, named labels) ([]*File, []*Group) {
 	byKey := map[string][]*File{}
-	for _, one := range files {
-		key := keyOf(one)
-		byKey[key] = append(byKey[key], one)
+	keys := make([]string, len(files))
+	for place, one := range files {
+		keys[place] = keyOf(one)
+		byKey[keys[place]] = append(byKey[keys[place]], one)
 	}
 	alone, groups := []*File{}, []*Group{}
-	for _, one := range files {
-		key := keyOf(one)
+	for place, one := range files {
+		key := keys[place]
 		same := byKey[key]
 		if key == "" || len(same) <= mostAlone {
+			one.Advice = adviceOf(one, named)
 			alone = append(alone, one)
 		} else if one == same[0] {
 			groups = append(groups, groupOf(same, named))
@@ -67,11 +69,11 @@ func fold(files []*File, named labels) ([]*File, []*Group) {
 // groupOf tells names as one.
 func groupOf(files []*File, named labels) *Group {
 	first := files[0]
+	alike := &File{Faults: withoutDetails(first.Faults), Have: first.Have, Permissions: first.Permissions}
 	made := &Group{Cause: Permissions, Devices: []string{}, Names: int64(len(files)), First: []Text{}, Have: first.Have, Modes: first.Permissions,
-		Advice: first.Advice}
+		Advice: adviceOf(alike, named)}
 	if len(first.Faults) > 0 {
 		made.Cause = first.Faults[0].Cause
-		made.Advice = adviceOf(&File{Faults: withoutDetails(first.Faults), Have: first.Have}, named)
 	}
 	for _, one := range first.Faults {
 		made.Devices = append(made.Devices, one.Device)

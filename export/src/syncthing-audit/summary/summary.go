@@ -196,7 +196,7 @@ func folderOf(answer *finding.Answer, from *finding.Folder, named labels) *Folde
 	for _, one := range from.Members {
 		made.Devices = append(made.Devices, memberOf(one))
 	}
-	made.Files, made.Groups = fold(filesOf(from, named), named)
+	made.Files, made.Groups = fold(filesOf(from), named)
 	for _, one := range made.Files {
 		if len(one.Faults) > 0 {
 			made.Wrong++

@@ -175,6 +175,18 @@ a  (in docs)
   to do: 'chmod' it to what it should be and let Syncthing scan, or choose 'Ignore Permissions' for
          the folder.
 ` + lastLine},
+		{"permissions that differ everywhere", 2, func(folder *finding.Folder) {
+			for _, name := range []string{"1", "2", "3", "4", "5", "6"} {
+				folder.Permissions = append(folder.Permissions, finding.Permissions{Name: name, At: []finding.Bits{{Has: true, Index: 0o644}, {Has: true, Index: 0o600}}})
+			}
+		}, `docs (Documents): in step; 1,204 names (4 deleted), 335.2 MB hashed on laptop, server
+
+6 names in docs: 0 bytes, without 6 names whose details weren't kept
+  permissions differ (they don't count for the verdict): laptop 0644; server 0600
+  the first: 1 2 3
+  to do: 'chmod' it to what it should be and let Syncthing scan, or choose 'Ignore Permissions' for
+         the folder.
+` + lastLine},
 		{"what was left out, and what wasn't asked for", 2, func(folder *finding.Folder) {
 			folder.LeftOut = []*finding.LeftOut{{Name: "odd\xff", Names: 1, Bytes: 3000000, Why: []finding.Reason{{Member: 0, Kind: part.OddName, Why: "its name isn't UTF-8"}}}}
 			folder.Outside = finding.Outside{Names: 4, Bytes: 7}
