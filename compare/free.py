@@ -1,5 +1,5 @@
-"""Free peers: peers that keep to few rules, and choose at random wherever these leave a choice. What holds of all
-their runs holds of any peer that keeps to the same rules, whatever it chooses.
+"""Free peers: peers that keep to few rules, and choose at random wherever these leave a choice. They use less freedom than
+the rules leave: they send only records above a cursor, and a copy has a name that is free.
 
 - It takes a record over only where the record isn't invalid and isn't at most its own version; without an own record
   it takes no deletion over. Which one of these it takes is free, and its folder's kind is no matter. (A local-only own

@@ -3,3 +3,4 @@
 mod answer;
 mod audit;
 mod document;
+mod firm;
