@@ -30,6 +30,8 @@ put_all() {
   grep '^[0-9]' "$release/files" | while read -r mode file place; do
     if [ "$file" = exporter ] && ! has_exporter; then
       echo "without Go and Syncthing's packages there is no $place" >&2
+    elif [ "$file" = syncaudit ] && [ -z "$program" ]; then
+      echo "without the program there is no $place" >&2
     else
       put "$mode" "$file" "$1/$place"
       echo "$1/$place"

@@ -57,3 +57,28 @@ status=0
 "$place/package" > "$work/output" 2>&1 || status=$?
 expect "package packs a release of other sources" [ "$status" = 1 ]
 expect "package doesn't say what is to be done: $(cat "$work/output")" says 'release/make makes a new one' "$work/output"
+
+# ---- without the program and rt
+
+# bare_install: installs where only these tools are.
+bare_install() {
+  status=0
+  PATH=$work/tools "$place/install" "$work/bare" > "$work/output" 2> "$work/error" || status=$?
+}
+
+rm -f "$place/release/syncaudit" "$work/tools/rt" "$work/tools/go"
+tools install mkdir
+bare_install
+expect "install without the program has status $status" [ "$status" = 127 ]
+expect "install without the program and Go puts something in place" [ ! -e "$work/bare" ]
+if [ -d /usr/share/gocode/src/github.com/syncthing/syncthing/lib/db ]; then
+  mkdir "$place/export"
+  # A 'go' that builds nothing, and writes what it is to write.
+  printf '#!/bin/sh\nwhile [ "$1" != -o ]; do shift; done\necho exporter > "$2"\n' > "$work/tools/go"
+  chmod +x "$work/tools/go"
+  bare_install
+  expect "install without the program doesn't tell so by its status: $status" [ "$status" = 127 ]
+  expect "install without the program puts no syncthing-audit in place" [ "$(cat "$work/bare/bin/syncthing-audit")" = exporter ]
+  expect "install puts a program in place that isn't there" [ ! -e "$work/bare/bin/syncaudit" ]
+  expect "install doesn't say what is missing: $(cat "$work/error")" says 'without the program there is no bin/syncaudit' "$work/error"
+fi
