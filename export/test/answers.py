@@ -38,7 +38,7 @@ class Answers:
         self.assertRegex(lines[0], rf"^{FOLDER}: NOT in step, 1 name is wrong; 6 names ")
         self.assertEqual([line for line in lines if line.startswith("text")], [f"text  (in {FOLDER}, 5 bytes)"])
         for told in (f"  {self.label(self.two)}: other bytes on the disk; size and time are as recorded",
-                     "    blocks that differ: 0 (1 of 1,", f"  as recorded on: {self.label(self.one)}",
+                     "    block 0 differs (1 of 1 block of 128 KiB; the first is block 0)", f"  as recorded on: {self.label(self.one)}",
                      f"  to do: Syncthing won't repair it: copy it from {self.label(self.one)} to {self.label(self.two)}"):
             self.assertIn(told, text)
 

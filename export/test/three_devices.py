@@ -110,7 +110,7 @@ class LeftBehind(Exporting):
         entries = [entry for entry in ran.stdout.split("\n\n") if "to do:" in entry]
         self.assertEqual(len(entries), 1, ran.stdout)
         self.assertEqual(entries[0].splitlines()[0], f"text  (in {FOLDER}, 14 bytes)")
-        self.assertIn(f"  {three.id[:7]}: behind: hasn't taken what is newest (since ", entries[0])
+        self.assertIn(f"  {three.id[:7]}: behind: hasn't taken what is newest (modified ", entries[0])
 
     def assert_parts_are_of_one_moment(self, before):
         """Parts of the three devices say what their homes do; with the first device's part of before they are

@@ -55,7 +55,7 @@ class TwoDevices(Answers, Exporting):
         self.assertEqual([one["name"] for one in share["own"] + share["store"]], ["folder/large"] * 2)
 
     def test_names_of_which_there_is_none_are_refused(self):
-        self.assertIn('no name begins with "nobody"', self.refused("--names", "nobody"))
+        self.assertIn("no name begins with nobody", self.refused("--names", "nobody"))
 
     def test_nothing_of_the_homes_changes(self):
         before = [files_of(device.home.parent) for device in (self.one, self.two)]
@@ -87,7 +87,8 @@ class TwoDevices(Answers, Exporting):
 
     def test_running_devices_are_refused(self):
         self.assertEqual((self.while_running.returncode, self.while_running.stdout), (2, ""))
-        self.assertIn("Syncthing runs on", self.while_running.stderr)
+        for told in ("Syncthing runs on", "or give --home a copy of the home"):
+            self.assertIn(told, self.while_running.stderr)
 
     def test_a_copy_of_a_home_and_its_folder(self):
         files = self.room / "copied-files"
@@ -143,7 +144,7 @@ class TwoDevices(Answers, Exporting):
         path = os.path.join(os.fsencode(self.two.files), b"odd\xff")
         open(path, "xb").close()
         try:
-            self.assertIn(r'name "odd\xff": its name', self.refused())
+            self.assertIn(r"name $'odd\377': its name", self.refused())
             ran = self.check("--leave-out", "names")
             self.assertEqual((ran.returncode, ran.stdout.splitlines()[0]), (6, "settled as far as audited"))
         finally:
@@ -167,7 +168,7 @@ class TwoDevices(Answers, Exporting):
         path = self.one.files / "fifo"
         os.mkfifo(path)
         try:
-            self.assertIn('name "fifo": it is no file, directory or symlink', self.refused())
+            self.assertIn('name fifo: it is no file, directory or symlink', self.refused())
             self.assert_left_out("fifo", "special")
         finally:
             path.unlink()
@@ -176,7 +177,7 @@ class TwoDevices(Answers, Exporting):
         path = self.two.files / ".stignore"
         path.write_text("emp*\n")
         try:
-            self.assertIn('name "empty": it is ignored there by .stignore', self.refused())
+            self.assertIn('name empty: it is ignored there by .stignore', self.refused())
             self.assert_left_out("empty", "ignored")
         finally:
             path.unlink()
@@ -205,7 +206,7 @@ class TwoDevices(Answers, Exporting):
         with path.open("wb") as file:
             file.truncate((16 << 20) + 1)
         try:
-            self.assertIn('name "huge": a document with bytes has files of at most', self.refused("--bytes"))
+            self.assertIn('name huge: a document with bytes has files of at most', self.refused("--bytes"))
             self.assertEqual(self.check().stdout.splitlines()[0], self.fault("NotWinner", "huge"))
         finally:
             path.unlink()

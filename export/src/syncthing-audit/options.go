@@ -45,7 +45,7 @@ Says whether stopped Syncthing devices are in step, and where not which device i
   --home DIR           a device's home on this machine: config.xml, cert.pem and index-v0.14.0.db
   --folder ID          only this folder (may be given more than once; all folders if it isn't)
   --names PREFIX       only names that begin with these bytes
-  -o FILE              where the part goes; standard output if it isn't given
+  -o FILE              where the part goes; standard output if it is - or isn't given
   --leave-out KINDS    leave out what can't be audited, by kinds with commas between, and say so:
                        %s
   --lines              in place of a summary for people: the verdict and all that fails, a line each, in syncaudit's words

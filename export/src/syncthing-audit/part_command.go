@@ -1,16 +1,13 @@
 package main
 
 import (
-	"bufio"
 	"flag"
 	"io"
-	"os"
-	"path/filepath"
 
 	"syncthing-audit/device"
 	"syncthing-audit/disk"
 	"syncthing-audit/gather"
-	"syncthing-audit/leftover"
+	"syncthing-audit/join"
 	"syncthing-audit/part"
 )
 
@@ -25,8 +22,9 @@ func runPart(words []string, output, log io.Writer) (int, error) {
 	if len(asked.homes) != 1 || len(asked.parts) > 0 {
 		return 0, &wrongUsage{"a part is made of one --home"}
 	}
-	if asked.output == "" && isTerminal(output) {
-		return 0, &wrongUsage{"a part is nothing to read on a terminal: -o FILE"}
+	write, err := whereTo(asked.output, output)
+	if err != nil {
+		return 0, err
 	}
 	home, err := device.Open(asked.homes[0])
 	if err != nil {
@@ -36,18 +34,45 @@ func runPart(words []string, output, log io.Writer) (int, error) {
 	opened := &inputs{pool: disk.NewPool(asked.jobs)}
 	opened.closers = append(opened.closers, opened.pool.Close)
 	defer opened.close()
+	if err := checkFolders(home, asked.folders); err != nil {
+		return 0, err
+	}
 	read, err := opened.deviceOf(home, asked)
 	if err != nil {
 		return 0, err
 	}
-	if len(read.Folders) == 0 {
-		return 0, &wrongUsage{"the device has no such folder"}
-	}
 	defer opened.startProgress(log, asked)()
-	if asked.output == "" {
-		return statusDone, writePart(output, read)
+	return statusDone, write(func(to io.Writer) error { return writePart(to, read) })
+}
+
+// checkFolders says whether a home has no folder, or none with an id that is asked for.
+func checkFolders(home *device.Home, wanted []string) error {
+	labels := map[string]string{}
+	for _, one := range home.Config.Folders {
+		labels[one.ID] = one.Label
 	}
-	return statusDone, writeFile(asked.output, func(to io.Writer) error { return writePart(to, read) })
+	if len(labels) == 0 {
+		return &wrongUsage{"the device has no folder"}
+	}
+	if err := join.CheckWanted(labels, wanted); err != nil {
+		return &wrongUsage{err.Error()}
+	}
+	return nil
+}
+
+// whereTo gives what writes a part to where it is to go. It says what is wrong with that before files are hashed.
+func whereTo(path string, output io.Writer) (func(func(io.Writer) error) error, error) {
+	if !standardOutput[path] {
+		to, err := targetOf(path)
+		if err != nil {
+			return nil, err
+		}
+		return to.write, nil
+	}
+	if isTerminal(output) {
+		return nil, &wrongUsage{"a part is nothing to read on a terminal: -o FILE"}
+	}
+	return func(write func(io.Writer) error) error { return write(output) }, nil
 }
 
 // writePart writes a part.
@@ -61,25 +86,4 @@ func writePart(to io.Writer, read *gather.Device) error {
 		return err
 	}
 	return writer.Close()
-}
-
-// writeFile writes a file, which is there whole or not at all.
-func writeFile(path string, write func(io.Writer) error) error {
-	file, err := leftover.File(filepath.Dir(path), ".syncthing-audit-")
-	if err != nil {
-		return err
-	}
-	defer leftover.Remove(file.Name())
-	buffered := bufio.NewWriter(file)
-	err = write(buffered)
-	if err == nil {
-		err = buffered.Flush()
-	}
-	if closed := file.Close(); err == nil {
-		err = closed
-	}
-	if err != nil {
-		return err
-	}
-	return os.Rename(file.Name(), path)
 }

@@ -42,7 +42,8 @@ type Program struct{ Path string }
 // Find says why the program can't be run, if so.
 func (p Program) Find() error {
 	if _, err := exec.LookPath(p.Path); err != nil {
-		return &Failed{StatusCannotRun, fmt.Sprintf("%s can't be run: %v", p.Path, err)}
+		return &Failed{StatusCannotRun, fmt.Sprintf("%s can't be run: %v. --syncaudit FILE or $SYNCAUDIT says where the program is that answers",
+			p.Path, err)}
 	}
 	return nil
 }

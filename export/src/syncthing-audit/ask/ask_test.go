@@ -2,10 +2,19 @@ package ask
 
 import (
 	"errors"
+	"strings"
 	"testing"
 
 	"syncthing-audit/finding"
 )
+
+// Whoever has no program is told how to name it.
+func TestWhatIsToldWithoutAProgram(t *testing.T) {
+	err := Program{Path: "/nowhere/syncaudit"}.Find()
+	if err == nil || !strings.Contains(err.Error(), "--syncaudit FILE or $SYNCAUDIT") {
+		t.Error(err)
+	}
+}
 
 func TestLines(t *testing.T) {
 	cases := []struct {

@@ -9,6 +9,7 @@ import (
 	"syncthing-audit/finding"
 	"syncthing-audit/join"
 	"syncthing-audit/limits"
+	"syncthing-audit/shell"
 )
 
 // bytesOfDocument is how long a document of stand-ins grows: small enough that several are in memory at once.
@@ -49,7 +50,7 @@ func label(one join.Refusal) string {
 	if one.Name == "" {
 		return one.Device
 	}
-	return one.Name
+	return shell.Printable(one.Name)
 }
 
 // ErrNothing says that an audit would call nothing at all settled.
@@ -85,7 +86,7 @@ func (c *collector) checkSomething() error {
 	}
 	for _, one := range c.plan.Devices {
 		if one.Head.Prefix != "" && c.names == 0 {
-			return fmt.Errorf("refused: no name begins with %q", one.Head.Prefix)
+			return fmt.Errorf("refused: no name begins with %s", shell.Quoted(string(one.Head.Prefix)))
 		}
 	}
 	return ErrNothing

@@ -104,7 +104,7 @@ func (n *names) labelOf(member int) string {
 	if member < 0 {
 		return ""
 	}
-	return n.found.Members[member].Label()
+	return n.found.Members[member].Called()
 }
 
 func outsOf(one *part.Name) []part.LeftOut {

@@ -9,6 +9,7 @@ import (
 	"fmt"
 	"os"
 	"path/filepath"
+	"syscall"
 
 	"github.com/syncthing/syncthing/lib/config"
 	"github.com/syncthing/syncthing/lib/db"
@@ -119,9 +120,12 @@ func (h *Home) openIndex() error {
 		return err
 	}
 	if h.copied, err = leftover.Directory("syncthing-audit-"); err != nil {
-		return err
+		return notCopied(err)
 	}
 	if err := copyFiles(database, h.copied); err != nil {
+		if errors.Is(err, syscall.ENOSPC) || errors.Is(err, syscall.EDQUOT) {
+			return notCopied(err)
+		}
 		return err
 	}
 	if err := h.checkUnchanged(); err != nil {
@@ -137,6 +141,11 @@ func (h *Home) openIndex() error {
 		return err
 	}
 	return db.UpdateSchema(h.index)
+}
+
+// notCopied says what can be done where the temporary directory has no room, or isn't there.
+func notCopied(err error) error {
+	return fmt.Errorf("refused: the index can't be copied to %s (TMPDIR may name another directory): %w", os.TempDir(), err)
 }
 
 // Close removes the copy and gives the lock back.

@@ -18,7 +18,7 @@ func lockShared(home, database string) (*os.File, error) {
 	if err := syscall.Flock(int(file.Fd()), syscall.LOCK_SH|syscall.LOCK_NB); err != nil {
 		file.Close()
 		return nil, fmt.Errorf("refused: Syncthing runs on %s (its index is locked). Stop it, which pausing it or its "+
-			"folders doesn't do; or export a copy of the home that was made while it was stopped", home)
+			"folders doesn't do; or give --home a copy of the home that was made while it was stopped", home)
 	}
 	return file, nil
 }

@@ -7,6 +7,7 @@ import (
 	"syncthing-audit/join"
 	"syncthing-audit/limits"
 	"syncthing-audit/part"
+	"syncthing-audit/shell"
 )
 
 // Bounds for what a document grows by when its certificate is added and every member is written.
@@ -32,7 +33,7 @@ func (d *Document) About() string {
 	if len(d.Rows) == 0 {
 		return fmt.Sprintf("folder %s, no names", d.Folder)
 	}
-	return fmt.Sprintf("folder %s, names %q to %q", d.Folder, d.First, d.Last)
+	return fmt.Sprintf("folder %s, names %s to %s", d.Folder, shell.Path(d.First), shell.Path(d.Last))
 }
 
 // Builder fills documents with rows, each as far as it has room. Settled speaks of each name by itself, and all that is

@@ -7,6 +7,7 @@ import (
 	"io"
 
 	"syncthing-audit/part"
+	"syncthing-audit/shell"
 )
 
 // Device is a device with its part.
@@ -128,16 +129,19 @@ func (d *Device) end(about *part.Folder) (*part.End, error) {
 	return line.End, nil
 }
 
-// Label names a device for a person: its configured name and its id.
-func (d *Device) Label() string {
+// Label names a device in a sentence.
+func (d *Device) Label() string { return "device " + d.Called() }
+
+// Called gives what a person calls a device: its configured name and its id.
+func (d *Device) Called() string {
 	short := d.Head.Device
 	if len(short) > 7 {
 		short = short[:7]
 	}
 	if d.Head.Name == "" {
-		return "device " + short
+		return short
 	}
-	return fmt.Sprintf("device %s (%s)", d.Head.Name, short)
+	return fmt.Sprintf("%s (%s)", shell.Printable(d.Head.Name), short)
 }
 
 // Rows gives the rows of a folder, rising by name, and then how many bytes were hashed. Folders are asked for in the

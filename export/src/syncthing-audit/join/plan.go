@@ -6,6 +6,7 @@ import (
 
 	"syncthing-audit/limits"
 	"syncthing-audit/part"
+	"syncthing-audit/shell"
 )
 
 // Refusal is why something isn't audited. One of a kind can be left out on request; one without a kind can't.
@@ -61,12 +62,15 @@ func (p *Plan) has(id string) bool {
 func checkDevices(devices []*Device) error {
 	for place := 1; place < len(devices); place++ {
 		one, other := devices[place-1], devices[place]
+		if one.Head.Device == other.Head.Device {
+			return fmt.Errorf("refused: %s and %s are both of %s: give one of them", one.From, other.From, one.Label())
+		}
 		if one.Number == other.Number {
 			return fmt.Errorf("refused: %s and %s are of one device number, %d", one.From, other.From, one.Number)
 		}
 		if one.Head.Prefix != other.Head.Prefix {
-			return fmt.Errorf("refused: %s has the names that begin with %q, and %s those with %q: make all parts with the same --names",
-				one.From, one.Head.Prefix, other.From, other.Head.Prefix)
+			return fmt.Errorf("refused: %s has the names that begin with %s, and %s those with %s: make all parts with the same --names",
+				one.From, shell.Quoted(string(one.Head.Prefix)), other.From, shell.Quoted(string(other.Head.Prefix)))
 		}
 	}
 	return nil
@@ -74,16 +78,16 @@ func checkDevices(devices []*Device) error {
 
 // chosen gives the ids of the folders to audit, rising.
 func chosen(devices []*Device, wanted []string) ([]string, error) {
-	there := map[string]bool{}
+	there := map[string]string{}
 	for _, device := range devices {
 		for _, one := range device.Head.Folders {
-			there[one.ID] = true
+			if there[one.ID] == "" {
+				there[one.ID] = one.Label
+			}
 		}
 	}
-	for _, id := range wanted {
-		if !there[id] {
-			return nil, fmt.Errorf("refused: no device here has the folder %q", id)
-		}
+	if err := CheckWanted(there, wanted); err != nil {
+		return nil, fmt.Errorf("refused: %w", err)
 	}
 	ids := []string{}
 	for id := range there {

@@ -114,8 +114,10 @@ func TestPartsThatDoNotGoTogether(t *testing.T) {
 		t.Error("two devices have one directory")
 	}
 	one := sharing(map[byte]string{1: "12"}, unchanged)
-	if _, err := NewPlan(append(one, sharing(map[byte]string{1: "12"}, unchanged)...), nil); err == nil {
-		t.Error("two parts are of one device")
+	one[0].Head.Name = "laptop"
+	_, err := NewPlan(append(one, sharing(map[byte]string{1: "12"}, unchanged)...), nil)
+	if err == nil || !strings.Contains(err.Error(), "1 and 1 are both of device laptop (AAAAAAA): give one of them") {
+		t.Errorf("two parts are of one device: %v", err)
 	}
 	if _, err := NewPlan(one, []string{"pics"}); err == nil {
 		t.Error("no device has the folder")

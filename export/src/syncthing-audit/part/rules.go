@@ -8,6 +8,7 @@ import (
 
 	"github.com/syncthing/syncthing/lib/protocol"
 	"syncthing-audit/limits"
+	"syncthing-audit/shell"
 )
 
 // checkHead says why a part's head is none.
@@ -86,7 +87,7 @@ func (r *rules) take(line Line) error {
 		return r.finish(line.End)
 	}
 	if r.names > 0 && line.Name.Name <= r.last {
-		return fmt.Errorf("the name %q isn't in its place", line.Name.Name)
+		return fmt.Errorf("the name %s isn't in its place", shell.Path(string(line.Name.Name)))
 	}
 	r.last = line.Name.Name
 	r.names++
@@ -128,35 +129,35 @@ func (r *rules) end() error {
 func checkName(one *Name, in *Folder) error {
 	if len(one.Out) == 0 {
 		if err := limits.CheckName(string(one.Name)); err != nil {
-			return fmt.Errorf("%q: %w", one.Name, err)
+			return fmt.Errorf("%s: %w", shell.Path(string(one.Name)), err)
 		}
 	}
 	if one.Own != nil {
 		if err := checkRecord(one.Own, in.Max); err != nil {
-			return fmt.Errorf("the own record of %q: %w", one.Name, err)
+			return fmt.Errorf("the own record of %s: %w", shell.Path(string(one.Name)), err)
 		}
 	}
 	last := -1
 	for place := range one.Views {
 		seen := &one.Views[place]
 		if seen.View <= last || seen.View >= len(in.Views) {
-			return fmt.Errorf("the views of %q aren't in their places", one.Name)
+			return fmt.Errorf("the views of %s aren't in their places", shell.Path(string(one.Name)))
 		}
 		last = seen.View
 		if err := checkRecord(seen.Record, in.Views[seen.View].Max); err != nil {
-			return fmt.Errorf("a view of %q: %w", one.Name, err)
+			return fmt.Errorf("a view of %s: %w", shell.Path(string(one.Name)), err)
 		}
 	}
 	for _, out := range one.Out {
 		if !IsKind(out.Kind) || out.Why == "" || out.Bytes < 0 {
-			return fmt.Errorf("%q is left out as %q", one.Name, out.Kind)
+			return fmt.Errorf("%s is left out as %q", shell.Path(string(one.Name)), out.Kind)
 		}
 	}
 	if one.Disk == nil {
 		return nil
 	}
 	if err := checkNode(one.Disk, len(one.Out) > 0); err != nil {
-		return fmt.Errorf("what stands on the disk at %q: %w", one.Name, err)
+		return fmt.Errorf("what stands on the disk at %s: %w", shell.Path(string(one.Name)), err)
 	}
 	return nil
 }

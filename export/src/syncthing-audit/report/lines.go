@@ -10,6 +10,7 @@ import (
 
 	"syncthing-audit/ask"
 	"syncthing-audit/finding"
+	"syncthing-audit/shell"
 )
 
 // Verdict gives the first line of an answer, in syncaudit's words.
@@ -100,19 +101,24 @@ func printed(name string) string {
 	return strings.Trim(strconv.QuoteToASCII(name), `"`)
 }
 
+// placeOf says at which device and name something is refused, as far as it is of one.
+func placeOf(one finding.Refusal) string {
+	place := ""
+	if one.Device != "" {
+		place += ", device " + one.Device
+	}
+	if one.Name != "" {
+		place += ", name " + shell.Path(one.Name)
+	}
+	return place
+}
+
 // Refusals prints what has no answer, and how to leave it out.
 func Refusals(to io.Writer, answer *finding.Answer) {
 	kinds := ""
 	seen := map[string]bool{}
 	for _, one := range answer.Refusals {
-		device, name := "-", "-"
-		if one.Device != "" {
-			device = one.Device
-		}
-		if one.Name != "" {
-			name = strconv.Quote(one.Name)
-		}
-		fmt.Fprintf(to, "syncthing-audit: refused: folder %s, device %s, name %s: %s\n", one.Folder, device, name, one.Why)
+		fmt.Fprintf(to, "syncthing-audit: refused: folder %s%s: %s\n", shell.Quoted(one.Folder), placeOf(one), one.Why)
 		if one.Kind != "" && !seen[one.Kind] {
 			seen[one.Kind] = true
 			kinds += "," + one.Kind

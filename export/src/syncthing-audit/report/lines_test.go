@@ -45,6 +45,23 @@ func TestVerdicts(t *testing.T) {
 	}
 }
 
+func TestRefusals(t *testing.T) {
+	var written strings.Builder
+	Refusals(&written, &finding.Answer{Refusals: []finding.Refusal{
+		{Kind: "absent", Folder: "docs", Device: "phone", Why: "no part of it is given"},
+		{Kind: "special", Folder: "docs", Device: "laptop (ABCDEFG)", Name: "-a `b` $c", Why: "it is a fifo"},
+		{Folder: "docs", Why: "too many"},
+	}})
+	const expected = `syncthing-audit: refused: folder docs, device phone: no part of it is given
+syncthing-audit: refused: folder docs, device laptop (ABCDEFG), name './-a ` + "`b`" + ` $c': it is a fifo
+syncthing-audit: refused: folder docs: too many
+syncthing-audit: 3 refused; --leave-out absent,special leaves them out
+`
+	if written.String() != expected {
+		t.Errorf("%s\nnot\n%s", written.String(), expected)
+	}
+}
+
 func TestLines(t *testing.T) {
 	folder := folderOf("docs", 2, finding.Failure{Reason: "NotWinner", Name: "new file"})
 	folder.Unwon = []finding.Unwon{{Name: "new file", At: []finding.Cause{{Member: 1, Kind: finding.Unscanned}}}}

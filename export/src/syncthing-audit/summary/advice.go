@@ -1,6 +1,9 @@
 package summary
 
-import "strings"
+import (
+	"sort"
+	"strings"
+)
 
 // labels are the names of devices for a person, by their ids.
 type labels map[string]string
@@ -13,12 +16,13 @@ func (l labels) of(id string) string {
 	return id
 }
 
-// all gives several names.
+// all gives several names, rising.
 func (l labels) all(ids []string) string {
 	names := []string{}
 	for _, one := range ids {
 		names = append(names, l.of(one))
 	}
+	sort.Strings(names)
 	return strings.Join(names, ", ")
 }
 
@@ -31,8 +35,11 @@ func adviceOf(file *File, named labels) []string {
 		}
 		made = addOnce(made, adviceOfFault(&file.Faults[next], file, named))
 	}
+	if senders := file.sendersOfOtherBytes(); len(senders) > 1 {
+		made = append(made, touchAdvice(file, senders, named))
+	}
 	if len(file.Permissions) > 0 {
-		made = addOnce(made, "'chmod' it to what it should be and let Syncthing scan, or choose 'Ignore Permissions' for the folder")
+		made = append(made, permissionsAdvice(file.Permissions, named))
 	}
 	return made
 }
@@ -52,12 +59,20 @@ func isReplaced(one *Fault, file *File) bool {
 
 // addOnce adds a text that isn't there yet.
 func addOnce(all []string, text string) []string {
-	for _, one := range all {
-		if one == text {
-			return all
-		}
+	if has(all, text) {
+		return all
 	}
 	return append(all, text)
+}
+
+// has says whether a list has a text.
+func has(all []string, text string) bool {
+	for _, one := range all {
+		if one == text {
+			return true
+		}
+	}
+	return false
 }
 
 // source says from where a file can be had, or where else to look.
@@ -99,6 +114,9 @@ func adviceOfFault(one *Fault, file *File, named labels) string {
 	case OnlySeen, NewerKnown:
 		return "start Syncthing on all of these devices and let them connect: they then tell each other what they have"
 	case OtherTime:
+		if one.Kind == receiveOnly {
+			return "start Syncthing on " + at + " and 'Rescan': the time stays there as a local change, which 'Revert Local Changes' takes back"
+		}
 		return "start Syncthing on " + at + " and 'Rescan'"
 	case OtherBlocks:
 		return "nothing is lost: the bytes are the same. Once the devices connect, Syncthing takes one of the records"
@@ -121,7 +139,12 @@ func spreads(one *Fault) string {
 
 func otherBytesAdvice(one *Fault, file *File, at string, named labels) string {
 	mend := "Syncthing won't repair it: " + source(file, named) + at + withTime
-	if one.Kind == receiveOnly {
+	if one.isSeen && one.Kind == receiveOnly {
+		mend = "before Syncthing scans there, which takes these bytes for a local change, " + source(file, named) + at + withTime
+	} else if one.isSeen {
+		mend = "before Syncthing scans there, which sends these bytes to all, " + source(file, named) + at + withTime
+	}
+	if one.Kind == receiveOnly || len(file.sendersOfOtherBytes()) > 1 {
 		return mend
 	}
 	return mend + ". If instead the bytes on " + at + " are the right ones, 'touch' the file there and let Syncthing scan: it sends them to all"

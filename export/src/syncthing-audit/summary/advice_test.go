@@ -40,6 +40,13 @@ func TestAdvice(t *testing.T) {
 			t.Errorf("%s: %s", one.why, told)
 		}
 	}
+	for kind, has := range map[string]string{"send-receive": "which sends these bytes to all", receiveOnly: "takes these bytes for a local change"} {
+		seen := fault(kind, OtherBytes)
+		seen[0].isSeen = true
+		if told := adviceOf(&File{Faults: seen, Have: []string{laptop}}, labels{}); !strings.Contains(told[0], has) {
+			t.Errorf("other bytes with another mode, %s: %s", kind, told)
+		}
+	}
 	told := adviceOf(&File{Faults: fault("send-receive", OtherBytes)}, labels{})
 	if !strings.Contains(told[0], "no audited device has the recorded bytes") {
 		t.Errorf("where no device has the bytes: %s", told)

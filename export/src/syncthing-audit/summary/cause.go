@@ -40,6 +40,8 @@ type Fault struct {
 	Found    *State   `json:"found,omitempty"` // on its disk
 	Blocks   *Blocks  `json:"blocks,omitempty"`
 	Reasons  []string `json:"reasons"` // in syncaudit's words
+	contents []part.Content
+	isSeen   bool // by the next scan, since the mode isn't as recorded
 }
 
 // State is what a record or a disk says of a name.

@@ -13,13 +13,14 @@ type Text = part.Bytes
 
 // File is a name of which something is to be told.
 type File struct {
-	Name        Text     `json:"name"`
-	Size        int64    `json:"size"`
-	Faults      []Fault  `json:"faults"`
-	Have        []string `json:"have_recorded"` // devices whose index and disk have what is due
-	Follows     []Follow `json:"follows"`       // what fails for want of the above
-	Permissions []Mode   `json:"permissions"`   // where they differ
-	Advice      []string `json:"advice"`
+	Name        Text       `json:"name"`
+	Size        int64      `json:"size"`
+	Faults      []Fault    `json:"faults"`
+	Have        []string   `json:"have_recorded"`              // devices whose index and disk have what is due
+	Same        [][]string `json:"same_other_bytes,omitempty"` // devices that have the same bytes in place of those recorded
+	Follows     []Follow   `json:"follows"`                    // what fails for want of the above
+	Permissions []Mode     `json:"permissions"`                // where they differ
+	Advice      []string   `json:"advice"`
 	hasDetails  bool
 }
 
@@ -248,7 +249,7 @@ func (r *reader) add(member int, cause Cause) {
 	if at := r.at(member); at != nil {
 		made.Recorded, made.Found = recorded(at.Own), found(at.Disk)
 		if cause == OtherBytes || cause == Changed {
-			made.Blocks = blocksOf(at)
+			made.Blocks, made.contents = blocksOf(at), at.Disk.Contents
 		}
 	}
 	made.Deletion = cause == Behind && made.Due != nil && made.Due.Deleted || cause == LocalChange && made.Recorded != nil && made.Recorded.Deleted

@@ -49,6 +49,9 @@ func fold(files []*File, named labels) ([]*File, []*Group) {
 	byKey := map[string][]*File{}
 	keys := make([]string, len(files))
 	for place, one := range files {
+		one.sortDevices(named)
+		one.Same = sameOtherBytes(one.Faults)
+		one.markSeen()
 		keys[place] = keyOf(one)
 		byKey[keys[place]] = append(byKey[keys[place]], one)
 	}

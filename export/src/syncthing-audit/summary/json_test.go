@@ -17,6 +17,7 @@ const statusOfMissing = 77
 // full gives an answer in which as much as may be is told.
 func full(folder *finding.Folder) {
 	fails(folder, "rotten", []*part.Name{file(1, 1), with(file(1, 1), rotten)}, "StoreDiffers 2")
+	fails(folder, "alike", []*part.Name{with(file(1, 1), rotten), with(file(1, 1), rotten)}, "StoreDiffers 1", "StoreDiffers 2")
 	fails(folder, "behind", []*part.Name{file(2, 1), file(1, 2)}, "RecordDiffers 2", "StoreDiffers 2", "ViewAhead 2", "ViewAhead 3")
 	fails(folder, "odd", nil, "NameUnknown 0")
 	fails(folder, "kept", nil, "StoreDiffers 1")

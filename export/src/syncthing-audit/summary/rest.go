@@ -1,6 +1,10 @@
 package summary
 
-import "strings"
+import (
+	"strings"
+
+	"syncthing-audit/shell"
+)
 
 // rest prints what was left out, not asked for or not compared.
 func (p *printer) rest(s *Summary) {
@@ -20,7 +24,7 @@ func (p *printer) rest(s *Summary) {
 	}
 	for _, one := range s.Devices {
 		if one.Prefix != "" {
-			p.line("not asked for: names on %s that don't begin with %s", p.named.of(one.ID), Quoted(string(one.Prefix)))
+			p.line("not asked for: names on %s that don't begin with %s", p.named.of(one.ID), shell.Quoted(string(one.Prefix)))
 		}
 	}
 	p.line("not compared: %s", strings.Join(s.NotCompared, ", "))
@@ -42,10 +46,10 @@ func (p *printer) copies(folder *Folder) {
 		"conflict copies"), folder.ID, size(bytes))
 	for place, one := range folder.Copies {
 		if place == mostCopies {
-			p.line("  and %s more", thousands(int64(len(folder.Copies)-mostCopies)))
+			p.line("  and %s more (--json has all)", thousands(int64(len(folder.Copies)-mostCopies)))
 			break
 		}
-		p.line("  %s", Quoted(string(one.Name)))
+		p.line("  %s", shell.Path(string(one.Name)))
 	}
 }
 
@@ -70,7 +74,7 @@ func (p *printer) leftOut(folder *Folder) {
 
 // left prints a name that was left out.
 func (p *printer) left(one Names) {
-	name := Quoted(string(one.Name))
+	name := shell.Path(string(one.Name))
 	if one.Below {
 		name += " and all below it (" + counted(one.Names, "name", "names") + ")"
 	}

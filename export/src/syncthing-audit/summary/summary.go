@@ -3,12 +3,11 @@
 package summary
 
 import (
-	"strings"
 	"time"
-	"unicode"
 
 	"syncthing-audit/finding"
 	"syncthing-audit/join"
+	"syncthing-audit/shell"
 )
 
 // Version is the version of the JSON.
@@ -152,7 +151,7 @@ func (s *Summary) labels() labels {
 		if len(short) > lengthOfShort {
 			short = short[:lengthOfShort]
 		}
-		made[one.ID] = printable(one.Name)
+		made[one.ID] = shell.Printable(one.Name)
 		if one.Name == "" {
 			made[one.ID] = short
 		} else if count[one.Name] > 1 {
@@ -160,16 +159,6 @@ func (s *Summary) labels() labels {
 		}
 	}
 	return made
-}
-
-// printable gives a device's name without what moves a terminal's cursor.
-func printable(name string) string {
-	return strings.Map(func(one rune) rune {
-		if !unicode.IsPrint(one) {
-			return '?'
-		}
-		return one
-	}, name)
 }
 
 func verdictOf(answer *finding.Answer) string {

@@ -6,6 +6,8 @@ import (
 	"strconv"
 	"strings"
 	"time"
+
+	"syncthing-audit/shell"
 )
 
 // printer prints a summary for a person.
@@ -45,7 +47,7 @@ func (p *printer) folder(one *Folder) {
 	}
 	label := ""
 	if one.Label != "" && one.Label != one.ID {
-		label = " (" + printable(one.Label) + ")"
+		label = " (" + shell.Printable(one.Label) + ")"
 	}
 	devices := []string{}
 	for _, member := range one.Devices {
@@ -66,9 +68,9 @@ func (p *printer) group(folder *Folder, one *Group) {
 	}
 	first := []string{}
 	for _, name := range one.First {
-		first = append(first, Quoted(string(name)))
+		first = append(first, shell.Path(string(name)))
 	}
-	p.line("  the first: %s", strings.Join(first, " "))
+	p.line("  the first: %s, and %s more (--lines has all)", strings.Join(first, " "), thousands(one.Names-int64(len(first))))
 	if len(one.Have) > 0 && one.Cause != Permissions {
 		p.line("  as recorded on: %s", p.named.all(one.Have))
 	}
@@ -88,9 +90,12 @@ func (p *printer) file(folder *Folder, one *File) {
 	if one.Size > 0 {
 		about += ", " + size(one.Size)
 	}
-	p.line("\n%s  (%s)", Quoted(string(one.Name)), about)
+	p.line("\n%s  (%s)", shell.Path(string(one.Name)), about)
 	for next := range one.Faults {
 		p.fault(&one.Faults[next])
+	}
+	for _, same := range one.Same {
+		p.line("  the same other bytes on: %s", p.named.all(same))
 	}
 	p.modes(one.Permissions)
 	if len(one.Faults) > 0 && !isOfNobody(one) {
@@ -148,8 +153,8 @@ func (p *printer) fault(one *Fault) {
 	if one.Blocks == nil || one.Blocks.Of < 1 {
 		return
 	}
-	p.line("    blocks that differ: %s (%s of %s, %d KiB each, the first is 0)", ranges(one.Blocks), thousands(one.Blocks.Count),
-		thousands(one.Blocks.Of), one.Blocks.Size>>10)
+	p.line("    %s (%s of %s of %d KiB; the first is block 0)", differing(one.Blocks), thousands(one.Blocks.Count),
+		counted(one.Blocks.Of, "block", "blocks"), one.Blocks.Size>>10)
 	if one.Blocks.Recorded != "" && one.Blocks.Found != "" {
 		p.line("    the first of them: SHA-256 %s.. recorded, %s.. on the disk", one.Blocks.Recorded[:8], one.Blocks.Found[:8])
 	}
@@ -157,6 +162,8 @@ func (p *printer) fault(one *Fault) {
 
 func (p *printer) wordsOf(one *Fault) string {
 	switch {
+	case one.isSeen:
+		return "other bytes on the disk; size and time are as recorded, the mode isn't, so the next scan sees it"
 	case one.Cause == Behind && one.Deletion:
 		return "behind: hasn't deleted it yet"
 	case one.Cause == Behind && one.Recorded == nil:
@@ -169,16 +176,20 @@ func (p *printer) wordsOf(one *Fault) string {
 	return wordsOf[one.Cause]
 }
 
-// since says of when a fault is, as far as that is known.
+// since says when a file was modified, or of when a deletion is, as far as that is known.
 func (p *printer) since(one *Fault) string {
 	switch {
 	case one.Cause == OtherBytes && one.Recorded != nil:
-		return " (recorded " + p.when(one.Recorded.Modified) + ")"
-	case one.Cause == LocalChange && one.Recorded != nil:
+		return " (modified " + p.when(one.Recorded.Modified) + ")"
+	case one.Cause == LocalChange && one.Recorded != nil && one.Deletion:
 		return " (" + p.when(one.Recorded.Modified) + ")"
+	case one.Cause == LocalChange && one.Recorded != nil:
+		return " (modified " + p.when(one.Recorded.Modified) + ")"
 	case one.Found != nil && one.Found.Type == "file" && (one.Cause == Changed || one.Cause == NotScanned || one.Cause == OtherTime ||
 		one.Cause == Back || one.Cause == LocalAddition):
-		return " (since " + p.when(one.Found.Modified) + ")"
+		return " (modified " + p.when(one.Found.Modified) + ")"
+	case one.Cause == Behind && one.Due != nil && !one.Deletion:
+		return " (modified " + p.when(one.Due.Modified) + ")"
 	case one.Cause == Behind && one.Due != nil:
 		return " (since " + p.when(one.Due.Modified) + ")"
 	}
@@ -186,6 +197,14 @@ func (p *printer) since(one *Fault) string {
 }
 
 func (p *printer) when(at time.Time) string { return at.In(p.zone).Format("2006-01-02 15:04:05 MST") }
+
+// differing says which blocks differ.
+func differing(blocks *Blocks) string {
+	if blocks.Count == 1 {
+		return "block " + ranges(blocks) + " differs"
+	}
+	return "blocks " + ranges(blocks) + " differ"
+}
 
 // ranges gives blocks as numbers.
 func ranges(blocks *Blocks) string {
@@ -199,10 +218,11 @@ func ranges(blocks *Blocks) string {
 			words = append(words, fmt.Sprintf("%d-%d", one[0], one[1]))
 		}
 	}
+	text := strings.Join(words, ", ")
 	if told < blocks.Count {
-		words = append(words, "..")
+		text += " and " + thousands(blocks.Count-told) + " more"
 	}
-	return strings.Join(words, ", ")
+	return text
 }
 
 // modes prints permissions that differ.

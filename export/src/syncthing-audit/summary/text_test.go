@@ -100,13 +100,33 @@ func TestWhatAPersonReads(t *testing.T) {
 			fails(folder, "my budget.txt", []*part.Name{file(1, 1), with(file(1, 1), rotten)}, "StoreDiffers 2")
 		}, lineOfFolder + `
 'my budget.txt'  (in docs, 300.0 kB)
-  server: other bytes on the disk; size and time are as recorded, so no scan sees it (recorded 2020-09-13 12:26:40 UTC)
-    blocks that differ: 2 (1 of 3, 128 KiB each, the first is 0)
+  server: other bytes on the disk; size and time are as recorded, so no scan sees it (modified 2020-09-13 12:26:40 UTC)
+    block 2 differs (1 of 3 blocks of 128 KiB; the first is block 0)
     the first of them: SHA-256 abcd0000.. recorded, 12000000.. on the disk
   as recorded on: laptop
   to do: Syncthing won't repair it: copy it from laptop to server with its time (cp -p, or rsync
          --times --ignore-times) while Syncthing is stopped there. If instead the bytes on server
          are the right ones, 'touch' the file there and let Syncthing scan: it sends them to all.
+` + lastLine},
+		{"the same other bytes on two devices, under a name like an option", 3, func(folder *finding.Folder) {
+			fails(folder, "-rf", []*part.Name{file(1, 1), with(file(1, 1), rotten), with(file(1, 1), rotten)}, "StoreDiffers 2", "StoreDiffers 3")
+		}, `docs (Documents): NOT in step, 1 name is wrong; 1,204 names (4 deleted), 335.2 MB hashed on laptop, phone, server
+
+./-rf  (in docs, 300.0 kB)
+  phone: other bytes on the disk; size and time are as recorded, so no scan sees it (modified 2020-09-13 12:26:40 UTC)
+    block 2 differs (1 of 3 blocks of 128 KiB; the first is block 0)
+    the first of them: SHA-256 abcd0000.. recorded, 12000000.. on the disk
+  server: other bytes on the disk; size and time are as recorded, so no scan sees it (modified 2020-09-13 12:26:40 UTC)
+    block 2 differs (1 of 3 blocks of 128 KiB; the first is block 0)
+    the first of them: SHA-256 abcd0000.. recorded, 12000000.. on the disk
+  the same other bytes on: phone, server
+  as recorded on: laptop
+  to do: Syncthing won't repair it: copy it from laptop to phone with its time (cp -p, or rsync
+         --times --ignore-times) while Syncthing is stopped there.
+  to do: Syncthing won't repair it: copy it from laptop to server with its time (cp -p, or rsync
+         --times --ignore-times) while Syncthing is stopped there.
+  to do: if instead the bytes on phone, server are the right ones, which are the same, 'touch' the
+         file on phone alone and let Syncthing scan: it sends them to all.
 ` + lastLine},
 		{"a missing file", 2, func(folder *finding.Folder) {
 			fails(folder, "a", []*part.Name{file(1, 1), with(file(1, 1), func(one *part.Name) { one.Disk = nil })}, "StoreDiffers 2")
@@ -122,10 +142,10 @@ a  (in docs, 300.0 kB)
 		{"a device that is behind, and what others still see of it", 3, func(folder *finding.Folder) {
 			old := with(file(1, 2), func(one *part.Name) { one.Own.ModifiedS = started - 60; one.Disk.ModifiedS = started - 60 })
 			fails(folder, "a", []*part.Name{file(2, 1), old, file(2, 1)}, "RecordDiffers 2", "StoreDiffers 2", "ViewAhead 2", "ViewAhead 3")
-		}, `docs (Documents): NOT in step, 1 name is wrong; 1,204 names (4 deleted), 335.2 MB hashed on laptop, server, phone
+		}, `docs (Documents): NOT in step, 1 name is wrong; 1,204 names (4 deleted), 335.2 MB hashed on laptop, phone, server
 
 a  (in docs, 300.0 kB)
-  server: behind: hasn't taken what is newest (since 2020-09-13 12:26:40 UTC)
+  server: behind: hasn't taken what is newest (modified 2020-09-13 12:26:40 UTC)
   as recorded on: laptop, phone
   so phone can still take another version of it, until that is mended
   to do: start Syncthing on server and on a device that has it, and let them finish. If it stays
@@ -144,7 +164,7 @@ a  (in docs, 300.0 kB)
 
 7 names in docs: 1.8 MB, without 1 name whose details weren't kept
   server: behind: hasn't taken what is newest
-  the first: 'photo 0' 'photo 1' 'photo 2'
+  the first: 'photo 0' 'photo 1' 'photo 2', and 4 more (--lines has all)
   as recorded on: laptop
   to do: start Syncthing on server and on a device that has it, and let them finish. If it stays
          among the 'Out of Sync Items', see whether the device is paused, connected, or out of
@@ -155,7 +175,7 @@ a  (in docs, 300.0 kB)
 			unwon(folder, "added", 1, finding.LocalChange, file(1, 1))
 		}, lineOfFolder + `
 added  (in docs, 300.0 kB)
-  server: added on this receive-only device; no other has it (since 2020-09-13 12:26:40 UTC)
+  server: added on this receive-only device; no other has it (modified 2020-09-13 12:26:40 UTC)
   to do: 'Revert Local Changes' on server deletes it: copy it elsewhere first if it is to stay. To
          have it everywhere, make the folder 'Send & Receive' there.
 ` + lastLine},
@@ -163,8 +183,25 @@ added  (in docs, 300.0 kB)
 			unwon(folder, "new", 0, finding.Unscanned, with(file(1, 1), func(one *part.Name) { one.Own = nil; one.Disk.ModifiedS = later }))
 		}, lineOfFolder + `
 new  (in docs, 300.0 kB)
-  laptop: on the disk, and no scan has seen it (since 2020-09-13 12:27:40 UTC)
+  laptop: on the disk, and no scan has seen it (modified 2020-09-13 12:27:40 UTC)
   to do: start Syncthing on laptop and 'Rescan': it then goes to all.
+` + lastLine},
+		{"other bytes with another mode", 2, func(folder *finding.Folder) {
+			fails(folder, "a", []*part.Name{file(1, 1), with(file(1, 1), rotten)}, "StoreDiffers 2")
+			folder.Permissions = []finding.Permissions{{Name: "a", At: []finding.Bits{{Has: true, Index: 0o644}, {Has: true, Index: 0o644, OnDisk: true, Disk: 0o600}}}}
+		}, lineOfFolder + `
+a  (in docs, 300.0 kB)
+  server: other bytes on the disk; size and time are as recorded, the mode isn't, so the next scan sees it (modified 2020-09-13 12:26:40 UTC)
+    block 2 differs (1 of 3 blocks of 128 KiB; the first is block 0)
+    the first of them: SHA-256 abcd0000.. recorded, 12000000.. on the disk
+  permissions differ (they don't count for the verdict): laptop 0644; server 0644 recorded, 0600 on the disk
+  as recorded on: laptop
+  to do: before Syncthing scans there, which sends these bytes to all, copy it from laptop to server
+         with its time (cp -p, or rsync --times --ignore-times) while Syncthing is stopped there. If
+         instead the bytes on server are the right ones, 'touch' the file there and let Syncthing
+         scan: it sends them to all.
+  to do: on server, 'chmod 0644' it if that is the right mode, before Syncthing scans there: the
+         scan may send 0600 to all; or choose 'Ignore Permissions' for the folder.
 ` + lastLine},
 		{"permissions that differ", 2, func(folder *finding.Folder) {
 			folder.Permissions = []finding.Permissions{{Name: "a", At: []finding.Bits{{Has: true, Index: 0o644, OnDisk: true, Disk: 0o600}, {Has: true, Index: 0o644}}}}
@@ -172,8 +209,8 @@ new  (in docs, 300.0 kB)
 
 a  (in docs)
   permissions differ (they don't count for the verdict): laptop 0644 recorded, 0600 on the disk; server 0644
-  to do: 'chmod' it to what it should be and let Syncthing scan, or choose 'Ignore Permissions' for
-         the folder.
+  to do: on laptop, 'chmod 0644' it if that is the right mode, before Syncthing scans there: the
+         scan may send 0600 to all; or choose 'Ignore Permissions' for the folder.
 ` + lastLine},
 		{"permissions that differ everywhere", 2, func(folder *finding.Folder) {
 			for _, name := range []string{"1", "2", "3", "4", "5", "6"} {
@@ -183,9 +220,9 @@ a  (in docs)
 
 6 names in docs: 0 bytes, without 6 names whose details weren't kept
   permissions differ (they don't count for the verdict): laptop 0644; server 0600
-  the first: 1 2 3
-  to do: 'chmod' it to what it should be and let Syncthing scan, or choose 'Ignore Permissions' for
-         the folder.
+  the first: 1 2 3, and 3 more (--lines has all)
+  to do: 'chmod' it to the same mode on laptop, server: the next scan of one where it is changed may
+         send its mode to all; or choose 'Ignore Permissions' for the folder.
 ` + lastLine},
 		{"what was left out, and what wasn't asked for", 2, func(folder *finding.Folder) {
 			folder.LeftOut = []*finding.LeftOut{{Name: "odd\xff", Names: 1, Bytes: 3000000, Why: []finding.Reason{{Member: 0, Kind: part.OddName, Why: "its name isn't UTF-8"}}}}
@@ -209,6 +246,16 @@ not compared: owners, extended attributes, old versions
   a.sync-conflict-20261126-170000-ABCDEF2.txt
 not compared: owners, extended attributes, old versions
 `},
+		{"many conflict copies", 2, func(folder *finding.Folder) {
+			for next := 0; next <= mostCopies+6; next++ {
+				folder.Conflicts = append(folder.Conflicts, finding.Conflict{Name: "a", Bytes: 1})
+			}
+		}, `docs (Documents): in step; 1,204 names (4 deleted), 335.2 MB hashed on laptop, server
+
+17 conflict copies in docs, 17 bytes: compare each with its file, and keep what you want of both
+` + strings.Repeat("  a\n", mostCopies) + `  and 7 more (--json has all)
+not compared: owners, extended attributes, old versions
+`},
 		{"one device alone", 1, func(*finding.Folder) {},
 			`docs (Documents): in step as far as audited; 1,204 names (4 deleted), 335.2 MB hashed on laptop
 
@@ -221,15 +268,6 @@ not compared: owners, extended attributes, old versions
 		Of(answerOf(one.devices, one.fill)).Print(&written, time.UTC)
 		if written.String() != one.text {
 			t.Errorf("%s:\n%s\nnot\n%s", one.why, written.String(), one.text)
-		}
-	}
-}
-
-func TestNamesForAShell(t *testing.T) {
-	for name, quoted := range map[string]string{"a/b-c.txt": "a/b-c.txt", "-rf": "'-rf'", "it's": `'it'\''s'`, "über": "über", "a\nb": `$'a\012b'`,
-		"odd\xff'": `$'odd\377\''`, "~": "'~'", "$HOME": "'$HOME'", "": "''", "\u202e": `$'\342\200\256'`} {
-		if Quoted(name) != quoted {
-			t.Errorf("%q is quoted as %s, not %s", name, Quoted(name), quoted)
 		}
 	}
 }

@@ -1,0 +1,56 @@
+package join
+
+import (
+	"fmt"
+	"sort"
+	"strings"
+
+	"syncthing-audit/shell"
+)
+
+// CheckWanted says which id no folder has, of those that were asked for, and which ids there are. Labels has each folder's
+// label by its id.
+func CheckWanted(labels map[string]string, wanted []string) error {
+	for _, id := range wanted {
+		if _, there := labels[id]; there {
+			continue
+		}
+		if labelled := idsWith(labels, id); len(labelled) > 0 {
+			return fmt.Errorf("no folder here has the id %s, which is a label: the id is %s", shell.Quoted(id), strings.Join(labelled, ", or "))
+		}
+		return fmt.Errorf("no folder here has the id %s: %s", shell.Quoted(id), idsOf(labels))
+	}
+	return nil
+}
+
+// idsWith gives the ids of the folders with this label, rising.
+func idsWith(labels map[string]string, label string) []string {
+	made := []string{}
+	for id, one := range labels {
+		if one == label {
+			made = append(made, shell.Quoted(id))
+		}
+	}
+	sort.Strings(made)
+	return made
+}
+
+// idsOf tells all ids with their labels, rising.
+func idsOf(labels map[string]string) string {
+	made := []string{}
+	for id, label := range labels {
+		word := shell.Quoted(id)
+		if label != "" && label != id {
+			word += " (" + shell.Printable(label) + ")"
+		}
+		made = append(made, word)
+	}
+	if len(made) == 0 {
+		return "there is no folder"
+	}
+	if len(made) == 1 {
+		return "the only one is " + made[0]
+	}
+	sort.Strings(made)
+	return "there are " + strings.Join(made, ", ")
+}

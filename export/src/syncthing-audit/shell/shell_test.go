@@ -1,0 +1,26 @@
+package shell
+
+import "testing"
+
+func TestQuoted(t *testing.T) {
+	for name, quoted := range map[string]string{"a/b-c.txt": "a/b-c.txt", "-rf": "'-rf'", "it's": `'it'\''s'`, "über": "über", "a\nb": `$'a\012b'`,
+		"odd\xff'": `$'odd\377\''`, "~": "'~'", "$HOME": "'$HOME'", "": "''", "\u202e": `$'\342\200\256'`} {
+		if Quoted(name) != quoted {
+			t.Errorf("%q is quoted as %s, not %s", name, Quoted(name), quoted)
+		}
+	}
+}
+
+func TestPrintable(t *testing.T) {
+	if told := Printable("my\x1b[2J phone"); told != "my?[2J phone" {
+		t.Error(told)
+	}
+}
+
+func TestPath(t *testing.T) {
+	for name, quoted := range map[string]string{"-rf": "./-rf", "-r f": "'./-r f'", "a/-rf": "a/-rf", "-\n": `$'./-\012'`, "`a`$b": "'`a`$b'"} {
+		if Path(name) != quoted {
+			t.Errorf("%q is the word %s, not %s", name, Path(name), quoted)
+		}
+	}
+}

@@ -1,0 +1,72 @@
+package summary
+
+import "syncthing-audit/part"
+
+// sameOtherBytes gives the devices that have the same bytes in place of those that are recorded, where several do.
+func sameOtherBytes(faults []Fault) [][]string {
+	made := [][]string{}
+	isTold := map[string]bool{}
+	for place := range faults {
+		one := &faults[place]
+		if one.Cause != OtherBytes || isTold[one.Device] {
+			continue
+		}
+		same := []string{one.Device}
+		for next := place + 1; next < len(faults); next++ {
+			if faults[next].Cause == OtherBytes && haveSame(one.contents, faults[next].contents) {
+				same = append(same, faults[next].Device)
+				isTold[faults[next].Device] = true
+			}
+		}
+		if len(same) > 1 {
+			made = append(made, same)
+		}
+	}
+	return made
+}
+
+// haveSame says whether one file's bytes are another's: of one size, and in blocks of one size of one hash.
+func haveSame(contents, others []part.Content) bool {
+	for _, one := range contents {
+		for _, other := range others {
+			if one == other {
+				return true
+			}
+		}
+	}
+	return false
+}
+
+// sendersOfOtherBytes gives the devices whose other bytes a scan could send to all, once the file is touched.
+func (f *File) sendersOfOtherBytes() []string {
+	made := []string{}
+	for place := range f.Faults {
+		one := &f.Faults[place]
+		if one.Cause == OtherBytes && one.Kind != receiveOnly && !isReplaced(one, f) {
+			made = append(made, one.Device)
+		}
+	}
+	return made
+}
+
+// touchAdvice says what to do where the other bytes of one of several devices are the right ones.
+func touchAdvice(file *File, senders []string, named labels) string {
+	for _, same := range file.Same {
+		if hasAll(same, senders) {
+			return "if instead the bytes on " + named.all(senders) + " are the right ones, which are the same, 'touch' the file on " +
+				named.of(senders[0]) + " alone and let Syncthing scan: it sends them to all"
+		}
+	}
+	return "if instead the bytes on one of " + named.all(senders) + " are the right ones, 'touch' the file on that one alone and let " +
+		"Syncthing scan: it sends them to all"
+}
+
+// hasAll says whether a list has all of these words.
+func hasAll(list, words []string) bool {
+	for _, one := range words {
+		if !has(list, one) {
+			return false
+		}
+	}
+	return true
+}

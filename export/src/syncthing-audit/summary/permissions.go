@@ -1,0 +1,57 @@
+package summary
+
+import (
+	"sort"
+	"strings"
+)
+
+// permissionsAdvice says on which devices to change permissions, and what the next scan there may do with them.
+func permissionsAdvice(modes []Mode, named labels) string {
+	words := []string{}
+	indexes := []string{}
+	devices := []string{}
+	strays := map[Mode][]string{}
+	kinds := []Mode{}
+	for _, one := range modes {
+		indexes = addOnce(indexes, one.Index)
+		devices = append(devices, one.Device)
+		if !one.isStray() {
+			continue
+		}
+		kind := Mode{Index: one.Index, Disk: one.Disk}
+		if strays[kind] == nil {
+			kinds = append(kinds, kind)
+		}
+		strays[kind] = append(strays[kind], one.Device)
+	}
+	for _, kind := range kinds {
+		words = append(words, "on "+named.all(strays[kind])+", 'chmod "+kind.Index+"' it if that is the right mode, before Syncthing scans there: "+
+			"the scan may send "+kind.Disk+" to all")
+	}
+	if len(indexes) > 1 {
+		words = append(words, "'chmod' it to the same mode on "+named.all(devices)+": the next scan of one where it is changed may send its mode to all")
+	}
+	words = append(words, "or choose 'Ignore Permissions' for the folder")
+	return strings.Join(words, "; ")
+}
+
+// isStray says whether a disk has another mode than the device's index.
+func (m *Mode) isStray() bool { return m.Disk != "" && m.Disk != m.Index }
+
+// markSeen marks other bytes that the next scan hashes all the same, since the mode on the disk isn't as recorded.
+func (f *File) markSeen() {
+	for place := range f.Faults {
+		for _, mode := range f.Permissions {
+			if f.Faults[place].Cause == OtherBytes && f.Faults[place].Device == mode.Device && mode.isStray() {
+				f.Faults[place].isSeen = true
+			}
+		}
+	}
+}
+
+// sortDevices puts what is told of devices in the order of their names.
+func (f *File) sortDevices(named labels) {
+	sort.SliceStable(f.Faults, func(a, b int) bool { return named.of(f.Faults[a].Device) < named.of(f.Faults[b].Device) })
+	sort.SliceStable(f.Permissions, func(a, b int) bool { return named.of(f.Permissions[a].Device) < named.of(f.Permissions[b].Device) })
+	sort.SliceStable(f.Have, func(a, b int) bool { return named.of(f.Have[a]) < named.of(f.Have[b]) })
+}

@@ -1,0 +1,94 @@
+package main
+
+import (
+	"bufio"
+	"fmt"
+	"io"
+	"os"
+	"path/filepath"
+
+	"syncthing-audit/leftover"
+	"syncthing-audit/shell"
+)
+
+// standardOutput are the words for standard output. The program keeps the second one's number for standard error.
+var standardOutput = map[string]bool{"": true, "-": true, "/dev/stdout": true}
+
+// target is where a part goes.
+type target struct {
+	path     string // not a symlink, unless it is direct
+	isDirect bool   // a device or a pipe, into which the part is written as it is made
+}
+
+// targetOf finds what a path names. A symlink stays, and what it points to is written.
+func targetOf(path string) (*target, error) {
+	about, err := os.Stat(path)
+	if os.IsNotExist(err) {
+		return targetOfNothing(path)
+	}
+	if err != nil {
+		return nil, err
+	}
+	switch kind := about.Mode().Type(); {
+	case kind == os.ModeDevice|os.ModeCharDevice || kind == os.ModeNamedPipe:
+		return &target{path, true}, nil
+	case kind.IsDir():
+		return nil, refusedTarget(path, "is a directory: name a file")
+	case !kind.IsRegular():
+		return nil, refusedTarget(path, "is no file, pipe or character device: name another one")
+	}
+	real, err := filepath.EvalSymlinks(path)
+	return &target{real, false}, err
+}
+
+// targetOfNothing is for a path at which nothing is, or a symlink to nothing.
+func targetOfNothing(path string) (*target, error) {
+	if _, err := os.Lstat(path); err == nil {
+		return nil, refusedTarget(path, "is a symlink to nothing: name a file")
+	}
+	if about, err := os.Stat(filepath.Dir(path)); err != nil || !about.IsDir() {
+		return nil, refusedTarget(filepath.Dir(path), "is no directory: make it first")
+	}
+	return &target{path, false}, nil
+}
+
+func refusedTarget(path, why string) error {
+	return fmt.Errorf("refused: %s %s", shell.Quoted(path), why)
+}
+
+// write writes the part: a file is there whole or not at all.
+func (t *target) write(write func(io.Writer) error) error {
+	if t.isDirect {
+		file, err := os.OpenFile(t.path, os.O_WRONLY, 0)
+		if err != nil {
+			return err
+		}
+		return fill(file, write)
+	}
+	file, err := leftover.File(filepath.Dir(t.path), ".syncthing-audit-")
+	if err != nil {
+		return err
+	}
+	defer leftover.Remove(file.Name())
+	if err := fill(file, write); err != nil {
+		return err
+	}
+	// Something else may have come meanwhile, which a new name would replace.
+	if about, err := os.Lstat(t.path); err == nil && !about.Mode().IsRegular() {
+		return refusedTarget(t.path, "is no file any more")
+	}
+	return os.Rename(file.Name(), t.path)
+}
+
+// fill writes into a file and closes it.
+func fill(file *os.File, write func(io.Writer) error) error {
+	buffered := bufio.NewWriter(file)
+	err := write(buffered)
+	if err == nil {
+		err = buffered.Flush()
+	}
+	if closed := file.Close(); err == nil {
+		err = closed
+	}
+	return err
+}
