@@ -14,6 +14,8 @@ import sys
 from collections import Counter
 
 import reading
+import reports
+import things
 from cluster.cut import NoWinner, certify
 from documents import Documents, at_limits
 
@@ -64,10 +66,10 @@ def compare_certified(document):
     try:
         read = reading.read_cut(document)
         wanted = in_order(read | {"rows": certify(read)})
-    except reading.Fault as fault:
-        wanted = reading.written(*reading.refusal(fault))
+    except things.Fault as fault:
+        wanted = reports.written(*reports.refusal(fault))
     except NoWinner as none:
-        wanted = b"not settled: NotWinner %s %s\n" % (none.folder, reading.printed(none.name)), 1
+        wanted = b"not settled: NotWinner %s %s\n" % (none.folder, reports.printed(none.name)), 1
     if isinstance(wanted, tuple):
         is_same = told == wanted
     else:
@@ -78,7 +80,7 @@ def compare_certified(document):
 
 def compare(document):
     """Compares what is told of a document, and answers what `check` should write."""
-    check, explain = reading.answers(document)
+    check, explain = reports.answers(document)
     for command, wanted in (("check", check), ("explain", explain)):
         told = run(command, document)
         if told != wanted:

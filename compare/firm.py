@@ -9,7 +9,10 @@ a version that is at most v. Then nobody wants anything, by whatever rule it cho
 import sys
 
 import reading
-from reading import Fault, is_at_most
+import reports
+import verdict
+from things import Fault
+from verdict import is_at_most
 
 
 def has_version(device, name, winner):
@@ -38,14 +41,14 @@ def first_fault(cut, rows):
 
 def report(read):
     """The lines on a cut, and the exit status."""
-    cut = reading.Cut(read)
-    return reading.report_of(cut, b"firm", first_fault(cut, read["rows"]))
+    cut = verdict.Cut(read)
+    return reports.report_of(cut, b"firm", first_fault(cut, read["rows"]))
 
 
 def explanation(read):
     """A line for all that keeps a cut from being firm, and the exit status."""
-    faults = reading.Cut(read).all_faults(read["rows"], (*reading.DEVICE_REASONS, *FIRM_REASONS))
-    lines = [reading.fault_line(*fault) for fault in faults]
+    faults = verdict.Cut(read).all_faults(read["rows"], (*verdict.DEVICE_REASONS, *FIRM_REASONS))
+    lines = [reports.fault_line(*fault) for fault in faults]
     return lines or [b"firm"], 1 if lines else 0
 
 
@@ -55,8 +58,8 @@ def answers(document):
     try:
         read = reading.read_check(document)
     except Fault as fault:
-        return (reading.written(*reading.refusal(fault)),) * 2
-    return reading.written(*report(read)), reading.written(*explanation(read))
+        return (reports.written(*reports.refusal(fault)),) * 2
+    return reports.written(*report(read)), reports.written(*explanation(read))
 
 
 if __name__ == "__main__":

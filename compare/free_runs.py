@@ -23,7 +23,7 @@ from dataclasses import replace
 from functools import partial
 
 import firm
-import reading
+import verdict
 from cluster.core import Cluster
 from cluster.cut import NoWinner, certify, cut_of
 from cluster.record import Record
@@ -63,7 +63,7 @@ def firm_rows(cluster: Cluster) -> list[dict] | None:
         rows = certify(cut)
     except NoWinner:
         return None
-    return rows if firm.first_fault(reading.Cut(cut), rows) is None else None
+    return rows if firm.first_fault(verdict.Cut(cut), rows) is None else None
 
 
 class Firm:

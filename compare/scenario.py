@@ -7,7 +7,10 @@ on the cut that they leave, and its list of winners.
 
 import sys
 
+import placed
 import reading
+import reports
+import things
 from cluster.choice import FolderKind
 from cluster.core import Cluster, Config, Share
 from cluster.cut import NoWinner, certify, cut_of
@@ -15,7 +18,9 @@ from cluster.record import Kind, Node
 from cluster.refusal import Why
 from cluster.step import (Announce, Ask, Begin, Connect, Deliver, Edit, Finish, Lose, Override, Remove, Restart, Revert,
                           Scan, StartPull, Step)
-from reading import U64, Fault, at_most, is_list, is_node, is_object, is_pair, is_text, is_whole, passed, within
+from json_text import U64
+from shapes import is_list, is_node, is_object, is_pair, is_text, is_whole
+from things import Fault, at_most, passed, within
 
 # ---- shapes
 
@@ -56,7 +61,7 @@ def share(value: dict) -> Share:
 
 def folder(value: dict) -> tuple[str, list[Share]]:
     """A folder's name, and the devices that share it."""
-    return reading.folder_name(value["folder"]).decode(), list(map(share, value["devices"]))
+    return things.folder_name(value["folder"]).decode(), list(map(share, value["devices"]))
 
 
 def step(value: list) -> tuple[Step, dict | None]:
@@ -65,10 +70,10 @@ def step(value: list) -> tuple[Step, dict | None]:
     devices = [within(item, 1, U64) for item in value[1:] if is_whole(item)]
     texts = value[1 + len(devices):]
     if make is Edit:
-        item = reading.node(texts[1])
+        item = things.node(texts[1])
         node = Node(Kind(item["kind"]), item["seconds"], item["nanoseconds"], item["bytes"], item["target"].decode())
-        return Edit(*devices, reading.folder_name(texts[0]).decode(), item["name"].decode(), node), item
-    named = [reading.folder_name(text) for text in texts[:1]] + [reading.file_name(text) for text in texts[1:]]
+        return Edit(*devices, things.folder_name(texts[0]).decode(), item["name"].decode(), node), item
+    named = [things.folder_name(text) for text in texts[:1]] + [things.file_name(text) for text in texts[1:]]
     return make(*devices, *(text.decode() for text in named)), None
 
 
@@ -76,14 +81,14 @@ def step(value: list) -> tuple[Step, dict | None]:
 
 def find_twice(folders: list[tuple[str, list[Share]]], links: list[tuple[int, int]]) -> None:
     """Refuses a folder, a device of a folder, or a link that stands twice, at the later one."""
-    names = reading.Once()
+    names = placed.Once()
     for name, shares in folders:
         here = name.encode()
         names.add(name, here, None, None)
-        devices = reading.Once()
+        devices = placed.Once()
         for one in shares:
             devices.add(one.device, here, one.device, None)
-    ends = reading.Once()
+    ends = placed.Once()
     for a, b in links:
         ends.add((a, b), None, a, None)
 
@@ -91,7 +96,7 @@ def find_twice(folders: list[tuple[str, list[Share]]], links: list[tuple[int, in
 def find_bad_node(steps: list[tuple[Step, dict | None]]) -> None:
     """Refuses an edit whose node has bytes or a target that its kind doesn't have."""
     for one, item in steps:
-        if item is not None and not reading.fits_kind(item):
+        if item is not None and not placed.fits_kind(item):
             raise Fault(187, one.folder.encode(), one.device, item["name"])
 
 
@@ -139,7 +144,7 @@ def version_text(version: dict[int, int]) -> bytes:
 
 def certificate_lines(rows: list[dict]) -> list[bytes]:
     """A line for each row."""
-    return [b"%s %s %d %d %s %s" % (row["folder"], reading.printed(row["record"]["name"]), row["device"],
+    return [b"%s %s %d %d %s %s" % (row["folder"], reports.printed(row["record"]["name"]), row["device"],
                                     row["record"]["kind"], b"deleted" if row["record"]["deleted"] else b"present",
                                     version_text(row["record"]["version"]))
             for row in rows]
@@ -147,8 +152,8 @@ def certificate_lines(rows: list[dict]) -> list[bytes]:
 
 def report_without_winner(cut: dict, none: NoWinner) -> tuple[list[bytes], int]:
     """The report on a cut that has a known name without winner."""
-    lines, _ = reading.report(cut | {"rows": []})
-    verdict = b"not settled: NotWinner %s %s" % (none.folder, reading.printed(none.name))
+    lines, _ = reports.report(cut | {"rows": []})
+    verdict = b"not settled: NotWinner %s %s" % (none.folder, reports.printed(none.name))
     return [verdict] + lines[1:], 1
 
 
@@ -162,7 +167,7 @@ def run(config: Config, steps: list[Step]) -> tuple[list[bytes], int]:
     except NoWinner as none:
         lines, status = report_without_winner(cut, none)
         return refused + lines, status
-    lines, status = reading.report(cut | {"rows": rows})
+    lines, status = reports.report(cut | {"rows": rows})
     return refused + lines + certificate_lines(rows), status
 
 
@@ -171,8 +176,8 @@ def answer(document: bytes) -> tuple[bytes, int]:
     try:
         lines, status = run(*read_scenario(document))
     except Fault as fault:
-        lines, status = reading.refusal(fault)
-    return reading.written(lines, status)
+        lines, status = reports.refusal(fault)
+    return reports.written(lines, status)
 
 
 if __name__ == "__main__":

@@ -10,8 +10,8 @@ from collections import Counter
 from dataclasses import replace
 
 import firm
-import reading
 import story
+import verdict
 from cases import BOTH, DOCS, docs, empty_cluster, entry, put, text
 from cluster.core import Cluster
 from cluster.cut import certify, cut_of, first_fault, stores_of
@@ -56,7 +56,7 @@ def view(cluster: Cluster, device: int, other: int, known: Record) -> None:
 def fault(cluster: Cluster):
     """Why the cluster's cut isn't firm: reason, name and device; None where it is."""
     cut = cut_of(cluster)
-    found = firm.first_fault(reading.Cut(cut), certify(cut))
+    found = firm.first_fault(verdict.Cut(cut), certify(cut))
     return found and (found[0], found[2].decode(), found[3])
 
 

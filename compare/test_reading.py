@@ -9,6 +9,7 @@ import json
 import unittest
 
 import reading
+import reports
 from cluster.cut import NoWinner, certify
 
 HELLO = "2cf24dba5fb0a30e26e83b2ac5b9e29e1b161e5c1fa7425e73043362938b9824"
@@ -83,7 +84,7 @@ class Answers(unittest.TestCase):
     def answers(self, asked, status, *lines):
         """These lines and this exit status are what the program should give."""
         data = asked if isinstance(asked, bytes) else json.dumps(asked).encode()
-        self.assertEqual(reading.answer(data), ("".join(line + "\n" for line in lines).encode(), status))
+        self.assertEqual(reports.answer(data), ("".join(line + "\n" for line in lines).encode(), status))
 
     def refuses(self, asked, fault):
         """The document is refused so."""
@@ -92,7 +93,7 @@ class Answers(unittest.TestCase):
     def certified(self, asked):
         """What is answered to the document with the list of its own winners."""
         read = reading.read_check(json.dumps(asked).encode())
-        lines, status = reading.report(read | {"rows": certify(read)})
+        lines, status = reports.report(read | {"rows": certify(read)})
         return [line.decode() for line in lines], status
 
     def all_versions(self, version):
@@ -321,29 +322,29 @@ class Texts(unittest.TestCase):
             for value in values:
                 with self.subTest(value=value):
                     wanted = (f"refused: {fault}\n".encode(), 2)
-                    self.assertEqual(reading.answer(f'{{"version":{value}}}'.encode()), wanted)
+                    self.assertEqual(reports.answer(f'{{"version":{value}}}'.encode()), wanted)
                     dropped = "181 NotJson" if fault == "181 NotJson" else "183 Shape"
                     wanted = (f"refused: {dropped}\n".encode(), 2)
-                    self.assertEqual(reading.answer(f'{{"version":{value},"version":1}}'.encode()), wanted)
-                    self.assertEqual(reading.answer(f'{{"more":{value},"version":1}}'.encode()), wanted)
+                    self.assertEqual(reports.answer(f'{{"version":{value},"version":1}}'.encode()), wanted)
+                    self.assertEqual(reports.answer(f'{{"more":{value},"version":1}}'.encode()), wanted)
 
     def test_bytes_around_a_document(self):
-        settled = reading.answer(DOC1.encode())
+        settled = reports.answer(DOC1.encode())
         for before, after in ((b" \t\r\n", b""), (b"", b" \t\r\n"), (b"\n", b"\n")):
-            self.assertEqual(reading.answer(before + DOC1.encode() + after), settled)
+            self.assertEqual(reports.answer(before + DOC1.encode() + after), settled)
         for before, after in ((b"\xef\xbb\xbf", b""), (b"", b"\0"), (b"", b"x"), (b"", b"}"), (b"", b"{}"), (b",", b""),
                               (b"\x0c", b""), (b"", b"\x1a"), (b"", b"\xff"), (b"", b"\xc2\xa0")):
             with self.subTest(before=before, after=after):
-                self.assertEqual(reading.answer(before + DOC1.encode() + after), (b"refused: 181 NotJson\n", 2))
+                self.assertEqual(reports.answer(before + DOC1.encode() + after), (b"refused: 181 NotJson\n", 2))
 
     def test_what_is_no_utf_8(self):
         for text in (b"\xff", b"\xc0\x80", b"\xed\xa0\xbd", b"\xf4\x90\x80\x80", b"\xc3"):
             with self.subTest(text=text):
-                self.assertEqual(reading.answer(b'{"version":2,"more":"' + text + b'"}'), (b"refused: 181 NotJson\n", 2))
+                self.assertEqual(reports.answer(b'{"version":2,"more":"' + text + b'"}'), (b"refused: 181 NotJson\n", 2))
 
     def test_names_of_members_are_their_characters(self):
         escaped = DOC1.replace('"cut"', '"c\\u0075t"')
-        self.assertEqual(reading.answer(escaped.encode()), reading.answer(DOC1.encode()))
+        self.assertEqual(reports.answer(escaped.encode()), reports.answer(DOC1.encode()))
 
 
 if __name__ == "__main__":

@@ -8,8 +8,8 @@ each store holds what it held.
 
 import unittest
 
-import reading
 import story
+import verdict
 from cases import BOTH, DOCS, docs, empty_cluster, entry, put, text
 from cluster.core import Cluster
 from cluster.cut import first_fault, stores_of
@@ -33,7 +33,7 @@ def old_record(version: tuple) -> Record:
 class Headline(unittest.TestCase):
     """What every list of quiet steps from a settled cluster does to the stores."""
 
-    def changes(self, cluster: Cluster, steps: list[Step], device=reading.Device) -> dict:
+    def changes(self, cluster: Cluster, steps: list[Step], device=verdict.Device) -> dict:
         """Takes these quiet steps, from a cluster that this checker calls settled; answers what each store that isn't
         kept holds then."""
         self.assertIsNone(first_fault(cluster, device))
@@ -74,7 +74,7 @@ class OldForeignRecordWithoutOwn(Headline):
         self.assertEqual(first_fault(self.cluster(has_own=False)), ("ViewAhead", DOCS.encode(), NAME.encode(), 3))
 
     def test_with_the_own_record_that_the_right_rule_asks_for_all_is_kept(self):
-        for checker in (reading.Device, PassesOldForeignWithoutOwn):
+        for checker in (verdict.Device, PassesOldForeignWithoutOwn):
             self.assertEqual(self.changes(self.cluster(has_own=True), self.STEPS, checker), {})
 
 

@@ -3,19 +3,19 @@ which a store isn't kept (test_teeth.py)."""
 
 from dataclasses import dataclass, field
 
-import reading
+import verdict
 from cluster.record import Node, Record
 from cluster.refusal import Why, refuse
 from cluster.replica import Replica
 
 
-class PassesOldForeignWithoutOwn(reading.Device):
+class PassesOldForeignWithoutOwn(verdict.Device):
     """A device of a checker that passes a foreign record over where its version is at most the winner's, though the
     device has no own record. Right is: it passes over only what is strictly below the device's own version."""
 
     def is_harmless(self, entry, winner):
         """Whether the record may be known at the device, where this record is the name's winner."""
-        is_old = entry["name"] not in self.own and reading.is_at_most(entry["version"], winner["version"])
+        is_old = entry["name"] not in self.own and verdict.is_at_most(entry["version"], winner["version"])
         return is_old or super().is_harmless(entry, winner)
 
 

@@ -73,4 +73,5 @@ def main(top):
     print(f"wrong: these edits took {sum(sum(it.values()) for it in seconds.values()):.0f} processor seconds")
 
 
-main(*sys.argv[1:])
+if __name__ == "__main__":
+    main(*sys.argv[1:])

@@ -116,4 +116,5 @@ def main():
     return count.told()
 
 
-sys.exit(main())
+if __name__ == "__main__":
+    sys.exit(main())

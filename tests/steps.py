@@ -26,4 +26,5 @@ def main(given, *_):
     return program.count.told()
 
 
-sys.exit(main(*sys.argv[1:]))
+if __name__ == "__main__":
+    sys.exit(main(*sys.argv[1:]))

@@ -19,7 +19,7 @@ import tempfile
 from pathlib import Path
 
 from counting import Count
-from edits import HERE, LENT, TOP, applied, commits, crates, edits_of, lent, name_of, place_of, turns
+from edits import HERE, LENT, TOP, applied, commits, crates, edits_of, git, lent, name_of, place_of, turns
 
 
 def misfit(edit):
@@ -43,20 +43,24 @@ def refused(log):
     return set(re.findall(r"^(?:rt: )?must-fail (\S+)\.edit: refused, as it must be", log, re.M))
 
 
+def hindrances(names):
+    """Why the edits of these crates can't be tried on a clone; nothing where they can."""
+    unknown = sorted(set(names) - set(crates()))
+    if unknown:
+        return [f"there are no edits of {' '.join(unknown)}"]
+    if git("status", "--porcelain", "--", "HANDLES", "crates.txt", "crates"):
+        return ["crates/ has changes that aren't committed, and edits are tried on a clone: commit them first"]
+    misfits = ((edit, misfit(edit)) for crate in names for edit in edits_of(crate))
+    return [f"{name_of(edit)}: {why}" for edit, why in misfits if why]
+
+
 def attempt(names):
     """Tries the edits of these crates on a clone."""
     count = Count("wrong")
-    unknown = sorted(set(names) - set(crates()))
-    if unknown:
-        count.fails(f"there are no edits of {' '.join(unknown)}")
-    elif subprocess.run(["git", "status", "--porcelain", "--", "HANDLES", "crates.txt", "crates"], cwd=TOP,
-                        capture_output=True).stdout:
-        count.fails("crates/ has changes that aren't committed, and edits are tried on a clone: commit them first")
-    else:
-        fit(count, names)
+    for why in hindrances(names):
+        count.fails(why)
     if count.failed:
         return count.told()
-    count = Count("wrong")
     with tempfile.TemporaryDirectory() as room:
         clone = Path(room) / "clone"
         subprocess.run(["git", "clone", "-q", TOP, clone], check=True)
@@ -126,4 +130,5 @@ def main(words):
     return attempt(words or crates())
 
 
-sys.exit(main(sys.argv[1:]))
+if __name__ == "__main__":
+    sys.exit(main(sys.argv[1:]))

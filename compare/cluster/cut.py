@@ -1,7 +1,7 @@
 """The cut of a cluster, as reading.py reads one from a document; its list of winners, and what was kept since another
 cluster."""
 
-import reading
+import verdict
 
 from .core import Cluster
 from .link import Index, IndexUpdate, Link
@@ -65,7 +65,7 @@ def cut_of(cluster: Cluster) -> dict:
 
 def certify(cut: dict) -> list[dict]:
     """The list of winners, rising by folder and name; NoWinner for the least known name that has none."""
-    tables = reading.Cut(cut)
+    tables = verdict.Cut(cut)
     rows = []
     for folder in tables.folders:
         for name in sorted(tables.known(folder)):
@@ -76,12 +76,12 @@ def certify(cut: dict) -> list[dict]:
     return rows
 
 
-def first_fault(cluster: Cluster, device: type[reading.Device] = reading.Device):
+def first_fault(cluster: Cluster, device: type[verdict.Device] = verdict.Device):
     """Why the cluster's cut isn't settled for the list of its own winners: reason, folder, name, device; None where it
     is. What is asked of a device is asked by the rules of `device`."""
     cut = cut_of(cluster)
     try:
-        return reading.Cut(cut, device).first_fault(certify(cut))
+        return verdict.Cut(cut, device).first_fault(certify(cut))
     except NoWinner as none:
         return "NotWinner", none.folder, none.name, None
 
@@ -90,7 +90,7 @@ def settled_contents(cluster: Cluster):
     """The content that each known name is settled at; None where the cut isn't settled for its own winners."""
     if first_fault(cluster) is not None:
         return None
-    return {(row["folder"], row["record"]["name"]): reading.content(row["record"]) for row in certify(cut_of(cluster))}
+    return {(row["folder"], row["record"]["name"]): verdict.content(row["record"]) for row in certify(cut_of(cluster))}
 
 
 def stores_of(cluster: Cluster) -> dict:

@@ -6,7 +6,9 @@ from pathlib import Path
 
 sys.path.insert(0, str(Path(__file__).resolve().parents[2] / "compare"))
 
-from reading import Cut, answer, read_check  # noqa: E402
+from reading import read_check  # noqa: E402
+from reports import answer  # noqa: E402
+from verdict import Cut  # noqa: E402
 
 
 def encoded(value):

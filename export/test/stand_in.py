@@ -11,8 +11,9 @@ CUT is what is exported, without a certificate.
 
 import sys
 
-from documents import certified
-from reading import Fault, answer, answers, printed, refusal
+from documents import certified  # first: it finds compare/
+from reports import answer, answers, printed, refusal
+from things import Fault
 
 
 def certify(written):

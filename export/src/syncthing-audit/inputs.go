@@ -6,6 +6,7 @@ import (
 	"os"
 	"sort"
 
+	"golang.org/x/exp/slices"
 	"syncthing-audit/device"
 	"syncthing-audit/disk"
 	"syncthing-audit/gather"
@@ -110,7 +111,7 @@ func (i *inputs) deviceOf(home *device.Home, asked options) (*gather.Device, err
 	folders := append(home.Config.Folders[:0:0], home.Config.Folders...)
 	sort.Slice(folders, func(a, b int) bool { return folders[a].ID < folders[b].ID })
 	for _, one := range folders {
-		if len(asked.folders) > 0 && !contains(asked.folders, one.ID) {
+		if len(asked.folders) > 0 && !slices.Contains(asked.folders, one.ID) {
 			continue
 		}
 		index, err := home.Index(one)
@@ -122,15 +123,6 @@ func (i *inputs) deviceOf(home *device.Home, asked options) (*gather.Device, err
 		made.Folders = append(made.Folders, index)
 	}
 	return made, nil
-}
-
-func contains(all []string, word string) bool {
-	for _, one := range all {
-		if one == word {
-			return true
-		}
-	}
-	return false
 }
 
 // meaning says once, on standard error, what an answer means for real Syncthing.

@@ -18,7 +18,7 @@ func (n *names) addConflict(row *join.Row) {
 	}
 	for _, one := range row.At {
 		if one != nil && one.Disk != nil {
-			n.found.Conflicts = append(n.found.Conflicts, finding.Conflict{Name: row.Name, Bytes: sizeOf(row)})
+			n.found.Conflicts = append(n.found.Conflicts, finding.Conflict{Name: row.Name, Bytes: row.Size()})
 			return
 		}
 	}

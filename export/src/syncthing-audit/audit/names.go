@@ -24,7 +24,7 @@ func (n *names) row(row *join.Row) error {
 	case n.isBelow(row):
 	case isOutside(row):
 		n.found.Outside.Names++
-		n.found.Outside.Bytes += sizeOf(row)
+		n.found.Outside.Bytes += row.Size()
 	case hasOut(row):
 		n.leaveOut(row, reasonsOf(row))
 	default:
@@ -71,13 +71,13 @@ func (n *names) isBelow(row *join.Row) bool {
 		return false
 	}
 	n.below.Names++
-	n.below.Bytes += sizeOf(row)
+	n.below.Bytes += row.Size()
 	return true
 }
 
 // leaveOut leaves a name out for all these reasons, or refuses it for those that weren't asked to be left out.
 func (n *names) leaveOut(row *join.Row, reasons []finding.Reason) {
-	one := &finding.LeftOut{Name: row.Name, Names: 1, Bytes: sizeOf(row), Why: reasons}
+	one := &finding.LeftOut{Name: row.Name, Names: 1, Bytes: row.Size(), Why: reasons}
 	for _, at := range row.At {
 		for _, out := range outsOf(at) {
 			one.Below = one.Below || out.Below
@@ -140,29 +140,4 @@ func isOutside(row *join.Row) bool {
 		}
 	}
 	return true
-}
-
-// sizeOf gives the most bytes that a member has, or records, of a name.
-func sizeOf(row *join.Row) int64 {
-	most := int64(0)
-	take := func(size int64) {
-		if size > most {
-			most = size
-		}
-	}
-	for _, one := range row.At {
-		if one == nil {
-			continue
-		}
-		if one.Disk != nil {
-			take(one.Disk.Size)
-		}
-		if one.Own != nil && one.Own.Content != nil {
-			take(one.Own.Content.Size)
-		}
-		for _, out := range one.Out {
-			take(out.Bytes)
-		}
-	}
-	return most
 }

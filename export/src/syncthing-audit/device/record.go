@@ -96,7 +96,7 @@ func recordOf(entry protocol.FileInfo) (*part.Record, [][32]byte, error) {
 // checkHead says what of an entry but its version and content the document doesn't have.
 func checkHead(entry protocol.FileInfo) error {
 	switch {
-	case !isKind(entry.Type):
+	case !part.IsType(int(entry.Type)):
 		return fmt.Errorf("its type is %d (only files, directories and symlinks are had)", entry.Type)
 	case len(entry.Encrypted) > 0:
 		return errors.New("it is encrypted")
@@ -106,11 +106,6 @@ func checkHead(entry protocol.FileInfo) error {
 		return errors.New("it doesn't say which device changed it")
 	}
 	return nil
-}
-
-// isKind says whether the document has this type.
-func isKind(kind protocol.FileInfoType) bool {
-	return kind == protocol.FileInfoTypeFile || kind == protocol.FileInfoTypeDirectory || kind == protocol.FileInfoTypeSymlink
 }
 
 // versionOf gives a version's counters, their devices rising.

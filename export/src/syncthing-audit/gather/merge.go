@@ -5,6 +5,7 @@ import (
 
 	"github.com/syncthing/syncthing/lib/ignore"
 	"github.com/syncthing/syncthing/lib/protocol"
+	"golang.org/x/exp/slices"
 	"syncthing-audit/device"
 	"syncthing-audit/disk"
 	"syncthing-audit/limits"
@@ -209,18 +210,9 @@ func blockSizes(line *part.Name) []int64 {
 	sizes := []int64{first}
 	for _, seen := range line.Views {
 		content := seen.Record.Content
-		if content != nil && content.Size == size && !contains(sizes, content.BlockSize) && (size > first || size > content.BlockSize) {
+		if content != nil && content.Size == size && !slices.Contains(sizes, content.BlockSize) && (size > first || size > content.BlockSize) {
 			sizes = append(sizes, content.BlockSize)
 		}
 	}
 	return sizes
-}
-
-func contains(sizes []int64, size int64) bool {
-	for _, one := range sizes {
-		if one == size {
-			return true
-		}
-	}
-	return false
 }

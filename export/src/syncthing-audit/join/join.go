@@ -53,6 +53,31 @@ type Row struct {
 	At   []*part.Name
 }
 
+// Size gives the most bytes that a member has, records or leaves out of the name.
+func (r *Row) Size() int64 {
+	most := int64(0)
+	take := func(size int64) {
+		if size > most {
+			most = size
+		}
+	}
+	for _, one := range r.At {
+		if one == nil {
+			continue
+		}
+		if one.Disk != nil {
+			take(one.Disk.Size)
+		}
+		if one.Own != nil && one.Own.Content != nil {
+			take(one.Own.Content.Size)
+		}
+		for _, out := range one.Out {
+			take(out.Bytes)
+		}
+	}
+	return most
+}
+
 // peek gives the next line of a device's part without taking it.
 func (d *Device) peek() (*part.Line, error) {
 	if d.line == nil {

@@ -4,6 +4,7 @@ import (
 	"fmt"
 	"sort"
 
+	"golang.org/x/exp/slices"
 	"syncthing-audit/limits"
 	"syncthing-audit/part"
 	"syncthing-audit/shell"
@@ -91,21 +92,12 @@ func chosen(devices []*Device, wanted []string) ([]string, error) {
 	}
 	ids := []string{}
 	for id := range there {
-		if len(wanted) == 0 || contains(wanted, id) {
+		if len(wanted) == 0 || slices.Contains(wanted, id) {
 			ids = append(ids, id)
 		}
 	}
 	sort.Strings(ids)
 	return ids, nil
-}
-
-func contains(all []string, word string) bool {
-	for _, one := range all {
-		if one == word {
-			return true
-		}
-	}
-	return false
 }
 
 // folder gives a folder with its devices; nothing where it isn't audited as a whole.

@@ -7,6 +7,7 @@ import (
 	"math"
 
 	"github.com/syncthing/syncthing/lib/protocol"
+	"golang.org/x/exp/slices"
 	"syncthing-audit/limits"
 	"syncthing-audit/shell"
 )
@@ -167,7 +168,7 @@ func checkRecord(one *Record, greatest int64) error {
 	switch {
 	case one.Sequence < 1 || one.Sequence > greatest:
 		return fmt.Errorf("its sequence %d isn't 1 to %d", one.Sequence, greatest)
-	case !isKind(one.Type):
+	case !IsType(one.Type):
 		return fmt.Errorf("its type is %d", one.Type)
 	case (one.Content != nil) != (isFile(one.Type) && !one.Deleted):
 		return errors.New("it has a content and is no file, or the other way round")
@@ -201,7 +202,7 @@ func checkVersion(counters [][2]uint64) error {
 // checkNode says why a node is none; one that is left out may have no content.
 func checkNode(one *Node, isOut bool) error {
 	switch {
-	case !isKind(one.Type):
+	case !IsType(one.Type):
 		return fmt.Errorf("its type is %d", one.Type)
 	case one.ModifiedNs < 0 || one.ModifiedNs > 999999999 || one.Size < 0:
 		return errors.New("its time or size is none")
@@ -229,17 +230,12 @@ const symlink = int(protocol.FileInfoTypeSymlink)
 
 func isFile(kind int) bool { return kind == int(protocol.FileInfoTypeFile) }
 
-// isKind says whether a document has this type.
-func isKind(kind int) bool {
+// IsType says whether a document has this type.
+func IsType(kind int) bool {
 	return isFile(kind) || kind == int(protocol.FileInfoTypeDirectory) || kind == symlink
 }
 
 // IsKind says whether this is a kind of what is left out.
 func IsKind(word string) bool {
-	for _, one := range Kinds {
-		if one == word {
-			return true
-		}
-	}
-	return false
+	return slices.Contains(Kinds, word)
 }

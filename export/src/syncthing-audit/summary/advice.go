@@ -3,6 +3,8 @@ package summary
 import (
 	"sort"
 	"strings"
+
+	"golang.org/x/exp/slices"
 )
 
 // labels are the names of devices for a person, by their ids.
@@ -59,20 +61,10 @@ func isReplaced(one *Fault, file *File) bool {
 
 // addOnce adds a text that isn't there yet.
 func addOnce(all []string, text string) []string {
-	if has(all, text) {
+	if slices.Contains(all, text) {
 		return all
 	}
 	return append(all, text)
-}
-
-// has says whether a list has a text.
-func has(all []string, text string) bool {
-	for _, one := range all {
-		if one == text {
-			return true
-		}
-	}
-	return false
 }
 
 // source says from where a file can be had, or where else to look.

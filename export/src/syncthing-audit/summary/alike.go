@@ -1,6 +1,9 @@
 package summary
 
-import "syncthing-audit/part"
+import (
+	"golang.org/x/exp/slices"
+	"syncthing-audit/part"
+)
 
 // sameOtherBytes gives the devices that have the same bytes in place of those that are recorded, where several do.
 func sameOtherBytes(faults []Fault) [][]string {
@@ -28,10 +31,8 @@ func sameOtherBytes(faults []Fault) [][]string {
 // haveSame says whether one file's bytes are another's: of one size, and in blocks of one size of one hash.
 func haveSame(contents, others []part.Content) bool {
 	for _, one := range contents {
-		for _, other := range others {
-			if one == other {
-				return true
-			}
+		if slices.Contains(others, one) {
+			return true
 		}
 	}
 	return false
@@ -64,7 +65,7 @@ func touchAdvice(file *File, senders []string, named labels) string {
 // hasAll says whether a list has all of these words.
 func hasAll(list, words []string) bool {
 	for _, one := range words {
-		if !has(list, one) {
+		if !slices.Contains(list, one) {
 			return false
 		}
 	}

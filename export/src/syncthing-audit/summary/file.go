@@ -66,31 +66,14 @@ func filesOf(folder *finding.Folder) []*File {
 	}
 	files := make([]*File, 0, len(made))
 	for name, one := range made {
-		one.hasDetails = folder.Rows[name] != nil
-		one.Size = sizeOf(folder.Rows[name])
+		if row := folder.Rows[name]; row != nil {
+			one.hasDetails = true
+			one.Size = row.Size()
+		}
 		files = append(files, one)
 	}
 	sort.Slice(files, func(a, b int) bool { return files[a].Name < files[b].Name })
 	return files
-}
-
-// sizeOf gives the most bytes that a device has, or records, of a name.
-func sizeOf(row *join.Row) int64 {
-	most := int64(0)
-	if row == nil {
-		return most
-	}
-	for _, at := range row.At {
-		if at == nil {
-			continue
-		}
-		for _, one := range []*State{recorded(at.Own), found(at.Disk)} {
-			if one != nil && one.Size > most {
-				most = one.Size
-			}
-		}
-	}
-	return most
 }
 
 // unwonCauses are the causes of names without a winner.
