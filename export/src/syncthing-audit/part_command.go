@@ -1,7 +1,9 @@
 package main
 
 import (
+	"errors"
 	"flag"
+	"fmt"
 	"io"
 
 	"syncthing-audit/device"
@@ -52,10 +54,10 @@ func checkFolders(home *device.Home, wanted []string) error {
 		labels[one.ID] = one.Label
 	}
 	if len(labels) == 0 {
-		return &wrongUsage{"the device has no folder"}
+		return errors.New("refused: the device has no folder")
 	}
 	if err := join.CheckWanted(labels, wanted); err != nil {
-		return &wrongUsage{err.Error()}
+		return fmt.Errorf("refused: %w", err)
 	}
 	return nil
 }
@@ -72,7 +74,7 @@ func whereTo(path string, output io.Writer) (func(func(io.Writer) error) error, 
 	if isTerminal(output) {
 		return nil, &wrongUsage{"a part is nothing to read on a terminal: -o FILE"}
 	}
-	return func(write func(io.Writer) error) error { return write(output) }, nil
+	return func(write func(io.Writer) error) error { return write(faulty{output}) }, nil
 }
 
 // writePart writes a part.
