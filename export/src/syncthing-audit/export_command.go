@@ -41,7 +41,8 @@ func runExport(words []string, output, log io.Writer) (int, error) {
 	}
 	to := &outlet{output: output, directory: asked.into}
 	endProgress := opened.startProgress(log, asked)
-	answer, err := audit.Collect(plan, audit.Options{LeaveOut: asked.leaveOut, WithBytes: asked.bytes, Refused: opened.skip}, to.take)
+	options := audit.Options{LeaveOut: asked.leaveOut, WithBytes: asked.bytes, Refused: opened.skip, Joined: &opened.work.joined}
+	answer, err := audit.Collect(plan, options, to.take)
 	endProgress()
 	if err != nil {
 		return 0, err

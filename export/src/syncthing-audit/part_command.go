@@ -49,14 +49,10 @@ func runPart(words []string, output, log io.Writer) (int, error) {
 
 // checkFolders says whether a home has no folder, or none with an id that is asked for.
 func checkFolders(home *device.Home, wanted []string) error {
-	labels := map[string]string{}
-	for _, one := range home.Config.Folders {
-		labels[one.ID] = one.Label
-	}
-	if len(labels) == 0 {
+	if len(home.Config.Folders) == 0 {
 		return errors.New("refused: the device has no folder")
 	}
-	if err := join.CheckWanted(labels, wanted); err != nil {
+	if err := join.CheckWanted((&inputs{}).labels([]*device.Home{home}), wanted); err != nil {
 		return fmt.Errorf("refused: %w", err)
 	}
 	return nil

@@ -4,6 +4,7 @@ package audit
 import (
 	"errors"
 	"fmt"
+	"sync/atomic"
 
 	"syncthing-audit/document"
 	"syncthing-audit/finding"
@@ -20,6 +21,7 @@ type Options struct {
 	LeaveOut  map[string]bool // the kinds of what may be left out
 	WithBytes bool            // documents with bytes in place of stand-ins
 	Refused   func()          // called once there is something without which no answer is given
+	Joined    *atomic.Int64   // counts the names; not needed
 }
 
 // Collect goes through the folders of a plan. Each document is given to take, as long as nothing was refused.

@@ -20,6 +20,9 @@ type names struct {
 // row takes a name: it is audited, or told as one that isn't, or as one without a winner.
 func (n *names) row(row *join.Row) error {
 	n.collector.names++
+	if n.options.Joined != nil {
+		n.options.Joined.Add(1)
+	}
 	switch {
 	case n.isBelow(row):
 	case isOutside(row):
