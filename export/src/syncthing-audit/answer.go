@@ -39,6 +39,9 @@ func tell(output, log io.Writer, asked options, answer *finding.Answer) (int, er
 		summary.Of(answer).Print(to, time.Local)
 	}
 	if err == nil {
+		err = answer.Err()
+	}
+	if err == nil {
 		err = to.Flush()
 	}
 	if err != nil {

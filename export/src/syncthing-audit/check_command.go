@@ -75,8 +75,7 @@ func answerOf(opened *inputs, asked options, program ask.Program) (*finding.Answ
 	if err != nil {
 		return nil, err
 	}
-	replies.AddTo(answer)
-	return answer, nil
+	return answer, replies.AddTo(answer)
 }
 
 // statusOfAnswer gives the exit status for an answer.

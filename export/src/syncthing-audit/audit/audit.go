@@ -67,6 +67,7 @@ type collector struct {
 	documents int
 	names     int64
 	audited   int64 // names that documents have, or that are told to have no winner
+	room      finding.Room
 }
 
 // refuse notes what isn't audited.
@@ -78,7 +79,14 @@ func (c *collector) refuse(one finding.Refusal) {
 	if len(c.answer.Refusals) == 0 && c.options.Refused != nil {
 		c.options.Refused()
 	}
-	c.answer.Refusals = append(c.answer.Refusals, one)
+	if len(c.answer.Refusals) < finding.MostListed {
+		c.answer.Refusals = append(c.answer.Refusals, one)
+		return
+	}
+	if c.answer.Unlisted == nil {
+		c.answer.Unlisted = map[string]int64{}
+	}
+	c.answer.Unlisted[one.Kind]++
 }
 
 // checkSomething says whether anything was audited.
