@@ -25,7 +25,7 @@ HERE = Path(__file__).resolve().parent
 CLASSES = [("rot", "BlockSizes"), ("large_folders", "LargeFiles"), ("large_folders", "LargeFolder"), ("large_folders", "ManyFiles"), ("three_devices", "LeftBehind"), ("three_devices", "EachKind"),
            ("two_devices", "Conflict"), ("two_devices", "TwoDevices"), ("two_devices", "SendOnly"),
            ("two_devices", "ReceiveOnly"), ("three_devices", "Chain"), ("three_devices", "ThreeDevices"),
-           ("rot", "RotInManyBlocks"), ("rot", "RotWithAnotherMode"), ("manners", "Manners"), ("nightly", "Nightly")]
+           ("rot", "RotInManyBlocks"), ("rot", "RotWithAnotherMode"), ("manners", "Manners"), ("nightly", "Nightly"), ("spread", "Spread")]
 # The classes and Go's tests.
 ALL = len(CLASSES) + 1
 SIDE_BY_SIDE = 4
@@ -117,6 +117,7 @@ def run_class(module, name, environment, deadline):
         return 0, 0, 1, {"the time is over"}
     status, said = run_until(deadline + SECONDS_OF_A_CASE, [sys.executable, HERE / f"{module}.py", "-v", name],
                              env=environment)
+    print(*re.findall(r"NOTE: .*$", said, re.MULTILINE), sep="\n", end="\n" if "NOTE: " in said else "")
     skipped = set(re.findall(r"\.\.\. skipped ['\"](.*)['\"]$", said, re.MULTILINE))
     if status == 0:
         return *count_of(said), skipped
