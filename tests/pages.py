@@ -1,7 +1,7 @@
 #!/usr/bin/env python3
 """pages.py: says whether the pages that are written by hand fit one another and the code: each link leads to a file and a
-heading, developing.md has each crate on its map, the functions on its three ways are there, and its counts are theirs. The
-last line is 'N passed, M failed'."""
+heading, developing.md has each crate on its map, the functions on its three ways are there, and its counts are theirs;
+trust.md names each law of the reference, and nothing that isn't there. The last line is 'N passed, M failed'."""
 
 import re
 import sys
@@ -61,6 +61,30 @@ def missing(crate, file, function):
     return "" if re.search(rf"\bfn {function}\b", path.read_text()) else "the file has no such function"
 
 
+def laws(page):
+    """The laws that a page of the reference lists, but the small cuts on which definitions are tried out."""
+    for part in page.read_text().partition("## Laws\n")[2].partition("\n## ")[0].split("\n### ")[1:]:
+        if not part.startswith("[examples.rt]"):
+            yield from re.findall(r"^- `(\w+)`", part, re.MULTILINE)
+
+
+def names(text):
+    """The names in a text, each without its type."""
+    return {name.rpartition("::")[2] for name in re.findall(r"`(?:fn )?([A-Za-z_][\w:]*)\b[^`]*`", text)}
+
+
+def check_trust(count, crates):
+    """Counts which laws trust.md has, and which names of it are known."""
+    reference = sorted((TOP / "docs/reference").glob("*.md"))
+    told = set(re.findall(r"`(?:\w+::)?(\w+)`", (TOP / "docs/trust.md").read_text()))
+    for page in reference:
+        for law in laws(page):
+            count.says(f"docs/trust.md: {law} of {page.stem}", "" if law in told else "it isn't named")
+    known = {*crates, "bep_log", "bep_run"}.union(*(names(page.read_text()) for page in reference))
+    for name in sorted(told):
+        count.says(f"docs/trust.md: {name}", "" if name in known else "the reference has no such name")
+
+
 def main():
     count = Count("pages")
     for page in PAGES:
@@ -68,10 +92,10 @@ def main():
             count.says(f"{page.relative_to(TOP)}: {link}", broken(page, link))
     developing = (TOP / "docs/developing.md").read_text()
     on_map = [row[0].strip("`") for row in rows(developing)]
-    for line in (TOP / "crates.txt").read_text().splitlines():
-        crate, colon, _ = line.partition(":")
-        if colon and not line.startswith("#"):
-            count.says(f"docs/developing.md: {crate}", "" if crate in on_map else "it isn't on the map")
+    crates = [line.partition(":")[0] for line in (TOP / "crates.txt").read_text().splitlines() if not line.startswith("#")]
+    for crate in crates:
+        count.says(f"docs/developing.md: {crate}", "" if crate in on_map else "it isn't on the map")
+    check_trust(count, crates)
     found = [way for way in ways(developing) if way[1]]
     count.says("docs/developing.md: ways", "" if len(found) == 3 else f"{len(found)} are read")
     for title, steps, told in found:
