@@ -1,13 +1,15 @@
 #!/usr/bin/env python3
 """pages.py: says whether the pages that are written by hand fit one another and the code: each link leads to a file and a
 heading, developing.md has each crate on its map, the functions on its three ways are there, and its counts are theirs;
-trust.md names each law of the reference, and nothing that isn't there. The last line is 'N passed, M failed'."""
+trust.md names each law of the reference, and nothing that isn't there; documents.md has the schemas' members and the numbers
+of refusals, and reasons.md the reasons (documented.py). The last line is 'N passed, M failed'."""
 
 import re
 import sys
 from itertools import groupby
 from pathlib import Path
 
+import documented
 from counting import Count
 
 TOP = Path(__file__).resolve().parents[1]
@@ -96,6 +98,7 @@ def main():
     for crate in crates:
         count.says(f"docs/developing.md: {crate}", "" if crate in on_map else "it isn't on the map")
     check_trust(count, crates)
+    documented.check(count, TOP)
     found = [way for way in ways(developing) if way[1]]
     count.says("docs/developing.md: ways", "" if len(found) == 3 else f"{len(found)} are read")
     for title, steps, told in found:
