@@ -14,7 +14,7 @@ from counting import Count
 
 TOP = Path(__file__).resolve().parents[1]
 PAGES = [*sorted(TOP.glob("docs/*.md")), *sorted(TOP.glob("*.md")),
-         *(TOP / folder / "README.md" for folder in ("bench", "compare", "examples", "export", "tests"))]
+         *(TOP / folder / "README.md" for folder in ("bench", "compare", "contrib", "examples", "export", "tests"))]
 LINK = re.compile(r"\]\(([^)\s]+)\)")
 CODE = re.compile(r"^```.*?^```|`[^`\n]*`", re.MULTILINE | re.DOTALL)
 STEP = re.compile(r"`([\w/]+\.rt):(\w+)`")
