@@ -98,6 +98,7 @@ class Manners(unittest.TestCase):
             file.truncate(ENDLESS_BYTES)
         self.addCleanup(endless.unlink)
         into = self.temporary / "into"
+        signal.signal(signal.SIGHUP, signal.SIG_DFL)  # else it is ignored under nohup, and so it is by the audit
         for number in (signal.SIGINT, signal.SIGTERM, signal.SIGHUP):
             into.mkdir()
             process = self.start("part", "--home", self.homes[0], "-o", into / "one.part")

@@ -5,6 +5,7 @@ import (
 	"fmt"
 	"os"
 	"os/exec"
+	"os/signal"
 	"path/filepath"
 	"strings"
 	"syscall"
@@ -34,6 +35,10 @@ func TestMain(tests *testing.M) {
 // A signal leaves nothing behind, and the status tells it.
 func TestSignals(t *testing.T) {
 	for _, number := range []syscall.Signal{syscall.SIGINT, syscall.SIGTERM, syscall.SIGHUP} {
+		if signal.Ignored(number) {
+			t.Logf("%v is ignored here, as under nohup, and so it is by the child", number)
+			continue
+		}
 		room := t.TempDir()
 		child := exec.Command(os.Args[0])
 		child.Env = append(os.Environ(), roomOfChild+"="+room, "TMPDIR="+room)
