@@ -8,15 +8,12 @@ use Rattle.std.proofs.lemmas.Bool.Decides.{nat_tests}
 use Rattle.std.proofs.lemmas.Map.Lookups.{exact_bytes}
 use Rattle.bep_facts.specs.Entries.{entry_stands}
 use Rattle.bep_facts.specs.Members.{not_in_none, Contains-cons_cases, Contains-image, holds_of_member}
-use Rattle.bep_index.specs.declared.send.Plan.{Plan}
-use Rattle.bep_map.specs.NameMap.{ByName}
 use Rattle.bep_model.specs.Tables.{Device, Folder}
-use Rattle.bep_machine.specs.Exchange.{SharesWith}
 use Rattle.bep_machine.specs.Peer.{Session}
-use Rattle.bep_machine.specs.Replica.{ByDevice, Replica}
+use Rattle.bep_machine.specs.Replica.{Replica}
 use Rattle.bep_machine.specs.Sound.{IsSoundReplica, IsSoundSession}
 use Rattle.bep_folder.specs.Held.{Held}
-use Rattle.bep_peer.specs.Member.{Member, IsMember, NameShared, tables_in, tables_of}
+use Rattle.bep_peer.specs.Member.{Member, IsMember, tables_in, tables_of}
 use Rattle.bep_peer.specs.Session.{IsSession}
 use Rattle.bep_peer.specs.Sound.{IsSoundHeld, IsSoundMember}
 use Rattle.bep_peer.proofs.SharingFacts.{shared_with, tables_at}
