@@ -4,6 +4,7 @@ ghost use Rattle.std.specs.Option.{option_copied};
 ghost use Rattle.std.specs.List.Sorted.{IsStrictlyIncreasing, IsStrictlySortedBy};
 ghost use Rattle.bep_record.specs.declared.limits.TheConstants.{MAX_DEVICES};
 ghost use Rattle.bep_config.specs.Config.{by_ends};
+ghost use Rattle.bep_machine.specs.Sound.{IsSound};
 ghost use Rattle.bep_core.specs.Begin.{begun};
 ghost use Rattle.bep_network.specs.Network.{IsNetwork, cluster_of, numbers_of, ends_of, member_at, between_at};
 ghost use Rattle.bep_core.specs.Reached.{HoldNodes, IsReached};
@@ -14,6 +15,7 @@ use crate::others::{numbers_of, sharing_of};
 use bep_config::{Config, ConfigParts};
 use bep_links::Link;
 use bep_machine::runs_are_gapless;
+use bep_network::agreed_is_sound;
 use bep_peer::Peer;
 use bep_record::DeviceId;
 use bep_store::Store;
@@ -85,6 +87,15 @@ impl<S: Store> Cluster<S> {
             links: joining,
             alloc,
         })
+    }
+
+    /// The cluster is sound, whatever was called of it: its devices and links are by their types, and they agree on who
+    /// shares what. So what is proved of every sound cluster is true of it, without a word on how it came about. It changes
+    /// nothing, and takes no memory.
+    pub fn cluster_is_sound(&self)
+        ensures { IsSound (cluster_of self.now) }
+    {
+        agreed_is_sound(self.peers.as_slice(), self.links.as_slice());
     }
 
     /// The devices, rising.

@@ -14,6 +14,7 @@ mod OverrideFacts
 mod PullFacts
 mod RevertFacts
 mod SettleFacts
+mod SoundFacts
 mod StartPullFacts
 mod StoredFacts
 mod ViewFacts

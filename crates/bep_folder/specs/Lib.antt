@@ -18,3 +18,4 @@ pub mod StartPull
 pub mod Trace
 pub mod Views
 pub mod Wanted
+pub mod Sound

@@ -36,6 +36,7 @@ mod replica;
 mod reverting;
 mod scan_result;
 mod settle;
+mod sound;
 mod start_pull;
 mod traced;
 mod views;

@@ -1,7 +1,7 @@
 //! A store whose calls are counted: which one of the current action failed, and whether it wrote a conflict copy.
 ghost use Rattle.std.specs.Prelude.{◌≡◌, ◌↔◌, true, None, IsTrue, IfOk, IfErr, OnOk, OnErr};
 ghost use Rattle.std.specs.FinMap as map;
-ghost use Rattle.bep_store.specs.Store.{after_set_time};
+ghost use Rattle.bep_store.specs.Store.{AreNodes, after_set_time};
 ghost use Rattle.bep_store.specs.Sure.{NeverFails};
 ghost use Rattle.bep_store.specs.declared.error.StoreError.TheVariants.{Fault};
 ghost use Rattle.bep_folder.specs.FolderError.{of_store};
@@ -76,6 +76,13 @@ impl<S: Store> Traced<S> {
         ensures sure { NeverFails S.faults → result.0 ≡ None }
     {
         (self.failed, self.copied)
+    }
+
+    // What the store holds are nodes, as every store keeps. It does nothing.
+    pub(crate) fn nodes_are_kept(&self)
+        ensures { AreNodes self.now.contents }
+    {
+        self.store.faults();
     }
 
     // Counts the call that is made next.

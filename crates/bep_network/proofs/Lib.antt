@@ -3,3 +3,4 @@ pub mod Changed
 pub mod Members
 mod HavingFacts
 mod Ends
+mod SoundFacts

@@ -7,5 +7,7 @@
 #![tactic(auto)]
 
 mod laws;
+mod sound;
 
 pub use laws::sharing_is_having;
+pub use sound::agreed_is_sound;

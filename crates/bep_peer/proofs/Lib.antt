@@ -13,6 +13,7 @@ mod SharingFacts
 mod AnnounceFacts
 mod AskFacts
 mod SessionFacts
+mod SoundFacts
 mod Refusals
 mod WithinFacts
 mod Steady

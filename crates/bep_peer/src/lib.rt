@@ -34,6 +34,7 @@ mod requests;
 mod restart;
 mod scanning;
 mod session;
+mod sound;
 mod take_config;
 mod take_index;
 mod take_request;
