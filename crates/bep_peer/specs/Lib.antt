@@ -13,5 +13,6 @@ pub mod Read
 pub mod Received
 pub mod Renewed
 pub mod Session
+pub mod Unhidden
 pub mod Viewing
 pub mod Within
