@@ -88,10 +88,6 @@ pub record IsNewFolder {S : Type 0} (config : Configuration S) (name : List ℕ)
   pub few : length config.folders < MAX_FOLDERS
   pub new : has_folder config name ≡ false
 
--- so far as it is told without memory: it is a name of a folder, and there is room for one more
-abbrev pub MayBeFolder : {S : Type 0} → Configuration S → List ℕ → Type 0
-MayBeFolder config name = IsFolderName name × (length config.folders < MAX_FOLDERS)
-
 abbrev pub with_folder : {S : Type 0} → Configuration S → List ℕ → Configuration S
 with_folder config name = record config { folders = insert_key by_name config.folders name }
 
@@ -102,12 +98,6 @@ pub record IsNewShare {S : Type 0} (config : Configuration S) (folder : List ℕ
   pub there : has_folder config folder ≡ true
   pub few : has_device config device ≡ false → length config.devices < MAX_DEVICES
   pub new : shares_folder config folder device ≡ false
-
--- so far as it is told without memory: all of it but whether the device shares the folder already
-pub record MayShare {S : Type 0} (config : Configuration S) (folder : List ℕ) (device index_id : ℕ) : Type 0 where
-  pub index : 1 ≤ index_id
-  pub there : has_folder config folder ≡ true
-  pub few : has_device config device ≡ false → length config.devices < MAX_DEVICES
 
 abbrev pub with_share : {S : Type 0} → Configuration S → List ℕ → ℕ → Sharing S → Configuration S
 with_share config folder device sharing = record config {

@@ -6,9 +6,10 @@ ghost use Rattle.std.specs.Map.{lookup, keys_of};
 ghost use Rattle.std.specs.BTreeMap.{is_at};
 ghost use Rattle.std.specs.List.Sorted.{IsStrictlySortedBy};
 ghost use Rattle.bep_record.specs.FolderName.{IsFolderName};
-ghost use Rattle.bep_config.specs.Config.{nothing, by_name, by_share, by_ends, has_folder, has_device, has_link, Joins, IsConfig, IsNewFolder, MayBeFolder, with_folder, IsNewShare, MayShare, with_share, IsNewLink, with_link, said_by};
+ghost use Rattle.bep_config.specs.Config.{nothing, by_name, by_share, by_ends, has_folder, has_device, has_link, Joins, IsConfig, IsNewFolder, with_folder, IsNewShare, with_share, IsNewLink, with_link, said_by};
 
 use crate::growth::{add_share, has_room};
+use crate::there::{has_folder, shares_folder};
 use crate::{ConfigError, Sharing};
 use bep_index::IndexId;
 use bep_record::{DeviceId, FolderKind, FolderName, MAX_FOLDERS, RecordError};
@@ -83,12 +84,12 @@ impl<S> Config<S> {
 
     /// Adds a folder that no device shares yet. Refuses `ConfigBad` where these bytes aren't 1 to 64 ASCII letters,
     /// digits, `-` and `_`, or there are 16 folders, or the folder is there; then all is as before. `Memory` may come in
-    /// place of any other answer, but not of the first two refusals, and leaves all as before too.
+    /// place of Ok alone, and leaves all as before too.
     pub fn add_folder(&mut self, name: &[u8]) -> Result<(), ConfigError>
         ensures ok { OnOk result (IsNewFolder self.old name.now × (self.new ≡ with_folder self.old name.now)) }
 
         ensures bad { IsErrOf result ConfigError.ConfigBad → ¬ IsNewFolder self.old name.now }
-        ensures first { (¬ MayBeFolder self.old name.now) → IsErrOf result ConfigError.ConfigBad }
+        ensures first { (¬ IsNewFolder self.old name.now) → IsErrOf result ConfigError.ConfigBad }
         ensures err { OnErr result (self.new ≡ self.old) }
     {
         let folder = self.new_folder(name)?;
@@ -101,16 +102,12 @@ impl<S> Config<S> {
         ensures name { IfOk result (λ folder. folder ≡ name.now) }
         ensures new { OnOk result (IsNewFolder self.now name.now) }
         ensures bad { IsErrOf result ConfigError.ConfigBad → ¬ IsNewFolder self.now name.now }
-        ensures first { (¬ MayBeFolder self.now name.now) → IsErrOf result ConfigError.ConfigBad }
+        ensures first { (¬ IsNewFolder self.now name.now) → IsErrOf result ConfigError.ConfigBad }
     {
-        if self.folders.len() >= MAX_FOLDERS {
+        if self.folders.len() >= MAX_FOLDERS || has_folder(&self.folders, name) {
             return Err(ConfigError::ConfigBad);
         }
-        let folder = read_folder(self.alloc, name)?;
-        if self.folders.contains(&folder) {
-            return Err(ConfigError::ConfigBad);
-        }
-        Ok(folder)
+        read_folder(self.alloc, name)
     }
 
     /// Adds a link between two devices, which is down. Refuses `ConfigBad` where they aren't two devices of the
@@ -197,8 +194,8 @@ impl<S> Config<S> {
 impl<S: Drop> Config<S> {
     /// Adds a device that shares the folder in this kind, with this index id and this store. Refuses `ConfigBad` where
     /// the index id is 0, the folder isn't there, the device is new and there are 16, or it shares the folder already;
-    /// then all is as before. `Memory` may come in place of any other answer, but not of the first three refusals, and
-    /// leaves all as before too. The store is used up in every case.
+    /// then all is as before. `Memory` may come in place of Ok alone, and leaves all as before too. The store is used up
+    /// in every case.
     pub fn add_device(
         &mut self,
         folder: &FolderName,
@@ -210,7 +207,7 @@ impl<S: Drop> Config<S> {
         ensures ok { OnOk result (IsNewShare self.old folder.now device index_id × (self.new ≡ with_share self.old folder.now device (record { kind = kind; index_id = index_id; store = store }))) }
 
         ensures bad { IsErrOf result ConfigError.ConfigBad → ¬ IsNewShare self.old folder.now device index_id }
-        ensures first { (¬ MayShare self.old folder.now device index_id) → IsErrOf result ConfigError.ConfigBad }
+        ensures first { (¬ IsNewShare self.old folder.now device index_id) → IsErrOf result ConfigError.ConfigBad }
         ensures err { OnErr result (self.new ≡ self.old) }
     {
         let (key, index_id) = self.new_share(folder, device, index_id)?;
@@ -234,7 +231,7 @@ impl<S: Drop> Config<S> {
         ensures index { IfOk result (λ share. share.1 ≡ index_id) }
         ensures new { OnOk result (IsNewShare self.now folder.now device index_id) }
         ensures bad { IsErrOf result ConfigError.ConfigBad → ¬ IsNewShare self.now folder.now device index_id }
-        ensures first { (¬ MayShare self.now folder.now device index_id) → IsErrOf result ConfigError.ConfigBad }
+        ensures first { (¬ IsNewShare self.now folder.now device index_id) → IsErrOf result ConfigError.ConfigBad }
     {
         let Some(index_id) = IndexId::read(index_id) else {
             return Err(ConfigError::ConfigBad);
@@ -242,11 +239,10 @@ impl<S: Drop> Config<S> {
         if !self.folders.contains(folder) || !has_room(&self.devices, device) {
             return Err(ConfigError::ConfigBad);
         }
-        let key = (folder.copy(self.alloc)?, device);
-        if self.shares.contains_key(&key) {
+        if shares_folder(&self.shares, folder, device) {
             return Err(ConfigError::ConfigBad);
         }
-        Ok((key, index_id))
+        Ok(((folder.copy(self.alloc)?, device), index_id))
     }
 
     // Adds what the device has of the folder, where it is new; without memory all is as before.

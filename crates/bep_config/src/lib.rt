@@ -14,6 +14,7 @@ mod config;
 mod error;
 mod growth;
 mod sharing;
+mod there;
 
 pub use config::{Config, ConfigParts};
 pub use error::ConfigError;

@@ -1,6 +1,7 @@
 -- What a device did within one of its folders, as the cluster answers it.
 use Rattle.std.proofs.Common.{◌≡◌, ℕ, get_or, option_map, Option, Some, None, Result, Ok, Err, refl, sym, ap, subst, ◌∙◌, rules}
 use Rattle.std.specs.List.{position}
+use Rattle.std.specs.Prelude.{IsErrOf}
 use Rattle.bep_model.specs.Tables.{Device, Folder}
 use Rattle.bep_machine.specs.declared.moved.Moved.{Moved}
 use Rattle.bep_machine.specs.declared.refusal.Refusal.TheVariants.{NotShared}
@@ -9,14 +10,17 @@ use Rattle.bep_machine.specs.Cluster.{Cluster}
 use Rattle.bep_machine.specs.Replica.{Replica}
 use Rattle.bep_machine.specs.Steps.{AtReplica, IsStep, SharesFolder}
 use Rattle.bep_peer.specs.declared.error.PeerError.{PeerError}
+use Rattle.bep_peer.specs.declared.error.PeerError.TheVariants.{Memory as Wanting}
 use Rattle.bep_peer.specs.Member.{Member, Remains, untold}
 use Rattle.bep_peer.specs.PeerError.{Gives as GivesThere}
+use Rattle.bep_peer.specs.Unhidden.{IsUnrefusedWithin}
 use Rattle.bep_peer.specs.Within.{StepWithin, TellsFault as TellsThere}
 use Rattle.bep_core.specs.declared.why.Why.{Why}
 use Rattle.bep_network.specs.Network.{Network, IsNetwork, is_number, cluster_of, failed_at}
 use Rattle.bep_core.specs.Applying.{maker_of}
 use Rattle.bep_core.specs.Counts.{AnswersFault, IsCounted, TellsFault}
 use Rattle.bep_core.specs.declared.why.Why.TheVariants.{Refused}
+use Rattle.bep_core.specs.Unhidden.{HidesNone, TestsWithin}
 use Rattle.bep_core.specs.Why.{Gives, answer_of}
 use Rattle.bep_core.specs.Within.{row_of, step_of}
 use Rattle.bep_core.specs.declared.folder_steps.Within.{Within}
@@ -25,6 +29,7 @@ use Rattle.bep_core.proofs.AtLinks.{none_found}
 use Rattle.bep_core.proofs.Counted.{counted_at, counted_none}
 use Rattle.bep_core.proofs.OneDevice.{Replaces, with_member, network_after, failed_now}
 use Rattle.bep_peer.proofs.RowsKeep.{Keeps, edit_keeps, remove_keeps, scan_keeps, override_keeps, revert_keeps, start_keeps, finish_keeps}
+use Rattle.bep_core.proofs.HidesNone.{hides_within}
 use Rattle.bep_core.proofs.Within.{StepOf, absent, carried, replaces, whichever, within, within_keeps}
 
 -- the cluster's step is the row at the folder's replica
@@ -119,3 +124,9 @@ module _ (device : Device) (folder : Folder) (what : Within) where
         subst (λ (n : Network). IsCounted (step_of what device folder) n (with_member network place after) answer) seen
         (counted_at (step_of what device folder) device (makes_within what device folder) network answer place was after replaced network.links rest
         (told_within what device folder (cluster_of network) after.trace.failed answer (subst (AnswersFault after.trace.failed) (sym same) (answers_fault after result tells))))
+
+    -- where it wanted memory, and tests first, nothing refused it
+    pub within_hides : (IsErrOf result Wanting → TestsWithin what → IsUnrefusedWithin folder (row was.number after.trace.failed) was) → (answer : Result Moved Why) → answer ≡ answer_of result →
+        HidesNone (step_of what device folder) (failed_at (with_member network place after).members device) (cluster_of self) answer
+    within_hides un answer same =
+        hides_within what device folder self network seen rules place was after replaced (StepWithin folder (row was.number after.trace.failed) was) after result answer given same un

@@ -13,6 +13,7 @@ mod DeviceSteps
 mod SessionsKeep
 mod SharedBetween
 mod Over
+mod HidesNone
 mod SessionSteps
 mod LinkSteps
 mod BegunJoined

@@ -75,7 +75,7 @@ module _ (network : Network) (rules : IsNetwork network) (device other : Device)
   pub other_is : (one : Device) → Joins lent one → one ≡ other
   other_is one joins = other_end had.ends was.number one other joins.ends ends_are
 
-  linked_there : (one : Device) → Joins lent one → AreLinked (config_of network) device other
+  pub linked_there : (one : Device) → Joins lent one → AreLinked (config_of network) device other
   linked_there one joins =
       subst (λ (ends : Device × Device). AreLinked (config_of network) ends.0 ends.1) (λ i. (r.number i, other_is one joins i))
       (((rules.joined device was r.found).linked one).0 joins.linked)

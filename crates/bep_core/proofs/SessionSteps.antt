@@ -1,6 +1,7 @@
 -- What a device did over its link with another one, as the cluster answers it.
 use Rattle.std.proofs.Common.{◌≡◌, ◌≢◌, ◌⊎◌, ℕ, get_or, option_map, Option, Some, None, Result, Err, refl, sym, ap, subst, ◌∙◌, inl, inr}
 use Rattle.std.specs.List.{position}
+use Rattle.std.specs.Prelude.{IsErrOf}
 use Rattle.bep_model.specs.Tables.{Device}
 use Rattle.bep_machine.specs.declared.moved.Moved.{Moved}
 use Rattle.bep_machine.specs.declared.refusal.Refusal.TheVariants.{NotShared}
@@ -11,9 +12,11 @@ use Rattle.bep_machine.specs.Peer.{Peer}
 use Rattle.bep_machine.specs.Steps.{AreLinked, IsStep, IsThere, OverLink}
 use Rattle.bep_links.specs.Link.{LinkBetween}
 use Rattle.bep_peer.specs.declared.error.PeerError.{PeerError}
+use Rattle.bep_peer.specs.declared.error.PeerError.TheVariants.{Memory as Wanting}
 use Rattle.bep_peer.specs.Lent.{Joins, Lent, StepOver}
 use Rattle.bep_peer.specs.Member.{Member, Remains, tables_of, untold}
 use Rattle.bep_peer.specs.PeerError.{Gives as GivesThere}
+use Rattle.bep_peer.specs.Unhidden.{IsUnrefused}
 use Rattle.bep_core.specs.declared.why.Why.{Why}
 use Rattle.bep_core.specs.declared.why.Why.TheVariants.{Refused}
 use Rattle.bep_network.specs.Network.{Network, IsNetwork, in_order, is_between, is_number, cluster_of, config_of, failed_at, link_of, member_at}
@@ -22,10 +25,12 @@ use Rattle.bep_core.specs.Counts.{AwaitsRequest, IsCounted, IsRequest, TellsFaul
 use Rattle.bep_core.specs.Over.{TellsOver, row_of, shares_of, step_of}
 use Rattle.bep_core.specs.declared.session_steps.Over.{Over}
 use Rattle.bep_core.specs.declared.session_steps.Over.TheVariants.{Begin, Deliver, Announce, Ask}
+use Rattle.bep_core.specs.Unhidden.{HidesNone}
 use Rattle.bep_core.specs.Why.{Gives, answer_of}
 use Rattle.bep_core.proofs.AtLinks.{replaces_link}
 use Rattle.bep_core.proofs.Counted.{counted_at, counted_none}
 use Rattle.bep_core.proofs.Delivered.{tells_read}
+use Rattle.bep_core.proofs.HidesNone.{hides_over}
 use Rattle.bep_core.proofs.Lift.{ReplacesLink, network_after_link}
 use Rattle.bep_core.proofs.OneDevice.{Replaces, with_member, network_after, failed_now}
 use Rattle.bep_core.proofs.Over.{link_found, other_is, over, over_ends, over_keeps, with_both}
@@ -168,3 +173,10 @@ module _ (what : Over) (device other : Device) where
         subst (λ (n : Network). IsCounted (step_of what device other) n (with_both network place after between has) answer) seen
         (counted_at (step_of what device other) device (makes_over what device other) network answer place was after replaced (with_both network place after between has).links rest
         (subst (TellsFault (step_of what device other) (cluster_of network) after.trace.failed) (sym same) (told_over tells)))
+
+    -- where it wanted memory, nothing refused it
+    pub over_hides : (IsErrOf result Wanting → IsUnrefused (row_of what after.trace.failed) (shares_of what) (record { member = was; link = had })) → (answer : Result Moved Why) → answer ≡ answer_of result →
+        HidesNone (step_of what device other) (failed_at (with_both network place after between has).members device) (cluster_of self) answer
+    over_hides un answer same =
+        hides_over what device other self network seen rules place was after replaced between had has relinked (StepOver (row_of what after.trace.failed) (shares_of what) old) new result answer given same
+        (there_by network rules device other was replaced.found what) un

@@ -3,6 +3,7 @@ pub mod Begin
 pub mod Counts
 pub mod Reached
 pub mod Restart
+pub mod Unhidden
 pub mod Why
 pub mod Within
 pub mod Over

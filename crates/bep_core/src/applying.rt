@@ -8,6 +8,7 @@ ghost use Rattle.bep_core.specs.Applying.{failed_by, failed_in, maker_of};
 ghost use Rattle.bep_core.specs.Counts.{IsCounted};
 ghost use Rattle.bep_network.specs.Network.{cluster_of};
 ghost use Rattle.bep_core.specs.Reached.{IsReached};
+ghost use Rattle.bep_core.specs.Unhidden.{HidesNone};
 ghost use Rattle.bep_core.specs.Why.{Gives};
 ghost use Rattle.bep_core.specs.declared.why.Why.TheVariants.{ConfigBad};
 
@@ -25,12 +26,14 @@ impl<S: Store> Cluster<S> {
     /// the end of a pull may have kept a conflict copy. A call of a store is told to have failed exactly where the count of
     /// faults of one of the device's stores rose in this step, and exactly where that is answered, by `StoreFault` or by the
     /// response to a request; no other device is touched. Where no store of the kind ever fails, no call of one failed. What
-    /// an edit puts is a node, as its type keeps.
+    /// an edit puts is a node, as its type keeps. A step over a link and the beginning of a pull are refused wherever a
+    /// refusal is due: want of memory hides none.
     ///
     /// BEP v1; the steps are this project's profile.
     pub fn apply(&mut self, step: Step) -> Result<Moved, Why>
         ensures step { Gives (IsStep step (failed_by step self.new.members) (cluster_of self.old)) (cluster_of self.new) result }
         ensures counts { IsCounted step self.old self.new result }
+        ensures unhidden { HidesNone step (failed_by step self.new.members) (cluster_of self.old) result }
         ensures err { OnErr result (LeavesAll step (cluster_of self.old) (cluster_of self.new)) }
         ensures only { result ≢ Err ConfigBad }
         ensures node { IsSoundStep step }
@@ -58,6 +61,7 @@ impl<S: Store> Cluster<S> {
     fn make(&mut self, step: Step) -> Result<Moved, Why>
         ensures step { Gives (IsStep step (failed_by step self.new.members) (cluster_of self.old)) (cluster_of self.new) result }
         ensures counts { IsCounted step self.old self.new result }
+        ensures unhidden { HidesNone step (failed_by step self.new.members) (cluster_of self.old) result }
     {
         match step {
             Step::Edit(device, folder, name, node) => self.within(

@@ -1,13 +1,15 @@
 //! The steps of one device within one of its folders.
-ghost use Rattle.std.specs.Prelude.{◌≡◌, ◌≢◌, Err};
+ghost use Rattle.std.specs.Prelude.{◌≡◌, ◌≢◌, Err, IsErrOf};
 ghost use Rattle.std.specs.List.{position};
 ghost use Rattle.bep_machine.specs.Steps.{IsStep};
 ghost use Rattle.bep_peer.specs.Member.{Remains};
 ghost use Rattle.bep_peer.specs.PeerError.{Gives as GivesThere};
+ghost use Rattle.bep_peer.specs.Unhidden.{IsUnrefusedWithin};
 ghost use Rattle.bep_peer.specs.Within.{StepWithin, TellsFault};
 ghost use Rattle.bep_peer.specs.declared.error.PeerError.TheVariants.{Stale};
 ghost use Rattle.bep_network.specs.Network.{cluster_of, failed_at, is_number};
 ghost use Rattle.bep_core.specs.Counts.{IsCounted};
+ghost use Rattle.bep_core.specs.Unhidden.{HidesNone, TestsWithin};
 ghost use Rattle.bep_core.specs.Within.{row_of, step_of};
 ghost use Rattle.bep_core.specs.Why.{Gives, answer_of};
 
@@ -55,6 +57,7 @@ impl<S: Store> Cluster<S> {
     ) -> Result<Moved, Why>
         ensures step { Gives (IsStep (step_of step device folder) (failed_at self.new.members device) (cluster_of self.old)) (cluster_of self.new) result }
         ensures counts { IsCounted (step_of step device folder) self.old self.new result }
+        ensures unhidden { HidesNone (step_of step device folder) (failed_at self.new.members device) (cluster_of self.old) result }
     {
         let Some(place) = self.device_place(device) else {
             return Err(Why::Refused(Refusal::NotShared));
@@ -71,6 +74,7 @@ fn make<S: Store>(
     step: Within,
 ) -> Result<Moved, PeerError>
     ensures step { GivesThere (StepWithin folder.now (row_of step peer.old.number peer.new.trace.failed) peer.old) peer.new result }
+    ensures unhidden { IsErrOf result PeerError.Memory → TestsWithin step → IsUnrefusedWithin folder.now (row_of step peer.old.number peer.new.trace.failed) peer.old }
     ensures rest { Remains peer.old peer.new }
     ensures fault { TellsFault peer.new result }
 {

@@ -1,14 +1,16 @@
 //! The steps of one device over its link with another one.
-ghost use Rattle.std.specs.Prelude.{◌≡◌, ◌≢◌, ◌⊎◌, Some, None, IfSome, IfNone, option_map};
+ghost use Rattle.std.specs.Prelude.{◌≡◌, ◌≢◌, ◌⊎◌, Some, None, IfSome, IfNone, IsErrOf, option_map};
 ghost use Rattle.std.specs.List.{position};
 ghost use Rattle.bep_machine.specs.Steps.{IsStep};
 ghost use Rattle.bep_peer.specs.Lent.{StepOver};
 ghost use Rattle.bep_model.specs.Tables.{Device};
 ghost use Rattle.bep_peer.specs.Member.{Remains, untold};
 ghost use Rattle.bep_peer.specs.PeerError.{Gives as GivesThere};
+ghost use Rattle.bep_peer.specs.Unhidden.{IsUnrefused};
 ghost use Rattle.bep_network.specs.Network.{cluster_of, failed_at, in_order, is_between, is_number, member_at};
 ghost use Rattle.bep_core.specs.Counts.{IsCounted};
 ghost use Rattle.bep_core.specs.Over.{TellsOver, row_of, shares_of, step_of};
+ghost use Rattle.bep_core.specs.Unhidden.{HidesNone};
 ghost use Rattle.bep_core.specs.Why.{Gives};
 
 use crate::folder_steps::answered;
@@ -76,6 +78,7 @@ impl<S: Store> Cluster<S> {
     ) -> Result<Moved, Why>
         ensures step { Gives (IsStep (step_of step device other) (failed_at self.new.members device) (cluster_of self.old)) (cluster_of self.new) result }
         ensures counts { IsCounted (step_of step device other) self.old self.new result }
+        ensures unhidden { HidesNone (step_of step device other) (failed_at self.new.members device) (cluster_of self.old) result }
     {
         let Some((place, between)) = self.places(device, other) else {
             self.tell_nothing(device);
@@ -88,6 +91,7 @@ impl<S: Store> Cluster<S> {
 // The device makes the step over the link.
 fn act<S: Store>(peer: &mut Peer<S>, link: &mut Link, step: Over) -> Result<Moved, PeerError>
     ensures step { GivesThere (StepOver (row_of step peer.new.trace.failed) (shares_of step) (record { member = peer.old; link = link.old })) (record { member = peer.new; link = link.new }) result }
+    ensures unhidden { IsErrOf result PeerError.Memory → IsUnrefused (row_of step peer.new.trace.failed) (shares_of step) (record { member = peer.old; link = link.old }) }
     ensures rest { Remains peer.old peer.new }
     ensures fault { TellsOver step peer.new.trace result }
 {

@@ -1,3 +1,4 @@
+pub mod Calls
 pub mod Commit
 pub mod Contents
 pub mod Ending
@@ -16,6 +17,7 @@ pub mod Received
 pub mod ScanResult
 pub mod StartPull
 pub mod Trace
+pub mod Unhidden
 pub mod Views
 pub mod Wanted
 pub mod Sound

@@ -2,6 +2,7 @@
 ghost use Rattle.std.specs.Prelude.{◌≡◌, ◌⊎◌, false, Some, IfOk, IfErr, IsErrOf};
 ghost use Rattle.bep_machine.specs.Local.{EditRow, RemoveRow};
 ghost use Rattle.bep_machine.specs.Replica.{node_at};
+ghost use Rattle.bep_folder.specs.Calls.{CallsInRemove};
 ghost use Rattle.bep_folder.specs.Makes.{Makes, Stays, CountsFaults};
 
 use crate::{FolderError, Replica};
@@ -11,12 +12,13 @@ use bep_store::Store;
 
 impl<S: Store> Replica<S> {
     /// The node that the store has at the name now, a copy of its own. Refuses `StoreFault` where the store fails, and
-    /// else only for want of memory.
+    /// else only for want of memory. It calls the store once.
     pub fn look(&mut self, name: &Name) -> Result<Option<Node>, FolderError>
         ensures node { IfOk result (λ node. node ≡ node_at self.old.tables name.now) }
         ensures same { self.new.tables ≡ self.old.tables }
         ensures only { IfErr result (λ e. (e ≡ FolderError.StoreFault) ⊎ (e ≡ FolderError.Memory)) }
         ensures first { IsErrOf result FolderError.StoreFault → self.new.trace.failed ≡ Some 1 }
+        ensures called { self.new.made ≡ 1 }
 
         ensures stays { Stays self.old self.new }
         ensures counted { CountsFaults self.old self.new result }
@@ -27,9 +29,12 @@ impl<S: Store> Replica<S> {
     }
 
     /// Gives the name this node, as a user does; no record changes before a scan. Refuses `StoreFault` where the store
-    /// fails, and else only for want of memory.
+    /// fails, and else only for want of memory. It calls the store once.
     pub fn edit(&mut self, name: &Name, node: &Node) -> Result<Moved, FolderError>
         ensures edited { Makes (EditRow name.now node.now self.new.trace.failed) self.old self.new result }
+        ensures first { IsErrOf result FolderError.StoreFault → self.new.trace.failed ≡ Some 1 }
+        ensures called { self.new.made ≡ 1 }
+
         ensures stays { Stays self.old self.new }
         ensures counted { CountsFaults self.old self.new result }
         ensures uncopied { self.new.trace.copied ≡ false }
@@ -40,9 +45,12 @@ impl<S: Store> Replica<S> {
     }
 
     /// Takes the name's node away, as a user does; no record changes before a scan. Refuses `StoreFault` where the store
-    /// fails, `NothingToDo` where the name has no node, and else only for want of memory.
+    /// fails, `NothingToDo` where the name has no node, and else only for want of memory. It calls the store once, to read,
+    /// and once more where there is a node; where a call fails, it was the last one.
     pub fn remove(&mut self, name: &Name) -> Result<Moved, FolderError>
         ensures removed { Makes (RemoveRow name.now self.new.trace.failed) self.old self.new result }
+        ensures called { CallsInRemove (node_at self.old.tables name.now) self.new.made self.new.trace.failed result }
+
         ensures stays { Stays self.old self.new }
         ensures counted { CountsFaults self.old self.new result }
         ensures uncopied { self.new.trace.copied ≡ false }

@@ -1,11 +1,13 @@
 //! The beginning of a pull.
-ghost use Rattle.std.specs.Prelude.{◌≡◌, ◌↔◌, false, IsTrue, IfOk, IfErr, Err, OnOk, OnErr};
+ghost use Rattle.std.specs.Prelude.{◌≡◌, ◌≢◌, ◌≤◌, ◌↔◌, false, IsTrue, IfOk, IfErr, IsErrOf, Err, OnOk, OnErr};
 ghost use Rattle.std.specs.Option.{option_copied};
 ghost use Rattle.std.specs.FinMap as map;
+ghost use Rattle.bep_index.specs.declared.limits.TheConstants.{MAX_SEQUENCE};
 ghost use Rattle.bep_machine.specs.Replica.{own_at, with_pull};
-ghost use Rattle.bep_machine.specs.Pull.{ArePullsFull, IsNeededAnyway, StartPullRow};
+ghost use Rattle.bep_machine.specs.Pull.{ArePullsFull, IsNeededAnyway, StartPullRow, new_pull};
 ghost use Rattle.bep_folder.specs.Makes.{Makes, Stays, CountsFaults};
-ghost use Rattle.bep_folder.specs.StartPull.{IsToPull};
+ghost use Rattle.bep_folder.specs.StartPull.{MayPull};
+ghost use Rattle.bep_folder.specs.Unhidden.{RefusesNone};
 
 use crate::{FolderError, Pull, Replica};
 use bep_choice::needed;
@@ -13,7 +15,7 @@ use bep_machine::Moved;
 use bep_map::NameMap;
 use bep_record::{FolderKind, MAX_PULLS, Name, Record};
 use bep_store::Store;
-use std::alloc::Global;
+use std::alloc::{AllocError, Global};
 
 impl<S: Store> Replica<S> {
     /// Begins a pull of the record that the device wants of the name. Nothing of it was received yet, also where that
@@ -21,10 +23,11 @@ impl<S: Store> Replica<S> {
     ///
     /// Refuses, in this order, `NotNeeded` where the device chooses no record of the name, or one that no kind of folder
     /// would need here, `KindForbids` where the folder's kind, or a local-only own record, stands against the chosen one,
-    /// and `PullsFull` where the name has no pull and the folder has 64. Else only want of memory is answered. After an
-    /// error all is as before.
+    /// and `PullsFull` where the name has no pull and the folder has 64. Else only want of memory is answered: where
+    /// memory is wanting, none of these is due. After an error all is as before.
     pub fn start_pull(&mut self, name: &Name) -> Result<Moved, FolderError>
         ensures started { Makes (StartPullRow self.old.device name.now) self.old self.new result }
+        ensures unhidden { IsErrOf result FolderError.Memory → RefusesNone (StartPullRow self.old.device name.now self.old.tables) }
         ensures err { OnErr result (self.new.tables ≡ self.old.tables) }
 
         ensures stays { Stays self.old self.new }
@@ -32,15 +35,17 @@ impl<S: Store> Replica<S> {
         ensures uncopied { self.new.trace.copied ≡ false }
     {
         self.begin();
-        let pull = self.pull_to_start(self.alloc, name)?;
+        let target = self.record_to_pull(name)?;
+        let pull = begun(self.alloc, target)?;
         self.put_pull(self.alloc, name, pull)?;
         Ok(Moved::Changed)
     }
 
-    // The pull that begins, or why none does.
-    fn pull_to_start(&self, alloc: Global, name: &Name) -> Result<Pull, FolderError>
-        ensures ok { IfOk result (IsToPull self.now.device name.now self.now.tables) }
+    // The record of which a pull begins, or why none does. It takes no memory.
+    fn record_to_pull(&self, name: &Name) -> Result<&Record, FolderError>
+        ensures ok { IfOk result (λ target. MayPull self.now.device name.now self.now.tables target.now) }
         ensures err { IfErr result (λ e. Makes (StartPullRow self.now.device name.now) self.now self.now (Err e)) }
+        ensures only { IfErr result (λ e. e ≢ FolderError.Memory) }
     {
         let Some(chosen) = self.chosen(name) else {
             return Err(FolderError::NotNeeded);
@@ -54,8 +59,7 @@ impl<S: Store> Replica<S> {
         if self.are_pulls_full(name) {
             return Err(FolderError::PullsFull);
         }
-        let target = chosen.copy(alloc)?;
-        Ok(Pull::new(alloc, target)?)
+        Ok(chosen)
     }
 
     // Whether a send and receive folder would need the record, were the own one not local-only.
@@ -82,6 +86,16 @@ impl<S: Store> Replica<S> {
     {
         put_in(&mut self.pulls, alloc, name, pull)
     }
+}
+
+// The pull of a copy of the record, of which nothing was received yet.
+fn begun(alloc: Global, target: &Record) -> Result<Pull, AllocError>
+    requires valid { target.now.invalid ≡ false }
+    requires within { target.now.sequence ≤ MAX_SEQUENCE }
+    ensures { IfOk result (λ pull. pull ≡ new_pull target.now) }
+{
+    let target = target.copy(alloc)?;
+    Pull::new(alloc, target)
 }
 
 // Puts the pull under the name, in place of any other.

@@ -52,6 +52,23 @@ impl<S: Store> Replica<S> {
         amend_in(&mut self.views, self.alloc, device, batch)
     }
 
+    /// Whether an IndexUpdate of the device with this batch can be taken, for those who then make a copy of it. Refuses what
+    /// `amend_view` refuses, but never for want of memory. Nothing changes.
+    ///
+    /// BEP v1, 'Index Update'.
+    pub fn may_amend(&mut self, device: DeviceId, batch: &Batch) -> Result<(), FolderError>
+        ensures not_shared { IsErrOf result FolderError.NotShared ↔ IsApart self.old device }
+        ensures old { IsErrOf result FolderError.BatchOld ↔ ((¬ IsApart self.old device) × IsOld (view_of self.old.tables device).sequence batch.now) }
+        ensures full { IsErrOf result FolderError.IndexFull ↔ ((¬ IsApart self.old device) × IsTooMuch (view_of self.old.tables device) batch.now) }
+        ensures only { IfErr result (λ e. (e ≡ FolderError.NotShared) ⊎ (e ≡ FolderError.BatchOld) ⊎ (e ≡ FolderError.IndexFull)) }
+        ensures same { self.new ≡ unchanged self.old }
+    {
+        if !self.begin_with(device) {
+            return Err(FolderError::NotShared);
+        }
+        may_amend_in(&self.views, self.alloc, device, batch)
+    }
+
     /// Forgets all that was known of the device's index, and takes this index id with sequence 0. Refuses `NotShared`
     /// exactly where the device isn't another one that shares the folder. After an error all is as before.
     ///
@@ -154,6 +171,34 @@ fn known_id(views: &DeviceMap<View>, device: DeviceId) -> u64
     match views.get(device) {
         Some(view) => view.point().0,
         None => 0,
+    }
+}
+
+// Whether the batch can be added to what is known of the device's index. It takes no memory.
+fn may_amend_in(
+    views: &DeviceMap<View>,
+    alloc: Global,
+    device: DeviceId,
+    batch: &Batch,
+) -> Result<(), FolderError>
+    ensures old { IsErrOf result FolderError.BatchOld ↔ IsOld (known_view views.now device).sequence batch.now }
+    ensures full { IsErrOf result FolderError.IndexFull ↔ IsTooMuch (known_view views.now device) batch.now }
+    ensures only { IfErr result (λ e. (e ≡ FolderError.BatchOld) ⊎ (e ≡ FolderError.IndexFull)) }
+{
+    match views.get(device) {
+        Some(view) => may_take(view, batch),
+        None => may_take(&View::empty(alloc), batch),
+    }
+}
+
+fn may_take(view: &View, batch: &Batch) -> Result<(), FolderError>
+    ensures old { IsErrOf result FolderError.BatchOld ↔ IsOld view.now.sequence batch.now }
+    ensures full { IsErrOf result FolderError.IndexFull ↔ IsTooMuch view.now batch.now }
+    ensures only { IfErr result (λ e. (e ≡ FolderError.BatchOld) ⊎ (e ≡ FolderError.IndexFull)) }
+{
+    match view.sequence_with(batch) {
+        Ok(_) => Ok(()),
+        Err(error) => Err(index_error(error)),
     }
 }
 

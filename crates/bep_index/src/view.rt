@@ -145,8 +145,8 @@ impl View {
         Ok(())
     }
 
-    // The view's sequence once the batch is added. Refuses what `amend` refuses.
-    fn sequence_with(&self, batch: &Batch) -> Result<u64, IndexError>
+    /// The view's sequence once the batch is added. Refuses what `amend` refuses, and takes no memory.
+    pub fn sequence_with(&self, batch: &Batch) -> Result<u64, IndexError>
         ensures value { IfOk result (λ sequence. sequence ≡ last_sequence self.now.sequence batch.now) }
         ensures empty { batch.now ≡ [] → IsOk result }
 

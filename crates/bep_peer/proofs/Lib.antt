@@ -27,3 +27,5 @@ mod MemberFacts
 mod ReadFacts
 mod RequestFacts
 mod ResponseFacts
+mod SentFacts
+mod Unrefused

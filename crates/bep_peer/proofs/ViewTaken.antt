@@ -78,7 +78,7 @@ module _ (folder : Folder) (other : Device) (held : Held) (losing : Listing → 
       one_change folder old new held (with_viewed held other (changed (view_of held.tables other))) has (record { device = refl; folder = refl }) refl refl taken.3
   changes_one result (inr (inl lost)) = as_before lost.2
   changes_one result (inr (inr (inl full))) = as_before full.3
-  changes_one result (inr (inr (inr wanting))) = as_before wanting.1
+  changes_one result (inr (inr (inr wanting))) = as_before wanting.3
 
 module _ (folder : Folder) (other : Device) (held : Held) (losing : Listing → Type 0) (changed : Listing → Listing) (old new : ByName Held) where
   -- no response is sent
@@ -132,7 +132,7 @@ module _ (other : Device) (folder : Folder) (old : Member) (held : Held) (has : 
     same_on_error result (inl taken) = subst (λ (r : Result Effect PeerError). OnErr r (tables_of (with_folders old folders) ≡ tables_of old)) (sym taken.0) tt
     same_on_error result (inr (inl lost)) = subst (λ (r : Result Effect PeerError). OnErr r (tables_of (with_folders old folders) ≡ tables_of old)) (sym lost.0) tt
     same_on_error result (inr (inr (inl full))) = subst (λ (r : Result Effect PeerError). OnErr r (tables_of (with_folders old folders) ≡ tables_of old)) (sym full.0) (same_peer folders full.3)
-    same_on_error result (inr (inr (inr wanting))) = subst (λ (r : Result Effect PeerError). OnErr r (tables_of (with_folders old folders) ≡ tables_of old)) (sym wanting.0) (same_peer folders wanting.1)
+    same_on_error result (inr (inr (inr wanting))) = subst (λ (r : Result Effect PeerError). OnErr r (tables_of (with_folders old folders) ≡ tables_of old)) (sym wanting.0) (same_peer folders wanting.3)
 
     -- the view of the other device became this one
     taken_view : folders ≡ insert old.folders folder (with_viewed held other (changed (view_of held.tables other))) →
@@ -165,7 +165,7 @@ module _ (other : Device) (folder : Folder) (old : Member) (held : Held) (has : 
       has_tables old.folders folder held has,
       inr (full.1, inl (full.2, (ap idle (same_peer folders full.3), refl))),
     )
-    in_view result (inr (inr (inr wanting))) = subst (λ (r : Result Effect PeerError). Takes InViewRow old (with_folders old folders) r) (sym wanting.0) (same_peer folders wanting.1)
+    in_view result (inr (inr (inr wanting))) = subst (λ (r : Result Effect PeerError). Takes InViewRow old (with_folders old folders) r) (sym wanting.0) (same_peer folders wanting.3)
 
   module _ (failed : Option ℕ) (full : Bool) (session : Session) (named : IsNamed session folder) (batch : List Entry) (folders : ByName Held) (result : Result Effect PeerError) where
     pub index_taken : TakesInView folder other held (λ view. ⊥) (λ view. replaced view batch) old.folders folders result →

@@ -1,5 +1,5 @@
 -- What a call of a device's folder does, and what the device makes of its answer (this project's profile).
-use Rattle.std.specs.Prelude.{◌≡◌, ◌⊎◌, ◌↔◌, ℕ, true, false, Option, Some, None, Result, Err, IsErr, IsErrOf, IfOk, IfErr}
+use Rattle.std.specs.Prelude.{◌≡◌, ◌⊎◌, ◌↔◌, ⊤, ℕ, true, false, Option, Some, None, Result, Err, IsErr, IsErrOf, IfOk, IfErr}
 use Rattle.std.specs.FinMap.{get}
 use Rattle.bep_map.specs.NameMap.{ByName}
 use Rattle.bep_record.specs.declared.node.NodeParts.{NodeParts}
@@ -15,6 +15,7 @@ use Rattle.bep_folder.specs.Finish.{GainsCopy}
 use Rattle.bep_folder.specs.Held.{Held}
 use Rattle.bep_folder.specs.Makes.{Makes, Stays, CountsFaults}
 use Rattle.bep_folder.specs.ScanResult.{Scanned}
+use Rattle.bep_folder.specs.Unhidden.{RefusesNone}
 use Rattle.bep_folder.specs.declared.error.FolderError.{FolderError}
 use Rattle.bep_folder.specs.declared.error.FolderError.TheVariants as errors
 use Rattle.bep_peer.specs.Contents.{HasNames, HoldsNodes}
@@ -73,10 +74,16 @@ abbrev pub TellsOfCopy : Step → Held → Held → Result Moved FolderError →
 TellsOfCopy (Finish name) before after answer = MayCopy name.now before after answer
 TellsOfCopy step before after answer = after.trace.copied ≡ false
 
+-- where the beginning of a pull wants memory, nothing refuses it
+abbrev pub HidesNone : Step → Held → Result Moved FolderError → Type 0
+HidesNone (Pull name) before answer = IsErrOf answer errors.Memory → RefusesNone (StartPullRow before.device name.now before.tables)
+HidesNone step before answer = ⊤
+
 -- the step's row is made
 pub record IsStepped (step : Step) (before after : Held) (answer : Result Moved FolderError) : Type 0 where
   pub made : Makes (row_of step before.device after.trace.failed) before after answer
   pub told : TellsOfCopy step before after answer
+  pub unhidden : HidesNone step before answer
 
 -- ---- scans
 

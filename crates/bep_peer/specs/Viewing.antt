@@ -1,9 +1,11 @@
 -- What an Index or an IndexUpdate makes of a device's view of another one (BEP v1, 'Index' and 'Index Update').
-use Rattle.std.specs.Prelude.{◌≡◌, ◌⊎◌, ◌<◌, Some, Contains, Result, Ok, Err}
+use Rattle.std.specs.Prelude.{◌≡◌, ◌⊎◌, ◌<◌, List, Some, Contains, Result, Ok, Err}
 use Rattle.std.specs.FinMap.{get, insert, len}
 use Rattle.bep_map.specs.NameMap.{ByName}
+use Rattle.bep_record.specs.declared.entry.Entry.{Entry}
 use Rattle.bep_index.specs.declared.limits.TheConstants.{MAX_NAMES}
 use Rattle.bep_index.specs.Listing.{Listing}
+use Rattle.bep_index.specs.View.{IsOld, amended}
 use Rattle.bep_model.specs.Tables.{Device, Folder}
 use Rattle.bep_machine.specs.declared.refusal.Refusal.TheVariants.{IndexFull}
 use Rattle.bep_machine.specs.Replica.{view_of}
@@ -27,11 +29,20 @@ abbrev pub IsAsBefore : Folder → Held → ByName Held → ByName Held → Type
 IsAsBefore folder held old new = new ≡ insert old folder (unchanged held)
 
 -- The link is lost where the view of the other device is so; else the view becomes what this makes of it, unless it would
--- have too many names. Memory may be wanting.
+-- have too many names. Memory may be wanting only where it becomes that.
 abbrev pub TakesInView : Folder → Device → Held → (Listing → Type 0) → (Listing → Listing) → ByName Held → ByName Held → Result Effect PeerError → Type 0
 TakesInView folder other held losing changed old new result =
     let view = view_of held.tables other in
     ((result ≡ Ok Taken) × (¬ losing view) × (¬ HasTooMany (changed view)) × (new ≡ insert old folder (with_viewed held other (changed view)))) ⊎
     ((result ≡ Ok Lost) × losing view × IsAsBefore folder held old new) ⊎
     ((result ≡ Err (Refused IndexFull)) × (¬ losing view) × HasTooMany (changed view) × IsAsBefore folder held old new) ⊎
-    ((result ≡ Err Memory) × IsAsBefore folder held old new)
+    ((result ≡ Err Memory) × (¬ losing view) × (¬ HasTooMany (changed view)) × IsAsBefore folder held old new)
+
+-- so for the batch of an IndexUpdate, in the folder itself
+abbrev pub AmendsView : Device → List Entry → Held → Held → Result Effect PeerError → Type 0
+AmendsView other batch old new result =
+    let view = view_of old.tables other in
+    ((result ≡ Ok Taken) × (¬ IsOld view.sequence batch) × (¬ HasTooMany (amended view batch)) × (new ≡ with_viewed old other (amended view batch))) ⊎
+    ((result ≡ Ok Lost) × IsOld view.sequence batch × (new ≡ unchanged old)) ⊎
+    ((result ≡ Err (Refused IndexFull)) × (¬ IsOld view.sequence batch) × HasTooMany (amended view batch) × (new ≡ unchanged old)) ⊎
+    ((result ≡ Err Memory) × (¬ IsOld view.sequence batch) × (¬ HasTooMany (amended view batch)) × (new ≡ unchanged old))

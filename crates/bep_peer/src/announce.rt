@@ -1,5 +1,6 @@
 //! What a device sends of its index.
-ghost use Rattle.std.specs.Prelude.{◌≡◌, ◌↔◌, IsTrue, IfOk};
+ghost use Rattle.std.specs.Prelude.{◌≡◌, false, List, [], IsTrue, IfOk};
+ghost use Rattle.bep_record.specs.declared.entry.Entry.{Entry};
 ghost use Rattle.bep_index.specs.declared.limits.TheConstants.{MAX_RECORDS};
 ghost use Rattle.bep_index.specs.After.{IsAfter};
 ghost use Rattle.bep_index.specs.Batch.{last_sequence};
@@ -23,13 +24,16 @@ pub fn next_batch(alloc: Global, index: &Index, cursor: Plan) -> Result<Batch, A
     }
 }
 
-/// Whether nothing is left to send: an empty Index is sent all the same.
-pub fn is_all_sent(cursor: Plan, batch: &Batch) -> bool
-    ensures { IsTrue result ↔ IsAllSent cursor batch.now }
+/// Whether nothing is left to send: an empty Index is sent all the same. It takes no memory.
+pub fn is_all_sent(cursor: Plan, index: &Index) -> bool
+    ensures all { IsTrue result → IsAllSent cursor [] × IsAfter index.now.records (sent_up_to cursor) MAX_RECORDS [] }
+    ensures some { result ≡ false → (batch : List Entry) → IsAfter index.now.records (sent_up_to cursor) MAX_RECORDS batch → ¬ IsAllSent cursor batch }
+    ensures next { (batch : List Entry) × IsAfter index.now.records (sent_up_to cursor) MAX_RECORDS batch }
 {
+    let place = index.place_above(sent_up_to(cursor));
     match cursor {
         Plan::Full => false,
-        Plan::Above(_) => batch.as_slice().is_empty(),
+        Plan::Above(_) => index.at(place).is_none(),
     }
 }
 

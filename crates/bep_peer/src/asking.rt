@@ -1,8 +1,9 @@
 //! Asking another device for a block of a file.
-ghost use Rattle.std.specs.Prelude.{◌≡◌, ◌↔◌, false, Some, IsTrue, IfOk, IfErr, IfSome, IfNone, OnErr};
+ghost use Rattle.std.specs.Prelude.{◌≡◌, ◌↔◌, false, Some, IsTrue, IfOk, IfErr, IfSome, IfNone, IsErrOf, OnErr};
 ghost use Rattle.std.specs.Option.{option_copied};
 ghost use Rattle.std.specs.FinMap as map;
 ghost use Rattle.bep_record.specs.declared.block.Block.{Block as BlockOf};
+ghost use Rattle.bep_folder.specs.Unhidden.{RefusesNone};
 ghost use Rattle.bep_machine.specs.declared.message.Message.TheVariants as messages;
 ghost use Rattle.bep_machine.specs.Exchange.{AskRow, CanAsk, SharesWith, next_block, request_for};
 ghost use Rattle.bep_machine.specs.Link.{end_of, sight_of};
@@ -13,6 +14,7 @@ ghost use Rattle.bep_peer.specs.Lent.{NamesFolder, StepOver, OnlySessions};
 ghost use Rattle.bep_peer.specs.Member.{Remains, tables_of, untold};
 ghost use Rattle.bep_peer.specs.PeerError.{Gives};
 ghost use Rattle.bep_peer.specs.Session.{IsNext, with_request};
+ghost use Rattle.bep_peer.specs.Unhidden.{GoesOn, IsUnrefused};
 
 use crate::ends::{is_full, side_of};
 use crate::{Peer, PeerError, Session};
@@ -29,8 +31,8 @@ impl<S: Store> Peer<S> {
     /// this session. Refuses, in this order, `NotShared` where the link isn't one of the device's or the two don't share
     /// the folder, `LinkDown`, `NotBegun` where there is no session of the link's epoch, `NothingToDo` where there is no
     /// pull or no such block, the own record has the target's content, no more requests can be made, or the other device
-    /// isn't known to have the target's content, and `LinkFull`; else only for want of memory. After an error all is as
-    /// before.
+    /// isn't known to have the target's content, and `LinkFull`; else only for want of memory, which hides none of these.
+    /// After an error all is as before.
     ///
     /// BEP v1, 'Request'; the limits are this project's profile.
     pub fn ask(
@@ -40,6 +42,7 @@ impl<S: Store> Peer<S> {
         name: &Name,
     ) -> Result<Moved, PeerError>
         ensures step { Gives (StepOver (λ other. AskRow other folder.now name.now) (NamesFolder folder.now) (record { member = self.old; link = link.old })) (record { member = self.new; link = link.new }) result }
+        ensures unhidden { IsErrOf result PeerError.Memory → IsUnrefused (λ other. AskRow other folder.now name.now) (NamesFolder folder.now) (record { member = self.old; link = link.old }) }
         ensures rest { Remains self.old self.new }
         ensures only { OnlySessions self.old self.new }
         ensures err { OnErr result ((self.new ≡ untold self.old) × (link.new ≡ link.old)) }
@@ -65,6 +68,7 @@ impl<S: Store> Peer<S> {
         requires { SharesWith other (tables_of self.now) folder.now }
         ensures ok { IfOk result (λ next. IsNextAsked other folder.now name.now (sight_of (end_of self.now.number other) link.now.link) (tables_of self.now) next.0 next.1) }
         ensures refused { IfErr result (λ e. MayRefuse (AskRow other folder.now name.now (sight_of (end_of self.now.number other) link.now.link) (tables_of self.now)) (tables_of self.now) e) }
+        ensures unhidden { GoesOn result → RefusesNone (AskRow other folder.now name.now (sight_of (end_of self.now.number other) link.now.link) (tables_of self.now)) }
     {
         let session = self.must_be_in_session(link, other)?;
         let Some(replica) = self.folders.get(folder) else {

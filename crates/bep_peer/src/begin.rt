@@ -1,5 +1,5 @@
 //! Beginning a session.
-ghost use Rattle.std.specs.Prelude.{◌≡◌, true, false, Some, IsSome, IfOk, IfErr, OnOk, OnErr, Err};
+ghost use Rattle.std.specs.Prelude.{◌≡◌, ◌≢◌, true, false, Some, IsSome, IfOk, IfErr, IsErrOf, OnOk, OnErr, Err};
 ghost use Rattle.std.specs.FinMap as map;
 ghost use Rattle.bep_links.specs.Side.{end_at};
 ghost use Rattle.bep_machine.specs.declared.message.Message.TheVariants as messages;
@@ -10,6 +10,7 @@ ghost use Rattle.bep_peer.specs.Config.{config_of};
 ghost use Rattle.bep_peer.specs.Lent.{NamesNone, StepOver, OnlySessions, IsOpenTo, with_before};
 ghost use Rattle.bep_peer.specs.Member.{Remains, tables_of, untold};
 ghost use Rattle.bep_peer.specs.PeerError.{Gives};
+ghost use Rattle.bep_peer.specs.Unhidden.{IsUnrefused};
 ghost use Rattle.bep_peer.specs.declared.error.PeerError.TheVariants.{Memory};
 
 use crate::config::config_for;
@@ -25,11 +26,13 @@ use std::alloc::Global;
 impl<S: Store> Peer<S> {
     /// Begins a session over the link, in place of an older one, and sends the other device a ClusterConfig. Refuses, in
     /// this order, `NotShared` where the link isn't one of the device's, `LinkDown`, `NothingToDo` where there is a
-    /// session of the link's epoch, and `LinkFull`; else only for want of memory. After an error all is as before.
+    /// session of the link's epoch, and `LinkFull`; else only for want of memory, which hides none of these. After an error
+    /// all is as before.
     ///
     /// BEP v1, 'Cluster Config'.
     pub fn begin(&mut self, link: &mut Link) -> Result<Moved, PeerError>
         ensures step { Gives (StepOver BeginRow NamesNone (record { member = self.old; link = link.old })) (record { member = self.new; link = link.new }) result }
+        ensures unhidden { IsErrOf result PeerError.Memory → IsUnrefused BeginRow NamesNone (record { member = self.old; link = link.old }) }
         ensures rest { Remains self.old self.new }
         ensures only { OnlySessions self.old self.new }
         ensures err { OnErr result ((self.new ≡ untold self.old) × (link.new ≡ link.old)) }
@@ -47,6 +50,7 @@ impl<S: Store> Peer<S> {
     fn may_begin(&self, link: &Link, other: DeviceId) -> Result<(), PeerError>
         ensures ok { OnOk result (IsOpenTo other (sight_of (end_of self.now.number other) link.now.link) (tables_of self.now)) }
         ensures refused { IfErr result (λ e. Gives (BeginRow other (sight_of (end_of self.now.number other) link.now.link) (tables_of self.now)) (idle (tables_of self.now)) (Err e)) }
+        ensures only { IfErr result (λ e. e ≢ Memory) }
     {
         if !link.is_up() {
             return Err(PeerError::Refused(Refusal::LinkDown));

@@ -1,6 +1,7 @@
 //! Taking what came over a link.
-ghost use Rattle.std.specs.Prelude.{◌≡◌, true, false, Some, IsSome, IfOk, IfErr, OnErr, drop};
+ghost use Rattle.std.specs.Prelude.{◌≡◌, true, false, Some, IsSome, IfOk, IfErr, IsErrOf, OnErr, drop};
 ghost use Rattle.std.specs.FinMap as map;
+ghost use Rattle.bep_folder.specs.Unhidden.{RefusesNone};
 ghost use Rattle.bep_links.specs.Link.{with_queue_to};
 ghost use Rattle.bep_links.specs.Side.{end_at};
 ghost use Rattle.bep_machine.specs.Exchange.{DeliverRow, MessageRow, WaitingRow};
@@ -11,6 +12,7 @@ ghost use Rattle.bep_peer.specs.Effect.{TellsAnswer, Takes, deed_of, moved_of};
 ghost use Rattle.bep_peer.specs.Lent.{NamesNone, StepOver, twice};
 ghost use Rattle.bep_peer.specs.Member.{Remains, nothing_told, tables_of};
 ghost use Rattle.bep_peer.specs.PeerError.{Gives};
+ghost use Rattle.bep_peer.specs.Unhidden.{GoesOn, IsUnrefused};
 ghost use Rattle.bep_peer.specs.declared.error.PeerError.TheVariants.{Memory};
 
 use crate::effect::Effect;
@@ -28,11 +30,12 @@ impl<S: Store> Peer<S> {
     /// block. A message that breaks the protocol loses the link. Refuses, in this order, `NotShared` where the link isn't
     /// one of the device's, `LinkDown`, `NotBegun` where there is no session of the link's epoch, `NothingToDo` where no
     /// message waits, `IndexFull` where too many names would be known, and `LinkFull` where an answer can't be sent; else
-    /// only for want of memory. After an error all is as before.
+    /// only for want of memory, which hides none of these. After an error all is as before.
     ///
     /// BEP v1, 'Cluster Config', 'Index', 'Index Update', 'Request', 'Response'.
     pub fn deliver(&mut self, link: &mut Link) -> Result<Moved, PeerError>
         ensures step { Gives (StepOver (λ other. DeliverRow other self.new.trace.failed) NamesNone (record { member = self.old; link = link.old })) (record { member = self.new; link = link.new }) result }
+        ensures unhidden { IsErrOf result PeerError.Memory → IsUnrefused (λ other. DeliverRow other self.new.trace.failed) NamesNone (record { member = self.old; link = link.old }) }
         ensures rest { Remains self.old self.new }
         ensures fault { TellsRead self.new.trace result }
         ensures uncopied { self.new.trace.copied ≡ false }
@@ -61,6 +64,7 @@ impl<S: Store> Peer<S> {
     fn take_first(&mut self, other: DeviceId, link: &Link, side: Side) -> Result<Effect, PeerError>
         requires untold { self.old.trace ≡ nothing_told }
         ensures step { (session : SessionOf) → map.get self.old.sessions other ≡ Some session → Takes (WaitingRow other self.new.trace.failed (sight_of (end_at side) link.now.link).full session (sight_of (end_at side) link.now.link).waiting (tables_of self.old)) self.old self.new result }
+        ensures unhidden { GoesOn result → (session : SessionOf) → map.get self.old.sessions other ≡ Some session → RefusesNone (WaitingRow other self.new.trace.failed (sight_of (end_at side) link.now.link).full session (sight_of (end_at side) link.now.link).waiting (tables_of self.old)) }
         ensures rest { Remains self.old self.new }
         ensures told { TellsAnswer self.new.trace result }
         ensures room { IfOk result (λ effect. IsSome (deed_of effect).sends → (sight_of (end_at side) link.now.link).full ≡ false) }
@@ -77,6 +81,7 @@ impl<S: Store> Peer<S> {
     fn take(&mut self, other: DeviceId, message: &Message, full: bool) -> Result<Effect, PeerError>
         requires untold { self.old.trace ≡ nothing_told }
         ensures step { (session : SessionOf) → map.get self.old.sessions other ≡ Some session → Takes (MessageRow other self.new.trace.failed full session message.now (tables_of self.old)) self.old self.new result }
+        ensures unhidden { GoesOn result → (session : SessionOf) → map.get self.old.sessions other ≡ Some session → RefusesNone (MessageRow other self.new.trace.failed full session message.now (tables_of self.old)) }
         ensures rest { Remains self.old self.new }
         ensures told { TellsAnswer self.new.trace result }
         ensures room { IfOk result (λ effect. IsSome (deed_of effect).sends → full ≡ false) }

@@ -1,5 +1,5 @@
 //! The session in which a device acts over a link.
-ghost use Rattle.std.specs.Prelude.{IfErr, IfOk, Err};
+ghost use Rattle.std.specs.Prelude.{◌≢◌, IfErr, IfOk, Err};
 ghost use Rattle.bep_machine.specs.Exchange.{SessionRow};
 ghost use Rattle.bep_machine.specs.Link.{end_of, sight_of};
 ghost use Rattle.bep_machine.specs.Peer.{idle};
@@ -22,6 +22,7 @@ impl<S: Store> Peer<S> {
     ) -> Result<&Session, PeerError>
         ensures ok { IfOk result (λ session. IsOver other (sight_of (end_of self.now.number other) link.now.link) (tables_of self.now) session.now) }
         ensures refused { IfErr result (λ e. Gives (SessionRow other (sight_of (end_of self.now.number other) link.now.link) (tables_of self.now) NothingDone) (idle (tables_of self.now)) (Err e)) }
+        ensures only { IfErr result (λ e. e ≢ PeerError.Memory) }
     {
         if !link.is_up() {
             return Err(PeerError::Refused(Refusal::LinkDown));

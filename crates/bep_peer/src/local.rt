@@ -1,10 +1,11 @@
 //! What a device does with one of its folders alone: a user's changes, pulls, override and revert.
-ghost use Rattle.std.specs.Prelude.{◌≡◌, ◌↔◌, true, false, IsErr};
+ghost use Rattle.std.specs.Prelude.{◌≡◌, ◌↔◌, true, false, IsErr, IsErrOf};
 ghost use Rattle.bep_machine.specs.Local.{EditRow, OverrideRow, RemoveRow, RevertRow};
 ghost use Rattle.bep_machine.specs.Pull.{FinishRow, StartPullRow};
 ghost use Rattle.bep_peer.specs.Call.{IsStepped};
 ghost use Rattle.bep_peer.specs.Member.{Remains, tables_of};
 ghost use Rattle.bep_peer.specs.PeerError.{Gives};
+ghost use Rattle.bep_peer.specs.Unhidden.{IsUnrefusedWithin};
 ghost use Rattle.bep_peer.specs.Within.{GainsCopyIn, OnlyFolder, StepWithin, TellsFault};
 
 use crate::call::Call;
@@ -47,9 +48,10 @@ impl<S: Store> Peer<S> {
 
     /// Begins a pull of the record that the device wants of the name. Refuses `NotShared` where the device doesn't share the
     /// folder, and then `NotNeeded`, `KindForbids` and `PullsFull`, as the table of steps has them; else only for want of
-    /// memory.
+    /// memory, which hides none of these.
     pub fn pull(&mut self, folder: &FolderName, name: &Name) -> Result<Moved, PeerError>
         ensures step { Gives (StepWithin folder.now (StartPullRow self.old.number name.now) self.old) self.new result }
+        ensures unhidden { IsErrOf result PeerError.Memory → IsUnrefusedWithin folder.now (StartPullRow self.old.number name.now) self.old }
         ensures rest { Remains self.old self.new }
         ensures only { OnlyFolder folder.now self.old self.new }
         ensures fault { TellsFault self.new result }

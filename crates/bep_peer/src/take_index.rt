@@ -1,16 +1,21 @@
 //! Taking what the other device sends of its index.
-ghost use Rattle.std.specs.Prelude.{◌≡◌, ◌↔◌, ◌<◌, Bool, Some, IsTrue, IfOk, OnErr};
+ghost use Rattle.std.specs.Prelude.{◌≡◌, ◌↔◌, ◌<◌, Bool, Some, Contains, IsTrue, IfOk, IfErr, OnErr};
 ghost use Rattle.std.specs.FinMap as map;
 ghost use Rattle.bep_folder.specs.Held.{Held};
+ghost use Rattle.bep_folder.specs.Unhidden.{RefusesNone};
+ghost use Rattle.bep_folder.specs.Views.{unchanged, with_viewed};
 ghost use Rattle.bep_index.specs.Batch.{with_all};
 ghost use Rattle.bep_index.specs.declared.limits.TheConstants.{MAX_NAMES};
 ghost use Rattle.bep_index.specs.View.{IsOld, replaced, amended};
 ghost use Rattle.bep_machine.specs.Exchange.{MessageRow};
 ghost use Rattle.bep_machine.specs.Peer.{Session as SessionOf};
+ghost use Rattle.bep_machine.specs.Replica.{view_of};
 ghost use Rattle.bep_machine.specs.declared.message.Message.TheVariants as messages;
 ghost use Rattle.bep_peer.specs.Effect.{SendsNone, Takes};
 ghost use Rattle.bep_peer.specs.Member.{Remains, nothing_told, tables_of};
-ghost use Rattle.bep_peer.specs.Viewing.{IsSharedBy, TakesInView};
+ghost use Rattle.bep_peer.specs.Unhidden.{GoesOn};
+ghost use Rattle.bep_peer.specs.Viewing.{AmendsView, HasTooMany, IsSharedBy, TakesInView};
+ghost use Rattle.bep_peer.specs.declared.effect.Effect.TheVariants.{Taken};
 
 use crate::effect::Effect;
 use crate::{Peer, PeerError};
@@ -20,6 +25,7 @@ use bep_machine::Refusal;
 use bep_map::FolderMap;
 use bep_record::{DeviceId, FolderName};
 use bep_store::Store;
+use std::alloc::Global;
 
 impl<S: Store> Peer<S> {
     // Takes an Index. A folder that the session doesn't name breaks the protocol.
@@ -31,6 +37,7 @@ impl<S: Store> Peer<S> {
     ) -> Result<Effect, PeerError>
         requires untold { self.old.trace ≡ nothing_told }
         ensures step { (full : Bool) (session : SessionOf) → map.get self.old.sessions other ≡ Some session → Takes (MessageRow other self.new.trace.failed full session (messages.Index folder.now batch.now) (tables_of self.old)) self.old self.new result }
+        ensures unhidden { GoesOn result → (full : Bool) (session : SessionOf) → map.get self.old.sessions other ≡ Some session → RefusesNone (MessageRow other self.new.trace.failed full session (messages.Index folder.now batch.now) (tables_of self.old)) }
         ensures rest { Remains self.old self.new }
         ensures told { self.new.trace ≡ nothing_told }
         ensures silent { IfOk result SendsNone }
@@ -56,6 +63,7 @@ impl<S: Store> Peer<S> {
     ) -> Result<Effect, PeerError>
         requires untold { self.old.trace ≡ nothing_told }
         ensures step { (full : Bool) (session : SessionOf) → map.get self.old.sessions other ≡ Some session → Takes (MessageRow other self.new.trace.failed full session (messages.IndexUpdate folder.now batch.now) (tables_of self.old)) self.old self.new result }
+        ensures unhidden { GoesOn result → (full : Bool) (session : SessionOf) → map.get self.old.sessions other ≡ Some session → RefusesNone (MessageRow other self.new.trace.failed full session (messages.IndexUpdate folder.now batch.now) (tables_of self.old)) }
         ensures rest { Remains self.old self.new }
         ensures told { self.new.trace ≡ nothing_told }
         ensures silent { IfOk result SendsNone }
@@ -64,8 +72,7 @@ impl<S: Store> Peer<S> {
         if !self.is_named(other, folder) {
             return Ok(Effect::Lost);
         }
-        let batch = batch.copy(self.alloc)?;
-        amend_view(&mut self.folders, folder, other, batch)
+        amend_view(&mut self.folders, self.alloc, folder, other, batch)
     }
 }
 
@@ -100,20 +107,56 @@ fn replace_view<S: Store>(
 // The batch adds to what was known of the other device's folder.
 fn amend_view<S: Store>(
     folders: &mut FolderMap<Replica<S>>,
+    alloc: Global,
     folder: &FolderName,
     other: DeviceId,
-    batch: Batch,
+    batch: &Batch,
 ) -> Result<Effect, PeerError>
     requires { IsSharedBy folders.old folder.now other }
-    ensures { (held : Held) → map.get folders.old folder.now ≡ Some held → TakesInView folder.now other held (λ view. IsOld view.sequence batch) (λ view. amended view batch) folders.old folders.new result }
+    ensures { (held : Held) → map.get folders.old folder.now ≡ Some held → TakesInView folder.now other held (λ view. IsOld view.sequence batch.now) (λ view. amended view batch.now) folders.old folders.new result }
 {
     let Some(replica) = folders.get_mut(folder) else {
         unreachable!();
     };
-    match replica.amend_view(other, batch) {
-        Ok(()) => Ok(Effect::Taken),
+    amend(replica, alloc, other, batch)
+}
+
+// So in the folder itself. What refuses the batch is tested before it is copied.
+fn amend<S: Store>(
+    replica: &mut Replica<S>,
+    alloc: Global,
+    other: DeviceId,
+    batch: &Batch,
+) -> Result<Effect, PeerError>
+    requires { Contains replica.old.tables.others other }
+    ensures { AmendsView other batch.now replica.old replica.new result }
+{
+    match replica.may_amend(other, batch) {
+        Ok(()) => add_copy(replica, alloc, other, batch),
         Err(FolderError::BatchOld) => Ok(Effect::Lost),
         Err(FolderError::IndexFull) => Err(PeerError::Refused(Refusal::IndexFull)),
+        Err(_) => unreachable!(),
+    }
+}
+
+// Adds a copy of the batch, which nothing refuses.
+fn add_copy<S: Store>(
+    replica: &mut Replica<S>,
+    alloc: Global,
+    other: DeviceId,
+    batch: &Batch,
+) -> Result<Effect, PeerError>
+    requires shared { Contains replica.old.tables.others other }
+    requires new { ¬ IsOld (view_of replica.old.tables other).sequence batch.now }
+    requires few { ¬ HasTooMany (amended (view_of replica.old.tables other) batch.now) }
+    requires begun { replica.old ≡ unchanged replica.old }
+    ensures ok { IfOk result (λ effect. (effect ≡ Taken) × (replica.new ≡ with_viewed replica.old other (amended (view_of replica.old.tables other) batch.now))) }
+    ensures only { IfErr result (λ e. e ≡ PeerError.Memory) }
+    ensures err { OnErr result (replica.new ≡ replica.old) }
+{
+    let batch = batch.copy(alloc)?;
+    match replica.amend_view(other, batch) {
+        Ok(()) => Ok(Effect::Taken),
         Err(FolderError::Memory) => Err(PeerError::Memory),
         Err(_) => unreachable!(),
     }

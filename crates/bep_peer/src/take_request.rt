@@ -5,6 +5,7 @@ ghost use Rattle.bep_record.specs.declared.node.NodeParts.{NodeParts};
 ghost use Rattle.bep_store.specs.Sure.{NeverFails};
 ghost use Rattle.bep_folder.specs.Held.{Held};
 ghost use Rattle.bep_folder.specs.Makes.{CountsFaults, Stays};
+ghost use Rattle.bep_folder.specs.Unhidden.{RefusesNone};
 ghost use Rattle.bep_folder.specs.declared.error.FolderError.TheVariants.{StoreFault, Memory as OutOfMemory};
 ghost use Rattle.bep_machine.specs.Replica.{node_at};
 ghost use Rattle.bep_machine.specs.Exchange.{Answers, IsNamed, MessageRow};
@@ -13,6 +14,7 @@ ghost use Rattle.bep_machine.specs.declared.message.Message.TheVariants as messa
 ghost use Rattle.bep_peer.specs.Effect.{TellsAnswer, Takes, deed_of, failure_of};
 ghost use Rattle.bep_peer.specs.Member.{Remains, nothing_told, tables_of};
 ghost use Rattle.bep_peer.specs.Read.{IsNodeAt, ReadsFrom, failed_by};
+ghost use Rattle.bep_peer.specs.Unhidden.{GoesOn};
 ghost use Rattle.bep_peer.specs.declared.error.PeerError.TheVariants.{Memory};
 
 use crate::answer::{answer_to, refuse};
@@ -36,6 +38,7 @@ impl<S: Store> Peer<S> {
     ) -> Result<Effect, PeerError>
         requires untold { self.old.trace ≡ nothing_told }
         ensures step { (session : SessionOf) → map.get self.old.sessions other ≡ Some session → Takes (MessageRow other self.new.trace.failed full session (messages.Request request.now) (tables_of self.old)) self.old self.new result }
+        ensures unhidden { GoesOn result → (session : SessionOf) → map.get self.old.sessions other ≡ Some session → RefusesNone (MessageRow other self.new.trace.failed full session (messages.Request request.now) (tables_of self.old)) }
         ensures rest { Remains self.old self.new }
         ensures told { TellsAnswer self.new.trace result }
         ensures room { IfOk result (λ effect. IsSome (deed_of effect).sends → full ≡ false) }

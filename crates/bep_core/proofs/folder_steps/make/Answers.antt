@@ -4,7 +4,9 @@ use Rattle.bep_model.specs.Tables.{Folder}
 use Rattle.bep_peer.specs.declared.error.PeerError.{PeerError}
 use Rattle.bep_peer.specs.Member.{Member}
 use Rattle.bep_peer.specs.PeerError.{Gives}
+use Rattle.bep_peer.specs.Unhidden.{IsUnrefusedWithin}
 use Rattle.bep_peer.specs.Within.{StepWithin}
+use Rattle.bep_core.specs.Unhidden.{TestsWithin}
 use Rattle.bep_core.specs.Within.{row_of}
 use Rattle.bep_core.specs.declared.folder_steps.Within.{Within}
 use Rattle.bep_core.proofs.folder_steps.make.Goals as goal
@@ -34,3 +36,25 @@ returns-in-Pull-clause-step g c = as_asked c.args.folder.now c.args.peer.now c.p
 
 pub returns-in-Finish-clause-step : goal.returns-in-Finish-clause-step
 returns-in-Finish-clause-step g c = as_asked c.args.folder.now c.args.peer.now c.finish.new.self c.finish.result c.in-Finish.is c.finish.ensures.step
+
+pub returns-in-Edit-clause-unhidden : goal.returns-in-Edit-clause-unhidden
+returns-in-Edit-clause-unhidden g c = λ wants tests. absurd (subst TestsWithin c.in-Edit.is tests)
+
+pub returns-in-Remove-clause-unhidden : goal.returns-in-Remove-clause-unhidden
+returns-in-Remove-clause-unhidden g c = λ wants tests. absurd (subst TestsWithin c.in-Remove.is tests)
+
+pub returns-in-Scan-clause-unhidden : goal.returns-in-Scan-clause-unhidden
+returns-in-Scan-clause-unhidden g c = λ wants tests. absurd (subst TestsWithin c.in-Scan.is tests)
+
+pub returns-in-Override-clause-unhidden : goal.returns-in-Override-clause-unhidden
+returns-in-Override-clause-unhidden g c = λ wants tests. absurd (subst TestsWithin c.in-Override.is tests)
+
+pub returns-in-Revert-clause-unhidden : goal.returns-in-Revert-clause-unhidden
+returns-in-Revert-clause-unhidden g c = λ wants tests. absurd (subst TestsWithin c.in-Revert.is tests)
+
+pub returns-in-Finish-clause-unhidden : goal.returns-in-Finish-clause-unhidden
+returns-in-Finish-clause-unhidden g c = λ wants tests. absurd (subst TestsWithin c.in-Finish.is tests)
+
+pub returns-in-Pull-clause-unhidden : goal.returns-in-Pull-clause-unhidden
+returns-in-Pull-clause-unhidden g c = λ wants tests.
+    subst (λ (step : Within). IsUnrefusedWithin c.args.folder.now (row_of step c.args.peer.now.number c.pull.new.self.trace.failed) c.args.peer.now) (sym c.in-Pull.is) (c.pull.ensures.unhidden wants)

@@ -1,10 +1,11 @@
-use Rattle.std.proofs.Common.{◌≡◌, Result, sym, ap, subst}
+use Rattle.std.proofs.Common.{◌≡◌, ℕ, Option, Result, sym, ap, subst}
 use Rattle.bep_machine.specs.declared.moved.Moved.{Moved}
 use Rattle.bep_peer.specs.declared.error.PeerError.{PeerError}
 use Rattle.bep_peer.specs.declared.trace.Trace.{Trace}
 use Rattle.bep_peer.specs.Lent.{Lent, StepOver}
 use Rattle.bep_peer.specs.Member.{Member}
 use Rattle.bep_peer.specs.PeerError.{Gives}
+use Rattle.bep_peer.specs.Unhidden.{IsUnrefused}
 use Rattle.bep_core.specs.Over.{TellsOver, row_of, shares_of}
 use Rattle.bep_core.specs.declared.session_steps.Over.{Over}
 use Rattle.bep_core.proofs.session_steps.act.Goals as goal
@@ -45,3 +46,19 @@ returns-in-Announce-clause-fault g c = told_as c.announce.new.self.trace c.annou
 
 pub returns-in-Ask-clause-fault : goal.returns-in-Ask-clause-fault
 returns-in-Ask-clause-fault g c = told_as c.ask.new.self.trace c.ask.result c.in-Ask.is (ap (λ (m : Member). m.trace.failed) c.ask.ensures.only)
+
+-- and where it wanted memory, nothing refused it
+unrefused_as : (was : Lent) (failed : Option ℕ) {asked what : Over} → asked ≡ what → IsUnrefused (row_of what failed) (shares_of what) was → IsUnrefused (row_of asked failed) (shares_of asked) was
+unrefused_as was failed is un = subst (λ (step : Over). IsUnrefused (row_of step failed) (shares_of step) was) (sym is) un
+
+pub returns-in-Begin-clause-unhidden : goal.returns-in-Begin-clause-unhidden
+returns-in-Begin-clause-unhidden g c = λ wants. unrefused_as (record { member = c.args.peer.now; link = c.args.link.now }) c.begin.new.self.trace.failed c.in-Begin.is (c.begin.ensures.unhidden wants)
+
+pub returns-in-Deliver-clause-unhidden : goal.returns-in-Deliver-clause-unhidden
+returns-in-Deliver-clause-unhidden g c = λ wants. unrefused_as (record { member = c.args.peer.now; link = c.args.link.now }) c.deliver.new.self.trace.failed c.in-Deliver.is (c.deliver.ensures.unhidden wants)
+
+pub returns-in-Announce-clause-unhidden : goal.returns-in-Announce-clause-unhidden
+returns-in-Announce-clause-unhidden g c = λ wants. unrefused_as (record { member = c.args.peer.now; link = c.args.link.now }) c.announce.new.self.trace.failed c.in-Announce.is (c.announce.ensures.unhidden wants)
+
+pub returns-in-Ask-clause-unhidden : goal.returns-in-Ask-clause-unhidden
+returns-in-Ask-clause-unhidden g c = λ wants. unrefused_as (record { member = c.args.peer.now; link = c.args.link.now }) c.ask.new.self.trace.failed c.in-Ask.is (c.ask.ensures.unhidden wants)

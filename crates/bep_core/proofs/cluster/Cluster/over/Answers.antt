@@ -5,7 +5,7 @@ use Rattle.bep_machine.specs.Cluster.{Cluster}
 use Rattle.bep_machine.specs.Steps.{IsStep}
 use Rattle.bep_network.specs.Network.{cluster_of, failed_at}
 use Rattle.bep_core.specs.Over.{step_of}
-use Rattle.bep_core.proofs.SessionSteps.{none_over, none_over_counts, over_counts, over_made, over_rules}
+use Rattle.bep_core.proofs.SessionSteps.{none_over, none_over_counts, over_counts, over_hides, over_made, over_rules}
 use Rattle.bep_core.proofs.cluster.Cluster.over.Goals as goal
 
 pub returns-in_default-clause-step : goal.returns-in_default-clause-step
@@ -37,3 +37,10 @@ returns-clause-counts g c =
     c.in-Some.place c.in-Some.between c.index_mut.result.now c.act.new.peer c.index_mut-2.result.now c.act.new.link
     c.in-Some.ensures.device c.in-Some.ensures.link c.index_mut.ensures.value c.index_mut-2.ensures.value c.act.result c.act.ensures.step c.act.ensures.rest
     c.act.ensures.fault c.answered.result c.answered.ensures
+
+pub returns-clause-unhidden : goal.returns-clause-unhidden
+returns-clause-unhidden g c =
+    over_hides c.args.step c.args.device c.args.other c.args.self.now (record { members = c.self.inside.peers.items; links = c.self.inside.links.items }) c.self.view_is c.self.invariant
+    c.in-Some.place c.in-Some.between c.index_mut.result.now c.act.new.peer c.index_mut-2.result.now c.act.new.link
+    c.in-Some.ensures.device c.in-Some.ensures.link c.index_mut.ensures.value c.index_mut-2.ensures.value c.act.result c.act.ensures.step c.act.ensures.rest
+    c.act.ensures.unhidden c.answered.result c.answered.ensures

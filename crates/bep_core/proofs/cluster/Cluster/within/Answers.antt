@@ -1,6 +1,6 @@
 use Rattle.std.proofs.Common.{sym, ◌∙◌}
 use Rattle.bep_network.specs.Network.{failed_at}
-use Rattle.bep_core.proofs.DeviceSteps.{none_counts, none_within, within_counts, within_made, within_rules}
+use Rattle.bep_core.proofs.DeviceSteps.{none_counts, none_within, within_counts, within_hides, within_made, within_rules}
 use Rattle.bep_core.proofs.cluster.Cluster.within.Goals as goal
 
 pub returns-in_default-clause-counts : goal.returns-in_default-clause-counts
@@ -31,3 +31,10 @@ returns-clause-counts g c =
     c.args.self.now (record { members = c.self.inside.peers.items; links = c.self.inside.links.items }) c.self.view_is c.self.invariant c.in-Some.place c.index_mut.result.now c.make.new.peer
     (sym c.device_place.ensures ∙ c.in-Some.is) c.index_mut.ensures.value c.make.result c.make.ensures.step c.make.ensures.rest.number c.make.ensures.rest.linked
     c.make.ensures.rest c.make.ensures.fault c.answered.result c.answered.ensures
+
+pub returns-clause-unhidden : goal.returns-clause-unhidden
+returns-clause-unhidden g c =
+    within_hides c.args.device c.args.folder c.args.step
+    c.args.self.now (record { members = c.self.inside.peers.items; links = c.self.inside.links.items }) c.self.view_is c.self.invariant c.in-Some.place c.index_mut.result.now c.make.new.peer
+    (sym c.device_place.ensures ∙ c.in-Some.is) c.index_mut.ensures.value c.make.result c.make.ensures.step c.make.ensures.rest.number c.make.ensures.rest.linked
+    c.make.ensures.unhidden c.answered.result c.answered.ensures

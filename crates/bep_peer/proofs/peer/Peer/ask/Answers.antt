@@ -1,4 +1,4 @@
-use Rattle.std.proofs.Common.{◌≡◌, ◌∙◌, Some, sym, subst}
+use Rattle.std.proofs.Common.{◌≡◌, ◌∙◌, Some, Err, ap, sym, subst}
 use Rattle.std.proofs.lemmas.Result.{err_from_is_err_and}
 use Rattle.std.specs.FinMap as map
 use Rattle.bep_machine.specs.Exchange.{AskRow}
@@ -6,6 +6,9 @@ use Rattle.bep_machine.specs.Peer.{Session}
 use Rattle.bep_peer.specs.Lent.{NamesFolder}
 use Rattle.bep_peer.specs.Member.{Member}
 use Rattle.bep_peer.specs.Session.{IsNext, with_request}
+use Rattle.bep_peer.specs.declared.error.PeerError.{PeerError}
+use Rattle.bep_peer.specs.Unhidden.{GoesOn}
+use Rattle.bep_peer.proofs.Unrefused.{unrefused_over, wanted}
 use Rattle.bep_peer.proofs.StepFacts.{begun_remains, refused_as_not_shared, refused_as, sent_as, sent_only, sent_remains}
 use Rattle.bep_peer.proofs.peer.Peer.ask.Given.{Over}
 use Rattle.bep_peer.proofs.peer.Peer.ask.Goals as goal
@@ -53,3 +56,15 @@ returns-clause-rest g c = sent_remains c.args.self.now c.tell_nothing.new.self c
 
 pub returns-clause-only : goal.returns-clause-only
 returns-clause-only g c = sent_only c.args.self.now c.tell_nothing.new.self c.send_told.new.self c.keep_request.new.self _ _ c.tell_nothing.ensures c.in_ok-send_told.ensures.ok.0 (kept g c)
+
+pub returns-in_err-request-clause-unhidden : goal.returns-in_err-request-clause-unhidden
+returns-in_err-request-clause-unhidden g c = λ wants.
+    let error = err_from_is_err_and c.from_residual.result c.from_residual.ensures.1 in
+    let is = wanted c.from_residual.result c.in_err-request.field-0.0 (error.1 ∙ ap Err error.2) wants in
+    unrefused_over (λ other. AskRow other c.args.folder.now c.args.name.now) (NamesFolder c.args.folder.now) (record { member = c.args.self.now; link = c.args.link.now }) c.tell_nothing.new.self c.in-Some.other c.tell_nothing.ensures c.in-Some.ensures.some.0 c.in-Some.ensures.some.1
+    (c.in_err-request.ensures.unhidden (subst (λ (e : PeerError). GoesOn {T = Unit {0}} (Err e)) (sym is) tt))
+
+pub returns-in_err-send_told-clause-unhidden : goal.returns-in_err-send_told-clause-unhidden
+returns-in_err-send_told-clause-unhidden g c = λ wants.
+    unrefused_over (λ other. AskRow other c.args.folder.now c.args.name.now) (NamesFolder c.args.folder.now) (record { member = c.args.self.now; link = c.args.link.now }) c.tell_nothing.new.self c.in-Some.other c.tell_nothing.ensures c.in-Some.ensures.some.0 c.in-Some.ensures.some.1
+    (c.in_ok-request.ensures.unhidden tt)

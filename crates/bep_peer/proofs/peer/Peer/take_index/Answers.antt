@@ -1,8 +1,9 @@
-use Rattle.std.proofs.Common.{rules, List, subst}
+use Rattle.std.proofs.Common.{rules, ◌≡◌, true, false, List, subst}
 use Rattle.bep_record.specs.declared.entry.Entry.{Entry}
 use Rattle.bep_index.specs.View.{replaced}
-use Rattle.bep_peer.specs.Member.{Member}
+use Rattle.bep_peer.specs.Member.{Member, tables_of}
 use Rattle.bep_peer.specs.Viewing.{TakesInView}
+use Rattle.bep_peer.proofs.Unrefused.{index_lost, index_unrefused}
 use Rattle.bep_peer.proofs.ViewTaken.{changes_one, member_kept, member_remains, same_on_error, sends_none, index_taken, index_full}
 use Rattle.bep_peer.proofs.peer.Peer.take_index.Goals as goal
 
@@ -50,3 +51,19 @@ pub returns-clause-silent : goal.returns-clause-silent
 returns-clause-silent g c =
     let shared = rw (← c.self.view_is) at (c.is_named.ensures.shared (search rules)) in
     sends_none c.args.folder.now c.args.other shared.0 (λ view. ⊥) (λ view. replaced view c.in_ok-batch.batch) c.self.inside.folders c.replace_view.new.folders c.replace_view.result (c.replace_view.ensures shared.0 shared.1)
+
+pub returns-then-not-is_named-clause-unhidden : goal.returns-then-not-is_named-clause-unhidden
+returns-then-not-is_named-clause-unhidden g c = λ goes full session is.
+    index_lost c.args.other c.args.self.now.trace.failed full session (tables_of c.args.self.now) c.args.folder.now c.args.batch.now
+    (λ named. absurd (let yes : c.is_named.result ≡ true = (c.is_named.ensures.value session is).1 named in let no : c.is_named.result ≡ false = search rules in cc))
+
+pub returns-in_err-batch-clause-unhidden : goal.returns-in_err-batch-clause-unhidden
+returns-in_err-batch-clause-unhidden g c = λ goes full session is.
+    index_unrefused c.args.other c.args.self.now.trace.failed full session (tables_of c.args.self.now) c.args.folder.now c.args.batch.now
+    (λ many. absurd (let yes : c.has_many_names.result ≡ true = c.has_many_names.ensures.1 many in let no : c.has_many_names.result ≡ false = search rules in cc))
+
+pub returns-clause-unhidden : goal.returns-clause-unhidden
+returns-clause-unhidden g c = rw (← c.self.view_is) (λ goes full session is.
+    let member : Member = record { number = c.self.inside.number; folders = c.self.inside.folders; sessions = c.self.inside.sessions; linked = c.self.inside.linked; trace = c.self.inside.trace } in
+    index_unrefused c.args.other c.self.inside.trace.failed full session (tables_of member) c.args.folder.now c.args.batch.now
+    (λ many. absurd (let yes : c.has_many_names.result ≡ true = c.has_many_names.ensures.1 many in let no : c.has_many_names.result ≡ false = search rules in cc)))

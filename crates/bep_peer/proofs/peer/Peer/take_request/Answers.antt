@@ -1,7 +1,9 @@
-use Rattle.std.proofs.Common.{◌≡◌, true, rules, sym, subst}
+use Rattle.std.proofs.Common.{◌≡◌, true, false, rules, sym, subst}
 use Rattle.bep_machine.specs.Exchange.{Answers}
 use Rattle.bep_machine.specs.Replica.{node_at}
 use Rattle.bep_peer.specs.declared.trace.Trace.{Trace}
+use Rattle.bep_peer.specs.Member.{tables_of}
+use Rattle.bep_peer.proofs.Unrefused.{request_lost, request_unrefused}
 use Rattle.bep_peer.proofs.RequestFacts.{node_of, request_answered, request_waits}
 use Rattle.bep_peer.proofs.peer.Peer.take_request.Goals as goal
 
@@ -22,3 +24,16 @@ returns-clause-step g c = λ session has.
     c.if-full.false ((c.is_named.ensures.value session has).0 yes) shared.1 c.read-read.ensures.same
     (subst (λ (trace : Trace). Answers request trace.failed (node_at shared.0.tables request.name) c.in_ok-answer_read.field-0) (sym c.read-read.ensures.told)
     (c.in_ok-answer_read.ensures.ok (node_at shared.0.tables request.name) read))
+
+pub returns-then-not-is_named-clause-unhidden : goal.returns-then-not-is_named-clause-unhidden
+returns-then-not-is_named-clause-unhidden g c = λ goes session is.
+    request_lost c.args.other c.args.self.now.trace.failed c.args.full session (tables_of c.args.self.now) c.args.request.now
+    (λ named. absurd (let yes : c.is_named.result ≡ true = (c.is_named.ensures.value session is).1 named in let no : c.is_named.result ≡ false = search rules in cc))
+
+pub returns-in_err-answer_read-clause-unhidden : goal.returns-in_err-answer_read-clause-unhidden
+returns-in_err-answer_read-clause-unhidden g c = λ goes session is.
+    request_unrefused c.args.other c.read-read.new.self.trace.failed c.args.full session (tables_of c.args.self.now) c.args.request.now c.if-full.false
+
+pub returns-clause-unhidden : goal.returns-clause-unhidden
+returns-clause-unhidden g c = λ goes session is.
+    request_unrefused c.args.other c.read-read.new.self.trace.failed c.args.full session (tables_of c.args.self.now) c.args.request.now c.if-full.false
