@@ -5,5 +5,6 @@ pub mod Orders
 pub mod Rising
 pub mod Maps
 pub mod Entries
+pub mod Filled
 pub mod Decided
 pub mod Values

@@ -1,7 +1,6 @@
 mod AskedFacts
 mod BlockFacts
 mod CommitFacts
-mod ContentsFacts
 mod CopyFacts
 mod DeviceMapFacts
 mod EndingFacts

@@ -1,17 +1,9 @@
 -- Reading out what a store holds (this project's profile).
-use Rattle.std.specs.Prelude.{◌≡◌, ◌<◌, Option, Some, None, Result, Ok, Err}
-use Rattle.std.specs.FinMap.{insert}
-use Rattle.bep_map.specs.NameMap.{ByName}
-use Rattle.bep_record.specs.declared.node.NodeParts.{NodeParts}
-use Rattle.bep_model.specs.Tables.{FileName}
+use Rattle.std.specs.Prelude.{◌≡◌, ◌<◌, Result, Ok, Err}
 use Rattle.bep_folder.specs.declared.error.FolderError.{FolderError}
 use Rattle.bep_folder.specs.declared.error.FolderError.TheVariants.{StoreFault, Memory}
-use Rattle.bep_folder.specs.Trace.{TracedStore, failed_now}
-
--- the nodes, with the one that was read of the name, if there was one
-abbrev pub with_read : ByName NodeParts → FileName → Option NodeParts → ByName NodeParts
-with_read nodes name None = nodes
-with_read nodes name (Some node) = insert nodes name node
+use Rattle.bep_folder.specs.Held.{Held}
+use Rattle.bep_folder.specs.Trace.{TracedStore, failed_now, no_trace}
 
 -- Calls of the store were made, which change nothing that it holds. Where one answered a fault, the count of faults rose
 -- and the trace tells that it was the last one; want of memory is no fault.
@@ -21,3 +13,7 @@ ReadsOut old new (Err StoreFault) =
     (new.contents ≡ old.contents) × (old.faults < new.faults) × (new.trace ≡ failed_now new.made old.trace)
 ReadsOut old new (Err Memory) = (new.contents ≡ old.contents) × (new.faults ≡ old.faults) × (new.trace ≡ old.trace)
 ReadsOut old new (Err _) = ⊥
+
+-- the folder over a store in memory, which never failed and of which no call was made
+abbrev pub copied_out : Held → Held
+copied_out held = record held { faults = 0; made = 0; trace = no_trace }

@@ -10,7 +10,7 @@ ghost use Rattle.bep_index.specs.declared.error.IndexError.TheVariants.{Memory};
 use crate::all::{count_new, last_sequence_of, put_batch};
 use crate::{Batch, IndexError, MAX_NAMES};
 use bep_map::NameMap;
-use bep_record::{Name, Record};
+use bep_record::{Duplicate, Name, Record};
 use std::alloc::{AllocError, Global};
 use std::collections::btree_map::Values;
 use std::marker::Model;
@@ -173,6 +173,12 @@ impl View {
             records: self.records.copy(alloc)?,
             alloc,
         })
+    }
+}
+
+impl Duplicate for View {
+    fn duplicate(&self, alloc: Global) -> Result<Self, AllocError> {
+        self.copy(alloc)
     }
 }
 

@@ -12,7 +12,9 @@ use Rattle.bep_machine.specs.Local.{EditRow, RemoveRow, ScanRow, OverrideRow, Re
 use Rattle.bep_machine.specs.Pull.{StartPullRow, FinishRow}
 use Rattle.bep_machine.specs.Link.{Sight, end_of, sight_of, after_deed}
 use Rattle.bep_machine.specs.Peer.{Peer, with_replica}
-use Rattle.bep_machine.specs.Halves.{Sent, Took, Broke, Traffic, has_answered, kept_told, only_call, IsSeen, IsDone, SaysNoMore, InFolder, OnlyIf}
+use Rattle.bep_machine.specs.declared.logged.Exchanged.TheVariants.{Sent, Took, Broke}
+use Rattle.bep_machine.specs.declared.logged.Traffic.{Traffic}
+use Rattle.bep_machine.specs.Halves.{has_answered, kept_told, only_call, IsSeen, IsDone, SaysNoMore, InFolder, OnlyIf}
 use Rattle.bep_machine.specs.HalfLaws.{EditIsTold, RemoveIsTold, ScanIsTold, OverrideIsTold, RevertIsTold, StartPullIsTold, FinishIsTold, BeginIsTold, DeliverIsTold, AnnounceIsTold, AskIsTold, TrafficIsOne, ConnectIsTold, LoseIsTold, RestartIsTold}
 use Rattle.bep_machine.proofs.CallsTold.{call_is_told}
 use Rattle.bep_machine.proofs.LinkDeeds.{past, begin_tells, announce_tells, ask_tells, deliver_tells}

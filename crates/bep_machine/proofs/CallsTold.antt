@@ -12,7 +12,10 @@ use Rattle.bep_machine.specs.Link.{Sight, Deed}
 use Rattle.bep_machine.specs.Peer.{Session, Peer, Acted}
 use Rattle.bep_machine.specs.Exchange.{SessionRow, Answers, MessageRow, WaitingRow, DeliverRow}
 use Rattle.bep_machine.specs.Replica.{node_at}
-use Rattle.bep_machine.specs.Halves.{Exchanged, Sent, Took, Broke, Traffic, was_answered, has_answered, only_call, deed_told, sight_told, ByTraffic}
+use Rattle.bep_machine.specs.declared.logged.Exchanged.{Exchanged}
+use Rattle.bep_machine.specs.declared.logged.Exchanged.TheVariants.{Sent, Took, Broke}
+use Rattle.bep_machine.specs.declared.logged.Traffic.{Traffic}
+use Rattle.bep_machine.specs.Halves.{was_answered, has_answered, only_call, deed_told, sight_told, ByTraffic}
 use Rattle.bep_machine.proofs.LinkDeeds.{past}
 use Rattle.bep_machine.proofs.OnlyCall.{told_where_made, made_where_told}
 

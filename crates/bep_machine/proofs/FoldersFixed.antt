@@ -25,7 +25,9 @@ use Rattle.bep_machine.specs.Link.{Sight}
 use Rattle.bep_machine.specs.Peer.{Session, Peer, Acted}
 use Rattle.bep_machine.specs.Exchange.{SessionRow, BeginRow, ViewRow, with_block, with_received, AskedRow, asked_for, MessageRow, WaitingRow, DeliverRow, known_under, renewed, all_renewed, CursorRow, AnnounceRow, AskingRow, AskRow}
 use Rattle.bep_machine.specs.Steps.{without_pulls, restarted}
-use Rattle.bep_machine.specs.Halves.{guards_of, touches_device, Traffic, Logged, SaysNoMore, InFolder, ByTraffic, PeerHalf, OnlyIf, PeerStep, PeerReplays}
+use Rattle.bep_machine.specs.declared.logged.Logged.{Logged}
+use Rattle.bep_machine.specs.declared.logged.Traffic.{Traffic}
+use Rattle.bep_machine.specs.Halves.{guards_of, touches_device, SaysNoMore, InFolder, ByTraffic, PeerHalf, OnlyIf, PeerStep, PeerReplays}
 use Rattle.bep_machine.specs.HalfLaws.{Keeps, shared_as, index_id, ReplaysKeepSharing, ReplaysKeepIds}
 use Rattle.bep_machine.proofs.CalmRows.{at_becomes, at_answers, CopiedRow}
 use Rattle.bep_machine.proofs.FoundAfter.{get-mapped}

@@ -19,7 +19,8 @@ use Rattle.bep_machine.specs.Peer.{Peer, Acted, with_replica}
 use Rattle.bep_machine.specs.Exchange.{BeginRow, DeliverRow, AnnounceRow, AskRow}
 use Rattle.bep_machine.specs.Cluster.{Cluster, with_link, with_peer, without_links}
 use Rattle.bep_machine.specs.Steps.{AtReplica, OverLink, AtLink, ConnectRow, LoseRow, RestartRow, restarted, StepRow}
-use Rattle.bep_machine.specs.Halves.{Traffic, has_answered, kept_told, failed_told, IsDone, SaysNoMore, deed_told, Ends, InFolder, ByTraffic, Carries, OnlyIf}
+use Rattle.bep_machine.specs.declared.logged.Traffic.{Traffic}
+use Rattle.bep_machine.specs.Halves.{has_answered, kept_told, failed_told, IsDone, SaysNoMore, deed_told, Ends, InFolder, ByTraffic, Carries, OnlyIf}
 use Rattle.bep_machine.specs.HalfLaws.{IsMadeBy, HalvesMakeTheStep}
 use Rattle.bep_machine.proofs.OnlyCall.{may_fail_told}
 use Rattle.bep_machine.proofs.LinkDeeds.{RowSees, begin_sees, announce_sees, ask_sees, deliver_sees}

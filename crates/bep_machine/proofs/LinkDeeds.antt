@@ -13,7 +13,10 @@ use Rattle.bep_machine.specs.Replica.{Replica}
 use Rattle.bep_machine.specs.Link.{Sight, sending, taking, losing}
 use Rattle.bep_machine.specs.Peer.{Session, Peer, Acted, config_for}
 use Rattle.bep_machine.specs.Exchange.{SessionRow, BeginRow, LosingRow, AskedRow, asked_for, MessageRow, WaitingRow, DeliverRow, index_message, SendingRow, CursorRow, AnnounceRow, AskingRow, AskRow, request_for}
-use Rattle.bep_machine.specs.Halves.{Exchanged, Sent, Took, Broke, Traffic, deed_told, waiting_told, sight_told, IsSeen}
+use Rattle.bep_machine.specs.declared.logged.Exchanged.{Exchanged}
+use Rattle.bep_machine.specs.declared.logged.Exchanged.TheVariants.{Sent, Took, Broke}
+use Rattle.bep_machine.specs.declared.logged.Traffic.{Traffic}
+use Rattle.bep_machine.specs.Halves.{deed_told, waiting_told, sight_told, IsSeen}
 
 -- a row that is done was not refused
 pub past : {S : Type 0} {old new : S} {why : _} {moved : Moved} {C R : Type 0} → (C × becomes old (Refused why) new (Done moved)) ⊎ ((¬ C) × R) → (¬ C) × R

@@ -15,7 +15,9 @@ use Rattle.bep_machine.specs.Link.{Link, Sight, End, end_of}
 use Rattle.bep_machine.specs.Peer.{Peer, Acted, with_replica}
 use Rattle.bep_machine.specs.Exchange.{BeginRow, DeliverRow, AnnounceRow, AskRow}
 use Rattle.bep_machine.specs.Undone.{KeepsCopy}
-use Rattle.bep_machine.specs.Halves.{guards_of, touches_device, touches_link, Traffic, Logged, IsDone, SaysNoMore, Ends, InFolder, ByTraffic, PeerHalf, Carries, LinkHalf, OnlyIf, PeerStep, LinkStep, Replays}
+use Rattle.bep_machine.specs.declared.logged.Logged.{Logged}
+use Rattle.bep_machine.specs.declared.logged.Traffic.{Traffic}
+use Rattle.bep_machine.specs.Halves.{guards_of, touches_device, touches_link, IsDone, SaysNoMore, Ends, InFolder, ByTraffic, PeerHalf, Carries, LinkHalf, OnlyIf, PeerStep, LinkStep, Replays}
 use Rattle.bep_machine.specs.HalfLaws.{Keeps, shared_as}
 use Rattle.bep_machine.specs.Determined.{SharesWithOthers, DevicesReplayOneWay, LinksReplayOneWay}
 use Rattle.bep_machine.proofs.FoldersFixed.{step_keeps_sharing}

@@ -1,7 +1,8 @@
 -- An object replays a log where it replays its own events in it.
 use Rattle.std.proofs.Common.{◌≡◌, Bool, true, false, if◌then◌else◌, List, [], ◌∷◌, refl, subst}
 use Rattle.std.specs.List.{filter}
-use Rattle.bep_machine.specs.Halves.{guards_of, touches_device, touches_link, Logged, SaysNoMore, PeerHalf, LinkHalf, OnlyIf, Replays}
+use Rattle.bep_machine.specs.declared.logged.Logged.{Logged}
+use Rattle.bep_machine.specs.Halves.{guards_of, touches_device, touches_link, SaysNoMore, PeerHalf, LinkHalf, OnlyIf, Replays}
 use Rattle.bep_machine.specs.HalfLaws.{DevicesReplayTheirOwn, LinksReplayTheirOwn}
 use Rattle.bep_machine.proofs.HalfSteps.{untouched}
 

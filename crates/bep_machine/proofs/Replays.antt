@@ -2,7 +2,8 @@
 use Rattle.std.proofs.Common.{List, [], ◌∷◌, refl, sym, subst, ◌∙◌, inl, inr, ⊎_elim}
 use Rattle.bep_machine.specs.Cluster.{Cluster}
 use Rattle.bep_machine.specs.Steps.{Event}
-use Rattle.bep_machine.specs.Halves.{Logged, logged_of, IsDone}
+use Rattle.bep_machine.specs.declared.logged.Logged.{Logged}
+use Rattle.bep_machine.specs.Halves.{logged_of, IsDone}
 use Rattle.bep_machine.specs.HalfLaws.{IsMadeBy, HalvesMakeTheStep, StepHasHalves, IsReplayed, IsLogOf, RunReplays, AreThere, ReplaysRun}
 use Rattle.bep_machine.proofs.HalfSteps.{same_cluster}
 

@@ -20,7 +20,9 @@ use Rattle.bep_machine.specs.Peer.{Peer, Acted, idle, with_replica}
 use Rattle.bep_machine.specs.Exchange.{BeginRow, DeliverRow, AnnounceRow, AskRow}
 use Rattle.bep_machine.specs.Cluster.{Cluster, link_between, with_link, with_link_between, with_peer}
 use Rattle.bep_machine.specs.Steps.{IsThere, AtReplica, OverLink, AtLink, ConnectRow, LoseRow, RestartRow, restarted, StepRow}
-use Rattle.bep_machine.specs.Halves.{Traffic, Logged, has_answered, kept_told, only_call, failed_told, logged_of, IsDone, SaysNoMore, Ends, InFolder, ByTraffic, Carries, OnlyIf}
+use Rattle.bep_machine.specs.declared.logged.Logged.{Logged}
+use Rattle.bep_machine.specs.declared.logged.Traffic.{Traffic}
+use Rattle.bep_machine.specs.Halves.{has_answered, kept_told, only_call, failed_told, logged_of, IsDone, SaysNoMore, Ends, InFolder, ByTraffic, Carries, OnlyIf}
 use Rattle.bep_machine.specs.HalfLaws.{IsMadeBy, StepHasHalves}
 use Rattle.bep_machine.proofs.RowsTold.{RowTold, edit_told, remove_told, scan_told, override_told, revert_told, start_pull_told, finished_told}
 use Rattle.bep_machine.proofs.LinkDeeds.{RowTells, begin_tells, announce_tells, ask_tells, deliver_tells}

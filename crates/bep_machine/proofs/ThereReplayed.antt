@@ -23,7 +23,8 @@ use Rattle.bep_machine.specs.Cluster.{Config, Cluster}
 use Rattle.bep_machine.specs.Steps.{SharesFolder, IsThere}
 use Rattle.bep_machine.specs.Sound.{IsSoundPeer, IsSound}
 use Rattle.bep_machine.specs.Laws.{StepsKeepSound}
-use Rattle.bep_machine.specs.Halves.{guards_of, Traffic, SaysNoMore, InFolder, ByTraffic, OnlyIf}
+use Rattle.bep_machine.specs.declared.logged.Traffic.{Traffic}
+use Rattle.bep_machine.specs.Halves.{guards_of, SaysNoMore, InFolder, ByTraffic, OnlyIf}
 use Rattle.bep_machine.specs.HalfLaws.{IsMadeBy, HalvesMakeTheStep, AreHeld, ReplaysAreThere}
 use Rattle.bep_machine.proofs.HalfSteps.{touched, same_cluster}
 use Rattle.bep_machine.proofs.LinkDeeds.{past}

@@ -10,7 +10,8 @@ use Rattle.bep_machine.specs.Replica.{Replica}
 use Rattle.bep_machine.specs.Peer.{Peer}
 use Rattle.bep_machine.specs.Link.{Link}
 use Rattle.bep_machine.specs.Cluster.{Cluster}
-use Rattle.bep_machine.specs.Halves.{Logged, PeerReplays, LinkReplays}
+use Rattle.bep_machine.specs.declared.logged.Logged.{Logged}
+use Rattle.bep_machine.specs.Halves.{PeerReplays, LinkReplays}
 use Rattle.bep_machine.specs.Steps.{IsStep, Event, IsRun}
 use Rattle.bep_machine.specs.Sound.{IsSound}
 use Rattle.bep_machine.specs.Laws.{AreSound}

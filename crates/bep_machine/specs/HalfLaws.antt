@@ -20,7 +20,10 @@ use Rattle.bep_machine.specs.Cluster.{Config, Cluster}
 use Rattle.bep_machine.specs.Steps.{AreLinked, IsThere, ConnectRow, LoseRow, restarted, IsStep, Event, IsRun}
 use Rattle.bep_machine.specs.Sound.{IsSound}
 use Rattle.bep_machine.specs.Laws.{IsSoundStep}
-use Rattle.bep_machine.specs.Halves.{Guards, OfDevice, OfDeviceAndLink, OfLink, OfDeviceAndLinks, guards_of, touches_link, Exchanged, Traffic, Logged, logged_of, deed_told, IsSeen, IsDone, PeerStep, LinkStep, PeerReplays, LinkReplays, events_of_device, events_of_link}
+use Rattle.bep_machine.specs.declared.logged.Exchanged.{Exchanged}
+use Rattle.bep_machine.specs.declared.logged.Logged.{Logged}
+use Rattle.bep_machine.specs.declared.logged.Traffic.{Traffic}
+use Rattle.bep_machine.specs.Halves.{Guards, OfDevice, OfDeviceAndLink, OfLink, OfDeviceAndLinks, guards_of, touches_link, logged_of, deed_told, IsSeen, IsDone, PeerStep, LinkStep, PeerReplays, LinkReplays, events_of_device, events_of_link}
 
 -- ---- one step
 

@@ -4,6 +4,10 @@ use Rattle.std.specs.Prelude.{◌≡◌, ◌≢◌, ◌⊎◌, ◌==◌, ◌&&�
 use Rattle.std.specs.List.{filter}
 use Rattle.std.specs.FinMap.{get}
 use Rattle.bep_model.specs.Tables.{Device, Folder}
+use Rattle.bep_machine.specs.declared.logged.Exchanged.{Exchanged}
+use Rattle.bep_machine.specs.declared.logged.Exchanged.TheVariants.{Sent, Took, Broke}
+use Rattle.bep_machine.specs.declared.logged.Logged.{Logged}
+use Rattle.bep_machine.specs.declared.logged.Traffic.{Traffic}
 use Rattle.bep_machine.specs.declared.message.Message.{Message}
 use Rattle.bep_machine.specs.declared.moved.Moved.{Moved}
 use Rattle.bep_machine.specs.declared.moved.Moved.TheVariants.{Changed}
@@ -60,26 +64,6 @@ touches_link (OfLink lower upper) a b = (a == lower) && (b == upper)
 touches_link (OfDeviceAndLinks device) a b = (a == device) || (b == device)
 
 -- ---- what is logged of a step
-
--- What an action did to the link that it was lent: it sent a message; or it took the first that was on its way, and maybe
--- answered it, or lost the link.
-pub data Exchanged : Type 0 where
-  Sent : Message → Exchanged
-  Took : Message → Option Message → Exchanged
-  Broke : Message → Exchanged
-
--- in which epoch of the link, and what
-pub record Traffic : Type 0 where
-  pub epoch : ℕ
-  pub done : Exchanged
-
--- an event of a log: the step, which call of the store failed in it, whether it kept a conflict copy and then failed, and
--- what it did over a link
-pub record Logged : Type 0 where
-  pub step : Step
-  pub failed : Option ℕ
-  pub kept : Bool
-  pub traffic : Option Traffic
 
 -- whether what was taken was answered: only then a delivery calls a store
 abbrev pub was_answered : Exchanged → Bool

@@ -14,6 +14,7 @@ mod halves;
 mod headline;
 mod limits;
 mod link_effects;
+mod logged;
 mod message;
 mod moved;
 mod refusal;
@@ -43,6 +44,7 @@ pub use link_effects::{
     links_come_and_go, records_are_announced, records_reach_view, request_is_answered,
     unasked_is_ignored,
 };
+pub use logged::{Exchanged, Logged, Traffic};
 pub use message::{Announced, Code, Message, Request, Response};
 pub use moved::Moved;
 pub use refusal::Refusal;

@@ -1,6 +1,8 @@
-//! Comparison of messages and of steps in all that they hold.
+//! Comparison of messages, of steps and of events in all that they hold.
+ghost use Rattle.std.specs.Prelude.{◌≡◌, ◌↔◌, IsTrue};
+ghost use Rattle.std.specs.Option.{option_copied};
 
-use crate::{Announced, Message, Request, Response, Step};
+use crate::{Announced, Exchanged, Logged, Message, Request, Response, Step, Traffic};
 use bep_record::Same;
 
 impl Same for Announced {
@@ -77,5 +79,44 @@ impl Same for Step {
             (Step::Restart(d), Step::Restart(device)) => d == device,
             _ => false,
         }
+    }
+}
+
+impl Same for Exchanged {
+    fn same(&self, other: &Exchanged) -> bool {
+        match (self, other) {
+            (Exchanged::Sent(message), Exchanged::Sent(sent)) => message.same(sent),
+            (Exchanged::Took(message, None), Exchanged::Took(taken, None)) => message.same(taken),
+            (Exchanged::Took(message, Some(answer)), Exchanged::Took(taken, Some(sent))) => {
+                message.same(taken) && answer.same(sent)
+            }
+            (Exchanged::Broke(message), Exchanged::Broke(taken)) => message.same(taken),
+            _ => false,
+        }
+    }
+}
+
+impl Same for Traffic {
+    fn same(&self, other: &Traffic) -> bool {
+        self.epoch == other.epoch && self.done.same(&other.done)
+    }
+}
+
+impl Same for Logged {
+    fn same(&self, other: &Logged) -> bool {
+        self.step.same(&other.step)
+            && self.failed == other.failed
+            && self.kept == other.kept
+            && is_same_traffic(self.traffic.as_ref(), other.traffic.as_ref())
+    }
+}
+
+fn is_same_traffic(traffic: Option<&Traffic>, other: Option<&Traffic>) -> bool
+    ensures { IsTrue result ↔ (option_copied traffic.entry ≡ option_copied other.entry) }
+{
+    match (traffic, other) {
+        (Some(traffic), Some(other)) => traffic.same(other),
+        (None, None) => true,
+        _ => false,
     }
 }

@@ -5,10 +5,10 @@ ghost use Rattle.std.specs.Borrow.{LendsIf, sem};
 ghost use Rattle.std.specs.FinMap as map;
 ghost use Rattle.bep_map.specs.contracts.device_map.DeviceMap.{the_row};
 
-use bep_record::DeviceId;
+use bep_record::{DeviceId, Duplicate};
 use std::alloc::{AllocError, Global};
 use std::collections::BTreeMap;
-use std::collections::btree_map::Values;
+use std::collections::btree_map::{Iter, Values};
 use std::marker::Model;
 use std::mem;
 
@@ -103,5 +103,31 @@ impl<V: Drop> DeviceMap<V> {
         ensures removed { self.new ≡ map.remove self.old device }
     {
         self.entries.remove(&device)
+    }
+}
+
+impl<V: Duplicate> DeviceMap<V> {
+    /// An equal map of its own, or want of memory.
+    pub fn copy(&self, alloc: Global) -> Result<Self, AllocError>
+        ensures { IfOk result (λ made. made ≡ self.now) }
+    {
+        let mut made = DeviceMap::new(alloc);
+        made.add_copies(alloc, self.entries.iter())?;
+        Ok(made)
+    }
+
+    // Gives copies of these entries, from the last device to the first, as a map's view is made of its entries.
+    fn add_copies(
+        &mut self,
+        alloc: Global,
+        mut rest: Iter<'_, DeviceId, V>,
+    ) -> Result<(), AllocError>
+        requires { self.now ≡ map.empty }
+        ensures { OnOk result (self.new ≡ map.from_entries rest.entry) }
+    {
+        while let Some((device, value)) = rest.next_back() {
+            self.insert(*device, value.duplicate(alloc)?)?;
+        }
+        Ok(())
     }
 }

@@ -6,7 +6,7 @@ ghost use Rattle.std.specs.FinMap as map;
 ghost use Rattle.std.specs.Map.Calls.{CalledAtPair, TakesPair, RetainsPairs};
 ghost use Rattle.bep_map.specs.contracts.folder_map.FolderMap.{the_row};
 
-use bep_record::FolderName;
+use bep_record::{Duplicate, FolderName};
 use std::alloc::{AllocError, Global};
 use std::collections::BTreeMap;
 use std::collections::btree_map::Iter;
@@ -105,5 +105,31 @@ impl<V: Drop> FolderMap<V> {
         ensures { RetainsPairs (CalledAtPair F.FnMut) keep (map.entries self.old) (map.entries self.new) }
     {
         self.entries.retain(keep);
+    }
+}
+
+impl<V: Duplicate> FolderMap<V> {
+    /// An equal map of its own, or want of memory.
+    pub fn copy(&self, alloc: Global) -> Result<Self, AllocError>
+        ensures { IfOk result (λ made. made ≡ self.now) }
+    {
+        let mut made = FolderMap::new(alloc);
+        made.add_copies(alloc, self.entries.iter())?;
+        Ok(made)
+    }
+
+    // Gives copies of these entries, from the last folder to the first, as a map's view is made of its entries.
+    fn add_copies(
+        &mut self,
+        alloc: Global,
+        mut rest: Iter<'_, FolderName, V>,
+    ) -> Result<(), AllocError>
+        requires { self.now ≡ map.empty }
+        ensures { OnOk result (self.new ≡ map.from_entries rest.entry) }
+    {
+        while let Some((folder, value)) = rest.next_back() {
+            self.insert(folder.copy(alloc)?, value.duplicate(alloc)?)?;
+        }
+        Ok(())
     }
 }

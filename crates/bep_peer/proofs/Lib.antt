@@ -19,6 +19,7 @@ mod WithinFacts
 mod Steady
 mod ScanFacts
 mod ContentsFacts
+mod CopyFacts
 mod RestartFacts
 mod ViewTaken
 mod DeliverFacts

@@ -1,6 +1,7 @@
 pub mod Call
 pub mod Config
 pub mod Contents
+pub mod Copied
 pub mod Delivered
 pub mod Effect
 pub mod Faults

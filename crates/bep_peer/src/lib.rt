@@ -19,6 +19,7 @@ mod begin;
 mod call;
 mod config;
 mod contents;
+mod copying;
 mod deliver;
 mod effect;
 mod ends;

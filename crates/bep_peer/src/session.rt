@@ -2,6 +2,7 @@
 ghost use Rattle.std.specs.Prelude.{◌≡◌, ◌↔◌, ◌<◌, ◌≤◌, ◌+◌, ◌++◌, ◌∷◌, ◌&&◌, [], true, length, Some, None, IsSome, IsOk, IsTrue, IfOk, IfErr, OnOk, OnErr};
 ghost use Rattle.std.specs.Option.{option_copied};
 ghost use Rattle.std.specs.FinMap as map;
+ghost use Rattle.std.specs.Vec.{vec_capacity};
 ghost use Rattle.bep_index.specs.declared.send.Plan.TheVariants.{Above};
 ghost use Rattle.bep_machine.specs.Peer.{new_session};
 ghost use Rattle.bep_machine.specs.Exchange.{asked_for, without, is_asked, is_about, same_bytes, request_for};
@@ -12,7 +13,7 @@ use bep_folder::is_about;
 use bep_index::Plan;
 use bep_machine::{MAX_OUTSTANDING, MAX_REQUEST_ID, Request};
 use bep_map::FolderMap;
-use bep_record::{Block, FolderName, Name};
+use bep_record::{Block, Duplicate, FolderName, Name};
 use std::alloc::{AllocError, Global};
 use std::marker::Model;
 
@@ -204,6 +205,37 @@ impl Session {
             .iter()
             .any(|request| asks_for(request, folder, name, block))
     }
+
+    /// An equal session of its own, or want of memory.
+    pub fn copy(&self, alloc: Global) -> Result<Self, AllocError>
+        ensures { IfOk result (λ made. made ≡ self.now) }
+    {
+        Ok(Session {
+            epoch: self.epoch,
+            configured: self.configured,
+            cursors: self.cursors.copy(alloc)?,
+            outstanding: copies_of(alloc, self.outstanding.as_slice())?,
+            next: self.next,
+        })
+    }
+}
+
+impl Duplicate for Session {
+    fn duplicate(&self, alloc: Global) -> Result<Self, AllocError> {
+        self.copy(alloc)
+    }
+}
+
+// Copies of the requests, with room for as many as a session can have.
+fn copies_of(alloc: Global, requests: &[Request]) -> Result<Vec<Request>, AllocError>
+    ensures requests { IfOk result (λ made. made.items ≡ requests.now) }
+    ensures room { IfOk result (λ made. MAX_OUTSTANDING ≤ vec_capacity made) }
+{
+    let mut made = Vec::with_capacity(alloc, MAX_OUTSTANDING)?;
+    for request in requests {
+        made.push(request.copy(alloc)?)?;
+    }
+    Ok(made)
 }
 
 // Whether the request is about this block of the file.

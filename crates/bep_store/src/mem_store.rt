@@ -1,5 +1,5 @@
 //! A store in memory.
-ghost use Rattle.std.specs.Prelude.{◌≡◌, ◌≤◌, [], IfOk};
+ghost use Rattle.std.specs.Prelude.{◌≡◌, ◌≤◌, [], IfOk, OnOk, OnErr};
 ghost use Rattle.std.specs.FinMap as map;
 ghost use Rattle.bep_store.specs.Store.{at_time, with_time};
 
@@ -48,6 +48,26 @@ impl MemStore {
             nodes: NameMap::new(alloc),
             alloc,
         }
+    }
+
+    /// Gives the name this node, in place of the one that it has; unlike `write` it makes no copies. Without memory the
+    /// store is as before.
+    pub fn put(&mut self, name: Name, node: Node) -> Result<(), AllocError>
+        ensures ok { OnOk result (self.new ≡ map.insert self.old name node) }
+        ensures err { OnErr result (self.new ≡ self.old) }
+    {
+        // `parts` is called for its clause `is_node`
+        let _parts = node.parts();
+        self.nodes.insert(name, node)?;
+        Ok(())
+    }
+
+    /// All that the store holds.
+    pub fn into_nodes(self) -> NameMap<Node>
+        ensures { result ≡ self }
+    {
+        let MemStore { nodes, alloc: _ } = self;
+        nodes
     }
 }
 
