@@ -14,10 +14,7 @@ pub mod Read
 pub mod Received
 pub mod Renewed
 pub mod Session
-<<<<<<< HEAD
 pub mod Sound
-=======
 pub mod Unhidden
->>>>>>> 1386958723f9f05d49904fcdd7a5ceb78ae65d63
 pub mod Viewing
 pub mod Within
