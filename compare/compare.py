@@ -1,5 +1,5 @@
 #!/usr/bin/env python3
-"""Compares the program's answers, of `check`, `explain` and `certify`, with those of a second reading (reading.py): on the
+"""Compares the program's answers, of `check`, `firm`, `explain` and `certify`, with those of a second reading (reading.py): on the
 examples, on documents with something as great as it may be or one more, and on random documents.
 
     compare/compare.py [COUNT [SEED]]
@@ -13,6 +13,7 @@ import subprocess
 import sys
 from collections import Counter
 
+import firm
 import reading
 import reports
 import things
@@ -81,7 +82,8 @@ def compare_certified(document):
 def compare(document):
     """Compares what is told of a document, and answers what `check` should write."""
     check, explain = reports.answers(document)
-    for command, wanted in (("check", check), ("explain", explain)):
+    whether_firm, _ = firm.answers(document)
+    for command, wanted in (("check", check), ("firm", whether_firm), ("explain", explain)):
         told = run(command, document)
         if told != wanted:
             tell_difference(command, document, wanted, told)

@@ -68,11 +68,13 @@ def numbers(crates, text):
 
 
 def reasons(crates, text):
-    """The reasons in their order, by the page and by the code."""
-    source = (crates / "bep_model/src/reason.rt").read_text()
-    listed = re.findall(r"^    ([A-Z]\w+),", re.search(r"pub enum Reason \{(.*?)\n\}", source, re.DOTALL)[1], re.MULTILINE)
-    told = [row[:2] for heading, _, rows in tables(text) if heading == "The twelve reasons" for row in rows]
-    yield "the twelve reasons", told, [[str(place), name] for place, name in enumerate(listed, 1)]
+    """The reasons in their order, and the further ones of firm, by the page and by the code."""
+    for title, file, enum in (("The twelve reasons", "reason", "Reason"), ("Firm", "firm_reason", "FirmReason")):
+        source = (crates / f"bep_model/src/{file}.rt").read_text()
+        body = re.search(rf"pub enum {enum} \{{(.*?)\n\}}", source, re.DOTALL)[1]
+        listed = re.findall(r"^    ([A-Z]\w+),", body, re.MULTILINE)
+        told = [row[:2] for heading, _, rows in tables(text) if heading == title for row in rows]
+        yield title, told, [[str(place), name] for place, name in enumerate(listed, 1)]
 
 
 def has_condition(text, item):
@@ -95,6 +97,6 @@ def check(count, top):
     found = [*members(top / "docs", text), *numbers(top / "crates", text),
              *reasons(top / "crates", (top / "docs/reasons.md").read_text()),
              *conditions((top / "docs/trust.md").read_text())]
-    count.says("docs/documents.md: tables", "" if len(found) == 19 else f"{len(found)} things are compared")
+    count.says("docs/documents.md: tables", "" if len(found) == 20 else f"{len(found)} things are compared")
     for what, told, right in found:
         count.says(f"docs: {what}", "" if told == right else f"the page has {told}, and not {right}")

@@ -92,12 +92,18 @@ def following_check(row, document, commands):
     """The rows that follow from what is told of a check document.
 
     Where it isn't at fault, or refused, `explain` has one line to tell; else a row of its own says all that fails. Where
-    the certificate isn't at fault, the one that is made anew is the same.
+    it isn't settled, or refused, `firm` tells the same; else a row of its own says whether it is firm. Where the
+    certificate isn't at fault, the one that is made anew is the same.
     """
     if row.status != 1:
         yield Row(f"syncaudit explain < {document}", row.output[:1], row.error, row.status)
     elif f"syncaudit explain < {document}" not in commands:
         yield f"no row says all that fails in {document}"
+    if row.status:
+        output = [line.replace("not settled: ", "not firm: ", 1) for line in row.output]
+        yield replace(row, command=f"syncaudit firm < {document}", output=output)
+    elif f"syncaudit firm < {document}" not in commands:
+        yield f"no row says whether {document} is firm"
     if row.status != 2 and not OF_CERTIFICATE.search(row.output[0]):
         yield replace(row, command=f"syncaudit check < <(syncaudit certify < {document})")
 

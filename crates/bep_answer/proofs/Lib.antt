@@ -1,2 +1,3 @@
 pub mod SettledSaid
+pub mod FirmSaid
 mod OneAnswer

@@ -4,20 +4,22 @@ use Rattle.bep_document.specs.Reading.{Reading, Read, Refused}
 use Rattle.bep_lines.specs.Lines.{verdict_line}
 use Rattle.bep_model.specs.declared.reason.Reason.TheVariants.{NotWinner}
 use Rattle.bep_model.specs.declared.row.Row.{Row}
-use Rattle.bep_model.specs.Laws.{FirstWithoutIsUnique, ListOfWinnersIsUnique, VerdictIsUnique, WinnersLeaveNoneOut}
+use Rattle.bep_model.specs.Laws.{FirmVerdictIsUnique, FirstWithoutIsUnique, ListOfWinnersIsUnique, VerdictIsUnique, WinnersLeaveNoneOut}
 use Rattle.bep_model.specs.Tables.{Folder, FileName}
 use Rattle.bep_model.specs.Verdict.{Not}
-use Rattle.bep_report.specs.Report.{report_text}
+use Rattle.bep_report.specs.Report.{firm_report_text, report_text}
 use Rattle.bep_tables.specs.declared.cut.CutParts.{CutParts}
 use Rattle.bep_tables.specs.document.Written.{check_of, cut_of_document}
 use Rattle.bep_tables.specs.Cut.{tables_of}
 use Rattle.bep_answer.specs.Answer.{IsAnswer, outcome_of}
 use Rattle.bep_answer.specs.Certified.{IsCertified, document_text}
+use Rattle.bep_answer.specs.Firm.{IsFirmAnswer, firmness_of}
 use Rattle.bep_answer.specs.declared.outcome.Certified.{Certified}
 use Rattle.bep_answer.specs.declared.outcome.Certified.TheVariants.{Written, NoWinner}
 use Rattle.bep_answer.specs.declared.outcome.Certified.TheVariants as certificates
+use Rattle.bep_answer.specs.declared.outcome.Firmness.{Firmness}
 use Rattle.bep_answer.specs.declared.outcome.Outcome.{Outcome}
-use Rattle.bep_answer.specs.Laws.{AuditIsUnique, CutAnswerIsUnique, DocumentAnswerIsUnique}
+use Rattle.bep_answer.specs.Laws.{AuditIsUnique, CutAnswerIsUnique, DocumentAnswerIsUnique, FirmAuditIsUnique}
 
 -- ---- audits
 
@@ -29,6 +31,15 @@ one_audit unique (Refused fault) one other text more is also = (is.0 ∙ sym als
 
 pub audit_is_unique : VerdictIsUnique → AuditIsUnique
 audit_is_unique unique bytes = one_audit unique (check_of bytes)
+
+one_firm_audit : FirmVerdictIsUnique → (reading : Reading (CutParts × List Row)) (one other : Firmness) (text more : List ℕ) → IsFirmAnswer reading one text → IsFirmAnswer reading other more → (one ≡ other) × (text ≡ more)
+one_firm_audit unique (Read check) one other text more is also =
+    let same = unique (tables_of check.0) check.1 is.verdict also.verdict is.judged also.judged in
+    (is.told ∙ ap firmness_of same ∙ sym also.told, is.reported ∙ ap (firm_report_text check.0) same ∙ sym also.reported)
+one_firm_audit unique (Refused fault) one other text more is also = (is.0 ∙ sym also.0, is.1 ∙ sym also.1)
+
+pub firm_audit_is_unique : FirmVerdictIsUnique → FirmAuditIsUnique
+firm_audit_is_unique unique bytes = one_firm_audit unique (check_of bytes)
 
 -- ---- certificates
 

@@ -17,17 +17,20 @@ pub settled_verdict : (cut : CutParts) (rows : List Row) (verdict : verdicts.Ver
 settled_verdict cut rows verdicts.Settled judged told = judged
 settled_verdict cut rows (verdicts.Not reason folder name device) judged told = absurd (cc)
 
+-- settled tables stay, so a reading that has them tells so
+pub settled_tells : SettledStaysPut → SettledStaysSettled → (cut : CutParts) (rows : List Row) → IsSettled (tables_of cut) rows → TellsSettled (Read (cut, rows))
+settled_tells put again cut rows settled = record {
+  cut = cut;
+  rows = rows;
+  says = refl;
+  settled = settled;
+  stays_put = put (tables_of cut) rows settled;
+  stays_settled = again (tables_of cut) rows settled;
+}
+
 settled_reading : SettledStaysPut → SettledStaysSettled → (reading : Reading (CutParts × List Row)) (outcome : Outcome) (text : List ℕ) → IsAnswer reading outcome text → outcome ≡ outcomes.Settled → TellsSettled reading
 settled_reading put again (Read check) outcome text answer is =
-    let settled = settled_verdict check.0 check.1 answer.verdict answer.judged (cc) in
-    record {
-      cut = check.0;
-      rows = check.1;
-      says = refl;
-      settled = settled;
-      stays_put = put (tables_of check.0) check.1 settled;
-      stays_settled = again (tables_of check.0) check.1 settled;
-    }
+    settled_tells put again check.0 check.1 (settled_verdict check.0 check.1 answer.verdict answer.judged (cc))
 settled_reading put again (Refused fault) outcome text answer is = let e = answer.0 in absurd (cc)
 
 pub settled_answer : SettledStaysPut → SettledStaysSettled → (unread left held now : Option (List ℕ)) (outcome : Outcome) → IsWhole IsAnswerOfBytes unread left held now outcome → outcome ≡ outcomes.Settled → SaysSettled unread left

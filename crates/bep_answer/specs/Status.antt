@@ -5,8 +5,11 @@ use Rattle.bep_report.specs.declared.error.ReportError.TheVariants.{Memory, Read
 use Rattle.bep_answer.specs.Answer.{IsAnswerOfBytes}
 use Rattle.bep_answer.specs.Certified.{IsCertifiedOfBytes}
 use Rattle.bep_answer.specs.Exchange.{IsEndedEarly, IsWhole}
+use Rattle.bep_answer.specs.Firm.{IsFirmAnswerOfBytes}
 use Rattle.bep_answer.specs.declared.outcome.Certified.{Certified}
 use Rattle.bep_answer.specs.declared.outcome.Certified.TheVariants as certificates
+use Rattle.bep_answer.specs.declared.outcome.Firmness.{Firmness}
+use Rattle.bep_answer.specs.declared.outcome.Firmness.TheVariants as firmness
 use Rattle.bep_answer.specs.declared.outcome.Outcome.{Outcome}
 use Rattle.bep_answer.specs.declared.outcome.Outcome.TheVariants.{Settled, NotSettled, Refused}
 
@@ -18,6 +21,15 @@ status_of (Ok Refused) = 2
 status_of (Err Memory) = 4
 status_of (Err Read) = 5
 status_of (Err Write) = 5
+
+-- the status after firm was asked for
+abbrev pub firm_status_of : Result Firmness ReportError → ℕ
+firm_status_of (Ok firmness.Firm) = 0
+firm_status_of (Ok firmness.NotFirm) = 1
+firm_status_of (Ok firmness.Refused) = 2
+firm_status_of (Err Memory) = 4
+firm_status_of (Err Read) = 5
+firm_status_of (Err Write) = 5
 
 -- the status after a certificate was asked for
 abbrev pub certified_status_of : Result Certified ReportError → ℕ
@@ -46,6 +58,10 @@ pub record IsToldAs {O : Type 0} (Says : List ℕ → O → List ℕ → Type 0)
 -- a document was answered
 abbrev pub IsTold : Option (List ℕ) → Option (List ℕ) → Option (List ℕ) → Option (List ℕ) → ℕ → Type 0
 IsTold = IsToldAs IsAnswerOfBytes status_of
+
+-- a document was answered where firm was asked for
+abbrev pub IsFirmTold : Option (List ℕ) → Option (List ℕ) → Option (List ℕ) → Option (List ℕ) → ℕ → Type 0
+IsFirmTold = IsToldAs IsFirmAnswerOfBytes firm_status_of
 
 -- a certificate was written or refused
 abbrev pub IsCertificateTold : Option (List ℕ) → Option (List ℕ) → Option (List ℕ) → Option (List ℕ) → ℕ → Type 0

@@ -3,13 +3,17 @@ ghost use Rattle.std.specs.Prelude.{◌≡◌, IfOk, IfErr};
 ghost use Rattle.bep_answer.specs.Answer.{IsAnswerOfBytes, SaysSettled};
 ghost use Rattle.bep_answer.specs.Certified.{IsCertifiedOfBytes};
 ghost use Rattle.bep_answer.specs.Exchange.{IsEndedEarly, IsWhole};
+ghost use Rattle.bep_answer.specs.Firm.{IsFirmAnswerOfBytes, SaysFirm};
+ghost use Rattle.bep_answer.specs.declared.outcome.Firmness.TheVariants as firmness;
 ghost use Rattle.bep_answer.specs.declared.outcome.Outcome.TheVariants as outcomes;
 
 use crate::certify::CertificateOfCut;
 use crate::check::AuditOfCut;
 use crate::exchanging::{Hinted, exchange};
-use crate::outcome::{Certified, Outcome};
-use bep_machine::{settled_stays_put, settled_stays_settled};
+use crate::firm::FirmnessOfCut;
+use crate::outcome::{Certified, Firmness, Outcome};
+use bep_machine::{firm_stays_put, settled_stays_put, settled_stays_settled};
+use bep_model::firm_stays_firm;
 use bep_report::ReportError;
 use std::alloc::Global;
 use std::io::{Read, Write};
@@ -46,6 +50,42 @@ pub fn checked<R: Read, W: Write>(
     settled_stays_put();
     settled_stays_settled();
     exchange(alloc, AuditOfCut, reader, writer)
+}
+
+/// Reads a check document, asks whether it is firm, and writes the report, or the line of the fault for which it is refused.
+/// At most 67108865 bytes are read.
+///
+/// `Read` and `Write` are answered where the reader or the writer answers any error, or takes nothing; `Memory` may come
+/// in place of an answer. Only after `Write` a beginning of the text may be written, and else nothing. `Firm` means that
+/// what was read is a cut and a certificate that are firm, and so settled.
+pub fn firm_text<R: Read, W: Write>(
+    alloc: Global,
+    reader: &mut R,
+    writer: &mut W,
+) -> Result<Firmness, ReportError>
+    ensures ok { IfOk result (IsWhole IsFirmAnswerOfBytes (R.remaining reader.old) (R.remaining reader.new) (W.contents writer.old) (W.contents writer.new)) }
+    ensures err { IfErr result (IsEndedEarly IsFirmAnswerOfBytes (R.remaining reader.old) (R.remaining reader.new) (W.contents writer.old) (W.contents writer.new)) }
+    ensures firm { IfOk result (λ outcome. outcome ≡ firmness.Firm → SaysFirm (R.remaining reader.old) (R.remaining reader.new)) }
+{
+    let (outcome, _) = firm_checked(alloc, reader, writer)?;
+    Ok(outcome)
+}
+
+/// The same, with a hint on where a refused document is at fault.
+pub fn firm_checked<R: Read, W: Write>(
+    alloc: Global,
+    reader: &mut R,
+    writer: &mut W,
+) -> Result<Hinted<Firmness>, ReportError>
+    ensures ok { IfOk result (λ told. IsWhole IsFirmAnswerOfBytes (R.remaining reader.old) (R.remaining reader.new) (W.contents writer.old) (W.contents writer.new) told.0) }
+    ensures err { IfErr result (IsEndedEarly IsFirmAnswerOfBytes (R.remaining reader.old) (R.remaining reader.new) (W.contents writer.old) (W.contents writer.new)) }
+    ensures firm { IfOk result (λ told. told.0 ≡ firmness.Firm → SaysFirm (R.remaining reader.old) (R.remaining reader.new)) }
+{
+    firm_stays_firm();
+    firm_stays_put();
+    settled_stays_put();
+    settled_stays_settled();
+    exchange(alloc, FirmnessOfCut, reader, writer)
 }
 
 /// Reads the cut of a check document, whose certificate may be missing and isn't looked at, and writes the check document

@@ -11,6 +11,17 @@ pub enum Outcome {
     Refused,
 }
 
+/// What is answered where firm is asked for.
+#[derive(Clone, Copy, Debug, PartialEq, Eq)]
+pub enum Firmness {
+    /// The document's cut and certificate are firm.
+    Firm,
+    /// They aren't: they aren't settled, or some version is beyond the winner's.
+    NotFirm,
+    /// The document couldn't be read as a cut and a certificate.
+    Refused,
+}
+
 /// What is answered where a certificate is asked for.
 #[derive(Clone, Copy, Debug, PartialEq, Eq)]
 pub enum Certified {

@@ -2,7 +2,7 @@
 ghost use Rattle.std.specs.Prelude.{◌≡◌};
 ghost use Rattle.bep_answer.specs.Status as spec;
 
-use crate::outcome::{Certified, Outcome};
+use crate::outcome::{Certified, Firmness, Outcome};
 use bep_report::ReportError;
 
 /// The exit status for words that aren't understood, and for help.
@@ -16,6 +16,19 @@ pub fn status_of(answer: Result<Outcome, ReportError>) -> u8
         Ok(Outcome::Settled) => 0,
         Ok(Outcome::NotSettled) => 1,
         Ok(Outcome::Refused) => 2,
+        Err(ReportError::Memory) => 4,
+        Err(ReportError::Read | ReportError::Write) => 5,
+    }
+}
+
+/// The exit status where firm was asked for: 0 firm, 1 not firm, 2 refused, 4 memory, 5 a read or write fault.
+pub fn firm_status_of(answer: Result<Firmness, ReportError>) -> u8
+    ensures { result ≡ spec.firm_status_of answer }
+{
+    match answer {
+        Ok(Firmness::Firm) => 0,
+        Ok(Firmness::NotFirm) => 1,
+        Ok(Firmness::Refused) => 2,
         Err(ReportError::Memory) => 4,
         Err(ReportError::Read | ReportError::Write) => 5,
     }

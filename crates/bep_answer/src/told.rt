@@ -1,13 +1,14 @@
 //! What is told on standard error beside an answer, and the exit status that says which answer it was.
 ghost use Rattle.std.specs.Prelude.{◌≡◌};
 ghost use Rattle.bep_answer.specs.Answer.{SaysSettled};
-ghost use Rattle.bep_answer.specs.Status.{IsCertificateTold, IsTold, without_hint};
+ghost use Rattle.bep_answer.specs.Firm.{SaysFirm};
+ghost use Rattle.bep_answer.specs.Status.{IsCertificateTold, IsFirmTold, IsTold, without_hint};
 ghost use Rattle.bep_answer.specs.Status as spec;
 
-use crate::answers::{certified, checked};
+use crate::answers::{certified, checked, firm_checked};
 use crate::exchanging::Hinted;
-use crate::outcome::{Certified, Outcome};
-use crate::status::{certified_status_of, status_of};
+use crate::outcome::{Certified, Firmness, Outcome};
+use crate::status::{certified_status_of, firm_status_of, status_of};
 use bep_report::ReportError;
 use std::io::{Read, Write};
 
@@ -22,6 +23,18 @@ pub fn check_and_tell<P: AllocGlobal + Eprint, R: Read, W: Write>(
     ensures settled { result ≡ 0 → SaysSettled (R.remaining reader.old) (R.remaining reader.new) }
 {
     end(rt, checked(rt.alloc(), reader, writer))
+}
+
+/// The same where firm is asked for, as `firm_checked` does.
+pub fn firm_and_tell<P: AllocGlobal + Eprint, R: Read, W: Write>(
+    rt: &P,
+    reader: &mut R,
+    writer: &mut W,
+) -> u8
+    ensures told { IsFirmTold (R.remaining reader.old) (R.remaining reader.new) (W.contents writer.old) (W.contents writer.new) result }
+    ensures firm { result ≡ 0 → SaysFirm (R.remaining reader.old) (R.remaining reader.new) }
+{
+    end_firm(rt, firm_checked(rt.alloc(), reader, writer))
 }
 
 /// The same for the certificate of a document's cut, as `certified` makes it.
@@ -40,6 +53,13 @@ pub fn end<P: Eprint>(rt: &P, answer: Result<Hinted<Outcome>, ReportError>) -> u
     ensures { result ≡ spec.status_of (without_hint answer) }
 {
     status_of(tell(rt, answer))
+}
+
+/// The same where firm was asked for.
+pub fn end_firm<P: Eprint>(rt: &P, answer: Result<Hinted<Firmness>, ReportError>) -> u8
+    ensures { result ≡ spec.firm_status_of (without_hint answer) }
+{
+    firm_status_of(tell(rt, answer))
 }
 
 /// The same where a certificate was asked for.

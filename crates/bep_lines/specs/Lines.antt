@@ -2,8 +2,11 @@
 use Rattle.std.specs.Prelude.{◌++◌, ℕ, List, [], ◌∷◌, Bool, Option, None, Some, option_map, nat_le, codes, ◌&&◌, if◌then◌else◌}
 use Rattle.std.specs.List.{concat}
 use Rattle.std.specs.Fmt.{decimal}
+use Rattle.bep_model.specs.declared.firm_reason.FirmReason.{FirmReason}
+use Rattle.bep_model.specs.declared.firm_reason.FirmReason.TheVariants.{VersionDiffers, ViewNotBelow, FlightNotBelow, PullNotBelow}
 use Rattle.bep_model.specs.declared.reason.Reason.{Reason}
 use Rattle.bep_model.specs.declared.reason.Reason.TheVariants.{CertificateOrder, NameMissing, NameUnknown, NotWinner, RecordMissing, RecordDiffers, LocalOnly, StoreDiffers, StoreUnclean, ViewAhead, FlightAhead, PullAhead}
+use Rattle.bep_model.specs.FirmVerdict.{FirmVerdict, Firm, Unsettled, Loose}
 use Rattle.bep_model.specs.Tables.{Device, Folder, FileName}
 use Rattle.bep_model.specs.Verdict.{Verdict, Settled, Not}
 use Rattle.bep_lines.specs.Text.{printed}
@@ -27,19 +30,40 @@ word_of ViewAhead = codes "ViewAhead"
 word_of FlightAhead = codes "FlightAhead"
 word_of PullAhead = codes "PullAhead"
 
+-- the word of a reason for which a settled cut isn't firm
+abbrev pub firm_word_of : FirmReason → List ℕ
+firm_word_of VersionDiffers = codes "VersionDiffers"
+firm_word_of ViewNotBelow = codes "ViewNotBelow"
+firm_word_of FlightNotBelow = codes "FlightNotBelow"
+firm_word_of PullNotBelow = codes "PullNotBelow"
+
 -- where a fault is on a device, ` on ` and its number
 abbrev pub on_device : Option Device → List ℕ
 on_device None = []
 on_device (Some device) = codes " on " ++ decimal device
 
+-- the line of a reason that fails, by its word, and where
+abbrev pub reason_line : List ℕ → Folder → FileName → Option Device → List ℕ
+reason_line word folder name device = concat (word ∷ codes " " ∷ folder ∷ codes " " ∷ printed name ∷ on_device device ∷ newline ∷ [])
+
 -- the line of a reason that fails, and where
 abbrev pub failure_line : Reason → Folder → FileName → Option Device → List ℕ
-failure_line reason folder name device = concat (word_of reason ∷ codes " " ∷ folder ∷ codes " " ∷ printed name ∷ on_device device ∷ newline ∷ [])
+failure_line reason folder name device = reason_line (word_of reason) folder name device
 
 -- the line of a verdict
 abbrev pub verdict_line : Verdict → List ℕ
 verdict_line Settled = codes "settled" ++ newline
 verdict_line (Not reason folder name device) = codes "not settled: " ++ failure_line reason folder name device
+
+-- the line of a cut that isn't firm, for the reason of this word
+abbrev pub not_firm_line : List ℕ → Folder → FileName → Option Device → List ℕ
+not_firm_line word folder name device = codes "not firm: " ++ reason_line word folder name device
+
+-- the line of a verdict where firm is asked for
+abbrev pub firm_verdict_line : FirmVerdict → List ℕ
+firm_verdict_line Firm = codes "firm" ++ newline
+firm_verdict_line (Unsettled reason folder name device) = not_firm_line (word_of reason) folder name device
+firm_verdict_line (Loose reason folder name device) = not_firm_line (firm_word_of reason) folder name (Some device)
 
 -- the line of a folder: how many names are known in it, how many of them no store holds, how many devices share it
 abbrev pub folder_line : Folder → ℕ → ℕ → ℕ → List ℕ

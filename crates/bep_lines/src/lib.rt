@@ -13,7 +13,8 @@ mod words;
 
 pub use form::Form;
 pub use lines::{
-    push_failure, push_folder, push_not_settled, push_refused, push_settled, push_step,
+    push_failure, push_firm, push_folder, push_not_firm, push_not_settled, push_reason,
+    push_refused, push_settled, push_step,
 };
 pub use text::{Piece, or_as_before, push_pieces, push_printed};
-pub use words::word_of;
+pub use words::{firm_word_of, word_of};

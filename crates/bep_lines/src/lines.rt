@@ -3,6 +3,7 @@
 ghost use Rattle.std.specs.Prelude.{◌≡◌, option_map};
 ghost use Rattle.std.specs.Fmt.{decimal};
 ghost use Rattle.std.specs.Option.{option_copied};
+ghost use Rattle.bep_model.specs.FirmVerdict.{Firm};
 ghost use Rattle.bep_model.specs.Verdict.{Settled, Not};
 ghost use Rattle.bep_lines.specs.Lines.{step_line};
 ghost use Rattle.bep_lines.specs.Lines as spec;
@@ -38,6 +39,30 @@ pub fn push_not_settled<'a>(
     or_as_before(text, len, pushed)
 }
 
+/// Appends the line of a cut that is firm.
+pub fn push_firm(text: &mut Vec<u8>) -> Result<(), AllocError>
+    ensures { AppendsWhole result text.old.items text.new.items (spec.firm_verdict_line Firm) }
+{
+    push_pieces(text, &[Piece::Text("firm\n")])
+}
+
+/// Appends the line of a cut that isn't firm: the word of the reason, and where it fails.
+pub fn push_not_firm<'a>(
+    text: &mut Vec<u8>,
+    word: &'a str,
+    folder: &'a FolderName,
+    name: &'a Name,
+    device: Option<DeviceId>,
+) -> Result<(), AllocError>
+    ensures { AppendsWhole result text.old.items text.new.items
+        (spec.not_firm_line word.now folder.now name.now device) }
+{
+    let len = text.len();
+    text.extend_from_slice("not firm: ".as_bytes())?;
+    let pushed = push_reason(text, word, folder, name, device);
+    or_as_before(text, len, pushed)
+}
+
 /// Appends the line of a reason that fails, and where.
 pub fn push_failure<'a>(
     text: &mut Vec<u8>,
@@ -49,7 +74,21 @@ pub fn push_failure<'a>(
     ensures { AppendsWhole result text.old.items text.new.items
         (spec.failure_line reason folder.now name.now device) }
 {
-    let reason = Piece::Text(word_of(reason));
+    push_reason(text, word_of(reason), folder, name, device)
+}
+
+/// Appends the line of a reason that fails, by its word, and where.
+pub fn push_reason<'a>(
+    text: &mut Vec<u8>,
+    word: &'a str,
+    folder: &'a FolderName,
+    name: &'a Name,
+    device: Option<DeviceId>,
+) -> Result<(), AllocError>
+    ensures { AppendsWhole result text.old.items text.new.items
+        (spec.reason_line word.now folder.now name.now device) }
+{
+    let reason = Piece::Text(word);
     let (folder, name) = (Piece::Text(folder.as_str()), Piece::Name(name.as_bytes()));
     let (space, end) = (Piece::Text(" "), Piece::Text("\n"));
     match device {

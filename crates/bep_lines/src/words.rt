@@ -2,7 +2,7 @@
 ghost use Rattle.std.specs.Prelude.{◌≡◌};
 ghost use Rattle.bep_lines.specs.Lines as spec;
 
-use bep_model::Reason;
+use bep_model::{FirmReason, Reason};
 
 /// The word by which the report names a reason.
 pub fn word_of(reason: Reason) -> &'static str
@@ -21,5 +21,17 @@ pub fn word_of(reason: Reason) -> &'static str
         Reason::ViewAhead => "ViewAhead",
         Reason::FlightAhead => "FlightAhead",
         Reason::PullAhead => "PullAhead",
+    }
+}
+
+/// The word by which the report names a reason for which a settled cut isn't firm.
+pub fn firm_word_of(reason: FirmReason) -> &'static str
+    ensures { result.now ≡ spec.firm_word_of reason }
+{
+    match reason {
+        FirmReason::VersionDiffers => "VersionDiffers",
+        FirmReason::ViewNotBelow => "ViewNotBelow",
+        FirmReason::FlightNotBelow => "FlightNotBelow",
+        FirmReason::PullNotBelow => "PullNotBelow",
     }
 }

@@ -16,12 +16,13 @@ mod reporting;
 mod written;
 
 pub use bep_lines::{
-    Form, Piece, push_failure, push_folder, push_not_settled, push_pieces, push_printed,
-    push_refused, push_settled, push_step, word_of,
+    Form, Piece, firm_word_of, push_failure, push_firm, push_folder, push_not_firm,
+    push_not_settled, push_pieces, push_printed, push_reason, push_refused, push_settled,
+    push_step, word_of,
 };
 pub use certificate::push_certificate;
 pub use error::ReportError;
 pub use input::read_document;
 pub use output::write_all;
-pub use reporting::push_report;
+pub use reporting::{push_firm_report, push_report};
 pub use written::{certificate_text, report};

@@ -1,13 +1,17 @@
 //! The report on a cut.
 ghost use Rattle.std.specs.Prelude.{◌≡◌};
 ghost use Rattle.std.specs.FinMap.{keys};
+ghost use Rattle.bep_audit.specs.Loose.{firm_shown};
 ghost use Rattle.bep_audit.specs.Shown.{verdict_shown};
-ghost use Rattle.bep_lines.specs.Lines.{verdict_line};
-ghost use Rattle.bep_report.specs.Report.{is_stored, count_deleted, folder_text, folders_text, report_text};
+ghost use Rattle.bep_lines.specs.Lines.{firm_verdict_line, verdict_line};
+ghost use Rattle.bep_report.specs.Report.{is_stored, count_deleted, firm_report_text, folder_text, folders_text, report_text};
 ghost use Rattle.bep_lines.specs.Text.{AppendsWhole};
 
-use bep_audit::Verdict;
-use bep_lines::{or_as_before, push_folder, push_not_settled, push_settled};
+use bep_audit::{FirmVerdict, Verdict};
+use bep_lines::{
+    firm_word_of, or_as_before, push_firm, push_folder, push_not_firm, push_not_settled,
+    push_settled, word_of,
+};
 use bep_map::NameMap;
 use bep_record::Name;
 use bep_tables::{Cut, Share, SharedFolder};
@@ -27,6 +31,36 @@ pub fn push_report(
     push_verdict(text, verdict)?;
     let pushed = push_folders(alloc, text, cut, cut.folders());
     or_as_before(text, len, pushed)
+}
+
+/// Appends the report on the cut where firm is asked for: the line of that verdict, then the same lines for the folders.
+/// Fails for memory alone, and then the text is as before.
+pub fn push_firm_report(
+    alloc: Global,
+    text: &mut Vec<u8>,
+    cut: &Cut,
+    verdict: &FirmVerdict<'_>,
+) -> Result<(), AllocError>
+    ensures { AppendsWhole result text.old.items text.new.items (firm_report_text cut.now (firm_shown verdict.now)) }
+{
+    let len = text.len();
+    push_firm_verdict(text, verdict)?;
+    let pushed = push_folders(alloc, text, cut, cut.folders());
+    or_as_before(text, len, pushed)
+}
+
+fn push_firm_verdict(text: &mut Vec<u8>, verdict: &FirmVerdict<'_>) -> Result<(), AllocError>
+    ensures { AppendsWhole result text.old.items text.new.items (firm_verdict_line (firm_shown verdict.now)) }
+{
+    match *verdict {
+        FirmVerdict::Firm => push_firm(text),
+        FirmVerdict::Unsettled(reason, folder, name, device) => {
+            push_not_firm(text, word_of(reason), folder, name, device)
+        }
+        FirmVerdict::Loose(reason, folder, name, device) => {
+            push_not_firm(text, firm_word_of(reason), folder, name, Some(device))
+        }
+    }
 }
 
 fn push_verdict(text: &mut Vec<u8>, verdict: &Verdict<'_>) -> Result<(), AllocError>

@@ -10,7 +10,7 @@ use Rattle.bep_lines.specs.declared.form.Form.TheVariants as forms
 use Rattle.bep_words.specs.declared.mode.Ending.{Ending}
 use Rattle.bep_words.specs.declared.mode.Ending.TheVariants.{Report, Document}
 use Rattle.bep_words.specs.declared.mode.Mode.{Mode}
-use Rattle.bep_words.specs.declared.mode.Mode.TheVariants.{Check, Certify, Explain, Run}
+use Rattle.bep_words.specs.declared.mode.Mode.TheVariants.{Check, Firm, Certify, Explain, Run}
 
 -- the program's own level: it has a version, and wants a subcommand
 abbrev pub top_level : App
@@ -33,7 +33,8 @@ run_app = with_rule (new_app (codes "run")) (flag (codes "document"))
 abbrev pub program : App
 program =
     let check = with_subcommand top_level (new_app (codes "check")).top in
-    let certify = with_subcommand check (new_app (codes "certify")).top in
+    let firm = with_subcommand check (new_app (codes "firm")).top in
+    let certify = with_subcommand firm (new_app (codes "certify")).top in
     let explain = with_subcommand certify explain_app.top in
     with_subcommand explain run_app.top
 
@@ -71,6 +72,7 @@ ending_of met = if is_set (codes "document") met then Document else Report
 -- the words name the subcommand of this mode, and ask for what it says
 abbrev pub Asks : List Text → Mode → Type 0
 Asks words Check = named words ≡ Some (codes "check")
+Asks words Firm = named words ≡ Some (codes "firm")
 Asks words Certify = named words ≡ Some (codes "certify")
 Asks words (Explain form) = (named words ≡ Some (codes "explain")) × (form ≡ form_of (subcommand_of program words))
 Asks words (Run ending) = (named words ≡ Some (codes "run")) × (ending ≡ ending_of (subcommand_of program words))

@@ -5,6 +5,7 @@
 //!
 //!     match mode_of(alloc, &words)? {
 //!         Mode::Check => ..,
+//!         Mode::Firm => ..,
 //!         Mode::Certify => ..,
 //!         Mode::Explain(form) => ..,
 //!         Mode::Run(ending) => ..,

@@ -14,6 +14,8 @@ use std::convert::AsStr;
 pub enum Mode {
     /// Audit the check document that comes on standard input.
     Check,
+    /// Ask whether the check document that comes on standard input is firm.
+    Firm,
     /// Write the cut that comes on standard input as a check document, with its certificate.
     Certify,
     /// Tell all that keeps the check document that comes on standard input from being settled, in this form.
@@ -36,27 +38,35 @@ const COMMANDS_HELP: &str =
      'syncaudit <COMMAND> --help' tells its exit statuses.";
 
 const CHECK_HELP: &str =
-    "The document FILE is a cut of the cluster with its certificate: DOCUMENTS.md describes it.\n\n\
+    "The document FILE is a cut of the cluster with its certificate: documents.md describes it.\n\n\
      Example: syncaudit check < examples/one-equal-file.json\n\n\
      Exit status: 0 settled, 1 not settled, 2 document refused, 3 usage or help, 4 out of memory, \
      5 read or write fault";
 
+const FIRM_HELP: &str =
+    "The document FILE is a cut of the cluster with its certificate: documents.md describes it, and reasons.md what \
+     firm is.\n\n\
+     Example: syncaudit firm < examples/same-bytes-concurrent-versions.json\n\n\
+     Exit status: 0 firm, 1 not firm, 2 document refused, 3 usage or help, 4 out of memory, \
+     5 read or write fault";
+
 const CERTIFY_HELP: &str =
-    "The document FILE is a check document, whose certificate may be missing and isn't looked at: DOCUMENTS.md \
+    "The document FILE is a check document, whose certificate may be missing and isn't looked at: documents.md \
      describes it.\n\n\
      Example: syncaudit certify < examples/cut-alone.json\n\n\
      Exit status: 0 certificate written, 1 a name has no winner, 2 document refused, 3 usage or help, 4 out of memory, \
      5 read or write fault";
 
 const EXPLAIN_HELP: &str =
-    "The document FILE is a cut of the cluster with its certificate: DOCUMENTS.md describes it, and what is told.\n\n\
+    "The document FILE is a cut of the cluster with its certificate: documents.md describes it, and reasons.md what \
+     is told.\n\n\
      Example: syncaudit explain < examples/file-missing-in-store.json\n\
      With --json it writes one JSON document on a line: explanation.schema.json describes it.\n\n\
      Exit status: 0 settled, 1 not settled, 2 document refused, 3 usage or help, 4 out of memory, \
      5 read or write fault";
 
 const RUN_HELP: &str =
-    "The document FILE is a scenario, a cluster and its steps: DOCUMENTS.md describes it, and what is written.\n\n\
+    "The document FILE is a scenario, a cluster and its steps: documents.md describes it, and what is written.\n\n\
      Example: syncaudit run < examples/scenarios/conflict.json\n\
      With --document it writes the check document of the end: 'syncaudit check' audits it. Its status 0 says that \
      it was written, 1 that a name has no winner.\n\n\
@@ -76,6 +86,14 @@ fn command<'a>(alloc: Global) -> Result<Command<'a>, AllocError>
         CHECK_HELP,
     );
     let checks = top.subcommand(check)?;
+    let firm = plain_command(
+        alloc,
+        "firm",
+        "Says whether the check document on standard input is firm too, and if not, why",
+        "syncaudit firm < FILE",
+        FIRM_HELP,
+    );
+    let firms = checks.subcommand(firm)?;
     let certify = plain_command(
         alloc,
         "certify",
@@ -83,7 +101,7 @@ fn command<'a>(alloc: Global) -> Result<Command<'a>, AllocError>
         "syncaudit certify < FILE",
         CERTIFY_HELP,
     );
-    let certifies = checks.subcommand(certify)?;
+    let certifies = firms.subcommand(certify)?;
     let explain = explain_command(alloc)?;
     let explains = certifies.subcommand(explain)?;
     let run = run_command(alloc)?;
@@ -98,7 +116,7 @@ fn top_command<'a>(alloc: Global) -> Result<Command<'a>, AllocError>
     Ok(
         named
             .version(RELEASE)
-            .about("Says whether a Syncthing cluster is settled, and if not, why")
+            .about("Says whether a Syncthing cluster is settled, or firm, and if not, why")
             .after_help(COMMANDS_HELP)
             .subcommand_required(true)
             .arg_required_else_help(true),
@@ -171,6 +189,7 @@ pub fn mode_of<'a, S: AsStr>(alloc: Global, words: &'a [S]) -> Result<Mode, Erro
     let matches = command(alloc)?.try_get_matches_from(words)?;
     match matches.subcommand_name() {
         Some("check") => Ok(Mode::Check),
+        Some("firm") => Ok(Mode::Firm),
         Some("certify") => Ok(Mode::Certify),
         Some("explain") => Ok(Mode::Explain(form_of(&matches))),
         Some("run") => Ok(Mode::Run(ending_of(&matches))),

@@ -1,7 +1,7 @@
 -- What came of the words of the command line (this project's profile).
 use Rattle.std.specs.Prelude.{◌≡◌, ◌⊎◌, ℕ, List, Option, Err}
 use Rattle.std.specs.Io.KnownBytes.{Keeps}
-use Rattle.bep_answer.specs.Status.{IsCertificateTold, IsTold, status_of, usage}
+use Rattle.bep_answer.specs.Status.{IsCertificateTold, IsFirmTold, IsTold, status_of, usage}
 use Rattle.bep_play.specs.Told.{IsEndTold, IsRunTold}
 use Rattle.bep_reasons.specs.Told.{IsExplanationTold}
 use Rattle.bep_report.specs.declared.error.ReportError.TheVariants.{Memory}
@@ -10,7 +10,7 @@ use Rattle.bep_words.specs.Mode.{Asks}
 use Rattle.bep_words.specs.declared.mode.Ending.{Ending}
 use Rattle.bep_words.specs.declared.mode.Ending.TheVariants.{Report, Document}
 use Rattle.bep_words.specs.declared.mode.Mode.{Mode}
-use Rattle.bep_words.specs.declared.mode.Mode.TheVariants.{Check, Certify, Explain, Run}
+use Rattle.bep_words.specs.declared.mode.Mode.TheVariants.{Check, Firm, Certify, Explain, Run}
 
 -- what came of a scenario for each ending that is asked for
 abbrev pub IsEnding : Ending → Option (List ℕ) → Option (List ℕ) → Option (List ℕ) → Option (List ℕ) → ℕ → Type 0
@@ -20,6 +20,7 @@ IsEnding Document = IsEndTold
 -- what came of the document in each mode
 abbrev pub IsDone : Mode → Option (List ℕ) → Option (List ℕ) → Option (List ℕ) → Option (List ℕ) → ℕ → Type 0
 IsDone Check = IsTold
+IsDone Firm = IsFirmTold
 IsDone Certify = IsCertificateTold
 IsDone (Explain form) = IsExplanationTold form
 IsDone (Run ending) = IsEnding ending

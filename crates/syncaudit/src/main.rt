@@ -1,11 +1,13 @@
-//! `syncaudit`: says whether a Syncthing cluster is settled, and why not, at first or in full; and makes the certificate that this rests on.
+//! `syncaudit`: says whether a Syncthing cluster is settled, or firm, and why not, at first or in full; and makes the
+//! certificate that this rests on.
 #![tactic(auto)]
 
 mod run;
 
 use crate::run::{run, run_without_words, words_of};
 pub use bep_answer::{
-    Certified, Outcome, certified_status_of, certify_text, check_text, status_of,
+    Certified, Firmness, Outcome, certified_status_of, certify_text, check_text, firm_status_of,
+    firm_text, status_of,
 };
 pub use bep_lines::Form;
 pub use bep_play::{run_document, run_text};

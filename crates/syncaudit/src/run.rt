@@ -2,15 +2,16 @@
 ghost use Rattle.std.specs.Prelude.{◌≡◌, ◌⊎◌, [], Err, map};
 ghost use Rattle.clap.specs.Words.{fault_of};
 ghost use Rattle.bep_answer.specs.Answer.{SaysSettled};
+ghost use Rattle.bep_answer.specs.Firm.{SaysFirm};
 ghost use Rattle.bep_play.specs.Played.{EndsSettled};
 ghost use Rattle.bep_report.specs.declared.error.ReportError.TheVariants.{Memory};
 ghost use Rattle.bep_words.specs.Mode.{Asks, program};
 ghost use Rattle.bep_answer.specs.Status.{status_of, usage};
 ghost use Rattle.syncaudit.specs.Status.{IsEnd, IsEnding, IsFollowed};
 ghost use Rattle.bep_words.specs.declared.mode.Ending.TheVariants.{Report};
-ghost use Rattle.bep_words.specs.declared.mode.Mode.TheVariants.{Check, Run};
+ghost use Rattle.bep_words.specs.declared.mode.Mode.TheVariants.{Check, Firm, Run};
 
-use bep_answer::{USAGE, certify_and_tell, check_and_tell, end};
+use bep_answer::{USAGE, certify_and_tell, check_and_tell, end, firm_and_tell};
 use bep_play::{run_and_tell, run_document_and_tell};
 use bep_reasons::explain_and_tell;
 use bep_report::ReportError;
@@ -34,12 +35,15 @@ pub fn run<P: AllocGlobal + Eprint, R: Read, W: Write, S: AsStr>(
     ensures end { IsEnd (map S.text words.entry.now) (R.remaining reader.old) (R.remaining reader.new) (W.contents writer.old) (W.contents writer.new) result }
     ensures settled { Asks (map S.text words.entry.now) Check
         → result ≡ 0 → SaysSettled (R.remaining reader.old) (R.remaining reader.new) }
+    ensures firm { Asks (map S.text words.entry.now) Firm
+        → result ≡ 0 → SaysFirm (R.remaining reader.old) (R.remaining reader.new) }
     ensures ends_settled { Asks (map S.text words.entry.now) (Run Report)
         → result ≡ 0 → EndsSettled (R.remaining reader.old) (R.remaining reader.new) }
 {
     faultless_words_ask();
     match mode_told(rt, words) {
         Ok(Mode::Check) => check_and_tell(rt, reader, writer),
+        Ok(Mode::Firm) => firm_and_tell(rt, reader, writer),
         Ok(Mode::Certify) => certify_and_tell(rt, reader, writer),
         Ok(Mode::Explain(form)) => explain_and_tell(rt, form, reader, writer),
         Ok(Mode::Run(ending)) => run_scenario(rt, ending, reader, writer),

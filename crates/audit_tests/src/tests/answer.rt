@@ -1,6 +1,6 @@
 //! What is answered of no folders, by the calls that tell nothing on standard error. What the program answers of all other
 //! documents, and where a stream fails, `tests/` shows.
-use bep_answer::{Certified, Outcome, certify_text, check_text};
+use bep_answer::{Certified, Firmness, Outcome, certify_text, check_text, firm_text};
 use bep_play::run_text;
 use bep_reasons::explain_text;
 use bep_report::ReportError;
@@ -11,6 +11,7 @@ const DOCUMENT: &str = r#"{"version":1,"cut":{"folders":[]},"certificate":[]}"#;
 const SCENARIO: &str = r#"{"version":1,"folders":[],"links":[],"steps":[]}"#;
 
 const TEXT: &str = r#"settled
+firm
 settled
 settled
 {"certificate":[],"cut":{"folders":[],"links":[]},"version":1}
@@ -21,6 +22,11 @@ type Answer = Result<Outcome, ReportError>;
 fn checked(alloc: Global, text: &mut Vec<u8>) -> Answer {
     let mut reader = DOCUMENT.as_bytes();
     check_text(alloc, &mut reader, text)
+}
+
+fn firm(alloc: Global, text: &mut Vec<u8>) -> Result<Firmness, ReportError> {
+    let mut reader = DOCUMENT.as_bytes();
+    firm_text(alloc, &mut reader, text)
 }
 
 fn explained(alloc: Global, text: &mut Vec<u8>) -> Answer {
@@ -43,6 +49,7 @@ fn each_answer_is_written(rt: HostRuntime) {
     let alloc = rt.alloc();
     let mut text = Vec::new(alloc);
     assert_eq!(rt; checked(alloc, &mut text), Ok(Outcome::Settled));
+    assert_eq!(rt; firm(alloc, &mut text), Ok(Firmness::Firm));
     assert_eq!(rt; explained(alloc, &mut text), Ok(Outcome::Settled));
     assert_eq!(rt; ran(alloc, &mut text), Ok(Outcome::Settled));
     assert_eq!(rt; certified(alloc, &mut text), Ok(Certified::Written));

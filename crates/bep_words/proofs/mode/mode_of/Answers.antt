@@ -7,6 +7,9 @@ use Rattle.bep_words.proofs.mode.mode_of.Goals.{in_default-via-in-Some+in_defaul
 pub returns-in-Some-check-clause-faults : goal.returns-in-Some-check-clause-faults
 returns-in-Some-check-clause-faults g c = no_fault _ _ c.in_ok-command.ensures c.in_ok-matches.ensures.kinds
 
+pub returns-in-Some-firm-clause-faults : goal.returns-in-Some-firm-clause-faults
+returns-in-Some-firm-clause-faults g c = no_fault _ _ c.in_ok-command.ensures c.in_ok-matches.ensures.kinds
+
 pub returns-in-Some-certify-clause-faults : goal.returns-in-Some-certify-clause-faults
 returns-in-Some-certify-clause-faults g c = no_fault _ _ c.in_ok-command.ensures c.in_ok-matches.ensures.kinds
 
@@ -15,6 +18,12 @@ returns-in-Some-explain-clause-faults g c = no_fault _ _ c.in_ok-command.ensures
 
 pub returns-in-Some-run-clause-faults : goal.returns-in-Some-run-clause-faults
 returns-in-Some-run-clause-faults g c = no_fault _ _ c.in_ok-command.ensures c.in_ok-matches.ensures.kinds
+
+pub returns-in-Some-certify-clause-asked : goal.returns-in-Some-certify-clause-asked
+returns-in-Some-certify-clause-asked g c =
+    let lent = sym (ap (option_map (λ s. s.now)) c.in-Some-certify.is) ∙ c.subcommand_name.ensures in
+    let named : c.in-Some-certify.field-0.now ≡ codes "certify" = search (rules, c.in-Some-certify.is-certify) in
+    name_told _ _ _ c.in_ok-command.ensures c.in_ok-matches.ensures.matches ∙ sym lent ∙ ap Some named
 
 pub returns-in-Some-explain-clause-asked : goal.returns-in-Some-explain-clause-asked
 returns-in-Some-explain-clause-asked g c =
@@ -46,14 +55,18 @@ unreachable-requires g c =
                 let same : w.in_default.field-0.now ≡ codes "check" = cc in
                 w.in_default.not-check (search (rules, same, w.in_default.is))
             | inr (inl name) ↦
+                let one : Some w.in_default.field-0.now ≡ Some (codes "firm") = lent ∙ name in
+                let same : w.in_default.field-0.now ≡ codes "firm" = cc in
+                w.in_default.not-firm (search (rules, same, w.in_default.is))
+            | inr (inr (inl name)) ↦
                 let one : Some w.in_default.field-0.now ≡ Some (codes "certify") = lent ∙ name in
                 let same : w.in_default.field-0.now ≡ codes "certify" = cc in
                 w.in_default.not-certify (search (rules, same, w.in_default.is))
-            | inr (inr (inl name)) ↦
+            | inr (inr (inr (inl name))) ↦
                 let one : Some w.in_default.field-0.now ≡ Some (codes "explain") = lent ∙ name in
                 let same : w.in_default.field-0.now ≡ codes "explain" = cc in
                 w.in_default.not-explain (search (rules, same, w.in_default.is))
-            | inr (inr (inr name)) ↦
+            | inr (inr (inr (inr name))) ↦
                 let one : Some w.in_default.field-0.now ≡ Some (codes "run") = lent ∙ name in
                 let same : w.in_default.field-0.now ≡ codes "run" = cc in
                 w.in_default.not-run (search (rules, same, w.in_default.is))

@@ -1,0 +1,74 @@
+//! A check document's audit where firm is asked for.
+ghost use Rattle.std.specs.Prelude.{◌≡◌, IfOk};
+ghost use Rattle.bep_report.specs.Report.{firm_report_text};
+ghost use Rattle.bep_answer.specs.Firm.{IsFirmAnswerOfBytes, IsFirmReport};
+ghost use Rattle.bep_audit.specs.Loose.{firm_shown};
+ghost use Rattle.bep_answer.specs.Firm as spec;
+
+use crate::exchanging::{Answer, Question};
+use crate::outcome::Firmness;
+use crate::refusing::fault_line;
+use bep_audit::{Certificate, FirmVerdict, firm_verdict};
+use bep_hints::{Expected, hint_at};
+use bep_report::push_firm_report;
+use bep_tables::{Cut, DocError, read_check};
+use std::alloc::{AllocError, Global};
+
+/// Whether the document's cut is firm under its certificate: the report, and where the document is refused, a hint on
+/// where it is at fault.
+#[derive(Drop)]
+pub(crate) struct FirmnessOfCut;
+
+impl Question<Firmness> for FirmnessOfCut {
+    ghost says = { λ _. IsFirmAnswerOfBytes };
+
+    fn answer(self, alloc: Global, bytes: &[u8]) -> Result<Answer<Firmness>, AllocError> {
+        match read_check(alloc, bytes) {
+            Ok((cut, rows)) => Ok((report_on(alloc, &cut, &Certificate::of(rows))?, None)),
+            Err(DocError::Refused(fault)) => {
+                let refused = (Firmness::Refused, fault_line(alloc, &fault)?);
+                Ok((refused, hint_at(alloc, bytes, Expected::Check)))
+            }
+            Err(DocError::Memory) => Err(AllocError),
+        }
+    }
+}
+
+// The outcome of the cut's audit, and the report.
+fn report_on<'a>(
+    alloc: Global,
+    cut: &'a Cut,
+    certificate: &'a Certificate,
+) -> Result<(Firmness, Vec<u8>), AllocError>
+    ensures { IfOk result (λ answer. IsFirmReport cut.now certificate.now answer.0 answer.1.items) }
+{
+    match firm_verdict(alloc, cut, certificate) {
+        Ok(verdict) => report_of(alloc, cut, &verdict),
+        Err(_) => Err(AllocError),
+    }
+}
+
+// The outcome of the verdict, and the report.
+fn report_of(
+    alloc: Global,
+    cut: &Cut,
+    verdict: &FirmVerdict<'_>,
+) -> Result<(Firmness, Vec<u8>), AllocError>
+    ensures outcome { IfOk result (λ answer. answer.0 ≡ spec.firmness_of (firm_shown verdict.now)) }
+    ensures text { IfOk result (λ answer. answer.1.items ≡ firm_report_text cut.now (firm_shown verdict.now)) }
+{
+    let mut text = Vec::new(alloc);
+    push_firm_report(alloc, &mut text, cut, verdict)?;
+    Ok((firmness_of(verdict), text))
+}
+
+/// The outcome of a verdict where firm is asked for.
+pub fn firmness_of(verdict: &FirmVerdict<'_>) -> Firmness
+    ensures { result ≡ spec.firmness_of (firm_shown verdict.now) }
+{
+    match *verdict {
+        FirmVerdict::Firm => Firmness::Firm,
+        FirmVerdict::Unsettled(..) => Firmness::NotFirm,
+        FirmVerdict::Loose(..) => Firmness::NotFirm,
+    }
+}
