@@ -31,15 +31,22 @@ type Home struct {
 	Dir     string
 	ID      protocol.DeviceID
 	Config  config.Configuration
+	Copied  Copied // of the index of a home whose Syncthing may run
 	lock    *os.File
 	before  listing // the index before it was copied
 	copied  string
+	isLive  bool
 	backend backend.Backend
 	index   *db.Lowlevel
 }
 
 // Open reads and locks a home and opens a copy of its index. Nothing of the home is changed.
 func Open(dir string) (*Home, error) {
+	return openWith(dir, (*Home).openIndex)
+}
+
+// openWith reads a home and has its index opened.
+func openWith(dir string, open func(*Home) error) (*Home, error) {
 	id, err := readDeviceID(filepath.Join(dir, "cert.pem"))
 	if errors.Is(err, os.ErrNotExist) {
 		return nil, fmt.Errorf("%w: is this a Syncthing home? 'syncthing --paths' says where it is", err)
@@ -51,7 +58,7 @@ func Open(dir string) (*Home, error) {
 	if opened.Config, err = readConfig(filepath.Join(dir, "config.xml"), id); err != nil {
 		return nil, err
 	}
-	if err := opened.openIndex(); err != nil {
+	if err := open(opened); err != nil {
 		opened.Close()
 		return nil, err
 	}
@@ -134,10 +141,16 @@ func (h *Home) openIndex() error {
 	if err := checkWhole(h.copied); err != nil {
 		return fmt.Errorf("refused: %s: %w", h.Dir, err)
 	}
+	return h.openCopy()
+}
+
+// openCopy opens the copy of the index.
+func (h *Home) openCopy(options ...db.Option) error {
+	var err error
 	if h.backend, err = backend.Open(h.copied, backend.TuningAuto); err != nil {
 		return err
 	}
-	if h.index, err = db.NewLowlevel(h.backend, events.NoopLogger); err != nil {
+	if h.index, err = db.NewLowlevel(h.backend, events.NoopLogger, options...); err != nil {
 		return err
 	}
 	return db.UpdateSchema(h.index)
