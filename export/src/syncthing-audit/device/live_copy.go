@@ -103,7 +103,8 @@ func (c *liveCopy) round() error {
 	return c.write("CURRENT", []byte(filepath.Base(current)+"\n"))
 }
 
-// readRecords reads the whole records of a log or a manifest.
+// readRecords reads a log or a manifest. One that ends within a record is read again: either the record was being written,
+// or a length in it is damaged, and then what stands behind it must not be lost in silence.
 func readRecords(path string) ([]byte, error) {
 	text, err := os.ReadFile(path)
 	if err != nil {
@@ -113,7 +114,10 @@ func readRecords(path string) ([]byte, error) {
 	if err != nil {
 		return nil, again(fmt.Errorf("%s: %w", filepath.Base(path), err))
 	}
-	return text[:end], nil
+	if end != len(text) {
+		return nil, fmt.Errorf("%w: %s ends in the middle", errAgain, filepath.Base(path))
+	}
+	return text, nil
 }
 
 // logNumbers gives the numbers of the logs that count, rising.

@@ -18,8 +18,8 @@ const (
 // errDamaged says that a log or a manifest isn't what LevelDB writes.
 var errDamaged = errors.New("it is damaged")
 
-// endOfRecords gives where the last whole record of a log or a manifest ends. What stands behind it is the beginning of a
-// record that was being written while the file was read: LevelDB tells nobody that this one is stored.
+// endOfRecords gives where the last whole record of a log or a manifest ends. What stands behind it may be the beginning of
+// a record that was being written while the file was read.
 func endOfRecords(data []byte) (int, error) {
 	end := 0
 	for at := 0; ; {
