@@ -3,7 +3,6 @@ package main
 import (
 	"fmt"
 	"io"
-	"os"
 	"sort"
 
 	"golang.org/x/exp/slices"
@@ -11,7 +10,6 @@ import (
 	"syncthing-audit/disk"
 	"syncthing-audit/gather"
 	"syncthing-audit/join"
-	"syncthing-audit/part"
 )
 
 // inputs are the homes and parts that are read, to be closed.
@@ -80,29 +78,13 @@ func (i *inputs) open(asked options) error {
 		i.closers = append(i.closers, stream.Close)
 		i.devices = append(i.devices, join.NewDevice(stream, home.Dir))
 	}
+	opening := &lookInputs{inputs: i, first: map[string]opened{}, second: map[string]opened{}}
 	for _, path := range asked.parts {
-		if err := i.openPart(path); err != nil {
+		if err := opening.openPart(path); err != nil {
 			return fmt.Errorf("%s: %w", path, err)
 		}
 	}
-	return nil
-}
-
-// openPart opens a part.
-func (i *inputs) openPart(path string) error {
-	file, err := os.Open(path)
-	if err != nil {
-		return err
-	}
-	i.closers = append(i.closers, func() { file.Close() })
-	read, err := part.NewReader(file)
-	if err != nil {
-		return err
-	}
-	ahead := part.NewAhead(read)
-	i.closers = append(i.closers, ahead.Close)
-	i.devices = append(i.devices, join.NewDevice(ahead, path))
-	return nil
+	return opening.join()
 }
 
 // deviceOf opens the indexes of a home's folders: those that are wanted, or all.

@@ -12,6 +12,7 @@ import (
 // names goes through the names of one folder.
 type names struct {
 	*collector
+	folder  *join.Folder
 	found   *finding.Folder
 	builder *document.Builder
 	below   *finding.LeftOut // the directory below which all is left out, if there is one
@@ -22,6 +23,8 @@ func (n *names) row(row *join.Row) error {
 	n.collector.names++
 	switch {
 	case n.isBelow(row):
+	case row.IsMoving():
+		n.addMoving(row)
 	case isOutside(row):
 		n.found.Outside.Names++
 		n.found.Outside.Bytes += row.Size()
@@ -36,6 +39,7 @@ func (n *names) row(row *join.Row) error {
 // audit has a name audited.
 func (n *names) audit(row *join.Row) error {
 	n.audited++
+	n.addUnheard(row)
 	n.addPermissions(row)
 	n.addConflict(row)
 	if !hasWinner(row) && isKnown(row) {

@@ -47,22 +47,41 @@ func Open(dir string) (*Home, error) {
 
 // openWith reads a home and has its index opened.
 func openWith(dir string, open func(*Home) error) (*Home, error) {
-	id, err := readDeviceID(filepath.Join(dir, "cert.pem"))
-	if errors.Is(err, os.ErrNotExist) {
-		return nil, fmt.Errorf("%w: is this a Syncthing home? 'syncthing --paths' says where it is", err)
-	}
+	id, read, err := readAbout(dir)
 	if err != nil {
 		return nil, err
 	}
-	opened := &Home{Dir: dir, ID: id}
-	if opened.Config, err = readConfig(filepath.Join(dir, "config.xml"), id); err != nil {
-		return nil, err
-	}
+	opened := &Home{Dir: dir, ID: id, Config: read}
 	if err := open(opened); err != nil {
 		opened.Close()
 		return nil, err
 	}
 	return opened, nil
+}
+
+// readAbout reads whose home a directory is, and how it is configured.
+func readAbout(dir string) (protocol.DeviceID, config.Configuration, error) {
+	id, err := readDeviceID(filepath.Join(dir, "cert.pem"))
+	if errors.Is(err, os.ErrNotExist) {
+		err = fmt.Errorf("%w: is this a Syncthing home? 'syncthing --paths' says where it is", err)
+	}
+	if err != nil {
+		return id, config.Configuration{}, err
+	}
+	read, err := readConfig(filepath.Join(dir, "config.xml"), id)
+	return id, read, err
+}
+
+// ReadConfig reads the configuration of a home.
+func ReadConfig(dir string) (config.Configuration, error) {
+	_, read, err := readAbout(dir)
+	return read, err
+}
+
+// IsHome says whether a directory is a home with an index.
+func IsHome(dir string) bool {
+	_, err := os.Stat(filepath.Join(dir, databaseName, "CURRENT"))
+	return err == nil
 }
 
 // Name gives the device's name, as it is configured at itself.

@@ -39,6 +39,7 @@ type Folder struct {
 	Conflicts   []Conflict // copies that a device still has, whether they are in step or not
 	LeftOut     []*LeftOut // names that were left out on request
 	Outside     Outside
+	Live        *Live                // of devices that were looked at while they ran
 	Rows        map[string]*join.Row // of names that something is told of; of no more than MostRows
 }
 
@@ -156,7 +157,7 @@ func before(one, other Failure) bool {
 
 // IsPart says whether something of the folder wasn't audited: a name, a device, or all other devices.
 func (a *Answer) IsPart(folder *Folder) bool {
-	if len(folder.LeftOut) > 0 || len(folder.Members) < 2 {
+	if len(folder.LeftOut) > 0 || len(folder.Members) < 2 || folder.Live.isPart() {
 		return true
 	}
 	for _, one := range a.LeftOut {

@@ -33,6 +33,9 @@ func NewPlan(devices []*Device, wanted []string) (*Plan, error) {
 	if err := checkDevices(devices); err != nil {
 		return nil, err
 	}
+	if err := checkLooks(devices); err != nil {
+		return nil, err
+	}
 	ids, err := chosen(devices, wanted)
 	if err != nil {
 		return nil, err
@@ -120,6 +123,7 @@ func (p *Plan) folder(id string) *Folder {
 		return nil
 	}
 	p.checkMoments(made)
+	p.checkOrder(made)
 	return made
 }
 

@@ -56,6 +56,7 @@ type Folder struct {
 	Copies  []Copy   `json:"conflict_copies"`
 	LeftOut []Names  `json:"left_out"`
 	Ignored Count    `json:"ignored"`
+	Live    *Live    `json:"live,omitempty"` // of devices that were looked at while they ran
 }
 
 // Member is a device that shares a folder.
@@ -202,6 +203,7 @@ func folderOf(answer *finding.Answer, from *finding.Folder, named labels) *Folde
 	for _, one := range from.LeftOut {
 		made.LeftOut = append(made.LeftOut, namesOf(from, one))
 	}
+	made.Live = liveOf(from)
 	return made
 }
 
