@@ -7,6 +7,7 @@ import (
 	"path/filepath"
 	"strconv"
 	"strings"
+	"sync"
 	"time"
 
 	"syncthing-audit/ask"
@@ -82,7 +83,8 @@ type running struct {
 	room   string
 	log    io.Writer
 	tokens string
-	began  time.Time // before the first second look began
+	mutex  sync.Mutex // of the log
+	began  time.Time  // before the first second look began
 }
 
 // file gives where a look at a place is kept.
@@ -144,13 +146,26 @@ func (r *running) begin(at int) error {
 		return err
 	}
 	r.places[at].looked = time.Now().Add(-ageOf(told))
+	r.tell(at, told)
 	return nil
 }
 
 // end makes the second look at a device.
 func (r *running) end(at int) error {
-	_, err := r.places[at].run(r.places[at].end(r.asked), r.tokens, r.file(at, "end"))
+	told, err := r.places[at].run(r.places[at].end(r.asked), r.tokens, r.file(at, "end"))
+	r.tell(at, told)
 	return err
+}
+
+// tell tells what was said at a place.
+func (r *running) tell(at int, told string) {
+	r.mutex.Lock()
+	defer r.mutex.Unlock()
+	for _, line := range strings.Split(told, "\n") {
+		if said := strings.TrimPrefix(line, "syncthing-audit: "); said != line {
+			fmt.Fprintf(r.log, "syncthing-audit: %s %s\n", r.places[at].given, said)
+		}
+	}
 }
 
 // lineOfAge is how 'part --begin' says on standard error how long its look has been over.

@@ -4,6 +4,9 @@ import (
 	"errors"
 	"fmt"
 	"time"
+
+	"golang.org/x/exp/slices"
+	"syncthing-audit/part"
 )
 
 // checkLooks says which device was looked at once, where others were twice.
@@ -69,16 +72,32 @@ func (r *Row) IsMoving() bool {
 	return false
 }
 
-// IsUnheard says whether a member hadn't heard of another one's own record of a name at its second look.
+// IsUnheard says whether a member hadn't heard of another one's own record of a name at its second look. It has where its
+// view has the record, and goes as far as it: links are in order, so nothing else of the name is on its way then.
 func (f *Folder) IsUnheard(row *Row, knower, of int) bool {
 	at := row.At[of]
 	if knower == of || at == nil || at.Own == nil || !sharesWith(f.Members[of].About, f.Members[knower].Head.Device) {
 		return false
 	}
-	for _, view := range f.Members[knower].About.Views {
-		if view.Device == f.Members[of].Head.Device {
-			return view.IndexID != f.Members[of].About.IndexID || view.Heard < at.Own.Sequence
+	for place, view := range f.Members[knower].About.Views {
+		if view.Device != f.Members[of].Head.Device {
+			continue
 		}
+		seen := row.seen(knower, place)
+		return seen == nil || view.Heard < at.Own.Sequence || seen.Invalid != at.Own.Invalid || !slices.Equal(seen.Version, at.Own.Version)
 	}
 	return true
+}
+
+// seen gives the record that a member has in a view.
+func (r *Row) seen(member, view int) *part.Record {
+	if r.At[member] == nil {
+		return nil
+	}
+	for _, one := range r.At[member].Views {
+		if one.View == view {
+			return one.Record
+		}
+	}
+	return nil
 }
