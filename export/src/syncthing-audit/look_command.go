@@ -53,19 +53,11 @@ func beginPart(asked options, write writing, output, log io.Writer) error {
 		return err
 	}
 	defer opened.close()
-	if read.Look, err = lookOf(home); err != nil {
-		return err
-	}
-	glance, err := read.Glance()
+	glance, over, err := firstLook(home, read)
 	if err != nil {
 		return err
 	}
 	defer glance.Close()
-	if read.Look.ID, err = looks.NewID(); err != nil {
-		return err
-	}
-	over := time.Now()
-	read.Look.At = over.UTC()
 	endProgress := opened.startProgress(log, asked)
 	err = writeWhole(write, func(to io.Writer) error { return writeLines(to, read, glance.Compare) })
 	endProgress()
@@ -80,6 +72,25 @@ func beginPart(asked options, write writing, output, log io.Writer) error {
 	}
 	_, err = fmt.Fprintln(output, token)
 	return err
+}
+
+// firstLook looks at a device's disk, whose index was copied before, and then gives the look its id; it says when it was over.
+func firstLook(home *device.Home, read *gather.Device) (*gather.Glance, time.Time, error) {
+	var err error
+	if read.Look, err = lookOf(home); err != nil {
+		return nil, time.Time{}, err
+	}
+	glance, err := read.Glance()
+	if err != nil {
+		return nil, time.Time{}, err
+	}
+	if read.Look.ID, err = looks.NewID(); err != nil {
+		glance.Close()
+		return nil, time.Time{}, err
+	}
+	over := time.Now()
+	read.Look.At = over.UTC()
+	return glance, over, nil
 }
 
 // endPart writes the part of the second look at a device: its index and what stands on its disk, with no file read.
@@ -227,6 +238,6 @@ func checkTokens(read *gather.Device, asked options) error {
 		names = append(names, name)
 	}
 	sort.Strings(names)
-	return fmt.Errorf("refused: the tokens have none of %s, with which folders are shared: add them, or leave these devices out with --leave-out %s",
-		strings.Join(names, ", "), part.Absent)
+	return fmt.Errorf("refused: the tokens have none of %s, with which folders are shared: add them, or leave these devices out with "+
+		"--leave-out %s", strings.Join(names, ", "), part.Absent)
 }

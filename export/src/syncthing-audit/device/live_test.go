@@ -186,6 +186,28 @@ func checkNoGap(t *testing.T, what string, found map[string]int64, greatest int6
 	}
 }
 
+// liveOne is a copy, with what was stored before it was begun.
+type liveOne struct {
+	path   string
+	before int64
+}
+
+// check says what a copy lacks of what the index has in the end.
+func (c *liveOne) check(t *testing.T, what string, last map[string]int64, greatestAtEnd int64) {
+	own, greatest := entriesOf(t, c.path, protocol.LocalDeviceID)
+	checkNoGap(t, what, own, greatest)
+	if greatest < c.before || greatest > greatestAtEnd {
+		t.Errorf("%s goes to %d, and %d were stored before it was begun; in the end %d", what, greatest, c.before, greatestAtEnd)
+	}
+	for name, sequence := range own {
+		if last[name] < sequence || last[name] <= greatest && last[name] != sequence {
+			t.Errorf("%s has %s of %d, and the index in the end %d", what, name, sequence, last[name])
+		}
+	}
+	view, seen := entriesOf(t, c.path, otherDevice)
+	checkNoGap(t, "the view in "+what, view, seen)
+}
+
 // Copies that are made while Syncthing's own packages write open in strict mode. Each is the index as it was at one moment
 // after the copy was begun, in which nothing is missing of what the device's own database has at its end.
 func TestCopiesBesideAWriter(t *testing.T) {
@@ -195,14 +217,10 @@ func TestCopiesBesideAWriter(t *testing.T) {
 	}
 	room := t.TempDir()
 	end := startWriter(t, room)
-	type made struct {
-		path   string
-		before int64
-	}
-	var all []made
+	var all []*liveOne
 	rounds := 0
 	for len(all) < copies {
-		one := made{t.TempDir(), stored(room)}
+		one := &liveOne{t.TempDir(), stored(room)}
 		said, err := copyLive(filepath.Join(room, databaseName), one.path, checkLive)
 		if err != nil {
 			t.Fatal(err)
@@ -211,21 +229,10 @@ func TestCopiesBesideAWriter(t *testing.T) {
 		all = append(all, one)
 	}
 	end()
-	last, greatestAtEnd := entriesOf(t, filepath.Join(room, databaseName), protocol.LocalDeviceID)
-	checkNoGap(t, "the index", last, greatestAtEnd)
+	last, greatest := entriesOf(t, filepath.Join(room, databaseName), protocol.LocalDeviceID)
+	checkNoGap(t, "the index", last, greatest)
 	for place, one := range all {
-		own, greatest := entriesOf(t, one.path, protocol.LocalDeviceID)
-		checkNoGap(t, fmt.Sprintf("copy %d", place), own, greatest)
-		if greatest < one.before || greatest > greatestAtEnd {
-			t.Errorf("copy %d goes to %d, and %d were stored before it was begun; in the end %d", place, greatest, one.before, greatestAtEnd)
-		}
-		for name, sequence := range own {
-			if last[name] < sequence || sequence <= greatest && last[name] <= greatest && last[name] != sequence {
-				t.Errorf("copy %d has %s of %d, and the index in the end %d", place, name, sequence, last[name])
-			}
-		}
-		view, seen := entriesOf(t, one.path, otherDevice)
-		checkNoGap(t, fmt.Sprintf("the view in copy %d", place), view, seen)
+		one.check(t, fmt.Sprintf("copy %d", place), last, greatest)
 	}
-	t.Logf("%d copies took %d rounds; the writer stored %d entries of each of two devices", copies, rounds, greatestAtEnd)
+	t.Logf("%d copies took %d rounds; the writer stored %d entries of each of two devices", copies, rounds, greatest)
 }

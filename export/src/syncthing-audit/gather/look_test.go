@@ -32,7 +32,7 @@ func movedSinceGlance(t *testing.T, change func(path func(string) string) error)
 	t.Setenv("TMPDIR", t.TempDir())
 	room := t.TempDir()
 	path := func(name string) string { return filepath.Join(room, name) }
-	for _, name := range []string{"b", "d", "d.log"} {
+	for _, name := range []string{"b", "d", "a.log"} {
 		if err := os.WriteFile(path(name), []byte(name), 0o600); err != nil {
 			t.Fatal(err)
 		}
@@ -74,11 +74,11 @@ func TestGlance(t *testing.T) {
 		change func(path func(string) string) error
 		told   string
 	}{
-		{"nothing", func(func(string) string) error { return nil }, "b d d.log"},
-		{"a new file", func(path func(string) string) error { return os.WriteFile(path("a"), nil, 0o600) }, "(a) b d d.log"},
-		{"the first one is gone", func(path func(string) string) error { return os.Remove(path("b")) }, "(b) d d.log"},
-		{"the last one is gone", func(path func(string) string) error { return os.Remove(path("d")) }, "b (d) d.log"},
-		{"longer", func(path func(string) string) error { return os.WriteFile(path("b"), []byte("longer"), 0o600) }, "(b) d d.log"},
+		{"nothing", func(func(string) string) error { return nil }, "a.log b d"},
+		{"a new file", func(path func(string) string) error { return os.WriteFile(path("a"), nil, 0o600) }, "(a) a.log b d"},
+		{"the first one is gone", func(path func(string) string) error { return os.Remove(path("b")) }, "a.log (b) d"},
+		{"the last one is gone", func(path func(string) string) error { return os.Remove(path("d")) }, "a.log b (d)"},
+		{"longer", func(path func(string) string) error { return os.WriteFile(path("b"), []byte("longer"), 0o600) }, "a.log (b) d"},
 		{"with its time put back", func(path func(string) string) error {
 			about, err := os.Stat(path("b"))
 			if err == nil {
@@ -88,7 +88,7 @@ func TestGlance(t *testing.T) {
 				err = os.Chtimes(path("b"), about.ModTime(), about.ModTime())
 			}
 			return err
-		}, "(b) d d.log"},
+		}, "a.log (b) d"},
 		{"another file of the same bytes and time", func(path func(string) string) error {
 			about, err := os.Stat(path("b"))
 			if err == nil {
@@ -101,22 +101,22 @@ func TestGlance(t *testing.T) {
 				err = os.Rename(path(".syncthing.b.tmp"), path("b"))
 			}
 			return err
-		}, "(b) d d.log"},
-		{"other permissions", func(path func(string) string) error { return os.Chmod(path("d"), 0o640) }, "b (d) d.log"},
+		}, "a.log (b) d"},
+		{"other permissions", func(path func(string) string) error { return os.Chmod(path("d"), 0o640) }, "a.log b (d)"},
 		{"a directory in its place", func(path func(string) string) error {
 			if err := os.Remove(path("d")); err != nil {
 				return err
 			}
 			return os.Mkdir(path("d"), 0o755)
-		}, "b (d) d.log"},
-		{"what is ignored changes", func(path func(string) string) error { return os.WriteFile(path("d.log"), []byte("more"), 0o600) }, "b d d.log"},
+		}, "a.log b (d)"},
+		{"what is ignored changes", func(path func(string) string) error { return os.WriteFile(path("a.log"), []byte("more"), 0o600) }, "a.log b d"},
 		{"what is ignored goes and comes", func(path func(string) string) error {
-			if err := os.Remove(path("d.log")); err != nil {
+			if err := os.Remove(path("a.log")); err != nil {
 				return err
 			}
 			return os.WriteFile(path("c.log"), nil, 0o600)
 		}, "b c.log d"},
-		{"an odd name", func(path func(string) string) error { return os.WriteFile(path("a\xff\n\""), nil, 0o600) }, "a\xff\n\" b d d.log"},
+		{"an odd name", func(path func(string) string) error { return os.WriteFile(path("a\xff\n\""), nil, 0o600) }, "a.log a\xff\n\" b d"},
 	}
 	for _, one := range cases {
 		if told := movedSinceGlance(t, one.change); told != one.told {

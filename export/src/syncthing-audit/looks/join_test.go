@@ -129,6 +129,7 @@ func TestStillNames(t *testing.T) {
 		{why: "what can't be read", first: unreadable, second: unchanged},
 		{why: "what can't be read and changed", first: unreadable, second: func(n *part.Name) { n.Disk.Stamp = "2" }, moved: "disk"},
 		{why: "an odd entry", first: odd, second: odd},
+		{why: "an entry that is odd for another reason", first: odd, second: func(n *part.Name) { odd(n); n.Out[0].Why = "another" }, moved: "disk"},
 		{why: "an entry that became odd", first: unchanged, second: odd, moved: "record views disk"},
 		{why: "ignored at both, whatever its file does", first: ignored, second: func(n *part.Name) { ignored(n); n.Disk.Stamp = "2" }},
 		{why: "ignored for a moment", first: ignored, isOnce: true},
