@@ -1,6 +1,6 @@
 #!/usr/bin/env bash
 # around.sh PROGRAM: compares what stands around the built program with it: the man page and the completions with its
-# help, and the schemas with one another. Gives it a silent pipe. And tries the scripts that run, build and
+# help, those of syncthing-audit with its man page, and the schemas with one another. Gives it a silent pipe. And tries the scripts that run, build and
 # install it (around/). The last line is 'N passed, M failed'.
 set -euo pipefail
 program=$(readlink -m "$1")
@@ -90,12 +90,12 @@ flags_of() {
 
 for command in $(helped); do
   expect "the man page's synopsis has no '$(usage_of "$command")'" begins_synopsis "$(usage_of "$command")"
-  for file in completions/*; do
+  for file in completions/{syncaudit.bash,_syncaudit,syncaudit.fish}; do
     expect "$file has no '$command'" has "$command" "$file"
   done
   # Its flags stand in each of them too.
   for flag in $(flags_of "$command"); do
-    for file in docs/syncaudit.1 completions/*; do
+    for file in docs/syncaudit.1 completions/{syncaudit.bash,_syncaudit,syncaudit.fish}; do
       expect "$file has no '--$flag'" offers "$flag" "$file"
     done
   done
@@ -108,6 +108,8 @@ expect "no subcommand in the program's help" [ -n "$(helped)" ]
 # The help's lines are as long as the terminal allows.
 expect "the man page's statuses aren't those of 'check --help': $(statuses)" \
   grep -qF "$(statuses)" <(help_of check | tr '\n' ' ')
+
+. tests/around/completing.sh
 
 # ---- words that aren't followed, while nothing comes on standard input
 

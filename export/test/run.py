@@ -22,10 +22,11 @@ from pathlib import Path
 
 HERE = Path(__file__).resolve().parent
 # The longest first.
-CLASSES = [("large_folders", "LargeFiles"), ("large_folders", "LargeFolder"), ("large_folders", "ManyFiles"), ("three_devices", "LeftBehind"), ("three_devices", "EachKind"),
+CLASSES = [("rot", "BlockSizes"), ("large_folders", "LargeFiles"), ("large_folders", "LargeFolder"), ("large_folders", "ManyFiles"), ("three_devices", "LeftBehind"), ("three_devices", "EachKind"),
            ("live_devices", "LiveWriter"), ("live_devices", "LiveReceiver"), ("live_devices", "LiveDevices"), ("live_devices", "LiveRun"),
            ("two_devices", "Conflict"), ("two_devices", "TwoDevices"), ("two_devices", "SendOnly"),
-           ("two_devices", "ReceiveOnly"), ("three_devices", "Chain"), ("three_devices", "ThreeDevices")]
+           ("two_devices", "ReceiveOnly"), ("three_devices", "Chain"), ("three_devices", "ThreeDevices"),
+           ("rot", "RotInManyBlocks"), ("rot", "RotWithAnotherMode"), ("manners", "Manners")]
 # The classes and Go's tests.
 ALL = len(CLASSES) + 1
 SIDE_BY_SIDE = 4
@@ -112,32 +113,33 @@ def run_go(environment):
 
 def run_class(module, name, environment, deadline):
     """Runs a class in a process of its own, which begins no case after the deadline, and gives how many of its cases
-    passed and failed, and how many weren't begun."""
+    passed, failed and were skipped, and why the latter were."""
     if time.monotonic() > deadline:
-        return 0, 0, 1
+        return 0, 0, 1, {"the time is over"}
     status, said = run_until(deadline + SECONDS_OF_A_CASE, [sys.executable, HERE / f"{module}.py", "-v", name],
                              env=environment)
+    skipped = set(re.findall(r"\.\.\. skipped ['\"](.*)['\"]$", said, re.MULTILINE))
     if status == 0:
-        return count_of(said)
+        return *count_of(said), skipped
     print(f"---- {name}", said, sep="\n")
     if status is None:
         print(f"{name} hung: it was ended {SECONDS_OF_A_CASE} seconds after its last case can have begun")
-        return 0, 1, 0
-    passed, failed, skipped = count_of(said)
-    return passed, max(failed, 1), skipped
+        return 0, 1, 0, skipped
+    passed, failed, count = count_of(said)
+    return passed, max(failed, 1), count, skipped
 
 
 def run_classes(environment, deadline):
-    """Runs all classes, some side by side, and gives how many cases passed and failed, and of each class how many weren't
-    begun, with a line that says so."""
+    """Runs all classes, some side by side, and gives how many cases passed and failed, and of each class how many were
+    skipped, with a line that says why."""
     passed = failed = 0
     unfinished = []
     with ThreadPoolExecutor(SIDE_BY_SIDE) as workers:
         counts = workers.map(lambda one: run_class(*one, environment, deadline), CLASSES)
-        for (_, name), count in zip(CLASSES, counts):
-            passed, failed = passed + count[0], failed + count[1]
-            if count[2]:
-                unfinished.append((count[2], f"{count[2]} cases of {name} weren't begun in time"))
+        for (_, name), (good, bad, skipped, why) in zip(CLASSES, counts):
+            passed, failed = passed + good, failed + bad
+            if skipped:
+                unfinished.append((skipped, f"{skipped} cases of {name}: {'; '.join(sorted(why)) or 'no reason is told'}"))
     return passed, failed, unfinished
 
 

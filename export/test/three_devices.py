@@ -23,6 +23,17 @@ class ThreeDevices(Exporting):
     def test_in_step_is_settled(self):
         self.assertEqual(self.report(), ["settled", f"folder {FOLDER}: 6 names, 1 deleted, 3 devices"])
 
+    def test_a_part_from_each_is_joined(self):
+        """Each part is made of its own home alone; joined they say what the homes do, in whichever order they are given."""
+        settled = self.report()
+        parts = [self.part(device) for device in self.devices]
+        for some in (parts, parts[::-1]):
+            ran = self.check_parts(some)
+            self.assertEqual((ran.returncode, ran.stdout.splitlines()), (0, settled), ran.stderr)
+        ran = self.check_parts(parts[:2])
+        self.assertEqual((ran.returncode, ran.stdout), (2, ""))
+        self.assertIn(f"no home or part of it is given ({self.three.id})", ran.stderr)
+
     def test_each_device_has_a_view_of_each_other(self):
         cut = self.document()["cut"]
         self.assertEqual([len(share["views"]) for share in cut["folders"][0]["devices"]], [2, 2, 2])

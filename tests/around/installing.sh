@@ -23,6 +23,8 @@ status=0
 expect "install has status $status" [ "$status" = 0 ]
 files=(bin/syncaudit share/man/man1/syncaudit.1 share/man/man1/syncthing-audit.1 share/bash-completion/completions/syncaudit
   share/zsh/site-functions/_syncaudit share/fish/vendor_completions.d/syncaudit.fish
+  share/bash-completion/completions/syncthing-audit share/zsh/site-functions/_syncthing-audit
+  share/fish/vendor_completions.d/syncthing-audit.fish
   share/doc/syncaudit/DOCUMENTS.md share/doc/syncaudit/check-document.schema.json
   share/doc/syncaudit/explanation.schema.json share/doc/syncaudit/scenario.schema.json
   share/doc/syncaudit/audit.schema.json)
@@ -46,7 +48,8 @@ for file in "${files[@]}" README.md; do
 done
 if command -v dpkg-deb > /dev/null 2>&1; then
   dpkg-deb -R "$place/out/syncaudit_1.2.3_amd64.deb" "$work/deb"
-  for file in bin/syncaudit share/man/man1/syncaudit.1.gz share/zsh/vendor-completions/_syncaudit share/doc/syncaudit/copyright; do
+  for file in bin/syncaudit share/man/man1/syncaudit.1.gz share/zsh/vendor-completions/_syncaudit \
+    share/zsh/vendor-completions/_syncthing-audit share/doc/syncaudit/copyright; do
     expect "the Debian package has no $file" [ -f "$work/deb/usr/$file" ]
   done
   expect "the Debian package's sums aren't those of its files" \

@@ -1,6 +1,7 @@
 package main
 
 import (
+	"bufio"
 	"flag"
 	"fmt"
 	"io"
@@ -28,14 +29,24 @@ func (o *options) checkForm() error {
 // tell tells an answer in the form that was asked for, and gives the exit status.
 func tell(output, log io.Writer, asked options, answer *finding.Answer) (int, error) {
 	var err error
+	to := bufio.NewWriter(faulty{output})
 	switch {
 	case asked.lines:
-		report.Lines(output, answer)
+		report.Lines(to, answer)
 	case asked.json:
-		err = summary.Of(answer).WriteJSON(output)
+		err = summary.Of(answer).WriteJSON(to)
 	default:
-		summary.Of(answer).Print(output, time.Local)
+		summary.Of(answer).Print(to, time.Local)
+	}
+	if err == nil {
+		err = answer.Err()
+	}
+	if err == nil {
+		err = to.Flush()
+	}
+	if err != nil {
+		return 0, fmt.Errorf("the answer can't be written: %w", err)
 	}
 	fmt.Fprint(log, meaning)
-	return statusOfAnswer(answer), err
+	return statusOfAnswer(answer), nil
 }

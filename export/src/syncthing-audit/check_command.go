@@ -6,6 +6,7 @@ import (
 
 	"syncthing-audit/ask"
 	"syncthing-audit/audit"
+	"syncthing-audit/document"
 	"syncthing-audit/finding"
 	"syncthing-audit/join"
 	"syncthing-audit/report"
@@ -59,17 +60,22 @@ func answerOf(opened *inputs, asked options, program ask.Program) (*finding.Answ
 		return nil, err
 	}
 	replies := audit.NewReplies()
-	pool := ask.NewPool(program, asked.jobs, replies.Take)
-	options := audit.Options{LeaveOut: asked.leaveOut, WithBytes: asked.bytes, Refused: opened.skip}
-	answer, err := audit.Collect(plan, options, pool.Ask)
+	pool := ask.NewPool(program, asked.jobs, func(one *document.Document, reply *ask.Reply) {
+		replies.Take(one, reply)
+		opened.work.answered.Add(1)
+	})
+	options := audit.Options{LeaveOut: asked.leaveOut, WithBytes: asked.bytes, Refused: opened.skip, Joined: &opened.work.joined}
+	answer, err := audit.Collect(plan, options, func(one *document.Document) error {
+		opened.work.asked.Add(1)
+		return pool.Ask(one)
+	})
 	if failed := pool.Close(); failed != nil {
 		return nil, failed
 	}
 	if err != nil {
 		return nil, err
 	}
-	replies.AddTo(answer)
-	return answer, nil
+	return answer, replies.AddTo(answer)
 }
 
 // statusOfAnswer gives the exit status for an answer.

@@ -41,7 +41,8 @@ func runExport(words []string, output, log io.Writer) (int, error) {
 	}
 	to := &outlet{output: output, directory: asked.into}
 	endProgress := opened.startProgress(log, asked)
-	answer, err := audit.Collect(plan, audit.Options{LeaveOut: asked.leaveOut, WithBytes: asked.bytes, Refused: opened.skip}, to.take)
+	options := audit.Options{LeaveOut: asked.leaveOut, WithBytes: asked.bytes, Refused: opened.skip, Joined: &opened.work.joined}
+	answer, err := audit.Collect(plan, options, to.take)
 	endProgress()
 	if err != nil {
 		return 0, err
@@ -55,7 +56,7 @@ func runExport(words []string, output, log io.Writer) (int, error) {
 		fmt.Fprintf(log, "syncthing-audit: %d documents in %s\n", to.count, to.directory)
 		return statusDone, (&exported{answer, to.written}).save(to.directory)
 	}
-	_, err = output.Write(to.kept)
+	_, err = faulty{output}.Write(to.kept)
 	return statusDone, err
 }
 
@@ -82,7 +83,7 @@ func (o *outlet) take(one *document.Document) error {
 		return nil
 	}
 	if err := os.MkdirAll(o.directory, 0o777); err != nil {
-		return err
+		return faultOf(err)
 	}
 	name := fmt.Sprintf("cut-%04d.json", o.count)
 	o.written = append(o.written, exportedDocument{name, one.Folder})
@@ -92,12 +93,15 @@ func (o *outlet) take(one *document.Document) error {
 // writeNew writes a file that isn't there yet.
 func writeNew(path string, text []byte) error {
 	file, err := os.OpenFile(path, os.O_WRONLY|os.O_CREATE|os.O_EXCL, 0o666)
-	if err != nil {
+	if errors.Is(err, os.ErrExist) {
 		return err
+	}
+	if err != nil {
+		return faultOf(err)
 	}
 	if _, err := file.Write(text); err != nil {
 		file.Close()
-		return err
+		return faultOf(err)
 	}
-	return file.Close()
+	return faultOf(file.Close())
 }

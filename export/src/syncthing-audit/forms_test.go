@@ -216,7 +216,9 @@ func failures(t *testing.T, devices []*drawn, withBytes bool) []finding.Failure 
 	if err != nil || len(answer.Refusals) > 0 {
 		t.Fatal(err, answer.Refusals)
 	}
-	return answer.Folders[0].Failures
+	var made []finding.Failure
+	answer.Folders[0].EachFailure(func(one *finding.Failure) { made = append(made, *one) })
+	return made
 }
 
 // firsts gives the first failure of each name: the verdict on the folder that has this name alone.

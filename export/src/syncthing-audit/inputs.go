@@ -16,7 +16,7 @@ import (
 type inputs struct {
 	devices []*join.Device
 	pool    *disk.Pool
-	bytes   int64 // that the indexes of homes say will be hashed
+	work    work
 	closers []func()
 }
 
@@ -27,16 +27,15 @@ func (i *inputs) skip() {
 	}
 }
 
-// startProgress begins to tell how far the hashing is; what it gives ends that.
+// startProgress begins to tell how far the work is; what it gives ends that.
 func (i *inputs) startProgress(log io.Writer, asked options) func() {
-	if i.pool == nil {
-		return func() {}
+	if i.pool != nil {
+		i.work.hashed = i.pool.Hashed
 	}
-	total := i.bytes
 	if asked.names != "" {
-		total = 0
+		i.work.toHash = 0
 	}
-	return startProgress(log, total, i.pool.Hashed)
+	return startProgress(log, &i.work)
 }
 
 func (i *inputs) close() {
@@ -69,6 +68,12 @@ func (i *inputs) open(asked options) error {
 		i.closers = append(i.closers, home.Close)
 		homes = append(homes, home)
 	}
+	if err := i.openParts(asked.parts); err != nil {
+		return err
+	}
+	if err := join.CheckWanted(i.labels(homes), asked.folders); err != nil {
+		return fmt.Errorf("refused: %w", err)
+	}
 	for _, home := range homes {
 		read, err := i.deviceOf(home, asked)
 		if err != nil {
@@ -78,8 +83,29 @@ func (i *inputs) open(asked options) error {
 		i.closers = append(i.closers, stream.Close)
 		i.devices = append(i.devices, join.NewDevice(stream, home.Dir))
 	}
+	return nil
+}
+
+// labels gives the labels of all folders of these homes and of the parts, by the folders' ids.
+func (i *inputs) labels(homes []*device.Home) map[string]string {
+	made := map[string]string{}
+	for _, home := range homes {
+		for _, one := range home.Config.Folders {
+			made[one.ID] = one.Label
+		}
+	}
+	for _, read := range i.devices {
+		for _, one := range read.Head.Folders {
+			made[one.ID] = one.Label
+		}
+	}
+	return made
+}
+
+// openParts opens parts; of a device that was looked at twice both are joined.
+func (i *inputs) openParts(paths []string) error {
 	opening := &lookInputs{inputs: i, first: map[string]opened{}, second: map[string]opened{}}
-	for _, path := range asked.parts {
+	for _, path := range paths {
 		if err := opening.openPart(path); err != nil {
 			return fmt.Errorf("%s: %w", path, err)
 		}
@@ -101,7 +127,7 @@ func (i *inputs) deviceOf(home *device.Home, asked options) (*gather.Device, err
 			return nil, fmt.Errorf("%s: %w", home.Dir, err)
 		}
 		i.closers = append(i.closers, index.Close)
-		i.bytes += index.Bytes()
+		i.work.toHash += index.Bytes()
 		made.Folders = append(made.Folders, index)
 	}
 	return made, nil

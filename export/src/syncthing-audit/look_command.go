@@ -70,7 +70,7 @@ func beginPart(asked options, write writing, output, log io.Writer) error {
 	if standardOutput[asked.output] {
 		output = log
 	}
-	_, err = fmt.Fprintln(output, token)
+	_, err = fmt.Fprintln(faulty{output}, token)
 	return err
 }
 
@@ -185,7 +185,7 @@ func writeWhole(write writing, fill func(io.Writer) error) error {
 	}
 	defer leftover.Remove(file.Name())
 	defer file.Close()
-	if err := fill(file); err != nil {
+	if err := fill(faulty{file}); err != nil {
 		return err
 	}
 	if _, err := file.Seek(0, io.SeekStart); err != nil {

@@ -29,7 +29,10 @@ func (i *lookInputs) openPart(path string) error {
 		return err
 	}
 	i.closers = append(i.closers, func() { file.Close() })
-	read, err := part.NewReader(file)
+	if about, err := file.Stat(); err == nil {
+		i.work.toRead += about.Size()
+	}
+	read, err := part.NewReader(counted{file, &i.work.read})
 	if err != nil {
 		return err
 	}

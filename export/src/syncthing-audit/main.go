@@ -18,6 +18,7 @@ const (
 	statusNotSettled = 1
 	statusRefused    = 2
 	statusUsage      = 3
+	statusFault      = 5 // what was asked for can't be written
 	statusPartial    = 6 // in step as far as audited
 )
 
@@ -33,8 +34,8 @@ func main() {
 	leftover.WatchSignals()
 	output, err := takeStandardOutput()
 	if err != nil {
-		fmt.Fprintln(os.Stderr, "syncthing-audit:", err)
-		os.Exit(statusRefused)
+		fmt.Fprintln(os.Stderr, "syncthing-audit: there is no standard output:", err)
+		os.Exit(statusFault)
 	}
 	os.Exit(run(os.Args[1:], output, os.Stderr))
 }
@@ -55,12 +56,10 @@ func takeStandardOutput() (*os.File, error) {
 // run runs the command that the words name and gives the exit status.
 func run(words []string, output, log io.Writer) int {
 	if len(words) > 0 && isHelp(words[0]) {
-		fmt.Fprint(output, usage)
-		return statusDone
+		return statusOfText(usage, output, log)
 	}
 	if len(words) > 0 && words[0] == "--version" {
-		printVersion(output)
-		return statusDone
+		return statusOfText("syncthing-audit "+version+"\n", output, log)
 	}
 	if len(words) == 0 {
 		return statusOf(&wrongUsage{"no command is given: part, check, run, export or sum"}, output, log)
@@ -81,18 +80,29 @@ func isHelp(word string) bool { return word == "--help" || word == "-h" || word 
 func statusOf(err error, output, log io.Writer) int {
 	var wrong *wrongUsage
 	var failed *ask.Failed
+	var unwritten *fault
 	switch {
 	case errors.Is(err, errHelp):
-		fmt.Fprint(output, usage)
-		return statusDone
+		return statusOfText(usage, output, log)
 	case errors.As(err, &wrong):
 		fmt.Fprintf(log, "syncthing-audit: %v\n'syncthing-audit --help' tells how to use it\n", err)
 		return statusUsage
 	case !errors.Is(err, errTold):
 		fmt.Fprintln(log, "syncthing-audit:", err)
 	}
-	if errors.As(err, &failed) {
+	switch {
+	case errors.As(err, &failed):
 		return failed.Status
+	case errors.As(err, &unwritten):
+		return statusFault
 	}
 	return statusRefused
+}
+
+// statusOfText writes a text that was asked for, and gives the exit status.
+func statusOfText(text string, output, log io.Writer) int {
+	if _, err := io.WriteString(faulty{output}, text); err != nil {
+		return statusOf(err, output, log)
+	}
+	return statusDone
 }

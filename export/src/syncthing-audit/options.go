@@ -73,8 +73,9 @@ Says whether Syncthing devices are in step, and where not which device is wrong.
   --syncaudit FILE     the program that answers; if it isn't given, $SYNCAUDIT, or syncaudit on PATH
   --jobs N             how many of it run at once, and how many files are hashed at once (%d)
 
-Exit status: 0 in step, or written; 1 not in step; 2 refused; 3 usage; 6 in step as far as audited: something was left
-out; 4, 5 the audit's out of memory, or read or write fault; 127 syncaudit can't be run.
+Exit status: 0 in step, or written; 1 not in step; 2 refused; 3 usage; 4 syncaudit is out of memory; 5 what was asked for
+can't be written, or syncaudit has a read or write fault; 6 in step as far as audited: something was left out; 127
+syncaudit can't be run.
 `, strings.Join(part.Kinds, ","), runtime.NumCPU())
 
 // list is a flag that may be given more than once.

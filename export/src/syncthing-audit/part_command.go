@@ -1,7 +1,9 @@
 package main
 
 import (
+	"errors"
 	"flag"
+	"fmt"
 	"io"
 
 	"syncthing-audit/device"
@@ -84,15 +86,11 @@ func readHome(home *device.Home, asked options) (*inputs, *gather.Device, error)
 
 // checkFolders says whether a home has no folder, or none with an id that is asked for.
 func checkFolders(home *device.Home, wanted []string) error {
-	labels := map[string]string{}
-	for _, one := range home.Config.Folders {
-		labels[one.ID] = one.Label
+	if len(home.Config.Folders) == 0 {
+		return errors.New("refused: the device has no folder")
 	}
-	if len(labels) == 0 {
-		return &wrongUsage{"the device has no folder"}
-	}
-	if err := join.CheckWanted(labels, wanted); err != nil {
-		return &wrongUsage{err.Error()}
+	if err := join.CheckWanted((&inputs{}).labels([]*device.Home{home}), wanted); err != nil {
+		return fmt.Errorf("refused: %w", err)
 	}
 	return nil
 }
@@ -109,7 +107,7 @@ func whereTo(path string, output io.Writer) (writing, error) {
 	if isTerminal(output) {
 		return nil, &wrongUsage{"a part is nothing to read on a terminal: -o FILE"}
 	}
-	return func(write func(io.Writer) error) error { return write(output) }, nil
+	return func(write func(io.Writer) error) error { return write(faulty{output}) }, nil
 }
 
 // writePart writes a part.

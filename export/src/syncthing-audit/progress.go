@@ -12,22 +12,21 @@ import (
 // timeBetween is how often progress is told.
 const timeBetween = 500 * time.Millisecond
 
-// progress tells on a terminal how far the hashing is.
+// progress tells on a terminal how far the work is.
 type progress struct {
-	to      io.Writer
-	total   int64 // as the indexes say; 0 where that isn't known
-	done    func() int64
+	to      *os.File
+	work    *work
 	began   time.Time
 	stopped chan struct{}
 	ended   chan struct{}
 }
 
 // startProgress begins to tell, where the log is a terminal; what it gives ends that.
-func startProgress(log io.Writer, total int64, done func() int64) func() {
+func startProgress(log io.Writer, work *work) func() {
 	if !isTerminal(log) {
 		return func() {}
 	}
-	made := &progress{log, total, done, time.Now(), make(chan struct{}), make(chan struct{})}
+	made := &progress{log.(*os.File), work, time.Now(), make(chan struct{}), make(chan struct{})}
 	go made.run()
 	return func() {
 		close(made.stopped)
@@ -45,7 +44,27 @@ func isTerminal(to interface{}) bool {
 	return err == nil
 }
 
-const clearLine = "\r\x1b[K"
+const (
+	clearLine    = "\r\x1b[K"
+	defaultWidth = 80
+)
+
+// widthOf gives how many signs a line of the terminal has.
+func widthOf(to *os.File) int {
+	size, err := unix.IoctlGetWinsize(int(to.Fd()), unix.TIOCGWINSZ)
+	if err != nil || size.Col == 0 {
+		return defaultWidth
+	}
+	return int(size.Col)
+}
+
+// fitting cuts a line so that it stays one: a second one couldn't be taken away again.
+func fitting(line string, width int) string {
+	if len(line) < width {
+		return line
+	}
+	return line[:width-1]
+}
 
 // run tells now and then, and takes the line away at the end.
 func (p *progress) run() {
@@ -58,24 +77,9 @@ func (p *progress) run() {
 			fmt.Fprint(p.to, clearLine)
 			return
 		case now := <-ticks.C:
-			fmt.Fprint(p.to, clearLine+progressLine(p.done(), p.total, now.Sub(p.began)))
+			fmt.Fprint(p.to, clearLine+fitting(p.work.line(now.Sub(p.began)), widthOf(p.to)))
 		}
 	}
-}
-
-// progressLine says how many bytes were hashed, how fast, and how long it may take.
-func progressLine(done, total int64, spent time.Duration) string {
-	rate := float64(done) / spent.Seconds()
-	line := fmt.Sprintf("hashed %s", megabytes(done))
-	if total > 0 {
-		line += " of " + megabytes(total)
-	}
-	line += fmt.Sprintf(", %s a second", megabytes(int64(rate)))
-	if total > done && rate > 0 {
-		left := time.Duration(float64(total-done) / rate * float64(time.Second))
-		line += fmt.Sprintf(", %s left", left.Round(time.Second))
-	}
-	return line
 }
 
 // megabytes gives bytes as a person reads them.

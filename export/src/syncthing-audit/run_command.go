@@ -1,6 +1,7 @@
 package main
 
 import (
+	"errors"
 	"flag"
 	"fmt"
 	"io"
@@ -204,9 +205,11 @@ func (r *running) answer(program ask.Program, output io.Writer) (int, error) {
 	if read.lines {
 		tellDevices(r.log, opened.devices)
 	}
+	endProgress := opened.startProgress(r.log, read)
 	answer, err := answerOf(opened, read, program)
+	endProgress()
 	if err != nil {
-		return 0, err
+		return 0, r.renamed(err, names)
 	}
 	if len(answer.Refusals) > 0 {
 		report.Refusals(r.log, answer)
@@ -216,9 +219,13 @@ func (r *running) answer(program ask.Program, output io.Writer) (int, error) {
 	return tell(output, r.log, read, answer)
 }
 
-// renamed gives an error with places in place of this run's own files.
+// renamed gives an error with places in place of this run's own files. One that says a status stays as it is.
 func (r *running) renamed(err error, names map[string]string) error {
+	var failed *ask.Failed
 	text := err.Error()
+	if errors.As(err, &failed) {
+		return err
+	}
 	for path, name := range names {
 		text = strings.ReplaceAll(text, path, name)
 	}

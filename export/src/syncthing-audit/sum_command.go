@@ -80,6 +80,5 @@ func sumOf(directory string) (*finding.Answer, error) {
 		}
 		replies.Take(&document.Document{Folder: one.Folder}, reply)
 	}
-	replies.AddTo(read.Answer)
-	return read.Answer, nil
+	return read.Answer, replies.AddTo(read.Answer)
 }

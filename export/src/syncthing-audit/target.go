@@ -61,13 +61,13 @@ func (t *target) write(write func(io.Writer) error) error {
 	if t.isDirect {
 		file, err := os.OpenFile(t.path, os.O_WRONLY, 0)
 		if err != nil {
-			return err
+			return faultOf(err)
 		}
 		return fill(file, write)
 	}
 	file, err := leftover.File(filepath.Dir(t.path), ".syncthing-audit-")
 	if err != nil {
-		return err
+		return faultOf(err)
 	}
 	defer leftover.Remove(file.Name())
 	if err := fill(file, write); err != nil {
@@ -77,18 +77,18 @@ func (t *target) write(write func(io.Writer) error) error {
 	if about, err := os.Lstat(t.path); err == nil && !about.Mode().IsRegular() {
 		return refusedTarget(t.path, "is no file any more")
 	}
-	return os.Rename(file.Name(), t.path)
+	return faultOf(os.Rename(file.Name(), t.path))
 }
 
 // fill writes into a file and closes it.
 func fill(file *os.File, write func(io.Writer) error) error {
-	buffered := bufio.NewWriter(file)
+	buffered := bufio.NewWriter(faulty{file})
 	err := write(buffered)
 	if err == nil {
 		err = buffered.Flush()
 	}
 	if closed := file.Close(); err == nil {
-		err = closed
+		err = faultOf(closed)
 	}
 	return err
 }

@@ -9,6 +9,7 @@ import (
 	"strings"
 
 	"syncthing-audit/finding"
+	"syncthing-audit/leftover"
 )
 
 // settled is the first line of a report on a cut that is settled.
@@ -118,7 +119,7 @@ func (p Program) run(word string, document []byte) (int, []byte, error) {
 	var written, told bytes.Buffer
 	asked := exec.Command(p.Path, word)
 	asked.Stdin, asked.Stdout, asked.Stderr = bytes.NewReader(document), &written, &told
-	err := asked.Run()
+	err := leftover.Run(asked)
 	var ended *exec.ExitError
 	switch {
 	case err == nil:

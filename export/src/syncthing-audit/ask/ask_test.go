@@ -45,7 +45,8 @@ func TestExplanations(t *testing.T) {
 	if err != nil || len(failures) != 2 || failures[1] != (finding.Failure{Reason: "StoreDiffers", Name: "b", Device: 2}) {
 		t.Errorf("%v, %v", failures, err)
 	}
-	for _, report := range []string{"", "  winner: none\n", "settled\n"} {
+	for _, report := range []string{"", "  winner: none\n", "settled\n", "StoreDiffers docs b on 1\nStoreDiffers docs a on 1\n",
+		"ViewAhead docs a on 1\nStoreDiffers docs a on 1\n", "StoreDiffers docs a on 1\nStoreDiffers docs a on 1\n"} {
 		if failures, err := readFailures("docs", report); err == nil {
 			t.Errorf("%q was read as %v", report, failures)
 		}

@@ -63,6 +63,9 @@ func readFailures(folder, report string) ([]finding.Failure, error) {
 		if !is {
 			return nil, &Failed{statusRefused, fmt.Sprintf("syncaudit explains %q", line)}
 		}
+		if last := len(failures) - 1; last >= 0 && !finding.IsBefore(&failures[last], &one) {
+			return nil, &Failed{statusRefused, fmt.Sprintf("syncaudit explains %q out of its order", line)}
+		}
 		failures = append(failures, one)
 	}
 	if len(failures) == 0 {

@@ -4,6 +4,7 @@ package audit
 import (
 	"errors"
 	"fmt"
+	"sync/atomic"
 
 	"syncthing-audit/document"
 	"syncthing-audit/finding"
@@ -20,6 +21,7 @@ type Options struct {
 	LeaveOut  map[string]bool // the kinds of what may be left out
 	WithBytes bool            // documents with bytes in place of stand-ins
 	Refused   func()          // called once there is something without which no answer is given
+	Joined    *atomic.Int64   // counts the names; not needed
 }
 
 // Collect goes through the folders of a plan. Each document is given to take, as long as nothing was refused.
@@ -65,6 +67,7 @@ type collector struct {
 	documents int
 	names     int64
 	audited   int64 // names that documents have, or that are told to have no winner
+	room      finding.Room
 }
 
 // refuse notes what isn't audited.
@@ -76,7 +79,14 @@ func (c *collector) refuse(one finding.Refusal) {
 	if len(c.answer.Refusals) == 0 && c.options.Refused != nil {
 		c.options.Refused()
 	}
-	c.answer.Refusals = append(c.answer.Refusals, one)
+	if len(c.answer.Refusals) < finding.MostListed {
+		c.answer.Refusals = append(c.answer.Refusals, one)
+		return
+	}
+	if c.answer.Unlisted == nil {
+		c.answer.Unlisted = map[string]int64{}
+	}
+	c.answer.Unlisted[one.Kind]++
 }
 
 // checkSomething says whether anything was audited.

@@ -18,7 +18,11 @@ func (n *names) addConflict(row *join.Row) {
 	}
 	for _, one := range row.At {
 		if one != nil && one.Disk != nil {
-			n.found.Conflicts = append(n.found.Conflicts, finding.Conflict{Name: row.Name, Bytes: row.Size()})
+			if len(n.found.Conflicts) < finding.MostListed {
+				n.found.Conflicts = append(n.found.Conflicts, finding.Conflict{Name: row.Name, Bytes: row.Size()})
+			} else {
+				n.found.Unlisted.Conflicts.Add(1, row.Size())
+			}
 			return
 		}
 	}

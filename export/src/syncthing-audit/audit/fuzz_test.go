@@ -149,6 +149,10 @@ func TestPartsThatAreRefused(t *testing.T) {
 		{"a number for a name", strings.Replace(text, `"name":"b"`, `"name":7`, 1)},
 		{"a name that no document has", strings.Replace(text, `"name":"b"`, `"name":"a//b"`, 1)},
 		{"a kind that is none", strings.Replace(text, `"kind":"unreadable"`, `"kind":"odd"`, 1)},
+		{"more blocks that differ than are listed", strings.Replace(text, `"count":1`, `"count":2`, 1)},
+		{"no blocks that differ", strings.Replace(text, `"ranges":[[0,0]]`, `"ranges":[]`, 1)},
+		{"a block that the file hasn't", strings.Replace(text, `"ranges":[[0,0]]`, `"ranges":[[1,1]]`, 1)},
+		{"blocks that end before they begin", strings.Replace(text, `"ranges":[[0,0]]`, `"ranges":[[0,-1]]`, 1)},
 		{"an index that changed meanwhile", strings.Replace(text, `"max":9,"last":true`, `"max":10,"last":true`, 1)},
 		{"of an earlier moment than the other", strings.Replace(text, `"index_id":"1","max":9`, `"index_id":"1","max":8`, 1)},
 	}

@@ -16,18 +16,22 @@ type names struct {
 	found   *finding.Folder
 	builder *document.Builder
 	below   *finding.LeftOut // the directory below which all is left out, if there is one
+
+	isBelowUnlisted bool // that directory isn't listed, so what is below it is counted with the others
 }
 
 // row takes a name: it is audited, or told as one that isn't, or as one without a winner.
 func (n *names) row(row *join.Row) error {
 	n.collector.names++
+	if n.options.Joined != nil {
+		n.options.Joined.Add(1)
+	}
 	switch {
 	case n.isBelow(row):
 	case row.IsMoving():
 		n.addMoving(row)
 	case isOutside(row):
-		n.found.Outside.Names++
-		n.found.Outside.Bytes += row.Size()
+		n.found.Outside.Add(1, row.Size())
 	case hasOut(row):
 		n.leaveOut(row, reasonsOf(row))
 	default:
@@ -58,6 +62,16 @@ func (n *names) audit(row *join.Row) error {
 	return n.give(full)
 }
 
+// keep keeps what the devices have of a name that something is told of, once, as far as there is room.
+func (n *names) keep(row *join.Row) {
+	if n.found.Rows[row.Name] != nil {
+		return
+	}
+	if kept := n.room.Keep(row); kept != nil {
+		n.found.Rows[row.Name] = kept
+	}
+}
+
 // give gives a document to those who answer it. Where something was refused there is no answer, so it isn't asked for.
 func (n *names) give(one *document.Document) error {
 	n.found.Documents++
@@ -76,6 +90,9 @@ func (n *names) isBelow(row *join.Row) bool {
 	}
 	n.below.Names++
 	n.below.Bytes += row.Size()
+	if n.isBelowUnlisted {
+		n.found.Unlisted.LeftOut.Add(1, row.Size())
+	}
 	return true
 }
 
@@ -89,7 +106,7 @@ func (n *names) leaveOut(row *join.Row, reasons []finding.Reason) {
 	}
 	if one.Below {
 		one.Names = 0
-		n.below = one
+		n.below, n.isBelowUnlisted = one, false
 	}
 	refused := false
 	for _, why := range reasons {
@@ -98,8 +115,13 @@ func (n *names) leaveOut(row *join.Row, reasons []finding.Reason) {
 			n.refuse(finding.Refusal{Kind: why.Kind, Folder: n.found.ID, Device: n.labelOf(why.Member), Name: row.Name, Why: why.Why})
 		}
 	}
-	if !refused {
+	switch {
+	case refused:
+	case len(n.found.LeftOut) < finding.MostListed:
 		n.found.LeftOut = append(n.found.LeftOut, one)
+	default:
+		n.found.Unlisted.LeftOut.Add(one.Names, one.Bytes)
+		n.isBelowUnlisted = n.isBelowUnlisted || one.Below
 	}
 }
 

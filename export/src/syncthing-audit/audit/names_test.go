@@ -84,9 +84,9 @@ func TestPermissions(t *testing.T) {
 	}
 	for _, one := range cases {
 		members := []join.Member{{About: &part.Folder{}}, {About: &part.Folder{IgnoresPermissions: one.ignores}}}
-		next := &names{found: &finding.Folder{Members: members, Rows: map[string]*join.Row{}}}
+		next := &names{collector: &collector{}, found: &finding.Folder{Members: members, Rows: map[string]*join.Row{}}}
 		next.addPermissions(rowOf(one.one, one.other))
-		if (len(next.found.Permissions) > 0) != one.differ {
+		if (next.found.Permissions.Len() > 0) != one.differ {
 			t.Errorf("%s: expected %v", one.why, one.differ)
 		}
 	}

@@ -22,8 +22,8 @@ func (n *names) addPermissions(row *join.Row) {
 		}
 	}
 	if differs {
-		n.found.Permissions = append(n.found.Permissions, finding.Permissions{Name: row.Name, At: at})
-		n.found.Keep(row)
+		n.found.Permissions.Add(finding.Permissions{Name: row.Name, At: at})
+		n.keep(row)
 	}
 }
 

@@ -8,17 +8,20 @@ import (
 )
 
 // Replies gathers what syncaudit says of documents, beside what is found in other ways.
-type Replies struct{ folders map[string]*replied }
+type Replies struct {
+	folders map[string]*replied
+	room    finding.Room
+}
 
 // replied is what it says of one folder.
 type replied struct {
 	names, deleted int64
-	failures       []finding.Failure
-	rows           []*join.Row // of names that fail, as many as a folder keeps
+	failures       finding.Failures
+	rows           []*join.Row // of names that fail, as far as there is room
 }
 
 // NewReplies begins to gather.
-func NewReplies() *Replies { return &Replies{map[string]*replied{}} }
+func NewReplies() *Replies { return &Replies{folders: map[string]*replied{}} }
 
 // Take adds a reply. They come in the order of their documents.
 func (r *Replies) Take(one *document.Document, reply *ask.Reply) {
@@ -29,29 +32,32 @@ func (r *Replies) Take(one *document.Document, reply *ask.Reply) {
 	}
 	to.names += reply.Names
 	to.deleted += reply.Deleted
-	to.failures = append(to.failures, reply.Failures...)
 	failed := map[string]bool{}
 	for _, failure := range reply.Failures {
+		to.failures.Add(failure)
 		failed[failure.Name] = true
 	}
 	for _, row := range one.Rows {
-		if failed[row.Name] && len(to.rows) < finding.MostRows {
-			to.rows = append(to.rows, row)
+		if !failed[row.Name] {
+			continue
+		}
+		if kept := r.room.Keep(row); kept != nil {
+			to.rows = append(to.rows, kept)
 		}
 	}
 }
 
-// AddTo adds all replies to what was found, and puts its failures in order.
-func (r *Replies) AddTo(answer *finding.Answer) {
+// AddTo adds all replies to what was found, and says why that isn't whole, if so.
+func (r *Replies) AddTo(answer *finding.Answer) error {
 	for _, one := range answer.Folders {
 		if from := r.folders[one.ID]; from != nil {
 			one.Names += from.names
 			one.Deleted += from.deleted
-			one.Failures = append(one.Failures, from.failures...)
+			one.Failures = from.failures
 			for _, row := range from.rows {
-				one.Keep(row)
+				one.Rows[row.Name] = row
 			}
 		}
-		one.Sort()
 	}
+	return answer.Err()
 }

@@ -66,7 +66,6 @@ func (n *names) addUnwon(row *join.Row) {
 	if isDeleted {
 		n.found.Deleted++
 	}
-	n.found.Unwon = append(n.found.Unwon, made)
-	n.found.Failures = append(n.found.Failures, finding.Failure{Reason: "NotWinner", Name: row.Name})
-	n.found.Keep(row)
+	n.found.Unwon.Add(made)
+	n.keep(row)
 }

@@ -150,7 +150,7 @@ func blocksOf(entry protocol.FileInfo) ([][32]byte, error) {
 		return nil, fmt.Errorf("its size is %d", entry.Size)
 	case !isBlockSize(entry.BlockSize()):
 		return nil, fmt.Errorf("its block size is %d, which Syncthing hasn't", size)
-	case int64(len(entry.Blocks)) != disk.CountOfBlocks(entry.Size, size):
+	case int64(len(entry.Blocks)) != part.CountOfBlocks(entry.Size, size):
 		return nil, fmt.Errorf("its %d blocks don't fit its size of %d", len(entry.Blocks), entry.Size)
 	}
 	hashes := make([][32]byte, len(entry.Blocks))

@@ -6,9 +6,6 @@ import (
 	"syncthing-audit/part"
 )
 
-// mostRanges is how many ranges of blocks that differ are told.
-const mostRanges = 64
-
 // cutter cuts what is written to it into blocks of one size and hashes each.
 type cutter struct {
 	sum    hash.Hash
@@ -67,7 +64,7 @@ func add(to *part.Differ, place int64) {
 	switch {
 	case last >= 0 && to.Ranges[last][1] == place-1:
 		to.Ranges[last][1] = place
-	case len(to.Ranges) < mostRanges:
+	case len(to.Ranges) < part.MostRanges:
 		to.Ranges = append(to.Ranges, [2]int64{place, place})
 	}
 }

@@ -84,7 +84,7 @@ type Job struct {
 func (p *Pool) Begin(file File) *Job {
 	job := &Job{file: file, hashes: make([][][32]byte, len(file.BlockSizes))}
 	for place, size := range file.BlockSizes {
-		job.hashes[place] = make([][32]byte, CountOfBlocks(file.Node.Size, size))
+		job.hashes[place] = make([][32]byte, part.CountOfBlocks(file.Node.Size, size))
 	}
 	if file.Keep {
 		job.data = make([]byte, file.Node.Size)
@@ -100,14 +100,6 @@ func (p *Pool) Begin(file File) *Job {
 		}
 	}
 	return job
-}
-
-// CountOfBlocks gives how many blocks a file of this size has: an empty one has one.
-func CountOfBlocks(size, blockSize int64) int64 {
-	if size == 0 {
-		return 1
-	}
-	return (size-1)/blockSize + 1
 }
 
 func (j *Job) fail(err error) {

@@ -128,3 +128,16 @@ func TestBlocksThatDiffer(t *testing.T) {
 		}
 	}
 }
+
+// Of rot in many blocks all are counted, and no more are listed than a part has.
+func TestManyBlocksThatDiffer(t *testing.T) {
+	recorded := make([][32]byte, 300)
+	found := make([][32]byte, len(recorded))
+	for place := 0; place < len(found); place += 2 {
+		found[place][0] = 1
+	}
+	made := compare(recorded, found)
+	if made.Count != 150 || len(made.Ranges) != part.MostRanges || made.Unlisted() != 150-part.MostRanges {
+		t.Errorf("%d blocks, %d ranges, %d unlisted", made.Count, len(made.Ranges), made.Unlisted())
+	}
+}

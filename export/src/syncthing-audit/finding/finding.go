@@ -2,18 +2,19 @@
 package finding
 
 import (
-	"sort"
 	"time"
 
 	"syncthing-audit/join"
+	"syncthing-audit/spill"
 )
 
 // Answer is what was found in all folders.
 type Answer struct {
 	Devices  []Device
 	Folders  []*Folder
-	Refusals []Refusal // what isn't audited and wasn't asked to be left out: with any of these there is no verdict
-	LeftOut  []Refusal // devices and folders that were left out on request
+	Refusals []Refusal        // what isn't audited and wasn't asked to be left out: with any of these there is no verdict; the first MostListed
+	Unlisted map[string]int64 // how many more refusals there are of each kind than are listed
+	LeftOut  []Refusal        // devices and folders that were left out on request
 }
 
 // Device is a device that was audited.
@@ -33,25 +34,30 @@ type Folder struct {
 	Deleted     int64         // of these what no device holds
 	Bytes       int64         // that were hashed on all devices together
 	Documents   int
-	Failures    []Failure // what keeps the folder from being settled, in the order in which it is told
-	Unwon       []Unwon   // names without a winner; each is a failure, too
-	Permissions []Permissions
-	Conflicts   []Conflict // copies that a device still has, whether they are in step or not
-	LeftOut     []*LeftOut // names that were left out on request
-	Outside     Outside
+	Failures    Failures                `json:"-"` // what documents tell
+	Unwon       spill.List[Unwon]       // names without a winner, rising; each is a failure, too
+	Permissions spill.List[Permissions] // rising
+	Conflicts   []Conflict              // copies that a device still has, whether they are in step or not: the first MostListed
+	LeftOut     []*LeftOut              // names that were left out on request: the first MostListed
+	Unlisted    Unlisted
+	Outside     Count                // names that each device which has them ignores: Syncthing doesn't take them for the folder's
 	Live        *Live                // of devices that were looked at while they ran
-	Rows        map[string]*join.Row // of names that something is told of; of no more than MostRows
+	Rows        map[string]*join.Row // of names that something is told of, as far as a room allowed
 }
 
-// MostRows is of how many names a folder keeps all that its devices have: the first ones with something to tell. Where
-// more fail, as on a device that is behind as a whole, the others are told without.
-const MostRows = 10000
+// MostListed is how many refusals, conflict copies and names that are left out are listed one by one; more are counted.
+const MostListed = 10000
 
-// Keep keeps all that the devices have of a name, if there is room.
-func (f *Folder) Keep(row *join.Row) {
-	if len(f.Rows) < MostRows {
-		f.Rows[row.Name] = row
-	}
+// Unlisted counts what isn't listed one by one.
+type Unlisted struct{ Conflicts, LeftOut Count }
+
+// Count is of names.
+type Count struct{ Names, Bytes int64 }
+
+// Add counts more names.
+func (c *Count) Add(names, bytes int64) {
+	c.Names += names
+	c.Bytes += bytes
 }
 
 // Failure is a reason why a folder isn't settled, at a name and, from RecordMissing on, a device.
@@ -114,9 +120,6 @@ type Reason struct {
 	Why    string
 }
 
-// Outside counts names that are ignored by each device that has them: Syncthing doesn't take them for the folder's.
-type Outside struct{ Names, Bytes int64 }
-
 // Refusal is why a name, a device or a folder isn't audited.
 type Refusal struct {
 	Kind   string // that --leave-out names; none where it can't be left out
@@ -140,12 +143,8 @@ func Place(reason string) int {
 	return -1
 }
 
-// Sort puts the failures in the order in which one document of all would have told them.
-func (f *Folder) Sort() {
-	sort.SliceStable(f.Failures, func(a, b int) bool { return before(f.Failures[a], f.Failures[b]) })
-}
-
-func before(one, other Failure) bool {
+// IsBefore says whether a document tells one failure before another one.
+func IsBefore(one, other *Failure) bool {
 	if one.Reason != other.Reason {
 		return Place(one.Reason) < Place(other.Reason)
 	}
@@ -183,10 +182,10 @@ func (a *Answer) First() (*Folder, *Failure) {
 	var in *Folder
 	var first *Failure
 	for _, folder := range a.Folders {
-		if len(folder.Failures) == 0 {
+		next := folder.FirstFailure()
+		if next == nil {
 			continue
 		}
-		next := &folder.Failures[0]
 		if first == nil || Place(next.Reason) < Place(first.Reason) {
 			in, first = folder, next
 		}

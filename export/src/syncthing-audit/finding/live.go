@@ -33,10 +33,10 @@ type Unheard struct {
 // isPart says whether something isn't known of a folder that was audited while its devices ran.
 func (l *Live) isPart() bool { return l != nil && (l.Moving > 0 || len(l.Unheard) > 0) }
 
-// AddMoving adds a name that changed; as many as a folder keeps are told by name.
+// AddMoving adds a name that changed; the first MostListed are told by name.
 func (l *Live) AddMoving(one Moving) {
 	l.Moving++
-	if len(l.Names) < MostRows {
+	if len(l.Names) < MostListed {
 		l.Names = append(l.Names, one)
 	}
 }

@@ -187,7 +187,7 @@ func (m *merge) send(line *part.Name, recorded [][32]byte) bool {
 			Keep: m.device.Bytes}
 		one.weight += len(recorded)
 		for _, size := range file.BlockSizes {
-			one.weight += int(disk.CountOfBlocks(node.Size, size))
+			one.weight += int(part.CountOfBlocks(node.Size, size))
 		}
 		if file.Keep {
 			one.weight += int(node.Size / 32)

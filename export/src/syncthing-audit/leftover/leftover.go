@@ -1,17 +1,19 @@
-// Package leftover makes files and directories that a run needs for itself alone, and takes them away, also where a signal
-// ends the run.
+// Package leftover makes files and directories, and runs programs, that a run needs for itself alone, and takes them away,
+// also where a signal ends the run.
 package leftover
 
 import (
 	"os"
+	"os/exec"
 	"os/signal"
 	"sync"
 	"syscall"
 )
 
 var (
-	mutex sync.Mutex
-	paths = map[string]bool{}
+	mutex     sync.Mutex
+	paths     = map[string]bool{}
+	processes = map[*os.Process]bool{}
 )
 
 // statusOfSignal is added to a signal's number, as shells do.
@@ -39,6 +41,24 @@ func File(directory, pattern string) (*os.File, error) {
 	return file, err
 }
 
+// Run runs a program to its end.
+func Run(program *exec.Cmd) error {
+	mutex.Lock()
+	err := program.Start()
+	if err == nil {
+		processes[program.Process] = true
+	}
+	mutex.Unlock()
+	if err != nil {
+		return err
+	}
+	err = program.Wait()
+	mutex.Lock()
+	delete(processes, program.Process)
+	mutex.Unlock()
+	return err
+}
+
 // Remove takes away what was made, if it is there still.
 func Remove(path string) {
 	mutex.Lock()
@@ -63,9 +83,12 @@ func WatchSignals() {
 	}()
 }
 
-// removeAll takes all away. It keeps the lock, so that nothing is made any more.
+// removeAll takes all away, and ends what runs. It keeps the lock, so that nothing is made any more.
 func removeAll() {
 	mutex.Lock()
+	for one := range processes {
+		one.Kill()
+	}
 	for path := range paths {
 		// A second time, since another thread may have written into a directory meanwhile.
 		if os.RemoveAll(path) != nil {

@@ -25,7 +25,9 @@ func TestMain(tests *testing.M) {
 	directory, _ := Directory("made-")
 	os.WriteFile(filepath.Join(directory, "inside"), nil, 0o600)
 	File(room, ".made-")
-	fmt.Println(directory)
+	program := exec.Command("sh", "-c", "echo "+directory+"; exec sleep 60")
+	program.Stdout = os.Stdout
+	fmt.Println(Run(program))
 	time.Sleep(time.Minute)
 }
 
@@ -42,11 +44,16 @@ func TestSignals(t *testing.T) {
 		if err != nil {
 			t.Fatal(err)
 		}
-		made, _ := bufio.NewReader(output).ReadString('\n')
+		lines := bufio.NewReader(output)
+		made, _ := lines.ReadString('\n')
 		if _, err := os.Stat(filepath.Join(strings.TrimSpace(made), "inside")); err != nil {
 			t.Fatal(err)
 		}
 		child.Process.Signal(number)
+		// The program has the same output: this is its end, too.
+		if more, err := lines.ReadString('\n'); err == nil {
+			t.Errorf("%v: %s", number, more)
+		}
 		child.Wait()
 		left, err := os.ReadDir(room)
 		if err != nil || len(left) != 0 || child.ProcessState.ExitCode() != statusOfSignal+int(number) {
@@ -62,6 +69,9 @@ func TestRemove(t *testing.T) {
 		t.Fatal(err)
 	}
 	Remove(path)
+	if err := Run(exec.Command("true")); err != nil || len(processes) != 0 {
+		t.Errorf("%v, and %d are noted still", err, len(processes))
+	}
 	if _, err := os.Stat(path); !os.IsNotExist(err) || len(paths) != 0 {
 		t.Errorf("%s is there still, or noted: %v", path, paths)
 	}

@@ -160,7 +160,11 @@ func checkName(one *Name, in *Folder, hasBytes bool) error {
 	if one.Disk == nil {
 		return nil
 	}
-	if err := checkNode(one.Disk, len(one.Out) > 0 || len(one.Moved) > 0, hasBytes); err != nil {
+	err := checkNode(one.Disk, len(one.Out) > 0 || len(one.Moved) > 0, hasBytes)
+	if err == nil && one.Disk.Differ != nil {
+		err = checkDiffer(one)
+	}
+	if err != nil {
 		return fmt.Errorf("what stands on the disk at %s: %w", shell.Path(string(one.Name)), err)
 	}
 	return nil
@@ -220,6 +224,30 @@ func checkNode(one *Node, isOut, hasBytes bool) error {
 		if !content.isOne() || content.Size != one.Size {
 			return errors.New("its content is none")
 		}
+	}
+	return nil
+}
+
+// checkDiffer says why a name's blocks that differ are none: those of its file and of its own record are meant, and the list
+// of them has all, or is as long as a list may be.
+func checkDiffer(one *Name) error {
+	if one.Own == nil || one.Own.Content == nil || len(one.Disk.Contents) == 0 {
+		return errors.New("its blocks differ, and there is no file with a record")
+	}
+	most := CountOfBlocks(one.Own.Content.Size, one.Own.Content.BlockSize)
+	if found := CountOfBlocks(one.Disk.Size, one.Own.Content.BlockSize); found > most {
+		most = found
+	}
+	differ, last := one.Disk.Differ, int64(-1)
+	for _, next := range differ.Ranges {
+		if next[0] <= last || next[1] < next[0] || next[1] >= most {
+			return errors.New("its blocks that differ aren't in their places")
+		}
+		last = next[1]
+	}
+	left := differ.Unlisted()
+	if len(differ.Ranges) == 0 || len(differ.Ranges) > MostRanges || left < 0 || differ.Count > most || left > 0 && len(differ.Ranges) < MostRanges {
+		return fmt.Errorf("%d of its blocks differ, and the list of them is another one", differ.Count)
 	}
 	return nil
 }

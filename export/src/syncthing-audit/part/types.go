@@ -155,11 +155,31 @@ type Content struct {
 	Hash      Hash  `json:"hash"`
 }
 
+// CountOfBlocks gives how many blocks a file of this size has: an empty one has one.
+func CountOfBlocks(size, blockSize int64) int64 {
+	if size == 0 {
+		return 1
+	}
+	return (size-1)/blockSize + 1
+}
+
+// MostRanges is how many ranges of blocks a part lists of a file.
+const MostRanges = 64
+
 // Differ says which blocks of a file differ from the own record.
 type Differ struct {
-	Count  int64      `json:"count"`
-	Ranges [][2]int64 `json:"ranges"` // first and last, from 0; not all where there are many
+	Count  int64      `json:"count"`  // of all of them
+	Ranges [][2]int64 `json:"ranges"` // first and last, from 0, rising; where there are more, the first MostRanges
 	First  Pair       `json:"first"`
+}
+
+// Unlisted gives how many blocks that differ stand in no range.
+func (d *Differ) Unlisted() int64 {
+	left := d.Count
+	for _, one := range d.Ranges {
+		left -= one[1] - one[0] + 1
+	}
+	return left
 }
 
 // Pair is the first block that differs, as it is recorded and as it is; a block that isn't there has no hash.

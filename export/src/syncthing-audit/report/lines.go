@@ -10,6 +10,7 @@ import (
 
 	"syncthing-audit/ask"
 	"syncthing-audit/finding"
+	"syncthing-audit/part"
 	"syncthing-audit/shell"
 )
 
@@ -32,9 +33,7 @@ func Lines(to io.Writer, answer *finding.Answer) {
 		fmt.Fprintf(to, "folder %s: %d names, %d deleted, %d devices\n", folder.ID, folder.Names, folder.Deleted, len(folder.Members))
 	}
 	for _, folder := range answer.Folders {
-		for next := range folder.Failures {
-			fmt.Fprintln(to, ask.Line(folder.ID, &folder.Failures[next]))
-		}
+		folder.EachFailure(func(one *finding.Failure) { fmt.Fprintln(to, ask.Line(folder.ID, one)) })
 	}
 	Rest(to, answer)
 }
@@ -54,16 +53,16 @@ func Rest(to io.Writer, answer *finding.Answer) {
 
 // unwon prints what each device has of each name without a winner.
 func unwon(to io.Writer, folder *finding.Folder) {
-	for _, one := range folder.Unwon {
+	folder.Unwon.Each(func(one *finding.Unwon) {
 		for _, at := range one.At {
 			fmt.Fprintf(to, "no winner: %s %s on %d: %s\n", folder.ID, ask.Printed(one.Name), folder.Members[at.Member].Number, at.Kind)
 		}
-	}
+	})
 }
 
 // permissions prints names whose permissions differ.
 func permissions(to io.Writer, folder *finding.Folder) {
-	for _, one := range folder.Permissions {
+	folder.Permissions.Each(func(one *finding.Permissions) {
 		fmt.Fprintf(to, "permissions: %s %s", folder.ID, ask.Printed(one.Name))
 		for member, bits := range one.At {
 			if bits.Has {
@@ -74,7 +73,7 @@ func permissions(to io.Writer, folder *finding.Folder) {
 			}
 		}
 		fmt.Fprintln(to)
-	}
+	})
 }
 
 // leftOut prints what was left out on request, and what is outside the folder.
@@ -88,6 +87,9 @@ func leftOut(to io.Writer, folder *finding.Folder) {
 			fmt.Fprintf(to, "left out: %s %s on %s: %s (%s, %d names, %d bytes)\n", folder.ID, printed(one.Name), device, why.Why,
 				why.Kind, one.Names, one.Bytes)
 		}
+	}
+	if more := folder.Unlisted.LeftOut; more.Names > 0 {
+		fmt.Fprintf(to, "left out: %s %d names more, %d bytes, which aren't listed\n", folder.ID, more.Names, more.Bytes)
 	}
 	if folder.Outside.Names > 0 {
 		fmt.Fprintf(to, "ignored: %s %d names, %d bytes, on no device's index\n", folder.ID, folder.Outside.Names, folder.Outside.Bytes)
@@ -117,15 +119,26 @@ func placeOf(one finding.Refusal) string {
 // Refusals prints what has no answer, and how to leave it out.
 func Refusals(to io.Writer, answer *finding.Answer) {
 	kinds := ""
-	seen := map[string]bool{}
+	seen := map[string]bool{"": true}
+	count := int64(len(answer.Refusals))
+	add := func(kind string) {
+		if !seen[kind] {
+			seen[kind] = true
+			kinds += "," + kind
+		}
+	}
 	for _, one := range answer.Refusals {
 		fmt.Fprintf(to, "syncthing-audit: refused: folder %s%s: %s\n", shell.Quoted(one.Folder), placeOf(one), one.Why)
-		if one.Kind != "" && !seen[one.Kind] {
-			seen[one.Kind] = true
-			kinds += "," + one.Kind
+		add(one.Kind)
+	}
+	for _, kind := range part.Kinds {
+		if more := answer.Unlisted[kind]; more > 0 {
+			fmt.Fprintf(to, "syncthing-audit: refused: %d more of the kind %s\n", more, kind)
+			count += more
+			add(kind)
 		}
 	}
 	if kinds != "" {
-		fmt.Fprintf(to, "syncthing-audit: %d refused; --leave-out %s leaves them out\n", len(answer.Refusals), kinds[1:])
+		fmt.Fprintf(to, "syncthing-audit: %d refused; --leave-out %s leaves them out\n", count, kinds[1:])
 	}
 }

@@ -11,7 +11,10 @@ import (
 
 // folderOf gives a folder of so many devices with these failures.
 func folderOf(id string, devices int, failures ...finding.Failure) *finding.Folder {
-	made := &finding.Folder{ID: id, Names: 2, Failures: failures}
+	made := &finding.Folder{ID: id, Names: 2}
+	for _, one := range failures {
+		made.Failures.Add(one)
+	}
 	for number := 1; number <= devices; number++ {
 		made.Members = append(made.Members, join.Member{Device: &join.Device{Head: &part.Head{}, Number: uint64(number)}})
 	}
@@ -51,11 +54,13 @@ func TestRefusals(t *testing.T) {
 		{Kind: "absent", Folder: "docs", Device: "phone", Why: "no part of it is given"},
 		{Kind: "special", Folder: "docs", Device: "laptop (ABCDEFG)", Name: "-a `b` $c", Why: "it is a fifo"},
 		{Folder: "docs", Why: "too many"},
-	}})
+	}, Unlisted: map[string]int64{"special": 4, "ignored": 5}})
 	const expected = `syncthing-audit: refused: folder docs, device phone: no part of it is given
 syncthing-audit: refused: folder docs, device laptop (ABCDEFG), name './-a ` + "`b`" + ` $c': it is a fifo
 syncthing-audit: refused: folder docs: too many
-syncthing-audit: 3 refused; --leave-out absent,special leaves them out
+syncthing-audit: refused: 5 more of the kind ignored
+syncthing-audit: refused: 4 more of the kind special
+syncthing-audit: 12 refused; --leave-out absent,special,ignored leaves them out
 `
 	if written.String() != expected {
 		t.Errorf("%s\nnot\n%s", written.String(), expected)
@@ -63,11 +68,12 @@ syncthing-audit: 3 refused; --leave-out absent,special leaves them out
 }
 
 func TestLines(t *testing.T) {
-	folder := folderOf("docs", 2, finding.Failure{Reason: "NotWinner", Name: "new file"})
-	folder.Unwon = []finding.Unwon{{Name: "new file", At: []finding.Cause{{Member: 1, Kind: finding.Unscanned}}}}
-	folder.Permissions = []finding.Permissions{{Name: "a", At: []finding.Bits{{Has: true, Index: 0o644, OnDisk: true, Disk: 0o600}, {}}}}
+	folder := folderOf("docs", 2)
+	folder.Unwon.Add(finding.Unwon{Name: "new file", At: []finding.Cause{{Member: 1, Kind: finding.Unscanned}}})
+	folder.Permissions.Add(finding.Permissions{Name: "a", At: []finding.Bits{{Has: true, Index: 0o644, OnDisk: true, Disk: 0o600}, {}}})
 	folder.LeftOut = []*finding.LeftOut{{Name: "odd\xff", Names: 1, Bytes: 3, Why: []finding.Reason{{Member: 0, Kind: part.OddName, Why: "not UTF-8"}}}}
-	folder.Outside = finding.Outside{Names: 4, Bytes: 7}
+	folder.Unlisted.LeftOut = finding.Count{Names: 7, Bytes: 9}
+	folder.Outside = finding.Count{Names: 4, Bytes: 7}
 	var written strings.Builder
 	Lines(&written, &finding.Answer{Folders: []*finding.Folder{folder}})
 	const expected = `not settled: NotWinner docs new\x20file
@@ -76,6 +82,7 @@ NotWinner docs new\x20file
 no winner: docs new\x20file on 2: unscanned
 permissions: docs a 1 index 0644 disk 0600
 left out: docs odd\xff on 1: not UTF-8 (names, 1 names, 3 bytes)
+left out: docs 7 names more, 9 bytes, which aren't listed
 ignored: docs 4 names, 7 bytes, on no device's index
 `
 	if written.String() != expected {

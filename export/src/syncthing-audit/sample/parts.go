@@ -57,7 +57,11 @@ func (p *plan) writePart(file *os.File, ids []string, place int) error {
 	}
 	by := part.Number(ids[0])
 	for number := 0; number < p.files; number++ {
-		if err := to.Take(part.Line{Name: nameLine(number, p.bytes, by, len(folder.Views))}); err != nil {
+		line := nameLine(number, p.bytes, by, len(folder.Views))
+		if p.rotten && place == len(ids)-1 {
+			rot(line)
+		}
+		if err := to.Take(part.Line{Name: line}); err != nil {
 			return err
 		}
 	}
@@ -80,4 +84,12 @@ func nameLine(number int, size int64, by uint64, views int) *part.Name {
 		made.Views = append(made.Views, part.Seen{View: view, Record: &record})
 	}
 	return made
+}
+
+// rot gives a file other bytes in its first block.
+func rot(line *part.Name) {
+	other := part.Hash(sha256.Sum256([]byte(line.Name + " is rotten")))
+	was := line.Own.Content.Hash
+	line.Disk.Contents[0].Hash = other
+	line.Disk.Differ = &part.Differ{Count: 1, Ranges: [][2]int64{{0, 0}}, First: part.Pair{Recorded: &was, Found: &other}}
 }

@@ -16,6 +16,7 @@ type plan struct {
 	files   int
 	bytes   int64 // of each file
 	parts   bool
+	rotten  bool // of parts: each file has other bytes on the last device
 }
 
 func main() {
@@ -24,9 +25,10 @@ func main() {
 	flag.IntVar(&made.files, "files", 800, "how many files")
 	flag.Int64Var(&made.bytes, "bytes", 4<<20, "the bytes of each file")
 	flag.BoolVar(&made.parts, "parts", false, "parts alone: no homes, no files")
+	flag.BoolVar(&made.rotten, "rotten", false, "of parts: each file has other bytes on the last device")
 	flag.Parse()
-	if flag.NArg() != 1 {
-		fmt.Fprintln(os.Stderr, "usage: sample [--devices N] [--files N] [--bytes N] [--parts] DIR")
+	if flag.NArg() != 1 || made.rotten && !made.parts {
+		fmt.Fprintln(os.Stderr, "usage: sample [--devices N] [--files N] [--bytes N] [--parts [--rotten]] DIR")
 		os.Exit(3)
 	}
 	made.room = flag.Arg(0)

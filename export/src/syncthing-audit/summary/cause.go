@@ -56,9 +56,10 @@ type State struct {
 // Blocks are those of a file that differ from what is recorded, counted from 0.
 type Blocks struct {
 	Count    int64      `json:"count"`
-	Of       int64      `json:"of"`
+	Of       int64      `json:"of"` // as recorded or as found, whichever is more
 	Size     int64      `json:"size"`
-	Ranges   [][2]int64 `json:"ranges"` // first and last; not all where there are many
+	Ranges   [][2]int64 `json:"ranges"`   // first and last
+	Unlisted int64      `json:"unlisted"` // how many of them stand in no range
 	Recorded string     `json:"recorded_sha256,omitempty"`
 	Found    string     `json:"found_sha256,omitempty"`
 }
@@ -129,9 +130,13 @@ func blocksOf(at *part.Name) *Blocks {
 		return nil
 	}
 	differ, content := at.Disk.Differ, at.Own.Content
-	made := &Blocks{Count: differ.Count, Size: content.BlockSize, Ranges: append([][2]int64{}, differ.Ranges...)}
+	made := &Blocks{Count: differ.Count, Size: content.BlockSize, Ranges: append([][2]int64{}, differ.Ranges...), Unlisted: differ.Unlisted()}
 	if content.BlockSize > 0 {
-		made.Of = (content.Size + content.BlockSize - 1) / content.BlockSize
+		most := content.Size
+		if at.Disk.Size > most {
+			most = at.Disk.Size
+		}
+		made.Of = part.CountOfBlocks(most, content.BlockSize)
 	}
 	if differ.First.Recorded != nil {
 		made.Recorded = differ.First.Recorded.String()

@@ -1,8 +1,6 @@
 package summary
 
 import (
-	"sort"
-
 	"syncthing-audit/finding"
 	"syncthing-audit/join"
 	"syncthing-audit/part"
@@ -37,43 +35,25 @@ type Mode struct {
 	Disk   string `json:"disk,omitempty"`
 }
 
-// filesOf gives all names of a folder of which something is to be told, rising.
-func filesOf(folder *finding.Folder) []*File {
-	made := map[string]*File{}
-	get := func(name string) *File {
-		if made[name] == nil {
-			made[name] = &File{Name: Text(name), Faults: []Fault{}, Have: []string{}, Follows: []Follow{}, Permissions: []Mode{}}
-		}
-		return made[name]
+// fileOf gives what is to be told of a name.
+func fileOf(folder *finding.Folder, told *finding.Told) *File {
+	made := &File{Name: Text(told.Name), Faults: []Fault{}, Have: []string{}, Follows: []Follow{}, Permissions: []Mode{}}
+	row := folder.Rows[told.Name]
+	switch {
+	case told.Unwon != nil:
+		addUnwon(made, folder, told.Unwon)
+	case len(told.Failures) > 0:
+		read := &reader{folder: folder, row: row, file: made, reasons: map[int][]string{}}
+		read.read(told.Failures)
 	}
-	unwon := map[string]bool{}
-	for next := range folder.Unwon {
-		unwon[folder.Unwon[next].Name] = true
-		addUnwon(get(folder.Unwon[next].Name), folder, &folder.Unwon[next])
+	if told.Permissions != nil {
+		made.Permissions = modesOf(folder, told.Permissions)
 	}
-	failures := map[string][]finding.Failure{}
-	for _, one := range folder.Failures {
-		if !unwon[one.Name] {
-			failures[one.Name] = append(failures[one.Name], one)
-		}
+	if row != nil {
+		made.hasDetails = true
+		made.Size = row.Size()
 	}
-	for name, all := range failures {
-		read := &reader{folder: folder, row: folder.Rows[name], file: get(name), reasons: map[int][]string{}}
-		read.read(all)
-	}
-	for next := range folder.Permissions {
-		get(folder.Permissions[next].Name).Permissions = modesOf(folder, &folder.Permissions[next])
-	}
-	files := make([]*File, 0, len(made))
-	for name, one := range made {
-		if row := folder.Rows[name]; row != nil {
-			one.hasDetails = true
-			one.Size = row.Size()
-		}
-		files = append(files, one)
-	}
-	sort.Slice(files, func(a, b int) bool { return files[a].Name < files[b].Name })
-	return files
+	return made
 }
 
 // unwonCauses are the causes of names without a winner.

@@ -2,6 +2,7 @@ package summary
 
 import (
 	"fmt"
+	"sort"
 	"strings"
 
 	"syncthing-audit/finding"
@@ -44,53 +45,106 @@ func keyOf(file *File) string {
 	return key + " of " + strings.Join(file.Have, " ")
 }
 
-// fold tells names with the same fault as one, where there are many.
-func fold(files []*File, named labels) ([]*File, []*Group) {
-	byKey := map[string][]*File{}
-	keys := make([]string, len(files))
-	for place, one := range files {
-		one.sortDevices(named)
-		one.Same = sameOtherBytes(one.Faults)
-		one.markSeen()
-		keys[place] = keyOf(one)
-		byKey[keys[place]] = append(byKey[keys[place]], one)
+// shorten makes the faults of a name whose details weren't kept such that it can be told with others: there is no end to
+// how many of these there are.
+func (f *File) shorten() {
+	for place := range f.Faults {
+		one := &f.Faults[place]
+		f.Faults[place] = Fault{Device: one.Device, Cause: Differs, Kind: one.Kind, Reasons: one.Reasons}
 	}
-	alone, groups := []*File{}, []*Group{}
-	for place, one := range files {
-		key := keys[place]
-		same := byKey[key]
-		if key == "" || len(same) <= mostAlone {
-			one.Advice = adviceOf(one, named)
-			alone = append(alone, one)
-		} else if one == same[0] {
-			groups = append(groups, groupOf(same, named))
+	f.Follows, f.Permissions, f.Have = []Follow{}, []Mode{}, []string{}
+}
+
+// mostKinds is how many kinds of alike names are told apart, where details of the names weren't kept.
+const mostKinds = 1000
+
+// folding takes the names of a folder, rising, and tells those with the same fault as one, where there are many.
+type folding struct {
+	named labels
+	wrong int64 // names with faults
+	alone []*File
+	alike map[string]*alike // by their keys
+	keys  []string          // in the order of their first names
+}
+
+// alike are names with the same fault: the first ones, and what is counted of all.
+type alike struct {
+	first []*File
+	group Group
+}
+
+// take takes the next name.
+func (f *folding) take(one *File) {
+	if len(one.Faults) > 0 {
+		f.wrong++
+	}
+	one.sortDevices(f.named)
+	one.Same = sameOtherBytes(one.Faults)
+	one.markSeen()
+	key := keyOf(one)
+	if !one.hasDetails && (key == "" || f.alike[key] == nil && len(f.alike) >= mostKinds) {
+		one.shorten()
+		key = keyOf(one)
+	}
+	if key == "" {
+		f.alone = append(f.alone, one)
+		return
+	}
+	to := f.alike[key]
+	if to == nil {
+		to = &alike{}
+		f.alike[key] = to
+		f.keys = append(f.keys, key)
+	}
+	to.take(one)
+}
+
+// take takes one more name of the same fault.
+func (a *alike) take(one *File) {
+	a.group.Names++
+	a.group.Bytes += one.Size
+	if !one.hasDetails {
+		a.group.Unsized++
+	}
+	if len(a.first) < mostAlone {
+		a.first = append(a.first, one)
+	}
+}
+
+// end gives what is told name by name, rising, and what is told of many at once.
+func (f *folding) end() ([]*File, []*Group) {
+	files, groups := append([]*File{}, f.alone...), []*Group{}
+	for _, key := range f.keys {
+		if one := f.alike[key]; one.group.Names > mostAlone {
+			groups = append(groups, one.groupOf(f.named))
+		} else {
+			files = append(files, one.first...)
 		}
 	}
-	return alone, groups
+	sort.Slice(files, func(a, b int) bool { return files[a].Name < files[b].Name })
+	for _, one := range files {
+		one.Advice = adviceOf(one, f.named)
+	}
+	return files, groups
 }
 
 // groupOf tells names as one.
-func groupOf(files []*File, named labels) *Group {
-	first := files[0]
-	alike := &File{Faults: withoutDetails(first.Faults), Have: first.Have, Permissions: first.Permissions}
-	made := &Group{Cause: Permissions, Devices: []string{}, Names: int64(len(files)), First: []Text{}, Have: first.Have, Modes: first.Permissions,
-		Advice: adviceOf(alike, named)}
+func (a *alike) groupOf(named labels) *Group {
+	first := a.first[0]
+	same := &File{Faults: withoutDetails(first.Faults), Have: first.Have, Permissions: first.Permissions}
+	made := a.group
+	made.Cause, made.Devices, made.First, made.Have, made.Modes = Permissions, []string{}, []Text{}, first.Have, first.Permissions
+	made.Advice = adviceOf(same, named)
 	if len(first.Faults) > 0 {
 		made.Cause = first.Faults[0].Cause
 	}
 	for _, one := range first.Faults {
 		made.Devices = append(made.Devices, one.Device)
 	}
-	for _, one := range files {
-		made.Bytes += one.Size
-		if !one.hasDetails {
-			made.Unsized++
-		}
-		if len(made.First) < firstNames {
-			made.First = append(made.First, one.Name)
-		}
+	for _, one := range a.first[:firstNames] {
+		made.First = append(made.First, one.Name)
 	}
-	return made
+	return &made
 }
 
 // withoutDetails gives faults as they are of all names alike.

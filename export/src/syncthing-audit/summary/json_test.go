@@ -25,7 +25,7 @@ func full(folder *finding.Folder) {
 		fails(folder, name, []*part.Name{file(1, 1), nil}, "RecordMissing 2")
 	}
 	unwon(folder, "new", 0, finding.Unscanned, with(file(1, 1), func(one *part.Name) { one.Own = nil }))
-	folder.Permissions = []finding.Permissions{{Name: "rotten", At: []finding.Bits{{Has: true, Index: 0o644, OnDisk: true, Disk: 0o600}, {}}}}
+	folder.Permissions.Add(finding.Permissions{Name: "rotten", At: []finding.Bits{{Has: true, Index: 0o644, OnDisk: true, Disk: 0o600}, {}}})
 	folder.Conflicts = []finding.Conflict{{Name: "a.sync-conflict-20261126-170000.txt", Bytes: 1}}
 	folder.LeftOut = []*finding.LeftOut{{Name: "odd\xff", Names: 1, Why: []finding.Reason{{Member: -1, Kind: part.Large, Why: "large"}, {Member: 0, Kind: part.OddName}}}}
 	folder.Members[0].Head.Prefix = "a"

@@ -39,15 +39,18 @@ func (p *printer) copies(folder *Folder) {
 	if len(folder.Copies) == 0 {
 		return
 	}
-	bytes := int64(0)
+	count, bytes, has := int64(len(folder.Copies))+folder.More.Names, folder.More.Bytes, "all"
 	for _, one := range folder.Copies {
 		bytes += one.Bytes
 	}
-	p.line("%s in %s, %s: compare each with its file, and keep what you want of both", counted(int64(len(folder.Copies)), "conflict copy",
-		"conflict copies"), folder.ID, size(bytes))
+	if folder.More.Names > 0 {
+		has = "the first " + thousands(int64(len(folder.Copies)))
+	}
+	p.line("%s in %s, %s: compare each with its file, and keep what you want of both", counted(count, "conflict copy", "conflict copies"),
+		folder.ID, size(bytes))
 	for place, one := range folder.Copies {
 		if place == mostCopies {
-			p.line("  and %s more (--json has all)", thousands(int64(len(folder.Copies)-mostCopies)))
+			p.line("  and %s more (--json has %s)", thousands(count-mostCopies), has)
 			break
 		}
 		p.line("  %s", shell.Path(string(one.Name)))
@@ -57,7 +60,7 @@ func (p *printer) copies(folder *Folder) {
 // leftOut prints the names of a folder that were left out, by kind, and those outside it.
 func (p *printer) leftOut(folder *Folder) {
 	if len(folder.LeftOut) > 0 {
-		names, bytes := int64(0), int64(0)
+		names, bytes := folder.MoreOut.Names, folder.MoreOut.Bytes
 		for _, one := range folder.LeftOut {
 			names += one.Names
 			bytes += one.Bytes
@@ -65,6 +68,9 @@ func (p *printer) leftOut(folder *Folder) {
 		p.line("left out of %s: %s, %s", folder.ID, counted(names, "name", "names"), size(bytes))
 		for _, one := range folder.LeftOut {
 			p.left(one)
+		}
+		if folder.MoreOut.Names > 0 {
+			p.line("  and %s more, %s", counted(folder.MoreOut.Names, "name", "names"), size(folder.MoreOut.Bytes))
 		}
 	}
 	if folder.Ignored.Names > 0 {

@@ -55,6 +55,8 @@ type Folder struct {
 	Groups  []*Group `json:"groups"`
 	Copies  []Copy   `json:"conflict_copies"`
 	LeftOut []Names  `json:"left_out"`
+	MoreOut Count    `json:"left_out_unlisted"`
+	More    Count    `json:"conflict_copies_unlisted"`
 	Ignored Count    `json:"ignored"`
 	Live    *Live    `json:"live,omitempty"` // of devices that were looked at while they ran
 }
@@ -80,7 +82,7 @@ type Copy struct {
 	Bytes int64 `json:"bytes"`
 }
 
-// Count is of names that .stignore keeps out of the folder everywhere.
+// Count is of names that aren't listed: of those that .stignore keeps out of the folder everywhere, or of further ones.
 type Count struct {
 	Names int64 `json:"names"`
 	Bytes int64 `json:"bytes"`
@@ -176,9 +178,9 @@ func verdictOf(answer *finding.Answer) string {
 // folderOf gives the summary of a folder.
 func folderOf(answer *finding.Answer, from *finding.Folder, named labels) *Folder {
 	made := &Folder{ID: from.ID, Label: from.Label, Verdict: InStep, Names: from.Names, Deleted: from.Deleted, Bytes: from.Bytes,
-		Devices: []Member{}, Files: []*File{}, Groups: []*Group{}, Copies: []Copy{}, LeftOut: []Names{}, Ignored: Count(from.Outside)}
+		Devices: []Member{}, Files: []*File{}, Groups: []*Group{}, Copies: []Copy{}, LeftOut: []Names{}, Ignored: Count(from.Outside), MoreOut: Count(from.Unlisted.LeftOut), More: Count(from.Unlisted.Conflicts)}
 	switch {
-	case len(from.Failures) > 0:
+	case from.HasFailures():
 		made.Verdict = NotInStep
 	case answer.IsPart(from):
 		made.Verdict = AsFar
@@ -186,17 +188,10 @@ func folderOf(answer *finding.Answer, from *finding.Folder, named labels) *Folde
 	for _, one := range from.Members {
 		made.Devices = append(made.Devices, memberOf(one))
 	}
-	made.Files, made.Groups = fold(filesOf(from), named)
-	for _, one := range made.Files {
-		if len(one.Faults) > 0 {
-			made.Wrong++
-		}
-	}
-	for _, one := range made.Groups {
-		if one.Cause != Permissions {
-			made.Wrong += one.Names
-		}
-	}
+	all := &folding{named: named, alike: map[string]*alike{}}
+	from.EachName(func(told *finding.Told) { all.take(fileOf(from, told)) })
+	made.Files, made.Groups = all.end()
+	made.Wrong = all.wrong
 	for _, one := range from.Conflicts {
 		made.Copies = append(made.Copies, Copy{Text(one.Name), one.Bytes})
 	}

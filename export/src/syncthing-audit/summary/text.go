@@ -211,11 +211,17 @@ func differing(blocks *Blocks) string {
 	return "blocks " + ranges(blocks) + " differ"
 }
 
+// mostRanges is how many ranges of blocks a person reads of; how many blocks more differ is said behind them.
+const mostRanges = 8
+
 // ranges gives blocks as numbers.
 func ranges(blocks *Blocks) string {
 	words := []string{}
 	told := int64(0)
 	for _, one := range blocks.Ranges {
+		if len(words) == mostRanges {
+			break
+		}
 		told += one[1] - one[0] + 1
 		if one[0] == one[1] {
 			words = append(words, strconv.FormatInt(one[0], 10))

@@ -2,6 +2,7 @@ package summary
 
 import (
 	"fmt"
+	"sort"
 	"strings"
 	"testing"
 	"time"
@@ -37,10 +38,17 @@ func answerOf(devices int, fill func(*finding.Folder)) *finding.Answer {
 		folder.Members = append(folder.Members, join.Member{Device: device, About: &head.Folders[0]})
 		answer.Devices = append(answer.Devices, finding.Device{ID: ids[place], Number: device.Number, Name: name})
 	}
+	told = nil
 	fill(folder)
-	folder.Sort()
+	sort.SliceStable(told, func(a, b int) bool { return finding.IsBefore(&told[a], &told[b]) })
+	for _, one := range told {
+		folder.Failures.Add(one)
+	}
 	return answer
 }
+
+// told are the failures of the folder that is filled, which are added to it in their order.
+var told []finding.Failure
 
 // file gives what a device in step has of a file of three blocks.
 func file(version uint64, hash byte) *part.Name {
@@ -66,7 +74,7 @@ func fails(folder *finding.Folder, name string, row []*part.Name, reasons ...str
 	for _, one := range reasons {
 		failure := finding.Failure{Name: name}
 		fmt.Sscan(one, &failure.Reason, &failure.Device)
-		folder.Failures = append(folder.Failures, failure)
+		told = append(told, failure)
 	}
 	if row != nil {
 		folder.Rows[name] = &join.Row{Name: name, At: row}
@@ -75,8 +83,7 @@ func fails(folder *finding.Folder, name string, row []*part.Name, reasons ...str
 
 // unwon adds a name without a winner.
 func unwon(folder *finding.Folder, name string, member int, kind string, has *part.Name) {
-	folder.Unwon = append(folder.Unwon, finding.Unwon{Name: name, At: []finding.Cause{{Member: member, Kind: kind}}})
-	fails(folder, name, nil, "NotWinner")
+	folder.Unwon.Add(finding.Unwon{Name: name, At: []finding.Cause{{Member: member, Kind: kind}}})
 	row := make([]*part.Name, len(folder.Members))
 	row[member] = has
 	folder.Rows[name] = &join.Row{Name: name, At: row}
@@ -188,7 +195,7 @@ new  (in docs, 300.0 kB)
 ` + lastLine},
 		{"other bytes with another mode", 2, func(folder *finding.Folder) {
 			fails(folder, "a", []*part.Name{file(1, 1), with(file(1, 1), rotten)}, "StoreDiffers 2")
-			folder.Permissions = []finding.Permissions{{Name: "a", At: []finding.Bits{{Has: true, Index: 0o644}, {Has: true, Index: 0o644, OnDisk: true, Disk: 0o600}}}}
+			folder.Permissions.Add(finding.Permissions{Name: "a", At: []finding.Bits{{Has: true, Index: 0o644}, {Has: true, Index: 0o644, OnDisk: true, Disk: 0o600}}})
 		}, lineOfFolder + `
 a  (in docs, 300.0 kB)
   server: other bytes on the disk; size and time are as recorded, the mode isn't, so the next scan sees it (modified 2020-09-13 12:26:40 UTC)
@@ -204,7 +211,7 @@ a  (in docs, 300.0 kB)
          scan may send 0600 to all; or choose 'Ignore Permissions' for the folder.
 ` + lastLine},
 		{"permissions that differ", 2, func(folder *finding.Folder) {
-			folder.Permissions = []finding.Permissions{{Name: "a", At: []finding.Bits{{Has: true, Index: 0o644, OnDisk: true, Disk: 0o600}, {Has: true, Index: 0o644}}}}
+			folder.Permissions.Add(finding.Permissions{Name: "a", At: []finding.Bits{{Has: true, Index: 0o644, OnDisk: true, Disk: 0o600}, {Has: true, Index: 0o644}}})
 		}, `docs (Documents): in step; 1,204 names (4 deleted), 335.2 MB hashed on laptop, server
 
 a  (in docs)
@@ -214,7 +221,7 @@ a  (in docs)
 ` + lastLine},
 		{"permissions that differ everywhere", 2, func(folder *finding.Folder) {
 			for _, name := range []string{"1", "2", "3", "4", "5", "6"} {
-				folder.Permissions = append(folder.Permissions, finding.Permissions{Name: name, At: []finding.Bits{{Has: true, Index: 0o644}, {Has: true, Index: 0o600}}})
+				folder.Permissions.Add(finding.Permissions{Name: name, At: []finding.Bits{{Has: true, Index: 0o644}, {Has: true, Index: 0o600}}})
 			}
 		}, `docs (Documents): in step; 1,204 names (4 deleted), 335.2 MB hashed on laptop, server
 
@@ -226,7 +233,7 @@ a  (in docs)
 ` + lastLine},
 		{"what was left out, and what wasn't asked for", 2, func(folder *finding.Folder) {
 			folder.LeftOut = []*finding.LeftOut{{Name: "odd\xff", Names: 1, Bytes: 3000000, Why: []finding.Reason{{Member: 0, Kind: part.OddName, Why: "its name isn't UTF-8"}}}}
-			folder.Outside = finding.Outside{Names: 4, Bytes: 7}
+			folder.Outside = finding.Count{Names: 4, Bytes: 7}
 			folder.Members[1].Head.Folders = append(folder.Members[1].Head.Folders, part.Folder{ID: "music"})
 			folder.Members[0].Head.Prefix = "a b"
 		}, `docs (Documents): in step as far as audited; 1,204 names (4 deleted), 335.2 MB hashed on laptop, server
@@ -254,6 +261,22 @@ not compared: owners, extended attributes, old versions
 
 17 conflict copies in docs, 17 bytes: compare each with its file, and keep what you want of both
 ` + strings.Repeat("  a\n", mostCopies) + `  and 7 more (--json has all)
+not compared: owners, extended attributes, old versions
+`},
+		{"more than is listed", 2, func(folder *finding.Folder) {
+			folder.LeftOut = []*finding.LeftOut{{Name: "a", Names: 1, Bytes: 1000, Why: []finding.Reason{{Member: 0, Kind: part.Unreadable, Why: "it can't be read"}}}}
+			folder.Unlisted.LeftOut = finding.Count{Names: 1234, Bytes: 3000000}
+			for next := 0; next <= mostCopies; next++ {
+				folder.Conflicts = append(folder.Conflicts, finding.Conflict{Name: "a", Bytes: 1})
+			}
+			folder.Unlisted.Conflicts = finding.Count{Names: 5, Bytes: 1000}
+		}, `docs (Documents): in step as far as audited; 1,204 names (4 deleted), 335.2 MB hashed on laptop, server
+
+16 conflict copies in docs, 1.0 kB: compare each with its file, and keep what you want of both
+` + strings.Repeat("  a\n", mostCopies) + `  and 6 more (--json has the first 11)
+left out of docs: 1,235 names, 3.0 MB
+  a, 1.0 kB: laptop: it can't be read
+  and 1,234 names more, 3.0 MB
 not compared: owners, extended attributes, old versions
 `},
 		{"one device alone", 1, func(*finding.Folder) {},

@@ -1,0 +1,151 @@
+package finding
+
+import "syncthing-audit/spill"
+
+// Failures are what syncaudit tells of a folder, of any number. They are added in the order of names.
+type Failures struct {
+	byReason [reasons]spill.List[failed]
+}
+
+const reasons = 12
+
+// failed is where a reason fails.
+type failed struct {
+	Name   string
+	Device uint64
+}
+
+// Add adds a failure.
+func (f *Failures) Add(one Failure) {
+	f.byReason[Place(one.Reason)].Add(failed{one.Name, one.Device})
+}
+
+// Told is all that is told of a name.
+type Told struct {
+	Name        string
+	Failures    []Failure // that syncaudit tells, in its order
+	Unwon       *Unwon
+	Permissions *Permissions
+}
+
+// HasFailures says whether something keeps the folder from being settled.
+func (f *Folder) HasFailures() bool { return f.FirstFailure() != nil }
+
+// FirstFailure gives the failure that one document of all would have told; nothing where the folder is settled.
+func (f *Folder) FirstFailure() *Failure {
+	for place := range Reasons {
+		if next := f.failuresOf(place).next(); next != nil {
+			return next
+		}
+	}
+	return nil
+}
+
+// EachFailure gives all failures to take, in the order in which one document of all would have told them.
+func (f *Folder) EachFailure(take func(*Failure)) {
+	for place := range Reasons {
+		all := f.failuresOf(place)
+		for next := all.next(); next != nil; next = all.next() {
+			take(next)
+		}
+	}
+}
+
+// byName goes through the failures of one reason, in the order of names.
+type byName struct {
+	reason string
+	failed *spill.Cursor[failed]
+	unwon  *spill.Cursor[Unwon] // of NotWinner alone: such a name is told by no document
+}
+
+// failuresOf goes through the failures of the reason in this place.
+func (f *Folder) failuresOf(place int) *byName {
+	made := &byName{reason: Reasons[place], failed: f.Failures.byReason[place].Read()}
+	if made.reason == notWinner {
+		made.unwon = f.Unwon.Read()
+	}
+	return made
+}
+
+const notWinner = "NotWinner"
+
+// next takes the next failure; nothing at the end.
+func (b *byName) next() *Failure {
+	next := b.failed.Peek()
+	if b.unwon != nil {
+		if unwon := b.unwon.Peek(); unwon != nil && (next == nil || unwon.Name < next.Name) {
+			b.unwon.Take()
+			return &Failure{Reason: b.reason, Name: unwon.Name}
+		}
+	}
+	if next == nil {
+		return nil
+	}
+	b.failed.Take()
+	return &Failure{b.reason, next.Name, next.Device}
+}
+
+// EachName gives all names of which something is told to take, rising.
+func (f *Folder) EachName(take func(*Told)) {
+	var failures [reasons]*spill.Cursor[failed]
+	for place := range failures {
+		failures[place] = f.Failures.byReason[place].Read()
+	}
+	unwon, permissions := f.Unwon.Read(), f.Permissions.Read()
+	for {
+		made := &Told{}
+		is := false
+		least := func(name string) {
+			if !is || name < made.Name {
+				made.Name, is = name, true
+			}
+		}
+		for _, one := range failures {
+			if next := one.Peek(); next != nil {
+				least(next.Name)
+			}
+		}
+		if next := unwon.Peek(); next != nil {
+			least(next.Name)
+		}
+		if next := permissions.Peek(); next != nil {
+			least(next.Name)
+		}
+		if !is {
+			return
+		}
+		for place, one := range failures {
+			for next := one.Peek(); next != nil && next.Name == made.Name; next = one.Peek() {
+				made.Failures = append(made.Failures, Failure{Reasons[place], next.Name, next.Device})
+				one.Take()
+			}
+		}
+		if next := unwon.Peek(); next != nil && next.Name == made.Name {
+			made.Unwon = next
+			unwon.Take()
+		}
+		if next := permissions.Peek(); next != nil && next.Name == made.Name {
+			made.Permissions = next
+			permissions.Take()
+		}
+		take(made)
+	}
+}
+
+// Err says why what was found of a folder isn't whole, if so.
+func (a *Answer) Err() error {
+	for _, folder := range a.Folders {
+		for place := range folder.Failures.byReason {
+			if err := folder.Failures.byReason[place].Err(); err != nil {
+				return err
+			}
+		}
+		if err := folder.Unwon.Err(); err != nil {
+			return err
+		}
+		if err := folder.Permissions.Err(); err != nil {
+			return err
+		}
+	}
+	return nil
+}

@@ -1,0 +1,30 @@
+package finding
+
+import (
+	"syncthing-audit/join"
+	"syncthing-audit/part"
+)
+
+// MostKept is of how many names, each counted once for every device that shares its folder, details are kept: of 10,000
+// names of three devices. Where more fail, as on a device that is behind as a whole, the others are told without.
+const MostKept = 30000
+
+// Room is what is left of that.
+type Room struct{ taken int }
+
+// Keep gives what the devices have of a name, but for their views; nothing where there is no room.
+func (r *Room) Keep(row *join.Row) *join.Row {
+	if r.taken+len(row.At) > MostKept {
+		return nil
+	}
+	r.taken += len(row.At)
+	made := &join.Row{Name: row.Name, At: make([]*part.Name, len(row.At))}
+	for place, one := range row.At {
+		if one != nil {
+			kept := *one
+			kept.Views = nil
+			made.At[place] = &kept
+		}
+	}
+	return made
+}

@@ -1,0 +1,120 @@
+package main
+
+import (
+	"crypto/sha256"
+	"errors"
+	"io"
+	"os"
+	"path/filepath"
+	"strings"
+	"testing"
+	"time"
+
+	"github.com/syncthing/syncthing/lib/config"
+	"github.com/syncthing/syncthing/lib/protocol"
+	"syncthing-audit/device"
+	"syncthing-audit/part"
+)
+
+// aPart writes the part of a device whose folder, docs, has one file, and gives its path.
+func aPart(t *testing.T) string {
+	path := filepath.Join(t.TempDir(), "one.part")
+	file, err := os.Create(path)
+	if err != nil {
+		t.Fatal(err)
+	}
+	defer file.Close()
+	id := protocol.DeviceID(sha256.Sum256(nil)).String()
+	head := &part.Head{Version: part.Version, Device: id, Made: time.Unix(0, 0).UTC(), Folders: []part.Folder{{ID: "docs",
+		Kind: "send-receive", Directory: id, IndexID: 1, Max: 1}}}
+	content := part.Content{Size: 5, BlockSize: protocol.MinBlockSize, Hash: part.Hash{1}}
+	to, err := part.NewWriter(file, head)
+	for _, line := range []part.Line{{Begin: &part.Begin{Folder: "docs"}},
+		{Name: &part.Name{Name: "a", Own: &part.Record{ModifiedBy: 1, Sequence: 1, Content: &content}, Disk: &part.Node{Size: 5, Contents: []part.Content{content}}}},
+		{End: &part.End{Folder: "docs", Names: 1, Bytes: 5, Max: 1, Last: true}}} {
+		if err == nil {
+			err = to.Take(line)
+		}
+	}
+	if err == nil {
+		err = to.Close()
+	}
+	if err != nil {
+		t.Fatal(err)
+	}
+	return path
+}
+
+// A folder that isn't there is refused by each command in the same words, with the same status.
+func TestOneStatusForAFolderThatIsNotThere(t *testing.T) {
+	const told = "refused: no folder here has the id pics: the only one is docs"
+	var log strings.Builder
+	t.Setenv("SYNCAUDIT", "/bin/true")
+	for _, words := range [][]string{{"check"}, {"export", "--into", t.TempDir()}} {
+		log.Reset()
+		status := run(append(words, "--folder", "pics", aPart(t)), io.Discard, &log)
+		if status != statusRefused || !strings.Contains(log.String(), told) {
+			t.Errorf("%s: %d, %s", words, status, log.String())
+		}
+	}
+	home := &device.Home{Config: config.Configuration{Folders: []config.FolderConfiguration{{ID: "docs"}}}}
+	log.Reset()
+	if status := statusOf(checkFolders(home, []string{"pics"}), io.Discard, &log); status != statusRefused || !strings.Contains(log.String(), told) {
+		t.Errorf("part: %d, %s", status, log.String())
+	}
+	if status := statusOf(checkFolders(&device.Home{}, nil), io.Discard, &log); status != statusRefused {
+		t.Errorf("a device without a folder: %d", status)
+	}
+}
+
+// full is a writer without room.
+type full struct{}
+
+func (full) Write([]byte) (int, error) { return 0, errors.New("no space left on device") }
+
+// What can't be written is a fault, whatever it is, and never done.
+func TestWhatCannotBeWritten(t *testing.T) {
+	room := t.TempDir()
+	t.Setenv("SYNCAUDIT", "/bin/true")
+	if status := run([]string{"export", "--into", room, aPart(t)}, io.Discard, io.Discard); status != statusDone {
+		t.Fatalf("the export has status %d", status)
+	}
+	if err := os.WriteFile(filepath.Join(room, "cut-0001.reply"), []byte("settled\nfolder docs: 1 names, 0 deleted, 1 devices\n"), 0o600); err != nil {
+		t.Fatal(err)
+	}
+	for _, form := range []string{"", "--lines", "--json"} {
+		words := strings.Fields("sum " + room + " " + form)
+		if status := run(words, io.Discard, io.Discard); status != statusPartial {
+			t.Errorf("%s has status %d", words, status)
+		}
+		var log strings.Builder
+		if status := run(words, full{}, &log); status != statusFault || !strings.Contains(log.String(), "the answer can't be written: no space left") {
+			t.Errorf("%s has status %d, and tells %q", words, status, log.String())
+		}
+	}
+	for _, words := range [][]string{{"--help"}, {"check", "--help"}, {"--version"}, {"export", aPart(t)}} {
+		if status := run(words, full{}, io.Discard); status != statusFault {
+			t.Errorf("%s has status %d", words, status)
+		}
+	}
+	to, err := targetOf("/dev/full")
+	if err == nil {
+		err = to.write(func(to io.Writer) error {
+			_, err := io.WriteString(to, "new")
+			return err
+		})
+	}
+	if status := statusOf(err, io.Discard, io.Discard); status != statusFault {
+		t.Errorf("a part on a full device has status %d: %v", status, err)
+	}
+	write, err := whereTo("-", full{})
+	if err == nil {
+		err = write(func(to io.Writer) error {
+			_, err := io.WriteString(to, "new")
+			return err
+		})
+	}
+	if status := statusOf(err, io.Discard, io.Discard); status != statusFault {
+		t.Errorf("a part on standard output has status %d: %v", status, err)
+	}
+}

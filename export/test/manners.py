@@ -1,0 +1,174 @@
+#!/usr/bin/env python3
+"""How the audit behaves where something comes between: signals, a full disk, terminals and pipes. Homes and indexes are
+written by Syncthing's own packages, and no device runs.
+
+    export/test/manners.py
+"""
+
+import os
+import pty
+import shutil
+import signal
+import subprocess
+import tempfile
+import unittest
+from pathlib import Path
+
+from exporting import PROGRAM, auditor, built, is_over, main, run
+from syncthing import SECONDS_TO_WAIT, wait_until
+
+FILES = 2000
+# Larger than what any machine hashes while a test waits; it takes no room.
+ENDLESS_BYTES = 1 << 42
+SETTLED = f"docs: in step; {FILES + FILES // 100:,} names (0 deleted), "
+
+
+class Manners(unittest.TestCase):
+    """Two homes of devices in step."""
+
+    @classmethod
+    def setUpClass(cls):
+        if is_over():
+            raise unittest.SkipTest("the time is over")
+        room = tempfile.TemporaryDirectory(prefix="syncthing-audit-test-")
+        cls.addClassCleanup(room.cleanup)
+        cls.room = Path(room.name)
+        programs = built(cls.room)
+        cls.program = programs / PROGRAM
+        run([programs / "sample", "--files", str(FILES), "--bytes", "100", cls.room], check=True)
+        cls.homes = [cls.room / f"device{number}" / "home" for number in (1, 2)]
+        cls.parts = [cls.room / f"{number}.part" for number in (1, 2)]
+        for home, part in zip(cls.homes, cls.parts):
+            run([cls.program, "part", "--home", home, "-o", part], check=True)
+
+    def setUp(self):
+        if is_over():
+            self.skipTest("the time is over")
+        self.temporary = self.room / "temporary"
+        self.temporary.mkdir()
+        self.addCleanup(shutil.rmtree, self.temporary)
+
+    def start(self, *words, **options):
+        """Starts the audit, its temporary directory being this case's."""
+        process = subprocess.Popen([self.program, *words], env={**os.environ, "TMPDIR": str(self.temporary)}, **options)
+        self.addCleanup(process.wait)
+        self.addCleanup(process.kill)
+        return process
+
+    def waiting_auditor(self):
+        """A program that answers as the real one does, once the file is there whose path comes with it."""
+        path, allowed = self.temporary / "waiting", self.temporary / "allowed"
+        path.write_text(f'#!/bin/sh\necho $$ >> {self.temporary}/asked\n'
+                        f'while [ ! -e {allowed} ]; do sleep 0.1; done\nexec "{auditor()}" "$@"\n')
+        path.chmod(0o755)
+        return path, allowed
+
+    def test_progress_on_a_terminal(self):
+        """While the parts are joined and syncaudit answers, a terminal is told how far that is."""
+        program, allowed = self.waiting_auditor()
+        terminal, other_end = pty.openpty()
+        self.addCleanup(os.close, terminal)
+        check = self.start("check", *self.parts, "--syncaudit", program, stdout=subprocess.PIPE, stderr=other_end)
+        os.close(other_end)
+        told = b""
+        while b"read 100 % of the parts; joined 2020 names; syncaudit answered 0 of " not in told:
+            told += os.read(terminal, 4096)
+        allowed.touch()
+        while b"what an answer means" not in told:
+            told += os.read(terminal, 4096)
+        output, _ = check.communicate(timeout=SECONDS_TO_WAIT)
+        self.assertEqual((check.returncode, output.decode()[:len(SETTLED)]), (0, SETTLED))
+        before, _, _ = told.partition(b"syncthing-audit: what")
+        self.assertTrue(before.endswith(b"\r\x1b[K"), "the line isn't taken away")
+        self.assertNotIn(b"\n", before)
+
+    def test_a_pipe_is_told_nothing_of_progress(self):
+        program, allowed = self.waiting_auditor()
+        check = self.start("check", *self.parts, "--syncaudit", program, stdout=subprocess.PIPE, stderr=subprocess.PIPE)
+        wait_until("syncaudit is asked", (self.temporary / "asked").exists)
+        allowed.touch()
+        output, error = check.communicate(timeout=SECONDS_TO_WAIT)
+        self.assertEqual((check.returncode, output.decode()[:len(SETTLED)]), (0, SETTLED))
+        self.assertEqual((error[:38], error.count(b"\r")), (b"syncthing-audit: what an answer means:", 0))
+
+    def test_a_signal_while_a_part_is_made_leaves_nothing(self):
+        """The index is copied and the part begun; then nothing of both is left, and the status is the signal's."""
+        endless = self.room / "device1" / "files" / "endless"
+        with endless.open("wb") as file:
+            file.truncate(ENDLESS_BYTES)
+        self.addCleanup(endless.unlink)
+        into = self.temporary / "into"
+        for number in (signal.SIGINT, signal.SIGTERM, signal.SIGHUP):
+            into.mkdir()
+            process = self.start("part", "--home", self.homes[0], "-o", into / "one.part")
+            wait_until("the part is begun", lambda: list(into.glob(".syncthing-audit-*")))
+            self.assertTrue(list(self.temporary.glob("syncthing-audit-*")), "the index isn't copied")
+            process.send_signal(number)
+            self.assertEqual(process.wait(SECONDS_TO_WAIT), 128 + number)
+            self.assertEqual((list(into.iterdir()), list(self.temporary.glob("syncthing-audit-*"))), ([], []))
+            into.rmdir()
+
+    def test_a_signal_while_syncaudit_answers_ends_it_too(self):
+        program, _ = self.waiting_auditor()
+        process = self.start("check", *(word for home in self.homes for word in ("--home", home)), "--syncaudit", program)
+        asked = self.temporary / "asked"
+        wait_until("syncaudit is asked", lambda: asked.exists() and asked.read_text().endswith("\n"))
+        process.send_signal(signal.SIGTERM)
+        self.assertEqual(process.wait(SECONDS_TO_WAIT), 128 + signal.SIGTERM)
+        self.assertEqual(list(self.temporary.glob("syncthing-audit-*")), [])
+        for number in asked.read_text().split():
+            wait_until(f"process {number} has ended", lambda number=number: has_ended(int(number)))
+
+    def on_a_full_disk(self, size, script):
+        """What a shell's lines write and their status, where 'disk' is a file system of this size."""
+        disk = self.temporary / "disk"
+        disk.mkdir()
+        words = ["unshare", "--user", "--map-root-user", "--mount", "sh", "-c"]
+        if run([*words, f"mount -t tmpfs -o size={size} none {disk}"]).returncode:
+            self.skipTest("unshare or mount isn't allowed here, so there is no full disk")
+        return run([*words, f"mount -t tmpfs -o size={size} none {disk} && cd {disk} && {script}"])
+
+    def test_a_part_on_a_full_disk(self):
+        """The status says that it can't be written; a part that stood there before stays as it was."""
+        ran = self.on_a_full_disk("64k", f"echo old > one.part; {self.program} part --home {self.homes[0]} -o one.part; echo $?; ls -A; cat one.part")
+        self.assertEqual(ran.stdout.split(), ["5", "one.part", "old"], ran.stderr)
+        self.assertIn("no space left on device", ran.stderr)
+
+    def test_documents_on_a_full_disk(self):
+        ran = self.on_a_full_disk("64k", f"{self.program} export {self.parts[0]} {self.parts[1]} --into documents; echo $?")
+        self.assertEqual(ran.stdout.split(), ["5"], ran.stderr)
+        self.assertIn("no space left on device", ran.stderr)
+
+    def test_no_room_for_the_index(self):
+        ran = self.on_a_full_disk("64k", f"TMPDIR=. {self.program} part --home {self.homes[0]} -o {self.temporary}/one.part; echo $?; ls -A")
+        self.assertEqual(ran.stdout.split(), ["2"], ran.stderr)
+        self.assertIn("TMPDIR may name another directory", ran.stderr)
+        self.assertFalse((self.temporary / "one.part").exists())
+
+    def test_what_cannot_be_written_is_never_done(self):
+        with open("/dev/full", "wb") as full:
+            for words in (["check", *self.parts, "--syncaudit", auditor()], ["part", "--home", self.homes[0], "-o", "-"],
+                          ["part", "--home", self.homes[0], "-o", "/dev/full"], ["export", *self.parts, "--into", "/proc/documents"], ["--help"]):
+                ran = subprocess.run([self.program, *words], stdout=full, stderr=subprocess.PIPE, timeout=SECONDS_TO_WAIT, text=True)
+                self.assertEqual(ran.returncode, 5, ran.stderr)
+                self.assertRegex(ran.stderr, "no space left on device|/proc/documents: no such file")
+
+    def test_a_folder_that_is_not_there(self):
+        """One kind of error has one status and one text, whichever command tells it."""
+        for words in (["part", "--home", self.homes[0], "-o", "-"], ["check", *self.parts, "--syncaudit", auditor()],
+                      ["check", "--home", self.homes[0], "--syncaudit", auditor()], ["export", *self.parts]):
+            ran = run([self.program, *words, "--folder", "pics"])
+            self.assertEqual((ran.returncode, ran.stdout), (2, ""))
+            self.assertIn("refused: no folder here has the id pics: the only one is docs", ran.stderr)
+
+
+def has_ended(number):
+    """Whether a process runs no more."""
+    try:
+        return Path(f"/proc/{number}/stat").read_text().rpartition(")")[2].split()[0] == "Z"
+    except (FileNotFoundError, ProcessLookupError):
+        return True
+
+
+if __name__ == "__main__":
+    main()

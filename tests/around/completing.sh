@@ -1,0 +1,78 @@
+# shellcheck shell=bash
+# The completions of syncthing-audit beside its man page, which its own tests compare with its help; and what bash completes.
+
+page=docs/syncthing-audit.1
+of_audit=(completions/{syncthing-audit.bash,_syncthing-audit,syncthing-audit.fish})
+
+# The commands of the man page's synopsis.
+audit_commands() {
+  sed -n 's/^\.B syncthing-audit \([a-z]*\)$/\1/p' "$page" | awk '!seen[$0]++'
+}
+
+# The flags of its options, without their dashes.
+audit_flags() {
+  sed -n '/^\.SH OPTIONS/,/^\.SH EXIT/s/^\.B[I]* \([-\\a-z]*\).*/\1/p' "$page" | tr -d '\\' | sed 's/^-*//'
+}
+
+# The kinds of --leave-out.
+audit_kinds() {
+  sed -n '/^Leaves out what/,/^\.TP/p' "$page" | sed 's/.*say\(s\)* so: //' | tr -c 'a-z\n' '\n' |
+    grep -xE 'ignored|unreadable|changing|special|names|targets|records|rescan|large|absent|encrypted|unshared'
+}
+
+expect "the man page of syncthing-audit has other commands: $(audit_commands | paste -sd ' ')" \
+  [ "$(audit_commands | paste -sd ' ')" = 'part check run export sum' ]
+expect "too few flags in the man page of syncthing-audit: $(audit_flags | paste -sd ' ')" [ "$(audit_flags | wc -l)" -ge 10 ]
+expect "not twelve kinds in the man page of syncthing-audit" [ "$(audit_kinds | sort -u | wc -l)" = 12 ]
+for file in "${of_audit[@]}"; do
+  for word in $(audit_commands) $(audit_kinds); do
+    expect "$file has no '$word'" has "$word" "$file"
+  done
+  for flag in $(audit_flags); do
+    expect "$file has no flag '$flag'" grep -qE -- "(--|-l |-s |[ '-]-)$flag([] ['*:]|$)" "$file"
+  done
+done
+
+# completed WORD..: what bash completes behind these words, the last of which is begun.
+completed() {
+  bash -c '
+    . completions/syncthing-audit.bash
+    COMP_WORDS=(syncthing-audit "$@")
+    COMP_CWORD=$#
+    _syncthing_audit
+    printf "%s\n" "${COMPREPLY[@]}" | sort | paste -sd " "' completed "$@"
+}
+
+mkdir "$work/homes"
+touch "$work/laptop.part" "$work/laptop.txt"
+while IFS='|' read -r words expected; do
+  # shellcheck disable=SC2086 # each is a word; an empty one is written as ''
+  eval "set -- $words"
+  expect "bash completes '$words' as '$(completed "$@")', and not as '$expected'" [ "$(completed "$@")" = "$expected" ]
+done << END
+''|--help --version check export part run sum
+ch|check
+part -|--begin --end --folder --help --home --jobs --leave-out --names --rescan --tokens -o
+run --re|--remote-program --rescan
+run $work/ho|$work/homes
+check --l|--leave-out --lines
+export --in|--into
+sum -|--help --json --lines
+sum --leave|
+check --leave-out a|absent
+check --leave-out absent,un|absent,unreadable absent,unshared
+check $work/l|$work/laptop.part
+check --folder d|
+part --home $work/ho|$work/homes
+END
+
+# What other shells make of theirs, where they are installed.
+if command -v zsh > /dev/null 2>&1; then
+  expect "zsh can't read completions/_syncthing-audit" zsh -n completions/_syncthing-audit
+fi
+if command -v fish > /dev/null 2>&1; then
+  offered=$(fish --no-config -c "source completions/syncthing-audit.fish; complete -C 'syncthing-audit check --l'" 2>&1 | cut -f 1 | sort | paste -sd ' ')
+  expect "fish completes 'check --l' as '$offered'" [ "$offered" = '--leave-out --lines' ]
+  offered=$(fish --no-config -c "source completions/syncthing-audit.fish; complete -C 'syncthing-audit '" 2>&1 | cut -f 1 | sort | paste -sd ' ')
+  expect "fish completes commands as '$offered'" [ "$offered" = 'check export part run sum' ]
+fi
