@@ -10,7 +10,6 @@ import signal
 import subprocess
 import sys
 import threading
-import time
 import xml.etree.ElementTree as xml
 from contextlib import contextmanager
 
@@ -132,6 +131,26 @@ class LiveDevices(Live):
         self.assertIn(f"folder {FOLDER}: 5 names, 1 deleted, 3 devices", lines)
         status, lines = self.look()
         self.assertEqual((status, self.moving(lines)), (0, set()))
+
+    def test_the_sum_of_exported_documents_says_the_same(self):
+        documents = self.room / "documents"
+        path = self.one.files / "waits, too"
+        path.write_text("waits")
+        try:
+            with rot(self.two.files / "folder" / "large", 1000):
+                status, lines = self.look()
+        finally:
+            path.unlink()
+        ran = run([self.program, "export", *self.looks(), "--into", documents])
+        self.assertEqual(ran.returncode, 0, ran.stderr)
+        self.assertIn("in motion: docs waits,\\x20too on ", ran.stderr)
+        for document in documents.glob("cut-*.json"):
+            certified = subprocess.run([self.auditor, "certify"], input=document.read_bytes(), capture_output=True, check=True).stdout
+            document.with_suffix(".reply").write_bytes(b"".join(subprocess.run([self.auditor, word], input=certified, capture_output=True).stdout
+                                                                for word in ("check", "explain")))
+        ran = run([self.program, "sum", documents, "--lines"])
+        told = [line.split(" s, ")[-1] if line.startswith("still: ") else line for line in ran.stdout.splitlines()]
+        self.assertEqual((ran.returncode, told), (status, lines))
 
     def test_what_waits_for_a_scan_is_in_motion(self):
         path = self.one.files / "waits"
@@ -267,14 +286,18 @@ class LiveWriter(Live):
                 (self.one.files / "busy").write_text(f"change {number}")
         writer = threading.Thread(target=write)
         writer.start()
+
+        def goes_on():
+            before = (self.one.files / "busy").read_text()
+            wait_until("it is changed again", lambda: (self.one.files / "busy").read_text() != before)
         try:
             wait_until("the other device has it", (self.two.files / "busy").exists)
             for _ in range(5):
-                status, lines = self.look(lambda: time.sleep(1))
+                status, lines = self.look(goes_on)
                 self.assertEqual((status, lines[0], self.moving(lines)), (6, "settled as far as audited", {"busy"}))
                 self.assertEqual(lines[1], f"folder {FOLDER}: 6 names, 1 deleted, 2 devices")
             with rot(self.two.files / "folder" / "large", 77):
-                status, lines = self.look(lambda: time.sleep(1))
+                status, lines = self.look(goes_on)
             self.assertEqual((status, lines[0], self.moving(lines)), (1, self.fault("StoreDiffers", "folder/large", self.two), {"busy"}))
         finally:
             ended.set()
@@ -286,14 +309,24 @@ class LiveWriter(Live):
 class LiveReceiver(Live):
     """Two devices, the second of which receives slowly."""
 
-    options = {"maxRecvKbps": "1000", "limitBandwidthInLan": "true"}
+    # So slow that the file isn't there before the looks are over.
+    options = {"maxRecvKbps": "200", "limitBandwidthInLan": "true"}
+
+    def received(self):
+        """How many bytes the second device has received."""
+        return self.two.api("GET", "system/connections")["connections"][self.one.id]["inBytesTotal"]
+
+    def goes_on(self):
+        """Waits until some more blocks are received."""
+        before = self.received()
+        wait_until("more is received", lambda: self.received() > before + MEGA)
 
     def test_a_large_file_that_is_being_received(self):
-        self.one.files.joinpath("huge").write_bytes(os.urandom(40 * MEGA))
+        self.one.files.joinpath("huge").write_bytes(os.urandom(100 * MEGA))
         self.one.scan()
-        wait_until("it is being received", lambda: list(self.two.files.glob(".syncthing.huge.tmp")) and self.two.api(
-            "GET", "system/connections")["connections"][self.one.id]["inBytesTotal"] > 2 * MEGA)
-        status, lines = self.look(lambda: time.sleep(3))
+        wait_until("it is begun", lambda: list(self.two.files.glob(".syncthing.huge.tmp")))
+        self.goes_on()
+        status, lines = self.look(self.goes_on)
         self.assertFalse((self.two.files / "huge").exists(), "it was received too soon")
         self.assertEqual((status, lines[0], self.moving(lines)), (6, "settled as far as audited", {"huge"}))
         self.assertIn(f"in motion: {FOLDER} huge on {self.number(self.two)}: receiving", lines)
