@@ -1,13 +1,13 @@
 #!/usr/bin/env python3
 """What an audit of running devices costs, and whether it tells anything false beside a busy writer.
 
-    bench/live.py [--auditor FILE] [--runs N] [--files N] [--bytes N] [--still SECONDS] [--room DIR]
+    bench/live.py [--auditor FILE] [--runs N] [--files N] [--bytes N] [--still SECONDS] [--room DIR] [runs | slowdown]
 
 Three real Syncthing devices on loopback have a folder with 3,000 files in step, and watch it. A writer changes one file
 every 100 ms and another one of 200 each second. 'syncthing-audit run' is run over and over beside it. What fails of the
 other names is false: nobody touches them. Then a byte of one of them is changed on one disk, and has to be found. The figures
-are seconds and bytes copied of an index for each run, and how long it takes until a new file is on all devices, with and
-without an audit beside it.
+are seconds and bytes copied of an index for each run. 'slowdown' measures how long a scan takes, and how long it takes until
+a new file is on all devices, with and without an audit beside it. Without a word both are done.
 """
 
 import argparse
@@ -32,7 +32,7 @@ from syncthing import FOLDER, Device, wait_until, wait_until_in_step  # noqa: E4
 
 NAMES = ("laptop", "server", "nas")
 OFTEN, BUSY = "writer/often", 200
-PROBES = 10
+PROBES = 30
 
 
 def set_up(room, asked):
@@ -111,7 +111,14 @@ def probe(devices, number):
 
 
 def probes(devices, first):
-    return [probe(devices, first + number) for number in range(PROBES)]
+    """The seconds of some probes, and of a scan of the first device's folder behind each."""
+    arrivals, scans = [], []
+    for number in range(first, first + PROBES):
+        arrivals.append(probe(devices, number))
+        began = time.monotonic()
+        devices[0].scan()
+        scans.append(time.monotonic() - began)
+    return arrivals, scans
 
 
 def measure_runs(room, asked, devices):
@@ -131,7 +138,7 @@ def measure_runs(room, asked, devices):
         still.append(folder["live"]["still_seconds"])
         copies += [size for size, _ in copied]
         rounds += [count for _, count in copied]
-    (name,) = ["000/07.bin"]
+    name = "000/07.bin"
     path = devices[1].files / name
     about = path.stat()
     with path.open("r+b") as file:
@@ -166,12 +173,14 @@ def measure_slowdown(room, asked, devices):
     busy = probes(devices, PROBES)
     ended.set()
     beside.join()
-    print(f"until a new file is on all devices: {statistics.median(alone):.2f} s; beside {len(count)} audits {statistics.median(busy):.2f} s "
-          f"({statistics.median(busy) / statistics.median(alone):.2f} times)")
+    for what, without, beside in zip(("until a new file is on all devices", "a scan of the first device's folder"), alone, busy):
+        print(f"{what}: {statistics.median(without):.3f} s; beside {len(count)} audits, one after the other, {statistics.median(beside):.3f} s "
+              f"({statistics.median(beside) / statistics.median(without):.2f} times), at most {max(without):.3f} and {max(beside):.3f} s")
 
 
 def main():
     parser = argparse.ArgumentParser(description=__doc__.splitlines()[0])
+    parser.add_argument("what", nargs="?", choices=("runs", "slowdown"))
     parser.add_argument("--auditor", default=os.environ.get("SYNCAUDIT", TOP / "release/syncaudit"))
     parser.add_argument("--runs", type=int, default=100)
     parser.add_argument("--files", type=int, default=3000)
@@ -186,8 +195,9 @@ def main():
         devices = set_up(room, asked)
         try:
             print(f"three devices with {asked.files:,} files of {asked.bytes:,} bytes, {FOLDER}")
-            measure_slowdown(room, asked, devices)
-            is_true = measure_runs(room, asked, devices)
+            if asked.what != "runs":
+                measure_slowdown(room, asked, devices)
+            is_true = asked.what == "slowdown" or measure_runs(room, asked, devices)
         finally:
             for one in devices:
                 one.stop()

@@ -142,8 +142,8 @@ func (i *Index) entries(of protocol.DeviceID, prefix string, greatest int64, rea
 	return nil
 }
 
-// kindOfOddSequence says why an entry has a sequence above the greatest one. Syncthing writes a large update of what it
-// knows of another device in several steps, the greatest sequence last, and a copy may be of a moment between two of them.
+// kindOfOddSequence says why an entry is left out whose sequence is above the greatest one: of a running device the copy may
+// be of a moment within an update.
 func (i *Index) kindOfOddSequence() string {
 	if i.home.isLive {
 		return part.Changing

@@ -52,7 +52,7 @@ func (h *Home) openLiveIndex() error {
 	return h.openCopy(db.WithRecheckInterval(never))
 }
 
-// checkLive says why a copy isn't whole, or of a moment within an update of the device's own index.
+// checkLive says why a copy isn't whole, or has entries behind a folder's greatest sequence.
 func checkLive(copied string) error {
 	said, err := readManifest(copied)
 	if err == nil {
@@ -66,12 +66,13 @@ func checkLive(copied string) error {
 		return fmt.Errorf("%w: the copy can't be opened: %v", errAgain, err)
 	}
 	defer opened.Close()
-	return checkBetweenUpdates(opened)
+	return checkSequences(opened)
 }
 
-// checkBetweenUpdates says which folder was being updated when the index was copied. Syncthing writes a large update in
-// several steps, and the folder's greatest sequence in the last one.
-func checkBetweenUpdates(opened *leveldb.DB) error {
+// checkSequences says which folder has own entries behind its greatest sequence. Syncthing 1.19 writes a large update in
+// several steps, with the greatest sequence in each. Were it otherwise, its package would mend the copy on opening it, and
+// give the index another id.
+func checkSequences(opened *leveldb.DB) error {
 	folders := opened.NewIterator(util.BytesPrefix([]byte{db.KeyTypeFolderIdx}), nil)
 	defer folders.Release()
 	for folders.Next() {
@@ -90,7 +91,7 @@ func checkBetweenUpdates(opened *leveldb.DB) error {
 			return err
 		}
 		if isThere {
-			return fmt.Errorf("%w: folder %s is being updated all the time", errAgain, folders.Value())
+			return fmt.Errorf("%w: folder %s has entries behind its greatest sequence", errAgain, folders.Value())
 		}
 	}
 	return folders.Error()

@@ -3,6 +3,7 @@ package device
 import (
 	"crypto/sha256"
 	"encoding/binary"
+	"errors"
 	"fmt"
 	"io"
 	"os"
@@ -16,6 +17,7 @@ import (
 	"github.com/syncthing/syncthing/lib/db/backend"
 	"github.com/syncthing/syncthing/lib/events"
 	"github.com/syncthing/syncthing/lib/protocol"
+	"github.com/syndtr/goleveldb/leveldb"
 )
 
 const (
@@ -174,6 +176,16 @@ func entriesOf(t *testing.T, database string, of protocol.DeviceID) (map[string]
 	return made, greatest
 }
 
+// indexIDOf gives the id of a device's own index; Syncthing's package changes it where it mends an index.
+func indexIDOf(t *testing.T, database string) protocol.IndexID {
+	set, opened, err := openSet(database)
+	if err != nil {
+		t.Fatal(err)
+	}
+	defer opened.Close()
+	return set.IndexID(protocol.LocalDeviceID)
+}
+
 // checkNoGap says which names of an index aren't as they were when its greatest sequence was the last one.
 func checkNoGap(t *testing.T, what string, found map[string]int64, greatest int64) {
 	if len(found) != writtenNames {
@@ -186,14 +198,53 @@ func checkNoGap(t *testing.T, what string, found map[string]int64, greatest int6
 	}
 }
 
+// An entry behind the folder's greatest sequence is found, before Syncthing's package mends the copy.
+func TestSequencesBehindTheGreatest(t *testing.T) {
+	database := t.TempDir()
+	set, opened, err := openSet(database)
+	if err != nil {
+		t.Fatal(err)
+	}
+	set.Update(protocol.LocalDeviceID, []protocol.FileInfo{entryOfSequence(1), entryOfSequence(2)})
+	opened.Close()
+	check := func() error {
+		opened, err := openStrictly(database)
+		if err != nil {
+			t.Fatal(err)
+		}
+		defer opened.Close()
+		return checkSequences(opened)
+	}
+	if err := check(); err != nil {
+		t.Fatal(err)
+	}
+	behind, err := leveldb.OpenFile(database, nil)
+	if err == nil {
+		err = behind.Put(sequencesBehind(make([]byte, bytesOfFolder), 2).Start, nil, nil)
+	}
+	if err == nil {
+		err = behind.Close()
+	}
+	if err != nil {
+		t.Fatal(err)
+	}
+	if err := check(); !errors.Is(err, errAgain) {
+		t.Errorf("an entry behind the greatest sequence: %v", err)
+	}
+}
+
 // liveOne is a copy, with what was stored before it was begun.
 type liveOne struct {
 	path   string
 	before int64
+	index  protocol.IndexID // that of the index in the end
 }
 
 // check says what a copy lacks of what the index has in the end.
 func (c *liveOne) check(t *testing.T, what string, last map[string]int64, greatestAtEnd int64) {
+	if id := indexIDOf(t, c.path); id != c.index {
+		t.Errorf("%s is of index %v, and not of %v", what, id, c.index)
+	}
 	own, greatest := entriesOf(t, c.path, protocol.LocalDeviceID)
 	checkNoGap(t, what, own, greatest)
 	if greatest < c.before || greatest > greatestAtEnd {
@@ -220,7 +271,7 @@ func TestCopiesBesideAWriter(t *testing.T) {
 	var all []*liveOne
 	rounds := 0
 	for len(all) < copies {
-		one := &liveOne{t.TempDir(), stored(room)}
+		one := &liveOne{path: t.TempDir(), before: stored(room)}
 		said, err := copyLive(filepath.Join(room, databaseName), one.path, checkLive)
 		if err != nil {
 			t.Fatal(err)
@@ -231,7 +282,9 @@ func TestCopiesBesideAWriter(t *testing.T) {
 	end()
 	last, greatest := entriesOf(t, filepath.Join(room, databaseName), protocol.LocalDeviceID)
 	checkNoGap(t, "the index", last, greatest)
+	id := indexIDOf(t, filepath.Join(room, databaseName))
 	for place, one := range all {
+		one.index = id
 		one.check(t, fmt.Sprintf("copy %d", place), last, greatest)
 	}
 	t.Logf("%d copies took %d rounds; the writer stored %d entries of each of two devices", copies, rounds, greatest)
