@@ -1,7 +1,7 @@
 #!/usr/bin/env python3
 """What an audit of running devices costs, and whether it tells anything false beside a busy writer.
 
-    bench/live.py [--auditor FILE] [--runs N] [--files N] [--bytes N] [--still SECONDS] [--room DIR] [runs | slowdown]
+    bench/live.py [--auditor FILE] [--runs N] [--files N] [--bytes N] [--still SECONDS] [--jobs N] [--room DIR] [runs | slowdown]
 
 Three real Syncthing devices on loopback have a folder with 3,000 files in step, and watch it. A writer changes one file
 every 100 ms and another one of 200 each second. 'syncthing-audit run' is run over and over beside it. What fails of the
@@ -79,7 +79,7 @@ class Writer(threading.Thread):
 def audit(room, asked, devices):
     """One run: its summary, its seconds, and the bytes and rounds of each copy of an index."""
     began = time.monotonic()
-    ran = subprocess.run([room / PROGRAM, "run", *(one.home for one in devices), "--still", str(asked.still), "--json", "--syncaudit",
+    ran = subprocess.run([room / PROGRAM, "run", *(one.home for one in devices), "--still", str(asked.still), *asked.jobs, "--json", "--syncaudit",
                           asked.auditor], capture_output=True, text=True)
     spent = time.monotonic() - began
     if ran.returncode not in (0, 1, 6):
@@ -186,6 +186,7 @@ def main():
     parser.add_argument("--files", type=int, default=3000)
     parser.add_argument("--bytes", type=int, default=100_000)
     parser.add_argument("--still", type=float, default=2)
+    parser.add_argument("--jobs", type=lambda number: ["--jobs", number], default=[])
     parser.add_argument("--room", default=None)
     asked = parser.parse_args()
     asked.auditor = shutil.which(asked.auditor) or sys.exit(f"{asked.auditor} isn't there")

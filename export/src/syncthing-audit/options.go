@@ -33,6 +33,7 @@ type options struct {
 	remote   string  // how this program is called on other machines
 	program  string
 	jobs     int
+	hasJobs  bool // whether they were asked for
 }
 
 var usage = fmt.Sprintf(`usage: syncthing-audit part [--home DIR] [--folder ID ..] [--names PREFIX] -o FILE
@@ -139,6 +140,7 @@ func readOptions(name string, words []string, flagsOf func(*flag.FlagSet, *optio
 		read.parts = append(read.parts, flags.Arg(0))
 		words = flags.Args()[1:]
 	}
+	flags.Visit(func(one *flag.Flag) { read.hasJobs = read.hasJobs || one.Name == "jobs" })
 	if read.jobs < 1 {
 		return options{}, &wrongUsage{"--jobs is at least 1"}
 	}

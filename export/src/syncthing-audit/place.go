@@ -8,6 +8,7 @@ import (
 	"os/exec"
 	"path/filepath"
 	"runtime"
+	"strconv"
 	"strings"
 	"syscall"
 	"time"
@@ -63,6 +64,9 @@ func (p *place) begin(asked options) []string {
 	words := []string{"part", "--begin"}
 	if asked.rescan {
 		words = append(words, "--rescan")
+	}
+	if asked.hasJobs {
+		words = append(words, "--jobs", strconv.Itoa(asked.jobs))
 	}
 	return p.words(append(words, p.about(asked)...), asked)
 }
