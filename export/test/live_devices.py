@@ -416,7 +416,7 @@ cd "{room}/$machine/user" && HOME=$PWD PATH={programs}:$PATH exec sh -c "$*"
     def test_commands_are_told(self):
         ran = self.run_on("--dry-run", "--folder", FOLDER, "--jobs", "1")
         self.assertEqual(ran.returncode, 0, ran.stderr)
-        self.assertIn(f"ssh one 'syncthing-audit part --begin --jobs 1 --folder {FOLDER} -o -' > one.begin\n", ran.stdout)
+        self.assertIn(f"ssh one 'nice -n 19 syncthing-audit part --begin --jobs 1 --folder {FOLDER} -o -' > one.begin\n", ran.stdout)
         self.assertIn(f"ssh two 'syncthing-audit part --end --tokens - --leave-out absent --home {self.two.home} --folder {FOLDER} -o -'"
                       " < tokens > two.end\n", ran.stdout)
 

@@ -59,6 +59,9 @@ func (p *place) label() string {
 	return strings.Trim(strings.ReplaceAll(filepath.Clean(p.home), "/", "-"), "-")
 }
 
+// gently has a command take no more of a machine than others leave: the devices' own work goes before the hashing.
+var gently = []string{"nice", "-n", "19"}
+
 // begin gives the command of the first look.
 func (p *place) begin(asked options) []string {
 	words := []string{"part", "--begin"}
@@ -68,12 +71,12 @@ func (p *place) begin(asked options) []string {
 	if asked.hasJobs {
 		words = append(words, "--jobs", strconv.Itoa(asked.jobs))
 	}
-	return p.words(append(words, p.about(asked)...), asked)
+	return p.words(gently, append(words, p.about(asked)...), asked)
 }
 
 // end gives the command of the second look. Whose first looks it comes after is judged by the one who joins all.
 func (p *place) end(asked options) []string {
-	return p.words(append([]string{"part", "--end", "--tokens", "-", "--leave-out", part.Absent}, p.about(asked)...), asked)
+	return p.words(nil, append([]string{"part", "--end", "--tokens", "-", "--leave-out", part.Absent}, p.about(asked)...), asked)
 }
 
 // about gives the words that both looks have.
@@ -91,12 +94,12 @@ func (p *place) about(asked options) []string {
 	return append(words, "-o", "-")
 }
 
-// words gives a command: here this program, elsewhere the one that ssh is to run, as one word for its shell.
-func (p *place) words(words []string, asked options) []string {
+// words gives a command behind other words: here this program, elsewhere the one that ssh is to run, as one word for its shell.
+func (p *place) words(before, words []string, asked options) []string {
 	if p.host == "" {
-		return append([]string{p.self}, words...)
+		return append(append(before[:len(before):len(before)], p.self), words...)
 	}
-	return []string{"ssh", p.host, quotedWords(append([]string{asked.remote}, words...))}
+	return []string{"ssh", p.host, quotedWords(append(append(before[:len(before):len(before)], asked.remote), words...))}
 }
 
 // run runs a command with what it reads, has what it writes go into a file, and gives what it says on standard error.
