@@ -148,6 +148,7 @@ fi
 
 . tests/around/place.sh
 . tests/around/choosing.sh
+. tests/around/waiting.sh
 . tests/around/building.sh
 . tests/around/installing.sh
 

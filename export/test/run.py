@@ -26,7 +26,7 @@ CLASSES = [("rot", "BlockSizes"), ("large_folders", "LargeFiles"), ("large_folde
            ("live_devices", "LiveWriter"), ("live_devices", "LiveReceiver"), ("live_devices", "LiveDevices"), ("live_devices", "LiveRun"),
            ("two_devices", "Conflict"), ("two_devices", "TwoDevices"), ("two_devices", "SendOnly"),
            ("two_devices", "ReceiveOnly"), ("three_devices", "Chain"), ("three_devices", "ThreeDevices"),
-           ("rot", "RotInManyBlocks"), ("rot", "RotWithAnotherMode"), ("manners", "Manners")]
+           ("rot", "RotInManyBlocks"), ("rot", "RotWithAnotherMode"), ("manners", "Manners"), ("nightly", "Nightly"), ("spread", "Spread")]
 # The classes and Go's tests.
 ALL = len(CLASSES) + 1
 SIDE_BY_SIDE = 4
@@ -118,6 +118,7 @@ def run_class(module, name, environment, deadline):
         return 0, 0, 1, {"the time is over"}
     status, said = run_until(deadline + SECONDS_OF_A_CASE, [sys.executable, HERE / f"{module}.py", "-v", name],
                              env=environment)
+    print(*re.findall(r"NOTE: .*$", said, re.MULTILINE), sep="\n", end="\n" if "NOTE: " in said else "")
     skipped = set(re.findall(r"\.\.\. skipped ['\"](.*)['\"]$", said, re.MULTILINE))
     if status == 0:
         return *count_of(said), skipped

@@ -1,0 +1,161 @@
+#!/usr/bin/env python3
+"""The nightly audit of contrib/: the command of its service as it stands there, with stand-ins for systemctl and sendmail.
+Homes and indexes are written by Syncthing's own packages, and no device runs.
+
+    export/test/nightly.py
+"""
+
+import os
+import re
+import shutil
+import socket
+import subprocess
+import tempfile
+import unittest
+from pathlib import Path
+
+from exporting import PROGRAM, auditor, built, is_over, main, run
+from large_folders import rot
+
+CONTRIB = Path(__file__).resolve().parents[2] / "contrib"
+SERVICE = CONTRIB / "systemd" / "syncthing-audit.service"
+# It notes what it is asked, and a unit runs where 'running' is there; 'stop' and 'start' fail where 'stuck' is there.
+SYSTEMCTL = '''#!/bin/sh
+cd "$(dirname "$0")" || exit
+echo "$*" >> asked
+case "$3" in
+  is-active) test -e running ;;
+  *) test ! -e stuck ;;
+esac
+'''
+SENDMAIL = '''#!/bin/sh
+cat >> "$(dirname "$0")/mails"
+'''
+
+
+class Nightly(unittest.TestCase):
+    """Two devices in step, the first of which audits; each case has a user's home of its own."""
+
+    @classmethod
+    def setUpClass(cls):
+        if is_over():
+            raise unittest.SkipTest("the time is over")
+        room = tempfile.TemporaryDirectory(prefix="syncthing-audit-test-")
+        cls.addClassCleanup(room.cleanup)
+        cls.room = Path(room.name)
+        cls.programs = built(cls.room)
+        run([cls.programs / "sample", "--files", "20", "--bytes", "100", cls.room / "made"], check=True)
+        cls.homes = [cls.room / "made" / f"device{number}" / "home" for number in (1, 2)]
+
+    def setUp(self):
+        if is_over():
+            self.skipTest("the time is over")
+        self.user = Path(tempfile.mkdtemp(dir=self.room))
+        self.tools, self.metrics = self.user / ".local/bin", self.user / "metrics.prom"
+        self.parts = self.user / ".local/state/syncthing-audit"
+        self.tools.mkdir(parents=True)
+        self.parts.mkdir(parents=True)
+        for name, text in (("systemctl", SYSTEMCTL), ("sendmail", SENDMAIL)):
+            (self.tools / name).write_text(text)
+            (self.tools / name).chmod(0o755)
+        shutil.copy(CONTRIB / "syncthing-audit-nightly", self.tools)
+        (self.tools / PROGRAM).symlink_to(self.programs / PROGRAM)
+        (self.tools / "running").touch()
+
+    def part_of_the_other(self):
+        """Has the second device's part come."""
+        run([self.programs / PROGRAM, "part", "--home", self.homes[1], "-o", self.parts / "other.part"], check=True)
+
+    def run_service(self, **settings):
+        """Runs the command of the unit, as systemd would; gives its status and what it prints."""
+        command, = re.findall(r"^ExecStart=(.*)$", SERVICE.read_text(), re.MULTILINE)
+        environment = {"HOME": str(self.user), "PATH": f"{self.tools}:{os.environ['PATH']}", "SYNCAUDIT": auditor(),
+                       "SYNCTHING_HOME": str(self.homes[0]), "MAIL_TO": "me@example.org", "METRICS": str(self.metrics), **settings}
+        ran = run([command.replace("%h", str(self.user))], env=environment)
+        return ran.returncode, ran.stdout
+
+    def told(self, name):
+        """What a stand-in noted."""
+        path = self.tools / name
+        return path.read_text() if path.exists() else ""
+
+    def test_in_step(self):
+        self.part_of_the_other()
+        status, text = self.run_service()
+        self.assertEqual((status, text.splitlines()[0][:22]), (0, "docs: in step; 21 name"), text)
+        self.assertEqual(self.told("mails"), "")
+        self.assertEqual([line.split()[2:] for line in self.told("asked").splitlines()],
+                         [["is-active", "syncthing.service"], ["stop", "syncthing.service"], ["start", "syncthing.service"]])
+        metrics = self.metrics.read_text()
+        for line in ("syncthing_audit_status 0", 'syncthing_audit_names_wrong{folder="docs"} 0', 'syncthing_audit_names{folder="docs"} 21'):
+            self.assertIn(line, metrics.splitlines())
+        self.assertEqual(len(re.findall(r'^syncthing_audit_part_timestamp_seconds\{device="[-A-Z2-7]+",name="device[12]"\} \d+$',
+                                        metrics, re.MULTILINE)), 2)
+
+    def test_rot_is_mailed(self):
+        self.part_of_the_other()
+        undo = rot(self.room / "made/device1/files/00000/07.bin", 5)
+        try:
+            status, text = self.run_service()
+        finally:
+            undo()
+        self.assertEqual(status, 1)
+        mail = self.told("mails")
+        self.assertTrue(mail.startswith(f"To: me@example.org\nSubject: syncthing-audit on {socket.gethostname()}: NOT in step\n"), mail)
+        self.assertIn("\n00000/07.bin  (in docs, 100 bytes)\n  device1: other bytes on the disk", mail)
+        self.assertIn('syncthing_audit_names_wrong{folder="docs"} 1', self.metrics.read_text())
+
+    def test_a_part_that_stayed_away(self):
+        """Without the other part there is no answer; with an old one the age is told, though all is in step."""
+        status, _ = self.run_service()
+        self.assertEqual(status, 2)
+        self.assertIn("no home or part of it is given", self.told("mails"))
+        self.assertNotIn("names_wrong", self.metrics.read_text())
+        self.part_of_the_other()
+        status, text = self.run_service(HOURS="-1")
+        self.assertEqual(status, 2)
+        self.assertEqual(len(re.findall(r"^the part of device[12] is -?0 hours old: ", text, re.MULTILINE)), 2)
+        self.assertIn(": in step, and a part is too old\n", self.told("mails"))
+
+    def test_syncthing_is_started_again_whatever_happens(self):
+        status, text = self.run_service(SYNCTHING_HOME=str(self.user))
+        self.assertEqual(status, 2)
+        self.assertIn("is this a Syncthing home?", self.told("mails"))
+        self.assertEqual(self.told("asked").splitlines()[-1].split()[-2:], ["start", "syncthing.service"])
+
+    def test_syncthing_that_did_not_run_is_not_started(self):
+        (self.tools / "running").unlink()
+        self.part_of_the_other()
+        self.assertEqual(self.run_service()[0], 0)
+        self.assertEqual([line.split()[2] for line in self.told("asked").splitlines()], ["is-active"])
+
+    def test_syncthing_that_cannot_be_stopped(self):
+        (self.tools / "stuck").touch()
+        status, _ = self.run_service()
+        self.assertEqual(status, 2)
+        self.assertIn("syncthing.service can't be stopped", self.told("mails"))
+        self.assertEqual(list(self.parts.glob("*.part")), [])
+
+    def test_a_device_that_only_sends_its_part(self):
+        there = self.user / "there"
+        there.mkdir()
+        self.assertEqual(self.run_service(SEND=f'cp "$PART" {there}')[0], 0)
+        self.assertEqual([path.name for path in there.iterdir()], [f"{socket.gethostname()}.part"])
+        self.assertNotIn("syncthing_audit_status", self.metrics.read_text())
+        self.assertEqual(self.run_service(SEND="false")[0], 2)
+        self.assertIn("this device's part wasn't sent: status 1", self.told("mails"))
+
+    def test_the_units_are_units(self):
+        if not shutil.which("systemd-analyze"):
+            self.skipTest("systemd-analyze isn't installed")
+        units = self.user / ".config/systemd/user"
+        units.mkdir(parents=True)
+        for path in (CONTRIB / "systemd").iterdir():
+            shutil.copy(path, units)
+        ran = subprocess.run(["systemd-analyze", "--user", "verify", "--man=no", *units.iterdir()], capture_output=True, text=True,
+                             env={"HOME": str(self.user), "PATH": os.environ["PATH"], "XDG_RUNTIME_DIR": str(self.user)})
+        self.assertEqual((ran.returncode, ran.stderr), (0, ""))
+
+
+if __name__ == "__main__":
+    main()
