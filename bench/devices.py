@@ -1,11 +1,12 @@
 #!/usr/bin/env python3
-"""How fast real folders are audited: hashing beside sha256sum, and the join of many names.
+"""How fast real folders are audited: hashing beside sha256sum, the join of many names, and folders in which all is wrong.
 
-    bench/devices.py [--auditor FILE] [--runs N] [--room DIR] [hash | join]
+    bench/devices.py [--auditor FILE] [--runs N] [--room DIR] [hash | join | wrong]
 
 'hash' audits two devices with 3.2 GB in 800 files, beside `sha256sum` of all of them on as many cores. 'join' audits
-three devices with 10,000, 30,000 and 100,000 names by their parts, and says what 1,000,000 would take. Without a word
-both are done. Homes, indexes and parts are made by Syncthing's own packages, with no device running.
+three devices with 10,000, 30,000 and 100,000 names by their parts, and says what 1,000,000 would take. 'wrong' audits
+three devices with 100,000 and 300,000 names, each of which is rotten on one of them, and says whether memory stays under
+300 MB. Without a word all are done. Homes, indexes and parts are made by Syncthing's own packages, with no device running.
 """
 
 import argparse
@@ -23,6 +24,9 @@ BUILT = TOP / "crates/syncaudit/out/syncaudit"
 DEVICES, FILES, BYTES = 2, 400, 4_000_000
 SIZES = (10_000, 30_000, 100_000)
 ESTIMATED = 1_000_000
+WRONG = (100_000, 300_000)
+MOST_MEMORY = 300
+NOT_IN_STEP = 1
 
 
 def build(room):
@@ -42,9 +46,9 @@ def measured(words, statuses=(0,)):
     return time.monotonic() - began, used.ru_utime + used.ru_stime, used.ru_maxrss / 1024
 
 
-def best(runs, words):
+def best(runs, words, statuses=(0,)):
     """The quickest of some runs."""
-    return min(measured(words) for _ in range(runs))
+    return min(measured(words, statuses) for _ in range(runs))
 
 
 def sample(room, *words):
@@ -88,23 +92,37 @@ def measure_joining(room, asked):
           f"(of {SIZES[1]:,} names a straight line has {middle:.2f} s)")
 
 
+def measure_wrong(room, asked):
+    """Three devices by their parts, one of which has other bytes in each file; in each form of the answer."""
+    for names in WRONG:
+        folder = room / f"wrong{names}"
+        sample(room, "--parts", "--rotten", "--devices", 3, "--files", names, "--bytes", 300_000, folder)
+        parts = sorted(folder.glob("*.part"))
+        for form in ("summary", "--lines", "--json"):
+            words = [room / PROGRAM, "check", *parts, "--syncaudit", asked.auditor] + [form] * (form != "summary")
+            figures = best(asked.runs, words, (NOT_IN_STEP,))
+            tell(f"audit of {names:,} rotten names, {form}", figures)
+            if figures[2] > MOST_MEMORY:
+                sys.exit(f"this is over {MOST_MEMORY} MB")
+
+
 def main():
     parser = argparse.ArgumentParser(description=__doc__.splitlines()[0])
-    parser.add_argument("what", nargs="?", choices=("hash", "join"))
+    parser.add_argument("what", nargs="?", choices=("hash", "join", "wrong"))
     parser.add_argument("--auditor", default=os.environ.get("SYNCAUDIT", BUILT))
     parser.add_argument("--runs", type=int, default=3)
     parser.add_argument("--room", default=None, help="where samples are made: 'hash' takes 3.3 GB there")
     asked = parser.parse_args()
     if not shutil.which(asked.auditor):
         sys.exit(f"{asked.auditor} isn't there: ./syncaudit builds it, or --auditor names another")
+    print(f"load {os.getloadavg()[0]:.1f} on {os.cpu_count()} processors when this begins")
     print(f"{'':44} {'seconds':>10} {'processor':>10} {'memory':>9}")
     with tempfile.TemporaryDirectory(prefix="syncthing-audit-bench-", dir=asked.room) as made:
         room = Path(made)
         build(room)
-        if asked.what != "join":
-            measure_hashing(room, asked)
-        if asked.what != "hash":
-            measure_joining(room, asked)
+        for word, measure in (("hash", measure_hashing), ("join", measure_joining), ("wrong", measure_wrong)):
+            if asked.what in (None, word):
+                measure(room, asked)
 
 
 if __name__ == "__main__":

@@ -1,6 +1,7 @@
 #!/usr/bin/env python3
 """write_reference.py: writes docs/reference/ by the comments of the crates: a page for each crate, with its calls and the names
-of their contracts' clauses, its laws and its definitions, and names.md, which says where each name stands.
+of their contracts' clauses, its laws and its definitions; names.md, which says where each name stands; and headline.md, which
+lists what the two headlines rest on.
 
 tests/reference.py says which pages aren't what this would write.
 """
@@ -13,6 +14,7 @@ TOP = HERE.parent
 sys.path.insert(0, str(HERE / "generate"))
 
 from definitions import definitions  # noqa: E402
+from headline import Page  # noqa: E402
 from rust import items, module_comment, program_names, public_names  # noqa: E402
 
 PAGES = HERE / "reference"
@@ -82,7 +84,8 @@ def page(crate):
 
 OVERVIEW = """# Reference
 
-What the comments of the crates say, crate by crate, lowest first. [names.md](names.md) says where each name stands.
+What the comments of the crates say, crate by crate, lowest first. [names.md](names.md) says where each name stands,
+[headline.md](headline.md) what the two headlines rest on.
 
 Of a call the names of its contract's clauses are given; the clauses themselves stand above its body. A clause without a
 name is `ensures`, and `requires` is what a caller must meet. A law is a call that does nothing: its contract holds of
@@ -121,7 +124,8 @@ def pages():
             made[f"{crate}.md"] = text
             told.append((crate, first_paragraph(read(crate)[0])))
             places += [(name, crate, file) for name, file in names]
-    return made | {"README.md": overview(told), "names.md": name_list(places)}
+    headlines = Page(TOP / "crates", linked).text()
+    return made | {"README.md": overview(told), "names.md": name_list(places), "headline.md": headlines}
 
 
 def check(count, made):

@@ -1,7 +1,7 @@
 #!/usr/bin/env bash
 # pieces.sh PROGRAM: runs the built program on check documents that are put together of pieces, many of which differ in one
 # piece, and compares what it tells. The rows stand in the scripts of pieces/. What is due was worked out by hand, by
-# docs/DOCUMENTS.md; a hash is that of 'sha256sum'. The last line is 'N passed, M failed'.
+# docs/documents.md; a hash is that of 'sha256sum'. The last line is 'N passed, M failed'.
 # shellcheck disable=SC2034 # the files of pieces/ use the pieces
 set -euo pipefail
 program=$(readlink -m "$1")

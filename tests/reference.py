@@ -3,6 +3,7 @@
 of them. The last line is 'N passed, M failed'."""
 
 import sys
+import tempfile
 from pathlib import Path
 
 from counting import Count
@@ -11,6 +12,7 @@ DOCS = Path(__file__).resolve().parents[1] / "docs"
 sys.path[1:1] = [str(DOCS), str(DOCS / "generate")]
 
 from definitions import definitions  # noqa: E402
+from reading import Specs, clause  # noqa: E402
 from rust import exported, items, module_comment  # noqa: E402
 from write_reference import check, pages  # noqa: E402
 
@@ -84,6 +86,50 @@ pub mod Inner
 """
 
 
+LOWER = """-- A number.
+use Rattle.std.specs.Prelude.{ℕ}
+
+-- it is small
+abbrev pub IsSmall : ℕ → Type 0
+IsSmall n = n < most
+
+most : ℕ
+most = 3
+
+abbrev pub IsUnused : ℕ → Type 0
+IsUnused n = IsSmall n
+"""
+
+UPPER = """use Rattle.lower.specs.Number.{IsSmall, IsUnused}
+use Rattle.lower.specs.declared.kind.Kind.{Kind}
+
+infix 5 ◌of◌
+abbrev pub ◌of◌ : Kind → ℕ → Type 0
+kind of n = IsSmall n
+"""
+
+CALLER = """ghost use Rattle.upper.specs.Kinds.{◌of◌};
+ghost use Rattle.lower.specs.Number.{IsUnused};
+
+pub fn other()
+    ensures kept { IsUnused 1 }
+
+pub fn call<'a>(n: u64)
+    ensures kept { kind of n }
+"""
+
+
+def reading_list():
+    """What a clause rests on: the definitions of each file, and the files of plain types."""
+    with tempfile.TemporaryDirectory() as top:
+        for crate, module, text in [("lower", "Number", LOWER), ("upper", "Kinds", UPPER)]:
+            file = Path(top) / crate / "specs" / f"{module}.antt"
+            file.parent.mkdir(parents=True)
+            file.write_text(text)
+        found, types = Specs(Path(top)).closure(clause(CALLER, "call", "kept"))
+    return {place: [name for block in blocks for name in block.names] for place, blocks in found.items()}, types
+
+
 def found_items():
     """What is read of a source file: names, heads, clauses, and what is public or a law."""
     return [(item.full_name, item.head, item.comment, item.clauses, item.is_law) for item in items(SOURCE) if item.is_public]
@@ -112,6 +158,8 @@ def main():
     expect("the head of definitions", ["What holds of them.", "In two lines."], head)
     expect("definitions", [("IsSmall", ["it is small"]), ("Pair", []), ("twice", [])],
            [(one.name, one.comment) for one in found])
+    expect("what a clause rests on", ({("upper", "Kinds"): ["◌of◌"], ("lower", "Number"): ["IsSmall", "most"]}, {("lower", "kind")}),
+           reading_list())
     check(count, pages())
     return count.told()
 

@@ -1,7 +1,7 @@
 #!/usr/bin/env python3
 """steps.py PROGRAM: runs the built program on scenarios that are put together of pieces, and compares what it tells, and
 what the document of their end says. The rows stand in pieces/runs.py and pieces/devices.py. What is due was worked out by
-hand, by docs/DOCUMENTS.md. The last line is 'N passed, M failed'."""
+hand, by docs/documents.md. The last line is 'N passed, M failed'."""
 
 import os
 import sys

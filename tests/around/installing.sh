@@ -4,7 +4,7 @@
 release_of release
 rm -rf "$place/out/built"
 mkdir -p "$place/docs"
-cp docs/DOCUMENTS.md docs/*.schema.json docs/*.1 "$place/docs"
+cp docs/documents.md docs/reasons.md docs/*.schema.json docs/*.1 "$place/docs"
 cp -r completions examples "$place"
 
 # The examples that the help of a command or the man page names.
@@ -25,7 +25,7 @@ files=(bin/syncaudit share/man/man1/syncaudit.1 share/man/man1/syncthing-audit.1
   share/zsh/site-functions/_syncaudit share/fish/vendor_completions.d/syncaudit.fish
   share/bash-completion/completions/syncthing-audit share/zsh/site-functions/_syncthing-audit
   share/fish/vendor_completions.d/syncthing-audit.fish
-  share/doc/syncaudit/DOCUMENTS.md share/doc/syncaudit/check-document.schema.json
+  share/doc/syncaudit/documents.md share/doc/syncaudit/reasons.md share/doc/syncaudit/check-document.schema.json
   share/doc/syncaudit/explanation.schema.json share/doc/syncaudit/scenario.schema.json
   share/doc/syncaudit/audit.schema.json)
 mapfile -O "${#files[@]}" -t files < <(examples_named | sed 's,^,share/doc/syncaudit/,')

@@ -31,6 +31,7 @@ type command func(words []string, output, log io.Writer) (int, error)
 var commands = map[string]command{"part": runPart, "check": runCheck, "run": runRun, "export": runExport, "sum": runSum}
 
 func main() {
+	limitMemory()
 	leftover.WatchSignals()
 	output, err := takeStandardOutput()
 	if err != nil {

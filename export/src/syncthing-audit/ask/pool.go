@@ -12,6 +12,8 @@ type Pool struct {
 	asked   chan *document.Document
 	workers sync.WaitGroup
 	mutex   sync.Mutex
+	changed *sync.Cond
+	most    int // how many documents may be asked beyond the one whose reply is due: each is in memory
 	take    func(*document.Document, *Reply)
 	next    int              // the place of the document whose reply is due
 	early   map[int]answered // by their documents' places
@@ -24,9 +26,13 @@ type answered struct {
 	reply    *Reply
 }
 
+// ahead is how many documents there are for each worker at most, while an earlier one's reply is waited for.
+const ahead = 3
+
 // NewPool starts so many workers; each reply is given to take, one at a time, in the order of the documents' places.
 func NewPool(program Program, workers int, take func(*document.Document, *Reply)) *Pool {
-	made := &Pool{program: program, asked: make(chan *document.Document), take: take, early: map[int]answered{}}
+	made := &Pool{program: program, asked: make(chan *document.Document), most: ahead * workers, take: take, early: map[int]answered{}}
+	made.changed = sync.NewCond(&made.mutex)
 	for next := 0; next < workers; next++ {
 		made.workers.Add(1)
 		go made.work()
@@ -50,6 +56,7 @@ func (p *Pool) work() {
 func (p *Pool) put(one answered, err error) {
 	p.mutex.Lock()
 	defer p.mutex.Unlock()
+	defer p.changed.Broadcast()
 	if err != nil {
 		if p.err == nil {
 			p.err = err
@@ -75,9 +82,15 @@ func (p *Pool) failed() error {
 	return p.err
 }
 
-// Ask has a document answered to, once a worker is free.
+// Ask has a document answered to, once a worker is free and not too many replies wait for an earlier one.
 func (p *Pool) Ask(one *document.Document) error {
-	if err := p.failed(); err != nil {
+	p.mutex.Lock()
+	for p.err == nil && one.Place-p.next >= p.most {
+		p.changed.Wait()
+	}
+	err := p.err
+	p.mutex.Unlock()
+	if err != nil {
 		return err
 	}
 	p.asked <- one

@@ -4,6 +4,7 @@ import (
 	"os"
 	"path/filepath"
 	"reflect"
+	"sync/atomic"
 	"testing"
 
 	"syncthing-audit/document"
@@ -46,5 +47,35 @@ func TestOneFailureEndsAll(t *testing.T) {
 case $1 in certify) echo "$text";; *) echo settled; echo "folder docs: 1 names, 0 deleted, 2 devices";; esac`)
 	if places, err := answersOf(program, 8); err == nil {
 		t.Errorf("%v without an error", places)
+	}
+}
+
+// While the first document's reply is waited for, no more documents are taken than memory has room for.
+func TestRepliesThatWaitAreFew(t *testing.T) {
+	const workers, count = 2, 30
+	allowed := filepath.Join(t.TempDir(), "allowed")
+	program := aProgram(t, `read -r text; case $1$text in certify0) while [ ! -e '`+allowed+`' ]; do sleep 0.1; done; sleep 1;; esac
+case $1 in certify) echo "$text";; *) echo settled; echo "folder docs: 1 names, 0 deleted, 2 devices";; esac`)
+	var asked, before int64
+	pool := NewPool(program, workers, func(one *document.Document, _ *Reply) {
+		if one.Place == 0 {
+			before = atomic.LoadInt64(&asked)
+		}
+	})
+	for place := 0; place < count; place++ {
+		if place == ahead*workers {
+			os.WriteFile(allowed, nil, 0o600)
+		}
+		text := "0"
+		if place > 0 {
+			text = "1"
+		}
+		if err := pool.Ask(&document.Document{Folder: "docs", Place: place, Written: []byte(text)}); err != nil {
+			t.Fatal(err)
+		}
+		atomic.AddInt64(&asked, 1)
+	}
+	if err := pool.Close(); err != nil || before != ahead*workers {
+		t.Errorf("%d documents were asked before the first one's reply: %v", before, err)
 	}
 }

@@ -85,51 +85,64 @@ func (b *byName) next() *Failure {
 	return &Failure{b.reason, next.Name, next.Device}
 }
 
+// names goes through all names of which something is told.
+type names struct {
+	failures    [reasons]*spill.Cursor[failed]
+	unwon       *spill.Cursor[Unwon]
+	permissions *spill.Cursor[Permissions]
+}
+
 // EachName gives all names of which something is told to take, rising.
 func (f *Folder) EachName(take func(*Told)) {
-	var failures [reasons]*spill.Cursor[failed]
-	for place := range failures {
-		failures[place] = f.Failures.byReason[place].Read()
+	all := &names{unwon: f.Unwon.Read(), permissions: f.Permissions.Read()}
+	for place := range all.failures {
+		all.failures[place] = f.Failures.byReason[place].Read()
 	}
-	unwon, permissions := f.Unwon.Read(), f.Permissions.Read()
-	for {
-		made := &Told{}
-		is := false
-		least := func(name string) {
-			if !is || name < made.Name {
-				made.Name, is = name, true
-			}
-		}
-		for _, one := range failures {
-			if next := one.Peek(); next != nil {
-				least(next.Name)
-			}
-		}
-		if next := unwon.Peek(); next != nil {
-			least(next.Name)
-		}
-		if next := permissions.Peek(); next != nil {
-			least(next.Name)
-		}
-		if !is {
-			return
-		}
-		for place, one := range failures {
-			for next := one.Peek(); next != nil && next.Name == made.Name; next = one.Peek() {
-				made.Failures = append(made.Failures, Failure{Reasons[place], next.Name, next.Device})
-				one.Take()
-			}
-		}
-		if next := unwon.Peek(); next != nil && next.Name == made.Name {
-			made.Unwon = next
-			unwon.Take()
-		}
-		if next := permissions.Peek(); next != nil && next.Name == made.Name {
-			made.Permissions = next
-			permissions.Take()
-		}
-		take(made)
+	for name, is := all.least(); is; name, is = all.least() {
+		take(all.take(name))
 	}
+}
+
+// least gives the least name that is still to come.
+func (n *names) least() (string, bool) {
+	least, is := "", false
+	see := func(name string) {
+		if !is || name < least {
+			least, is = name, true
+		}
+	}
+	for _, one := range n.failures {
+		if next := one.Peek(); next != nil {
+			see(next.Name)
+		}
+	}
+	if next := n.unwon.Peek(); next != nil {
+		see(next.Name)
+	}
+	if next := n.permissions.Peek(); next != nil {
+		see(next.Name)
+	}
+	return least, is
+}
+
+// take takes all that is told of a name.
+func (n *names) take(name string) *Told {
+	made := &Told{Name: name}
+	for place, one := range n.failures {
+		for next := one.Peek(); next != nil && next.Name == name; next = one.Peek() {
+			made.Failures = append(made.Failures, Failure{Reasons[place], next.Name, next.Device})
+			one.Take()
+		}
+	}
+	if next := n.unwon.Peek(); next != nil && next.Name == name {
+		made.Unwon = next
+		n.unwon.Take()
+	}
+	if next := n.permissions.Peek(); next != nil && next.Name == name {
+		made.Permissions = next
+		n.permissions.Take()
+	}
+	return made
 }
 
 // Err says why what was found of a folder isn't whole, if so.

@@ -1,0 +1,114 @@
+#!/usr/bin/env python3
+"""pages.py: says whether the pages that are written by hand fit one another and the code: each link leads to a file and a
+heading, developing.md has each crate on its map, the functions on its three ways are there, and its counts are theirs;
+trust.md names each law of the reference, and nothing that isn't there; documents.md has the schemas' members and the numbers
+of refusals, and reasons.md the reasons (documented.py). The last line is 'N passed, M failed'."""
+
+import re
+import sys
+from itertools import groupby
+from pathlib import Path
+
+import documented
+from counting import Count
+
+TOP = Path(__file__).resolve().parents[1]
+PAGES = [*sorted(TOP.glob("docs/*.md")), *sorted(TOP.glob("*.md")),
+         *(TOP / folder / "README.md" for folder in ("bench", "compare", "contrib", "examples", "export", "tests"))]
+LINK = re.compile(r"\]\(([^)\s]+)\)")
+CODE = re.compile(r"^```.*?^```|`[^`\n]*`", re.MULTILINE | re.DOTALL)
+STEP = re.compile(r"`([\w/]+\.rt):(\w+)`")
+
+
+def anchors(page):
+    """The names by which a page's headings are linked."""
+    titles = re.findall(r"^#+ (.*)$", re.sub(r"^```.*?^```", "", page.read_text(), flags=re.MULTILINE | re.DOTALL), re.MULTILINE)
+    return {re.sub(r"[^\w\- ]", "", title.lower()).replace(" ", "-") for title in titles}
+
+
+def broken(page, link):
+    """Why a link leads nowhere, if so; what lies outside the repository isn't looked at."""
+    if re.match(r"[a-z]+:", link):
+        return ""
+    path, _, anchor = link.partition("#")
+    target = (page.parent / path).resolve() if path else page
+    if not target.exists():
+        return "there is no such file"
+    return "" if not anchor or anchor in anchors(target) else "there is no such heading"
+
+
+def rows(text):
+    """The cells of the rows of a text's tables."""
+    return [[cell.strip() for cell in line.strip("| ").split("|")] for line in text.splitlines() if line.startswith("|")]
+
+
+def ways(text):
+    """The three ways: the title of each, its steps as crate, file and function, and what the page counts."""
+    for part in text.split("\n### ")[1:]:
+        steps = [(row[0], *step) for row in rows(part) for step in STEP.findall(row[1])]
+        yield part.splitlines()[0], steps, re.search(r"^(\d+) files in (\d+) crates, (\d+) hops", part, re.MULTILINE)
+
+
+def counted(steps):
+    """How many files and crates a way has, and how often it goes from one crate to another."""
+    crates = [crate for crate, _ in groupby(step[0] for step in steps)]
+    return str(len({step[:2] for step in steps})), str(len(set(crates))), str(len(crates) - 1)
+
+
+def missing(crate, file, function):
+    """What isn't there of a step, if something isn't."""
+    path = TOP / "crates" / crate / "src" / file
+    if not path.exists():
+        return "there is no such file"
+    return "" if re.search(rf"\bfn {function}\b", path.read_text()) else "the file has no such function"
+
+
+def laws(page):
+    """The laws that a page of the reference lists, but the small cuts on which definitions are tried out."""
+    for part in page.read_text().partition("## Laws\n")[2].partition("\n## ")[0].split("\n### ")[1:]:
+        if not part.startswith("[examples.rt]"):
+            yield from re.findall(r"^- `(\w+)`", part, re.MULTILINE)
+
+
+def names(text):
+    """The names in a text, each without its type."""
+    return {name.rpartition("::")[2] for name in re.findall(r"`(?:fn )?([A-Za-z_][\w:]*)\b[^`]*`", text)}
+
+
+def check_trust(count, crates):
+    """Counts which laws trust.md has, and which names of it are known."""
+    reference = sorted((TOP / "docs/reference").glob("*.md"))
+    told = set(re.findall(r"`(?:\w+::)?(\w+)`", (TOP / "docs/trust.md").read_text()))
+    for page in reference:
+        for law in laws(page):
+            count.says(f"docs/trust.md: {law} of {page.stem}", "" if law in told else "it isn't named")
+    known = {*crates, "bep_log", "bep_run"}.union(*(names(page.read_text()) for page in reference))
+    for name in sorted(told):
+        count.says(f"docs/trust.md: {name}", "" if name in known else "the reference has no such name")
+
+
+def main():
+    count = Count("pages")
+    for page in PAGES:
+        for link in sorted(set(LINK.findall(CODE.sub("", page.read_text())))):
+            count.says(f"{page.relative_to(TOP)}: {link}", broken(page, link))
+    developing = (TOP / "docs/developing.md").read_text()
+    on_map = [row[0].strip("`") for row in rows(developing)]
+    crates = [line.partition(":")[0] for line in (TOP / "crates.txt").read_text().splitlines() if not line.startswith("#")]
+    for crate in crates:
+        count.says(f"docs/developing.md: {crate}", "" if crate in on_map else "it isn't on the map")
+    check_trust(count, crates)
+    documented.check(count, TOP)
+    found = [way for way in ways(developing) if way[1]]
+    count.says("docs/developing.md: ways", "" if len(found) == 3 else f"{len(found)} are read")
+    for title, steps, told in found:
+        for step in sorted(set(steps)):
+            count.says(f"docs/developing.md: {step}", missing(*step))
+        right = counted(steps)
+        count.says(f"docs/developing.md: {title}", "" if told and told.groups() == right else
+                   f"it has {right[0]} files in {right[1]} crates, {right[2]} hops")
+    return count.told()
+
+
+if __name__ == "__main__":
+    sys.exit(main())
