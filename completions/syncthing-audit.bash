@@ -4,7 +4,8 @@
 # The flags of each command.
 _syncthing_audit_flags() {
   case $1 in
-    part) echo '--home --folder --names --jobs -o --help' ;;
+    part) echo '--home --folder --names --jobs --begin --end --tokens --rescan --leave-out -o --help' ;;
+    run) echo '--folder --names --jobs --leave-out --lines --json --syncaudit --still --rescan --remote-program --dry-run --help' ;;
     check) echo '--home --folder --names --jobs --leave-out --bytes --lines --json --syncaudit --help' ;;
     export) echo '--home --folder --names --jobs --leave-out --bytes --into --help' ;;
     sum) echo '--lines --json --help' ;;
@@ -25,18 +26,18 @@ _syncthing_audit() {
   local command=${COMP_WORDS[1]}
   COMPREPLY=()
   if [ "$COMP_CWORD" = 1 ]; then
-    mapfile -t COMPREPLY < <(compgen -W 'part check export sum --help --version' -- "$word")
+    mapfile -t COMPREPLY < <(compgen -W 'part check run export sum --help --version' -- "$word")
     return
   fi
   case $before in
     --home | --into) mapfile -t COMPREPLY < <(compgen -d -- "$word") ;;
-    --syncaudit | -o) mapfile -t COMPREPLY < <(compgen -f -- "$word") ;;
+    --syncaudit | --tokens | -o) mapfile -t COMPREPLY < <(compgen -f -- "$word") ;;
     --leave-out) mapfile -t COMPREPLY < <(_syncthing_audit_kinds "$word") ;;
-    --folder | --names | --jobs) ;;
+    --folder | --names | --jobs | --still | --remote-program) ;;
     *)
       if [[ $word == -* ]]; then
         mapfile -t COMPREPLY < <(compgen -W "$(_syncthing_audit_flags "$command")" -- "$word")
-      elif [ "$command" = sum ]; then
+      elif [ "$command" = sum ] || [ "$command" = run ]; then
         mapfile -t COMPREPLY < <(compgen -d -- "$word")
       elif [ "$command" = check ] || [ "$command" = export ]; then
         mapfile -t COMPREPLY < <(compgen -f -X '!*.part' -- "$word"; compgen -d -- "$word")

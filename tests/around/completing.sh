@@ -6,7 +6,7 @@ of_audit=(completions/{syncthing-audit.bash,_syncthing-audit,syncthing-audit.fis
 
 # The commands of the man page's synopsis.
 audit_commands() {
-  sed -n 's/^\.B syncthing-audit \([a-z]*\)$/\1/p' "$page"
+  sed -n 's/^\.B syncthing-audit \([a-z]*\)$/\1/p' "$page" | awk '!seen[$0]++'
 }
 
 # The flags of its options, without their dashes.
@@ -21,7 +21,7 @@ audit_kinds() {
 }
 
 expect "the man page of syncthing-audit has other commands: $(audit_commands | paste -sd ' ')" \
-  [ "$(audit_commands | paste -sd ' ')" = 'part check export sum' ]
+  [ "$(audit_commands | paste -sd ' ')" = 'part check run export sum' ]
 expect "too few flags in the man page of syncthing-audit: $(audit_flags | paste -sd ' ')" [ "$(audit_flags | wc -l)" -ge 10 ]
 expect "not twelve kinds in the man page of syncthing-audit" [ "$(audit_kinds | sort -u | wc -l)" = 12 ]
 for file in "${of_audit[@]}"; do
@@ -50,9 +50,11 @@ while IFS='|' read -r words expected; do
   eval "set -- $words"
   expect "bash completes '$words' as '$(completed "$@")', and not as '$expected'" [ "$(completed "$@")" = "$expected" ]
 done << END
-''|--help --version check export part sum
+''|--help --version check export part run sum
 ch|check
-part -|--folder --help --home --jobs --names -o
+part -|--begin --end --folder --help --home --jobs --leave-out --names --rescan --tokens -o
+run --re|--remote-program --rescan
+run $work/ho|$work/homes
 check --l|--leave-out --lines
 export --in|--into
 sum -|--help --json --lines
@@ -72,5 +74,5 @@ if command -v fish > /dev/null 2>&1; then
   offered=$(fish --no-config -c "source completions/syncthing-audit.fish; complete -C 'syncthing-audit check --l'" 2>&1 | cut -f 1 | sort | paste -sd ' ')
   expect "fish completes 'check --l' as '$offered'" [ "$offered" = '--leave-out --lines' ]
   offered=$(fish --no-config -c "source completions/syncthing-audit.fish; complete -C 'syncthing-audit '" 2>&1 | cut -f 1 | sort | paste -sd ' ')
-  expect "fish completes commands as '$offered'" [ "$offered" = 'check export part sum' ]
+  expect "fish completes commands as '$offered'" [ "$offered" = 'check export part run sum' ]
 fi

@@ -3,7 +3,6 @@ package main
 import (
 	"fmt"
 	"io"
-	"os"
 	"sort"
 
 	"golang.org/x/exp/slices"
@@ -11,7 +10,6 @@ import (
 	"syncthing-audit/disk"
 	"syncthing-audit/gather"
 	"syncthing-audit/join"
-	"syncthing-audit/part"
 )
 
 // inputs are the homes and parts that are read, to be closed.
@@ -70,10 +68,8 @@ func (i *inputs) open(asked options) error {
 		i.closers = append(i.closers, home.Close)
 		homes = append(homes, home)
 	}
-	for _, path := range asked.parts {
-		if err := i.openPart(path); err != nil {
-			return fmt.Errorf("%s: %w", path, err)
-		}
+	if err := i.openParts(asked.parts); err != nil {
+		return err
 	}
 	if err := join.CheckWanted(i.labels(homes), asked.folders); err != nil {
 		return fmt.Errorf("refused: %w", err)
@@ -106,24 +102,15 @@ func (i *inputs) labels(homes []*device.Home) map[string]string {
 	return made
 }
 
-// openPart opens a part.
-func (i *inputs) openPart(path string) error {
-	file, err := os.Open(path)
-	if err != nil {
-		return err
+// openParts opens parts; of a device that was looked at twice both are joined.
+func (i *inputs) openParts(paths []string) error {
+	opening := &lookInputs{inputs: i, first: map[string]opened{}, second: map[string]opened{}}
+	for _, path := range paths {
+		if err := opening.openPart(path); err != nil {
+			return fmt.Errorf("%s: %w", path, err)
+		}
 	}
-	i.closers = append(i.closers, func() { file.Close() })
-	if about, err := file.Stat(); err == nil {
-		i.work.toRead += about.Size()
-	}
-	read, err := part.NewReader(counted{file, &i.work.read})
-	if err != nil {
-		return err
-	}
-	ahead := part.NewAhead(read)
-	i.closers = append(i.closers, ahead.Close)
-	i.devices = append(i.devices, join.NewDevice(ahead, path))
-	return nil
+	return opening.join()
 }
 
 // deviceOf opens the indexes of a home's folders: those that are wanted, or all.

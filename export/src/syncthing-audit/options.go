@@ -24,19 +24,31 @@ type options struct {
 	json     bool
 	into     string
 	output   string
+	begin    bool
+	end      bool
+	tokens   []string // files with tokens
+	rescan   bool
+	dryRun   bool
+	still    float64 // seconds
+	remote   string  // how this program is called on other machines
 	program  string
 	jobs     int
+	hasJobs  bool // whether they were asked for
 }
 
 var usage = fmt.Sprintf(`usage: syncthing-audit part [--home DIR] [--folder ID ..] [--names PREFIX] -o FILE
        syncthing-audit check [--home DIR ..] [PART ..] [--folder ID ..]
+       syncthing-audit run [MACHINE:[DIR] | DIR ..] [--folder ID ..]
+       syncthing-audit part (--begin [--rescan] | --end --tokens FILE ..) [--home DIR] [--folder ID ..] -o FILE
        syncthing-audit export [--home DIR ..] [PART ..] --into DIR
        syncthing-audit sum DIR
        syncthing-audit --version
 
-Says whether stopped Syncthing devices are in step, and where not which device is wrong.
+Says whether Syncthing devices are in step, and where not which device is wrong.
 
-  part    reads a device's index and hashes its files, and writes what it found: no file's bytes, no private key
+  part    reads a stopped device's index and hashes its files, and writes what it found: no file's bytes, no private key
+  run     looks twice at devices that run, on other machines by ssh, and has syncaudit answer for what was still meanwhile
+  part --begin, --end  make the two looks one by one: begin on all, end on all, check
   check   joins the parts of all devices that share a folder, and has syncaudit answer
   export  writes the check documents of such an answer, for 'syncaudit certify' and 'syncaudit check'
   sum     joins the answers to exported documents, cut-0001.reply and so on: what 'syncaudit check' and then
@@ -45,6 +57,13 @@ Says whether stopped Syncthing devices are in step, and where not which device i
   --home DIR           a device's home on this machine: config.xml, cert.pem and index-v0.14.0.db
   --folder ID          only this folder (may be given more than once; all folders if it isn't)
   --names PREFIX       only names that begin with these bytes
+  --begin              first look at a device that may run; writes a token to standard output, or error where the part is there
+  --end                second look; needs the tokens of all
+  --tokens FILE        tokens, one on a line; - is standard input
+  --rescan             ask Syncthing for a scan before the first look, by its REST API, and wait for it
+  --still SECONDS      of run: how long second looks wait at least, once first ones are over (10)
+  --remote-program P   of run: how this program is called on the other machines (syncthing-audit)
+  --dry-run            of run: tell the commands
   -o FILE              where the part goes; standard output if it is - or isn't given
   --leave-out KINDS    leave out what can't be audited, by kinds with commas between, and say so:
                        %s
@@ -121,6 +140,7 @@ func readOptions(name string, words []string, flagsOf func(*flag.FlagSet, *optio
 		read.parts = append(read.parts, flags.Arg(0))
 		words = flags.Args()[1:]
 	}
+	flags.Visit(func(one *flag.Flag) { read.hasJobs = read.hasJobs || one.Name == "jobs" })
 	if read.jobs < 1 {
 		return options{}, &wrongUsage{"--jobs is at least 1"}
 	}

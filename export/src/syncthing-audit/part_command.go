@@ -17,34 +17,71 @@ import (
 func runPart(words []string, output, log io.Writer) (int, error) {
 	asked, err := readOptions("part", words, func(flags *flag.FlagSet, read *options) {
 		flags.StringVar(&read.output, "o", "", "")
+		flags.BoolVar(&read.begin, "begin", false, "")
+		flags.BoolVar(&read.end, "end", false, "")
+		flags.BoolVar(&read.rescan, "rescan", false, "")
+		flags.Var((*list)(&read.tokens), "tokens", "")
+		flags.Var(kinds(read.leaveOut), "leave-out", "")
 	})
 	if err != nil {
 		return 0, err
 	}
+	if len(asked.homes) == 0 && (asked.begin || asked.end) {
+		if err := asked.takeDefaultHome(); err != nil {
+			return 0, err
+		}
+	}
 	if len(asked.homes) != 1 || len(asked.parts) > 0 {
 		return 0, &wrongUsage{"a part is made of one --home"}
+	}
+	if err := asked.checkLooks(); err != nil {
+		return 0, err
 	}
 	write, err := whereTo(asked.output, output)
 	if err != nil {
 		return 0, err
 	}
+	switch {
+	case asked.begin:
+		return statusDone, beginPart(asked, write, output, log)
+	case asked.end:
+		return statusDone, endPart(asked, write, log)
+	}
+	return statusDone, onePart(asked, write, log)
+}
+
+// writing writes a part to where it is to go.
+type writing func(func(io.Writer) error) error
+
+// onePart writes the part of a device that is stopped.
+func onePart(asked options, write writing, log io.Writer) error {
 	home, err := device.Open(asked.homes[0])
 	if err != nil {
-		return 0, err
+		return err
 	}
 	defer home.Close()
+	opened, read, err := readHome(home, asked)
+	if err != nil {
+		return err
+	}
+	defer opened.close()
+	defer opened.startProgress(log, asked)()
+	return write(func(to io.Writer) error { return writePart(to, read) })
+}
+
+// readHome opens the folders of a home that are asked for, or all.
+func readHome(home *device.Home, asked options) (*inputs, *gather.Device, error) {
+	if err := checkFolders(home, asked.folders); err != nil {
+		return nil, nil, err
+	}
 	opened := &inputs{pool: disk.NewPool(asked.jobs)}
 	opened.closers = append(opened.closers, opened.pool.Close)
-	defer opened.close()
-	if err := checkFolders(home, asked.folders); err != nil {
-		return 0, err
-	}
 	read, err := opened.deviceOf(home, asked)
 	if err != nil {
-		return 0, err
+		opened.close()
+		return nil, nil, err
 	}
-	defer opened.startProgress(log, asked)()
-	return statusDone, write(func(to io.Writer) error { return writePart(to, read) })
+	return opened, read, nil
 }
 
 // checkFolders says whether a home has no folder, or none with an id that is asked for.
@@ -59,7 +96,7 @@ func checkFolders(home *device.Home, wanted []string) error {
 }
 
 // whereTo gives what writes a part to where it is to go. It says what is wrong with that before files are hashed.
-func whereTo(path string, output io.Writer) (func(func(io.Writer) error) error, error) {
+func whereTo(path string, output io.Writer) (writing, error) {
 	if !standardOutput[path] {
 		to, err := targetOf(path)
 		if err != nil {
@@ -75,12 +112,17 @@ func whereTo(path string, output io.Writer) (func(func(io.Writer) error) error, 
 
 // writePart writes a part.
 func writePart(to io.Writer, read *gather.Device) error {
+	return writeLines(to, read, func(sink part.Sink) part.Sink { return sink })
+}
+
+// writeLines writes a part whose lines go through something else first.
+func writeLines(to io.Writer, read *gather.Device, through func(part.Sink) part.Sink) error {
 	head := read.Head()
 	writer, err := part.NewWriter(to, head)
 	if err != nil {
 		return err
 	}
-	if err := read.Run(head, writer.Take); err != nil {
+	if err := read.Run(head, through(writer.Take)); err != nil {
 		return err
 	}
 	return writer.Close()

@@ -94,6 +94,15 @@ func (c *collector) checkSomething() error {
 	if c.audited > 0 || len(c.answer.Refusals) > 0 {
 		return nil
 	}
+	moving := int64(0)
+	for _, one := range c.answer.Folders {
+		if one.Live != nil {
+			moving += one.Live.Moving
+		}
+	}
+	if moving > 0 {
+		return nothingIsStill(moving)
+	}
 	for _, one := range c.plan.Devices {
 		if one.Head.Prefix != "" && c.names == 0 {
 			return fmt.Errorf("refused: no name begins with %s", shell.Quoted(string(one.Head.Prefix)))
@@ -108,8 +117,8 @@ func (c *collector) folder(folder *join.Folder) error {
 	if c.options.WithBytes {
 		most = limits.MostBytes
 	}
-	next := &names{collector: c, found: &finding.Folder{ID: folder.ID, Label: folder.Label, Members: folder.Members,
-		Rows: map[string]*join.Row{}}, builder: document.NewBuilder(folder, c.options.WithBytes, most)}
+	next := &names{collector: c, folder: folder, found: &finding.Folder{ID: folder.ID, Label: folder.Label, Members: folder.Members,
+		Live: liveOf(folder), Rows: map[string]*join.Row{}}, builder: document.NewBuilder(folder, c.options.WithBytes, most)}
 	c.answer.Folders = append(c.answer.Folders, next.found)
 	var err error
 	if next.found.Bytes, err = folder.Rows(next.row); err != nil {

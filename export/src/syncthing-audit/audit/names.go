@@ -12,6 +12,7 @@ import (
 // names goes through the names of one folder.
 type names struct {
 	*collector
+	folder  *join.Folder
 	found   *finding.Folder
 	builder *document.Builder
 	below   *finding.LeftOut // the directory below which all is left out, if there is one
@@ -27,6 +28,8 @@ func (n *names) row(row *join.Row) error {
 	}
 	switch {
 	case n.isBelow(row):
+	case row.IsMoving():
+		n.addMoving(row)
 	case isOutside(row):
 		n.found.Outside.Add(1, row.Size())
 	case hasOut(row):
@@ -40,6 +43,7 @@ func (n *names) row(row *join.Row) error {
 // audit has a name audited.
 func (n *names) audit(row *join.Row) error {
 	n.audited++
+	n.addUnheard(row)
 	n.addPermissions(row)
 	n.addConflict(row)
 	if !hasWinner(row) && isKnown(row) {

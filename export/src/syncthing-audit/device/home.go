@@ -31,31 +31,57 @@ type Home struct {
 	Dir     string
 	ID      protocol.DeviceID
 	Config  config.Configuration
+	Copied  Copied // of the index of a home whose Syncthing may run
 	lock    *os.File
 	before  listing // the index before it was copied
 	copied  string
+	isLive  bool
 	backend backend.Backend
 	index   *db.Lowlevel
 }
 
 // Open reads and locks a home and opens a copy of its index. Nothing of the home is changed.
 func Open(dir string) (*Home, error) {
-	id, err := readDeviceID(filepath.Join(dir, "cert.pem"))
-	if errors.Is(err, os.ErrNotExist) {
-		return nil, fmt.Errorf("%w: is this a Syncthing home? 'syncthing --paths' says where it is", err)
-	}
+	return openWith(dir, (*Home).openIndex)
+}
+
+// openWith reads a home and has its index opened.
+func openWith(dir string, open func(*Home) error) (*Home, error) {
+	id, read, err := readAbout(dir)
 	if err != nil {
 		return nil, err
 	}
-	opened := &Home{Dir: dir, ID: id}
-	if opened.Config, err = readConfig(filepath.Join(dir, "config.xml"), id); err != nil {
-		return nil, err
-	}
-	if err := opened.openIndex(); err != nil {
+	opened := &Home{Dir: dir, ID: id, Config: read}
+	if err := open(opened); err != nil {
 		opened.Close()
 		return nil, err
 	}
 	return opened, nil
+}
+
+// readAbout reads whose home a directory is, and how it is configured.
+func readAbout(dir string) (protocol.DeviceID, config.Configuration, error) {
+	id, err := readDeviceID(filepath.Join(dir, "cert.pem"))
+	if errors.Is(err, os.ErrNotExist) {
+		err = fmt.Errorf("%w: is this a Syncthing home? 'syncthing --paths' says where it is", err)
+	}
+	if err != nil {
+		return id, config.Configuration{}, err
+	}
+	read, err := readConfig(filepath.Join(dir, "config.xml"), id)
+	return id, read, err
+}
+
+// ReadConfig reads the configuration of a home.
+func ReadConfig(dir string) (config.Configuration, error) {
+	_, read, err := readAbout(dir)
+	return read, err
+}
+
+// IsHome says whether a directory is a home with an index.
+func IsHome(dir string) bool {
+	_, err := os.Stat(filepath.Join(dir, databaseName, "CURRENT"))
+	return err == nil
 }
 
 // Name gives the device's name, as it is configured at itself.
@@ -134,10 +160,16 @@ func (h *Home) openIndex() error {
 	if err := checkWhole(h.copied); err != nil {
 		return fmt.Errorf("refused: %s: %w", h.Dir, err)
 	}
+	return h.openCopy()
+}
+
+// openCopy opens the copy of the index.
+func (h *Home) openCopy(options ...db.Option) error {
+	var err error
 	if h.backend, err = backend.Open(h.copied, backend.TuningAuto); err != nil {
 		return err
 	}
-	if h.index, err = db.NewLowlevel(h.backend, events.NoopLogger); err != nil {
+	if h.index, err = db.NewLowlevel(h.backend, events.NoopLogger, options...); err != nil {
 		return err
 	}
 	return db.UpdateSchema(h.index)

@@ -58,8 +58,14 @@ func (i *Index) Disk() fs.Filesystem { return i.files.MtimeFS(i.Config.Filesyste
 // Max gives the greatest sequence of the device's own index.
 func (i *Index) Max() int64 { return i.snapshot.Sequence(protocol.LocalDeviceID) }
 
-// Check says whether the index is still as it was when it was opened.
-func (i *Index) Check() error { return i.home.checkUnchanged() }
+// Check says whether the index is still as it was when it was opened. That of a home whose Syncthing may run is read from
+// its copy alone.
+func (i *Index) Check() error {
+	if i.home.isLive {
+		return nil
+	}
+	return i.home.checkUnchanged()
+}
 
 // Bytes gives the bytes of all files that the device's own index has.
 func (i *Index) Bytes() int64 { return i.snapshot.LocalSize().Bytes }
@@ -129,9 +135,18 @@ func (i *Index) entries(of protocol.DeviceID, prefix string, greatest int64, rea
 		}
 		made := read(entry)
 		if made.Record != nil && (entry.Sequence < 1 || entry.Sequence > greatest) {
-			made = leftOut(entry, part.OddRecord, fmt.Sprintf("its sequence %d isn't 1 to %d", entry.Sequence, greatest))
+			made = leftOut(entry, i.kindOfOddSequence(), fmt.Sprintf("its sequence %d isn't 1 to %d", entry.Sequence, greatest))
 		}
 		return take(made)
 	})
 	return nil
+}
+
+// kindOfOddSequence says why an entry is left out whose sequence is above the greatest one: of a running device the copy may
+// be of a moment within an update.
+func (i *Index) kindOfOddSequence() string {
+	if i.home.isLive {
+		return part.Changing
+	}
+	return part.OddRecord
 }

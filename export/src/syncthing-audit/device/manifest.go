@@ -28,6 +28,11 @@ func readManifest(database string) (*manifest, error) {
 		return nil, err
 	}
 	defer file.Close()
+	return readEntries(file)
+}
+
+// readEntries reads the entries of a manifest.
+func readEntries(file io.Reader) (*manifest, error) {
 	made := &manifest{tables: map[int64]int64{}}
 	entries := journal.NewReader(file, nil, true, true)
 	for {

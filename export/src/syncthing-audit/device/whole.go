@@ -82,11 +82,16 @@ func fileNumber(name string) (int64, string) {
 
 // tryOpening opens the index without mending anything, and so finds logs that end in the middle.
 func tryOpening(database string) error {
-	opened, err := leveldb.OpenFile(database, &opt.Options{ErrorIfMissing: true, ReadOnly: true, Strict: opt.StrictAll})
+	opened, err := openStrictly(database)
 	if err != nil {
 		return err
 	}
 	return opened.Close()
+}
+
+// openStrictly opens an index to be read, and mends nothing.
+func openStrictly(database string) (*leveldb.DB, error) {
+	return leveldb.OpenFile(database, &opt.Options{ErrorIfMissing: true, ReadOnly: true, Strict: opt.StrictAll})
 }
 
 // currentManifest gives the path of the manifest that counts.

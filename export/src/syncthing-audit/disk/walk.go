@@ -4,6 +4,7 @@ package disk
 import (
 	"fmt"
 	"path"
+	"path/filepath"
 	"sort"
 	"strings"
 
@@ -24,6 +25,7 @@ type Found struct {
 type Walker struct {
 	Disk   fs.Filesystem // gives times as Syncthing sees them
 	Prefix string        // only names that begin so are read
+	Stamps bool          // of files and symlinks are read, too
 	Take   func(Found) error
 }
 
@@ -128,6 +130,12 @@ func (w *Walker) found(name string, info fs.FileInfo) Found {
 	default:
 		return out(part.Special, "it is no file, directory or symlink")
 	}
+	if w.Stamps && node.Type != int(protocol.FileInfoTypeDirectory) {
+		node.Stamp = Stamp(w.PathOf(name))
+	}
 	made.Node = node
 	return made
 }
+
+// PathOf gives the path of a name.
+func (w *Walker) PathOf(name string) string { return filepath.Join(w.Disk.URI(), name) }

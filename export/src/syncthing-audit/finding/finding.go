@@ -41,6 +41,7 @@ type Folder struct {
 	LeftOut     []*LeftOut              // names that were left out on request: the first MostListed
 	Unlisted    Unlisted
 	Outside     Count                // names that each device which has them ignores: Syncthing doesn't take them for the folder's
+	Live        *Live                // of devices that were looked at while they ran
 	Rows        map[string]*join.Row // of names that something is told of, as far as a room allowed
 }
 
@@ -155,7 +156,7 @@ func IsBefore(one, other *Failure) bool {
 
 // IsPart says whether something of the folder wasn't audited: a name, a device, or all other devices.
 func (a *Answer) IsPart(folder *Folder) bool {
-	if len(folder.LeftOut) > 0 || len(folder.Members) < 2 {
+	if len(folder.LeftOut) > 0 || len(folder.Members) < 2 || folder.Live.isPart() {
 		return true
 	}
 	for _, one := range a.LeftOut {

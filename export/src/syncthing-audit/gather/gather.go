@@ -30,12 +30,16 @@ type Device struct {
 	Prefix   string   // only names that begin so
 	Bytes    bool     // the bytes of files, too, in memory alone
 	Pool     *disk.Pool
+	Look     *part.Look // of a device that may run
 }
 
 // Head gives the head of the device's part.
 func (d *Device) Head() *part.Head {
 	made := &part.Head{Version: part.Version, Device: d.ID, Name: d.Name, Made: time.Now().UTC().Truncate(time.Second),
-		Prefix: d.Prefix, Folders: []part.Folder{}}
+		Prefix: d.Prefix, Folders: []part.Folder{}, Look: d.Look}
+	if d.Look != nil {
+		made.Version = part.VersionOfLooks
+	}
 	for _, one := range d.Folders {
 		made.Folders = append(made.Folders, one.Folder())
 	}

@@ -3,6 +3,7 @@ package gather
 import (
 	"errors"
 
+	"github.com/syncthing/syncthing/lib/fs"
 	"github.com/syncthing/syncthing/lib/ignore"
 	"github.com/syncthing/syncthing/lib/protocol"
 	"golang.org/x/exp/slices"
@@ -31,7 +32,7 @@ var errStopped = errors.New("stopped")
 
 // newMerge begins to read a folder.
 func newMerge(of *Device, folder Folder, about *part.Folder, patterns *ignore.Matcher, to *queue) *merge {
-	made := &merge{device: of, patterns: patterns, to: to, walker: &disk.Walker{Disk: folder.Disk(), Prefix: of.Prefix}}
+	made := &merge{device: of, patterns: patterns, to: to, walker: of.walker(folder)}
 	made.own = pull(func(take func(device.Entry) bool) error { return folder.Own(of.Prefix, take) })
 	for _, view := range about.Views {
 		view := view
@@ -128,6 +129,9 @@ func (m *merge) put(name string) bool {
 			line.Out = append(line.Out, *next.Out)
 		}
 	}
+	if m.device.Look != nil {
+		line.Receiving = disk.Stamp(m.walker.PathOf(fs.TempName(name)))
+	}
 	if m.patterns.Match(name).IsIgnored() {
 		line.Out = append(line.Out, part.LeftOut{Kind: part.Ignored, Why: "it is ignored there by .stignore", Bytes: sizeOf(line)})
 	}
@@ -176,7 +180,7 @@ func (m *merge) send(line *part.Name, recorded [][32]byte) bool {
 		line.Out = append(line.Out, tooLarge(node.Size))
 	}
 	one := &pending{line: line, weight: weightOfName}
-	isHashed := node != nil && node.Type == int(protocol.FileInfoTypeFile) && len(line.Out) == 0
+	isHashed := node != nil && node.Type == int(protocol.FileInfoTypeFile) && len(line.Out) == 0 && !m.device.isSecondLook()
 	file := disk.File{}
 	if isHashed {
 		file = disk.File{Disk: m.walker.Disk, Name: string(line.Name), Node: node, BlockSizes: blockSizes(line), Recorded: recorded,

@@ -33,6 +33,9 @@ func NewPlan(devices []*Device, wanted []string) (*Plan, error) {
 	if err := checkDevices(devices); err != nil {
 		return nil, err
 	}
+	if err := checkLooks(devices); err != nil {
+		return nil, err
+	}
 	ids, err := chosen(devices, wanted)
 	if err != nil {
 		return nil, err
@@ -120,6 +123,7 @@ func (p *Plan) folder(id string) *Folder {
 		return nil
 	}
 	p.checkMoments(made)
+	p.checkOrder(made)
 	return made
 }
 
@@ -203,11 +207,20 @@ func (p *Plan) checkMoments(folder *Folder) {
 			}
 			other := folder.Members[at]
 			if view.IndexID == other.About.IndexID && view.Max > other.About.Max {
-				p.refuse("", folder, other.Head.Device, other.Head.Name, fmt.Sprintf("it is of an earlier moment than %s, which knows of its change %d, "+
-					"and here its last one is %d: stop both devices, then make the part of this one anew", one.From, view.Max, other.About.Max))
+				p.refuse("", folder, other.Head.Device, other.Head.Name, fmt.Sprintf(whyEarlier(other.Head), one.From, view.Max, other.About.Max))
 			}
 		}
 	}
+}
+
+// whyEarlier says why a part can't be of the moment of another one.
+func whyEarlier(head *part.Head) string {
+	if head.Look != nil {
+		return "%s knew of its change %d at its first look, and at this one's second look, which came later, its last one is %d: " +
+			"was an older home put in its place, or a copy looked at?"
+	}
+	return "it is of an earlier moment than %s, which knows of its change %d, and here its last one is %d: stop both devices, then make " +
+		"the part of this one anew"
 }
 
 // checkDirectories refuses two devices that have one and the same directory, be it for one folder or for two. The

@@ -14,8 +14,11 @@ import (
 
 // checkHead says why a part's head is none.
 func checkHead(head *Head) error {
-	if head.Version != Version {
-		return fmt.Errorf("the part has version %d; this program reads version %d", head.Version, Version)
+	if head.Version != Version && head.Version != VersionOfLooks {
+		return fmt.Errorf("the part has version %d; this program reads versions %d and %d", head.Version, Version, VersionOfLooks)
+	}
+	if err := checkLook(head); err != nil {
+		return err
 	}
 	if Number(head.Device) == 0 {
 		return fmt.Errorf("the part's device %q is no device id", head.Device)
@@ -92,7 +95,7 @@ func (r *rules) take(line Line) error {
 	}
 	r.last = line.Name.Name
 	r.names++
-	return checkName(line.Name, r.in)
+	return checkName(line.Name, r.in, r.head.hasBytes())
 }
 
 // begin begins a folder: the next one of the head.
@@ -127,8 +130,8 @@ func (r *rules) end() error {
 }
 
 // checkName says why a name's line is none.
-func checkName(one *Name, in *Folder) error {
-	if len(one.Out) == 0 {
+func checkName(one *Name, in *Folder, hasBytes bool) error {
+	if len(one.Out) == 0 && len(one.Moved) == 0 {
 		if err := limits.CheckName(string(one.Name)); err != nil {
 			return fmt.Errorf("%s: %w", shell.Path(string(one.Name)), err)
 		}
@@ -157,7 +160,7 @@ func checkName(one *Name, in *Folder) error {
 	if one.Disk == nil {
 		return nil
 	}
-	err := checkNode(one.Disk, len(one.Out) > 0)
+	err := checkNode(one.Disk, len(one.Out) > 0 || len(one.Moved) > 0, hasBytes)
 	if err == nil && one.Disk.Differ != nil {
 		err = checkDiffer(one)
 	}
@@ -204,7 +207,7 @@ func checkVersion(counters [][2]uint64) error {
 }
 
 // checkNode says why a node is none; one that is left out may have no content.
-func checkNode(one *Node, isOut bool) error {
+func checkNode(one *Node, isOut, hasBytes bool) error {
 	switch {
 	case !IsType(one.Type):
 		return fmt.Errorf("its type is %d", one.Type)
@@ -214,7 +217,7 @@ func checkNode(one *Node, isOut bool) error {
 		return limits.CheckTarget(one.Target)
 	case one.Target != "" && one.Type != symlink:
 		return errors.New("it has a target and is no symlink")
-	case (len(one.Contents) > 0) != isFile(one.Type) && !isOut:
+	case (len(one.Contents) > 0) != (isFile(one.Type) && hasBytes) && !isOut:
 		return errors.New("it has a content and is no file, or the other way round")
 	}
 	for _, content := range one.Contents {

@@ -12,6 +12,9 @@ import (
 // Version is the version of the format.
 const Version = 1
 
+// VersionOfLooks is the version of a part of one of two looks, which says nothing by itself.
+const VersionOfLooks = 2
+
 // Kinds of what a check document can't say, in the words of --leave-out.
 const (
 	Ignored    = "ignored"    // .stignore ignores the name
@@ -39,6 +42,7 @@ type Head struct {
 	Made    time.Time `json:"made"`
 	Prefix  string    `json:"prefix,omitempty"` // only names that begin so were read
 	Folders []Folder  `json:"folders"`          // rising by id
+	Look    *Look     `json:"look,omitempty"`   // of a device that may run
 }
 
 // Folder is a folder at the device.
@@ -67,6 +71,7 @@ type View struct {
 	Device  string `json:"device"`
 	IndexID uint64 `json:"index_id,string"`
 	Max     int64  `json:"max"`
+	Heard   int64  `json:"heard,omitempty"` // of two looks: the greatest sequence at the second one, where max is that of the first
 }
 
 // Line is one line of a part behind its head: exactly one of these is there.
@@ -97,6 +102,9 @@ type Name struct {
 	Views []Seen    `json:"views,omitempty"`
 	Disk  *Node     `json:"disk,omitempty"`
 	Out   []LeftOut `json:"out,omitempty"`
+
+	Receiving string   `json:"receiving,omitempty"` // of a look: which temporary file Syncthing has of it
+	Moved     []string `json:"moved,omitempty"`     // what changed while the device was looked at; the rest isn't told then
 }
 
 // Seen is a record in a view. Most are the own one with another sequence, and are written so; in memory the record is
@@ -134,6 +142,7 @@ type Node struct {
 	Target      string    `json:"target,omitempty"`
 	Permissions uint32    `json:"permissions"`
 	Differ      *Differ   `json:"differ,omitempty"`
+	Stamp       string    `json:"stamp,omitempty"` // of a look: another one for each file, and for each write to it
 
 	Data []byte `json:"-"` // in memory alone, for documents with bytes
 }

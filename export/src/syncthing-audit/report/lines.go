@@ -41,6 +41,7 @@ func Lines(to io.Writer, answer *finding.Answer) {
 // Rest prints what no document says: names without a winner, permissions that differ, what was left out.
 func Rest(to io.Writer, answer *finding.Answer) {
 	for _, folder := range answer.Folders {
+		live(to, folder)
 		unwon(to, folder)
 		permissions(to, folder)
 		leftOut(to, folder)

@@ -89,3 +89,28 @@ ignored: docs 4 names, 7 bytes, on no device's index
 		t.Errorf("%s\nnot\n%s", written.String(), expected)
 	}
 }
+
+// What was in motion while running devices were looked at isn't called settled.
+func TestLinesOfRunningDevices(t *testing.T) {
+	folder := folderOf("docs", 2)
+	folder.Live = &finding.Live{Seconds: 312.5, Timed: true, Moving: 3, Names: []finding.Moving{{Name: "a b", At: []finding.Moved{
+		{Member: 0, Why: []string{part.MovedRecord, part.MovedDisk}}, {Member: 1, Why: []string{part.MovedViews}}}}},
+		Unheard: []finding.Unheard{{Member: 1, Of: 0, Names: 4}}}
+	var written strings.Builder
+	Lines(&written, &finding.Answer{Folders: []*finding.Folder{folder}})
+	const expected = `settled as far as audited
+folder docs: 2 names, 0 deleted, 2 devices
+still: docs 312.500 s, in motion: 3 names
+in motion: docs a\x20b on 1: record, disk
+in motion: docs a\x20b on 2: views
+in motion: docs and 2 names more
+not heard of: docs on 2 of 1: 4 names
+`
+	if written.String() != expected {
+		t.Errorf("%s\nnot\n%s", written.String(), expected)
+	}
+	folder.Live = &finding.Live{}
+	if verdict := Verdict(&finding.Answer{Folders: []*finding.Folder{folder}}); verdict != "settled" {
+		t.Errorf("all still: %s", verdict)
+	}
+}

@@ -43,6 +43,14 @@ func Quoted(name string) string {
 	return "$'" + made.String() + "'"
 }
 
+// Word gives a word of a command, where one that begins with a dash is an option.
+func Word(text string) string {
+	if rest := strings.TrimLeft(text, "-"); rest != text && (rest == "" || isPlain(rest)) {
+		return text
+	}
+	return Quoted(text)
+}
+
 // isPlain says whether a text needs no quotes. One that begins with a dash or a tilde does.
 func isPlain(name string) bool {
 	for place, one := range name {

@@ -24,3 +24,11 @@ func TestPath(t *testing.T) {
 		}
 	}
 }
+
+func TestWords(t *testing.T) {
+	for text, word := range map[string]string{"--home": "--home", "-": "-", "a b": "'a b'", "--a b": "'--a b'", "": "''", "$x": "'$x'"} {
+		if made := Word(text); made != word {
+			t.Errorf("%q: %s, not %s", text, made, word)
+		}
+	}
+}

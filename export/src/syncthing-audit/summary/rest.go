@@ -10,6 +10,7 @@ import (
 func (p *printer) rest(s *Summary) {
 	p.line("")
 	for _, folder := range s.Folders {
+		p.moving(folder)
 		p.copies(folder)
 		p.leftOut(folder)
 		if len(folder.Devices) < 2 {

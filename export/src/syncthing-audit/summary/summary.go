@@ -58,6 +58,7 @@ type Folder struct {
 	MoreOut Count    `json:"left_out_unlisted"`
 	More    Count    `json:"conflict_copies_unlisted"`
 	Ignored Count    `json:"ignored"`
+	Live    *Live    `json:"live,omitempty"` // of devices that were looked at while they ran
 }
 
 // Member is a device that shares a folder.
@@ -197,6 +198,7 @@ func folderOf(answer *finding.Answer, from *finding.Folder, named labels) *Folde
 	for _, one := range from.LeftOut {
 		made.LeftOut = append(made.LeftOut, namesOf(from, one))
 	}
+	made.Live = liveOf(from)
 	return made
 }
 

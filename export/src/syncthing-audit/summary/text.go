@@ -53,6 +53,11 @@ func (p *printer) folder(one *Folder) {
 	for _, member := range one.Devices {
 		devices = append(devices, member.Device)
 	}
+	if one.Live != nil {
+		p.line("%s%s: %s; %s (%s deleted, %s hashed on %s)", one.ID, label, verdict, p.still(one), thousands(one.Deleted), size(one.Bytes),
+			p.named.all(devices))
+		return
+	}
 	p.line("%s%s: %s; %s (%s deleted), %s hashed on %s", one.ID, label, verdict, counted(one.Names, "name", "names"), thousands(one.Deleted),
 		size(one.Bytes), p.named.all(devices))
 }

@@ -1,0 +1,58 @@
+package device
+
+import (
+	"bytes"
+	"testing"
+
+	"github.com/syndtr/goleveldb/leveldb/journal"
+)
+
+// recordsOf gives a log with records of these lengths, and where each ends.
+func recordsOf(t *testing.T, lengths ...int) ([]byte, []int) {
+	var written bytes.Buffer
+	to := journal.NewWriter(&written)
+	var ends []int
+	for _, length := range lengths {
+		next, err := to.Next()
+		if err == nil {
+			_, err = next.Write(bytes.Repeat([]byte{'x'}, length))
+		}
+		if err == nil {
+			err = to.Flush()
+		}
+		if err != nil {
+			t.Fatal(err)
+		}
+		ends = append(ends, written.Len())
+	}
+	return written.Bytes(), ends
+}
+
+// Wherever a log was cut off, its whole records are found, and no more.
+func TestEndOfRecords(t *testing.T) {
+	// The second one goes over three blocks, behind it a block has room for no header, and the last two are in one block.
+	log, ends := recordsOf(t, 10, 2*bytesOfBlock, bytesOfBlock-3*bytesOfHeader-10-3*bytesOfHeader-3, 1, 0)
+	for length := 0; length <= len(log); length++ {
+		expected := 0
+		for _, end := range ends {
+			if end <= length {
+				expected = end
+			}
+		}
+		if end, err := endOfRecords(log[:length]); err != nil || end != expected {
+			t.Fatalf("cut off at %d it ends at %d, not %d: %v", length, end, expected, err)
+		}
+	}
+}
+
+// What is wrong inside a log isn't taken for its end.
+func TestDamagedRecords(t *testing.T) {
+	log, ends := recordsOf(t, 10, 20, 30)
+	for _, at := range []int{0, 4, 6, bytesOfHeader, ends[0] + 6, ends[1] + bytesOfHeader} {
+		damaged := append([]byte(nil), log...)
+		damaged[at] ^= 0x40
+		if end, err := endOfRecords(damaged); err == nil {
+			t.Errorf("with another byte at %d it ends at %d", at, end)
+		}
+	}
+}

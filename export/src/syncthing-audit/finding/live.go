@@ -1,0 +1,53 @@
+package finding
+
+import "syncthing-audit/part"
+
+// Live is what two looks at running devices say of a folder beside what is still.
+type Live struct {
+	Seconds float64 // between the last first look and the first second one
+	Timed   bool    // whether the seconds are known: devices' clocks may differ by more
+	Moving  int64   // names that changed between the looks at a device, and aren't audited
+	Names   []Moving
+	Unheard []Unheard
+}
+
+// Moving is a name that changed at a device while it was looked at, or waits there.
+type Moving struct {
+	Name part.Bytes
+	At   []Moved
+}
+
+// Moved says what changed at a device.
+type Moved struct {
+	Member int
+	Why    []string
+}
+
+// Unheard counts the still names whose record one device hadn't heard of from another one: it is on its way, or they aren't
+// connected.
+type Unheard struct {
+	Member, Of int
+	Names      int64
+}
+
+// isPart says whether something isn't known of a folder that was audited while its devices ran.
+func (l *Live) isPart() bool { return l != nil && (l.Moving > 0 || len(l.Unheard) > 0) }
+
+// AddMoving adds a name that changed; the first MostListed are told by name.
+func (l *Live) AddMoving(one Moving) {
+	l.Moving++
+	if len(l.Names) < MostListed {
+		l.Names = append(l.Names, one)
+	}
+}
+
+// AddUnheard adds a name of which a device hadn't heard.
+func (l *Live) AddUnheard(member, of int) {
+	for place := range l.Unheard {
+		if l.Unheard[place].Member == member && l.Unheard[place].Of == of {
+			l.Unheard[place].Names++
+			return
+		}
+	}
+	l.Unheard = append(l.Unheard, Unheard{member, of, 1})
+}

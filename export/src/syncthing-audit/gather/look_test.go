@@ -1,0 +1,126 @@
+package gather
+
+import (
+	"os"
+	"path/filepath"
+	"strings"
+	"testing"
+
+	"github.com/syncthing/syncthing/lib/fs"
+	"github.com/syncthing/syncthing/lib/ignore"
+	"syncthing-audit/device"
+	"syncthing-audit/disk"
+	"syncthing-audit/part"
+)
+
+// directory is a folder without an index.
+type directory struct{ path string }
+
+func (d directory) Folder() part.Folder { return part.Folder{ID: "docs", Kind: "send-receive"} }
+func (d directory) Disk() fs.Filesystem { return fs.NewFilesystem(fs.FilesystemTypeBasic, d.path) }
+func (d directory) Patterns() (*ignore.Matcher, error) {
+	patterns := ignore.New(d.Disk())
+	return patterns, patterns.Parse(strings.NewReader("*.log"), ".stignore")
+}
+func (d directory) Own(string, func(device.Entry) bool) error             { return nil }
+func (d directory) View(part.View, string, func(device.Entry) bool) error { return nil }
+func (d directory) Max() int64                                            { return 0 }
+func (d directory) Check() error                                          { return nil }
+
+// movedSinceGlance gives the names that a directory has after a change behind the glance, those that moved in brackets.
+func movedSinceGlance(t *testing.T, change func(path func(string) string) error) string {
+	t.Setenv("TMPDIR", t.TempDir())
+	room := t.TempDir()
+	path := func(name string) string { return filepath.Join(room, name) }
+	for _, name := range []string{"b", "d", "a.log"} {
+		if err := os.WriteFile(path(name), []byte(name), 0o600); err != nil {
+			t.Fatal(err)
+		}
+	}
+	pool := disk.NewPool(1)
+	defer pool.Close()
+	read := &Device{Folders: []Folder{directory{room}}, Pool: pool, Look: &part.Look{ID: "id"}}
+	glance, err := read.Glance()
+	if err != nil {
+		t.Fatal(err)
+	}
+	defer glance.Close()
+	if err := change(path); err != nil {
+		t.Fatal(err)
+	}
+	var told []string
+	count := int64(0)
+	err = read.Run(read.Head(), glance.Compare(func(line part.Line) error {
+		if line.Name != nil && len(line.Name.Moved) > 0 {
+			told = append(told, "("+string(line.Name.Name)+")")
+		} else if line.Name != nil {
+			told = append(told, string(line.Name.Name))
+		}
+		if line.End != nil {
+			count = line.End.Names
+		}
+		return nil
+	}))
+	if err != nil || count != int64(len(told)) {
+		t.Errorf("%d names of %v: %v", count, told, err)
+	}
+	return strings.Join(told, " ")
+}
+
+// What changes between the glance and the hashing moved; what .stignore keeps out may change.
+func TestGlance(t *testing.T) {
+	cases := []struct {
+		why    string
+		change func(path func(string) string) error
+		told   string
+	}{
+		{"nothing", func(func(string) string) error { return nil }, "a.log b d"},
+		{"a new file", func(path func(string) string) error { return os.WriteFile(path("a"), nil, 0o600) }, "(a) a.log b d"},
+		{"the first one is gone", func(path func(string) string) error { return os.Remove(path("b")) }, "a.log (b) d"},
+		{"the last one is gone", func(path func(string) string) error { return os.Remove(path("d")) }, "a.log b (d)"},
+		{"longer", func(path func(string) string) error { return os.WriteFile(path("b"), []byte("longer"), 0o600) }, "a.log (b) d"},
+		{"with its time put back", func(path func(string) string) error {
+			about, err := os.Stat(path("b"))
+			if err == nil {
+				err = os.WriteFile(path("b"), []byte("x"), 0o600)
+			}
+			if err == nil {
+				err = os.Chtimes(path("b"), about.ModTime(), about.ModTime())
+			}
+			return err
+		}, "a.log (b) d"},
+		{"another file of the same bytes and time", func(path func(string) string) error {
+			about, err := os.Stat(path("b"))
+			if err == nil {
+				err = os.WriteFile(path(".syncthing.b.tmp"), []byte("b"), 0o600)
+			}
+			if err == nil {
+				err = os.Chtimes(path(".syncthing.b.tmp"), about.ModTime(), about.ModTime())
+			}
+			if err == nil {
+				err = os.Rename(path(".syncthing.b.tmp"), path("b"))
+			}
+			return err
+		}, "a.log (b) d"},
+		{"other permissions", func(path func(string) string) error { return os.Chmod(path("d"), 0o640) }, "a.log b (d)"},
+		{"a directory in its place", func(path func(string) string) error {
+			if err := os.Remove(path("d")); err != nil {
+				return err
+			}
+			return os.Mkdir(path("d"), 0o755)
+		}, "a.log b (d)"},
+		{"what is ignored changes", func(path func(string) string) error { return os.WriteFile(path("a.log"), []byte("more"), 0o600) }, "a.log b d"},
+		{"what is ignored goes and comes", func(path func(string) string) error {
+			if err := os.Remove(path("a.log")); err != nil {
+				return err
+			}
+			return os.WriteFile(path("c.log"), nil, 0o600)
+		}, "b c.log d"},
+		{"an odd name", func(path func(string) string) error { return os.WriteFile(path("a\xff\n\""), nil, 0o600) }, "a.log a\xff\n\" b d"},
+	}
+	for _, one := range cases {
+		if told := movedSinceGlance(t, one.change); told != one.told {
+			t.Errorf("%s: %q, not %q", one.why, told, one.told)
+		}
+	}
+}

@@ -1,0 +1,243 @@
+package main
+
+import (
+	"fmt"
+	"io"
+	"os"
+	"path/filepath"
+	"sort"
+	"strings"
+	"time"
+
+	"golang.org/x/exp/slices"
+	"syncthing-audit/device"
+	"syncthing-audit/gather"
+	"syncthing-audit/leftover"
+	"syncthing-audit/looks"
+	"syncthing-audit/part"
+	"syncthing-audit/rest"
+)
+
+// checkLooks says what is wrong with the words that ask for one of two looks.
+func (o *options) checkLooks() error {
+	switch {
+	case o.begin && o.end:
+		return &wrongUsage{"--begin and --end are two looks: the second one comes after the first looks at all devices"}
+	case o.end && len(o.tokens) == 0:
+		return &wrongUsage{"--end needs --tokens FILE with the tokens that '--begin' wrote on all devices"}
+	case !o.end && len(o.tokens) > 0:
+		return &wrongUsage{"--tokens is for --end"}
+	case !o.begin && o.rescan:
+		return &wrongUsage{"--rescan is for --begin: a stopped Syncthing scans nothing"}
+	case !o.end && len(o.leaveOut) > 0:
+		return &wrongUsage{"--leave-out is for 'check', and for 'part --end' with a device that has no token"}
+	}
+	return nil
+}
+
+// beginPart writes the part of the first look at a device that may run: its index, a glance at its disk, then the hashes of
+// its files. The look is over before they are hashed. Its id is made after that, and leaves this program once all is written.
+func beginPart(asked options, write writing, output, log io.Writer) error {
+	if asked.rescan {
+		if err := rescan(asked); err != nil {
+			return err
+		}
+	}
+	home, err := device.OpenLive(asked.homes[0])
+	if err != nil {
+		return err
+	}
+	defer home.Close()
+	opened, read, err := readHome(home, asked)
+	if err != nil {
+		return err
+	}
+	defer opened.close()
+	glance, over, err := firstLook(home, read)
+	if err != nil {
+		return err
+	}
+	defer glance.Close()
+	endProgress := opened.startProgress(log, asked)
+	err = writeWhole(write, func(to io.Writer) error { return writeLines(to, read, glance.Compare) })
+	endProgress()
+	if err != nil {
+		return err
+	}
+	tellCopied(log, home)
+	fmt.Fprintf(log, lineOfAge, time.Since(over).Seconds())
+	token := looks.Token(read.ID, read.Look.ID)
+	if standardOutput[asked.output] {
+		output = log
+	}
+	_, err = fmt.Fprintln(faulty{output}, token)
+	return err
+}
+
+// firstLook looks at a device's disk, whose index was copied before, and then gives the look its id; it says when it was over.
+func firstLook(home *device.Home, read *gather.Device) (*gather.Glance, time.Time, error) {
+	var err error
+	if read.Look, err = lookOf(home); err != nil {
+		return nil, time.Time{}, err
+	}
+	glance, err := read.Glance()
+	if err != nil {
+		return nil, time.Time{}, err
+	}
+	if read.Look.ID, err = looks.NewID(); err != nil {
+		glance.Close()
+		return nil, time.Time{}, err
+	}
+	over := time.Now()
+	read.Look.At = over.UTC()
+	return glance, over, nil
+}
+
+// endPart writes the part of the second look at a device: its index and what stands on its disk, with no file read.
+func endPart(asked options, write writing, log io.Writer) error {
+	tokens, err := readTokens(asked.tokens)
+	if err != nil {
+		return err
+	}
+	began := time.Now().UTC()
+	home, err := device.OpenLive(asked.homes[0])
+	if err != nil {
+		return err
+	}
+	defer home.Close()
+	opened, read, err := readHome(home, asked)
+	if err != nil {
+		return err
+	}
+	defer opened.close()
+	if read.Look, err = lookOf(home); err != nil {
+		return err
+	}
+	read.Look.After, read.Look.At = tokens, began
+	if err := checkTokens(read, asked); err != nil {
+		return err
+	}
+	tellCopied(log, home)
+	return write(func(to io.Writer) error {
+		return writeLines(to, read, func(sink part.Sink) part.Sink {
+			return func(line part.Line) error {
+				if line.Name != nil {
+					line.Name = gather.WithoutChanging(line.Name)
+				}
+				return sink(line)
+			}
+		})
+	})
+}
+
+// takeDefaultHome takes the home that Syncthing takes by itself, where there is one alone.
+func (o *options) takeDefaultHome() error {
+	user, err := os.UserHomeDir()
+	if err != nil {
+		return err
+	}
+	found := []string{}
+	for _, one := range []string{".config/syncthing", ".local/state/syncthing"} {
+		if path := filepath.Join(user, one); device.IsHome(path) {
+			found = append(found, path)
+		}
+	}
+	if len(found) != 1 {
+		return &wrongUsage{fmt.Sprintf("%d homes are where Syncthing has them by itself: --home says which one", len(found))}
+	}
+	o.homes = found
+	return nil
+}
+
+// rescan has the folders of a home that are asked for scanned, or all.
+func rescan(asked options) error {
+	about, err := device.ReadConfig(asked.homes[0])
+	if err != nil {
+		return err
+	}
+	for _, one := range about.Folders {
+		if len(asked.folders) > 0 && !slices.Contains(asked.folders, one.ID) {
+			continue
+		}
+		if err := rest.Scan(asked.homes[0], about.GUI, one.ID); err != nil {
+			return fmt.Errorf("refused: %s: %w", asked.homes[0], err)
+		}
+	}
+	return nil
+}
+
+// lookOf begins a look at a home.
+func lookOf(home *device.Home) (*part.Look, error) {
+	identity, err := home.Identity()
+	return &part.Look{Home: identity}, err
+}
+
+// tellCopied tells what the copy of an index took.
+func tellCopied(log io.Writer, home *device.Home) {
+	fmt.Fprintf(log, "syncthing-audit: %d bytes of the index of %s copied in %d rounds\n", home.Copied.Bytes, home.Dir, home.Copied.Rounds)
+}
+
+// writeWhole writes into a file of its own first, so that nobody reads the beginning of what isn't at its end.
+func writeWhole(write writing, fill func(io.Writer) error) error {
+	file, err := leftover.File(os.TempDir(), "syncthing-audit-")
+	if err != nil {
+		return err
+	}
+	defer leftover.Remove(file.Name())
+	defer file.Close()
+	if err := fill(faulty{file}); err != nil {
+		return err
+	}
+	if _, err := file.Seek(0, io.SeekStart); err != nil {
+		return err
+	}
+	return write(func(to io.Writer) error {
+		_, err := io.Copy(to, file)
+		return err
+	})
+}
+
+// readTokens reads the tokens of files, to their ends; a dash is standard input.
+func readTokens(paths []string) (map[string]string, error) {
+	tokens := map[string]string{}
+	for _, path := range paths {
+		from := os.Stdin
+		if path != "-" {
+			file, err := os.Open(path)
+			if err != nil {
+				return nil, err
+			}
+			defer file.Close()
+			from = file
+		}
+		if err := looks.ReadTokens(from, tokens); err != nil {
+			return nil, fmt.Errorf("refused: %s: %w", path, err)
+		}
+	}
+	return tokens, nil
+}
+
+// checkTokens says of which devices a second look has no token: their first looks may not be over.
+func checkTokens(read *gather.Device, asked options) error {
+	if read.Look.After[read.ID] == "" {
+		return fmt.Errorf("refused: the tokens have none of this device, %s: make its first look with --begin", read.ID)
+	}
+	lacking := map[string]bool{}
+	for _, folder := range read.Head().Folders {
+		for _, one := range folder.Sharing {
+			if read.Look.After[one.Device] == "" {
+				lacking[one.Name+" ("+one.Device+")"] = true
+			}
+		}
+	}
+	if len(lacking) == 0 || asked.leaveOut[part.Absent] {
+		return nil
+	}
+	names := []string{}
+	for name := range lacking {
+		names = append(names, name)
+	}
+	sort.Strings(names)
+	return fmt.Errorf("refused: the tokens have none of %s, with which folders are shared: add them, or leave these devices out with "+
+		"--leave-out %s", strings.Join(names, ", "), part.Absent)
+}

@@ -1,0 +1,80 @@
+package main
+
+import (
+	"fmt"
+	"os"
+	"sort"
+
+	"syncthing-audit/join"
+	"syncthing-audit/looks"
+	"syncthing-audit/part"
+)
+
+// lookInputs opens parts, and keeps those of two looks until both are there.
+type lookInputs struct {
+	*inputs
+	first, second map[string]opened // by their devices
+}
+
+// opened is a part that is read.
+type opened struct {
+	stream part.Stream
+	path   string
+}
+
+// openPart opens a part.
+func (i *lookInputs) openPart(path string) error {
+	file, err := os.Open(path)
+	if err != nil {
+		return err
+	}
+	i.closers = append(i.closers, func() { file.Close() })
+	if about, err := file.Stat(); err == nil {
+		i.work.toRead += about.Size()
+	}
+	read, err := part.NewReader(counted{file, &i.work.read})
+	if err != nil {
+		return err
+	}
+	ahead := part.NewAhead(read)
+	i.closers = append(i.closers, ahead.Close)
+	look := read.Head().Look
+	if look == nil {
+		i.devices = append(i.devices, join.NewDevice(ahead, path))
+		return nil
+	}
+	to := i.second
+	if look.IsFirst() {
+		to = i.first
+	}
+	if had, is := to[read.Head().Device]; is {
+		return fmt.Errorf("refused: it is of the same look at the same device as %s: give one of them", had.path)
+	}
+	to[read.Head().Device] = opened{ahead, path}
+	return nil
+}
+
+// join joins the two looks at each device.
+func (i *lookInputs) join() error {
+	ids := []string{}
+	for id, one := range i.first {
+		if _, is := i.second[id]; !is {
+			return fmt.Errorf("refused: %s is of a first look, and the second one at that device isn't given: 'part --end' makes it", one.path)
+		}
+		ids = append(ids, id)
+	}
+	for id, one := range i.second {
+		if _, is := i.first[id]; !is {
+			return fmt.Errorf("refused: %s is of a second look, and the first one at that device isn't given", one.path)
+		}
+	}
+	sort.Strings(ids)
+	for _, id := range ids {
+		joined, err := looks.Join(i.first[id].stream, i.second[id].stream)
+		if err != nil {
+			return fmt.Errorf("refused: %s, %s: %w", i.first[id].path, i.second[id].path, err)
+		}
+		i.devices = append(i.devices, join.NewDevice(joined, i.first[id].path))
+	}
+	return nil
+}

@@ -1,0 +1,241 @@
+package looks
+
+import (
+	"fmt"
+	"io"
+	"reflect"
+
+	"golang.org/x/exp/slices"
+	"syncthing-audit/part"
+)
+
+// Stream gives a device's lines as they were at both of two looks, and which names changed between them.
+type Stream struct {
+	first, second *reading
+	head          *part.Head
+	folder        int // the place of the one whose names these are
+	names         int64
+}
+
+// reading is a part with the line that is next.
+type reading struct {
+	part.Stream
+	line *part.Line
+}
+
+// peek gives the next line without taking it.
+func (r *reading) peek() (*part.Line, error) {
+	if r.line == nil {
+		next, err := r.Stream.Next()
+		if err != nil {
+			return nil, err
+		}
+		r.line = &next
+	}
+	return r.line, nil
+}
+
+// Join joins the two looks at a device. It says why they aren't two looks at one, or what changed that makes them useless.
+func Join(first, second part.Stream) (*Stream, error) {
+	one, other := first.Head(), second.Head()
+	if one.Look == nil || other.Look == nil || !one.Look.IsFirst() || !other.Look.IsSecond() {
+		return nil, errNoLook
+	}
+	switch {
+	case one.Device != other.Device:
+		return nil, fmt.Errorf("the first look is at device %s, the second one at %s", one.Device, other.Device)
+	case other.Look.After[one.Device] != one.Look.ID:
+		return nil, fmt.Errorf("its second look has no token of this first look: make the second one anew")
+	case one.Look.Home != other.Look.Home:
+		return nil, fmt.Errorf("the first look is at another home than the second one")
+	case one.Prefix != other.Prefix:
+		return nil, fmt.Errorf("the two looks are at names with other beginnings: make both with the same --names")
+	case len(one.Folders) != len(other.Folders):
+		return nil, fmt.Errorf("the two looks are at other folders: make both with the same --folder")
+	}
+	made := &Stream{first: &reading{Stream: first}, second: &reading{Stream: second}, folder: -1}
+	head := *one
+	head.Look = &part.Look{Home: one.Look.Home, ID: one.Look.ID, After: other.Look.After, At: one.Look.At, Ended: other.Look.At}
+	head.Folders = nil
+	for place := range one.Folders {
+		folder, err := joinFolder(&one.Folders[place], &other.Folders[place])
+		if err != nil {
+			return nil, err
+		}
+		head.Folders = append(head.Folders, *folder)
+	}
+	made.head = &head
+	return made, nil
+}
+
+// joinFolder joins what the heads of two looks say of a folder: its own greatest sequence is that of the second look, those
+// of its views are of both.
+func joinFolder(one, other *part.Folder) (*part.Folder, error) {
+	switch {
+	case one.ID != other.ID:
+		return nil, fmt.Errorf("the two looks are at other folders: make both with the same --folder")
+	case one.IndexID != other.IndexID:
+		return nil, fmt.Errorf("folder %s: its index was made anew between the two looks: begin again", one.ID)
+	case one.Max > other.Max:
+		return nil, fmt.Errorf("folder %s: its index went back from change %d to %d between the two looks: begin again", one.ID, one.Max, other.Max)
+	case one.Directory != other.Directory || one.Kind != other.Kind || one.IgnoresPermissions != other.IgnoresPermissions ||
+		!reflect.DeepEqual(one.Sharing, other.Sharing):
+		return nil, fmt.Errorf("folder %s: its configuration changed between the two looks: begin again", one.ID)
+	}
+	made := *one
+	made.Max = other.Max
+	made.Views = append([]part.View{}, one.Views...)
+	for _, view := range other.Views {
+		at := slices.IndexFunc(made.Views, func(had part.View) bool { return had.Device == view.Device })
+		if at < 0 {
+			at = len(made.Views)
+			made.Views = append(made.Views, part.View{Device: view.Device})
+		}
+		if made.Views[at].IndexID == view.IndexID {
+			made.Views[at].Heard = view.Max
+		}
+	}
+	return &made, nil
+}
+
+// Head gives the head of both looks.
+func (s *Stream) Head() *part.Head { return s.head }
+
+// Next gives the next line; io.EOF behind the last.
+func (s *Stream) Next() (part.Line, error) {
+	one, err := s.first.peek()
+	if err == io.EOF {
+		if _, left := s.second.peek(); left != io.EOF {
+			return part.Line{}, fmt.Errorf("its second look goes on where the first one ends: %v", left)
+		}
+	}
+	if err != nil {
+		return part.Line{}, err
+	}
+	other, err := s.second.peek()
+	if err != nil {
+		return part.Line{}, fmt.Errorf("its second look: %w", err)
+	}
+	switch {
+	case one.Begin != nil && other.Begin != nil:
+		s.folder++
+		s.names = 0
+		return s.take(*one), nil
+	case one.End != nil && other.End != nil:
+		end := *one.End
+		end.Names, end.Max = s.names, other.End.Max
+		return s.take(part.Line{End: &end}), nil
+	case one.Begin != nil || other.Begin != nil:
+		return part.Line{}, fmt.Errorf("the folders of its two looks don't begin together")
+	}
+	s.names++
+	return s.name(one.Name, other.Name), nil
+}
+
+// take takes the lines of both looks.
+func (s *Stream) take(line part.Line) part.Line {
+	s.first.line, s.second.line = nil, nil
+	return line
+}
+
+// name gives the lesser of two names, or what both say of one; one of them may be at its end.
+func (s *Stream) name(one, other *part.Name) part.Line {
+	switch {
+	case other == nil || one != nil && one.Name < other.Name:
+		s.first.line = nil
+		return part.Line{Name: onlyOnce(one)}
+	case one == nil || other.Name < one.Name:
+		s.second.line = nil
+		return part.Line{Name: onlyOnce(other)}
+	}
+	return s.take(part.Line{Name: s.both(one, other)})
+}
+
+// onlyOnce gives a name that one look has alone. A name that .stignore keeps out is none of the folder's.
+func onlyOnce(one *part.Name) *part.Name {
+	if one.IsIgnored() {
+		return &part.Name{Name: one.Name, Disk: one.Disk, Out: one.Out}
+	}
+	made := &part.Name{Name: one.Name, Moved: one.Moved}
+	add := func(is bool, why string) {
+		if is && !slices.Contains(made.Moved, why) {
+			made.Moved = append(made.Moved, why)
+		}
+	}
+	add(one.Own != nil, part.MovedRecord)
+	add(len(one.Views) > 0, part.MovedViews)
+	add(one.Receiving != "", part.MovedReceiving)
+	add(one.Disk != nil || len(made.Moved) == 0, part.MovedDisk)
+	return made
+}
+
+// both gives a name that both looks have: as it is where it is still, or what changed.
+func (s *Stream) both(one, other *part.Name) *part.Name {
+	if one.IsIgnored() && other.IsIgnored() {
+		return s.still(one)
+	}
+	moved := append([]string(nil), one.Moved...)
+	add := func(is bool, why string) {
+		if is && !slices.Contains(moved, why) {
+			moved = append(moved, why)
+		}
+	}
+	for _, why := range other.Moved {
+		add(true, why)
+	}
+	if len(moved) == 0 {
+		sameDisk := one.Disk.Mark() == other.Disk.Mark()
+		add(!reflect.DeepEqual(one.Own, other.Own), part.MovedRecord)
+		add(!reflect.DeepEqual(s.first.viewsOf(one, s.folder), s.second.viewsOf(other, s.folder)), part.MovedViews)
+		add(one.Receiving != other.Receiving, part.MovedReceiving)
+		add(!sameDisk || !isOutAlike(one, other), part.MovedDisk)
+		add(len(one.Out) == 0 && sameDisk && !one.IsAsRecorded(), part.MovedUnscanned)
+	}
+	if len(moved) > 0 {
+		return &part.Name{Name: one.Name, Moved: moved}
+	}
+	return s.still(one)
+}
+
+// still gives a name of the first look as both looks have it.
+func (s *Stream) still(one *part.Name) *part.Name {
+	made := *one
+	made.Receiving = ""
+	if made.Disk != nil {
+		node := *made.Disk
+		node.Stamp = ""
+		made.Disk = &node
+	}
+	return &made
+}
+
+// seen is a record in a view, with the index that it is of.
+type seen struct {
+	index  uint64
+	record part.Record
+}
+
+// viewsOf gives the records of a name's views, by device.
+func (r *reading) viewsOf(one *part.Name, folder int) map[string]seen {
+	made := map[string]seen{}
+	for _, view := range one.Views {
+		of := r.Head().Folders[folder].Views[view.View]
+		made[of.Device] = seen{of.IndexID, *view.Record}
+	}
+	return made
+}
+
+// isOutAlike says whether both looks leave a name out for the same reasons. Only the first one reads files, so what can't
+// be read is told by it alone.
+func isOutAlike(one, other *part.Name) bool {
+	reasons := func(of *part.Name) [][2]string {
+		made := [][2]string{}
+		for _, out := range of.Out {
+			if out.Kind != part.Unreadable || of.Disk == nil {
+				made = append(made, [2]string{out.Kind, out.Why})
+			}
+		}
+		return made
+	}
+	return reflect.DeepEqual(reasons(one), reasons(other))
+}

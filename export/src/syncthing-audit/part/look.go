@@ -1,0 +1,80 @@
+package part
+
+import (
+	"errors"
+	"fmt"
+	"time"
+
+	"golang.org/x/exp/slices"
+)
+
+// Look says which of two looks at a device that may run a part is of.
+type Look struct {
+	Home  string            `json:"home"`            // the same for one home of one machine alone
+	ID    string            `json:"id,omitempty"`    // of a first look: random, made when the look was over
+	After map[string]string `json:"after,omitempty"` // of a second look: by device the first looks that were over when it began
+	At    time.Time         `json:"at"`              // by the device's clock: when the first look was over, or the second one began
+	Ended time.Time         `json:"ended,omitempty"` // of two looks that were joined: when the second one began
+}
+
+// What changed at a device while it was looked at, or waits there.
+const (
+	MovedRecord    = "record"    // the device's own record
+	MovedViews     = "views"     // what it knows of another device's
+	MovedDisk      = "disk"      // what stands on the disk
+	MovedReceiving = "receiving" // the temporary file of what is being received
+	MovedUnscanned = "unscanned" // the disk isn't as the record says, by kind, size, time or target
+)
+
+// IsFirst says whether a part is of a first look.
+func (l *Look) IsFirst() bool { return l.ID != "" && l.After == nil }
+
+// IsSecond says whether it is of a second one.
+func (l *Look) IsSecond() bool { return l.ID == "" && l.After != nil }
+
+// checkLook says why a look is none.
+func checkLook(head *Head) error {
+	switch {
+	case head.Look == nil && head.Version != Version:
+		return fmt.Errorf("the part has version %d; without a look it is %d", head.Version, Version)
+	case head.Look == nil:
+		return nil
+	case head.Version != VersionOfLooks:
+		return fmt.Errorf("the part has version %d; with a look it is %d", head.Version, VersionOfLooks)
+	case head.Look.Home == "" || head.Look.IsFirst() == head.Look.IsSecond():
+		return errors.New("the part's look is none")
+	}
+	return nil
+}
+
+// hasBytes says whether files have contents in a part: a second look reads none.
+func (h *Head) hasBytes() bool { return h.Look == nil || !h.Look.IsSecond() }
+
+// Mark gives a text that stays as it is while nobody changes what stands on the disk. Of a directory it is its kind and
+// its permissions: what stands in it has names of its own.
+func (n *Node) Mark() string {
+	switch {
+	case n == nil:
+		return ""
+	case isFile(n.Type) || n.Type == symlink:
+		return fmt.Sprint(n.Type, n.Size, n.ModifiedS, n.ModifiedNs, n.Permissions, n.Stamp, n.Target)
+	}
+	return fmt.Sprint(n.Type, n.Permissions)
+}
+
+// IsAsRecorded says whether what stands on the disk is what the own record says, by kind, size, time and target.
+func (n *Name) IsAsRecorded() bool {
+	own, disk := n.Own, n.Disk
+	if own == nil || own.Deleted {
+		return disk == nil
+	}
+	if disk == nil || own.Type != disk.Type || own.Target != disk.Target {
+		return false
+	}
+	return own.Content == nil || own.Content.Size == disk.Size && own.ModifiedS == disk.ModifiedS && own.ModifiedNs == disk.ModifiedNs
+}
+
+// IsIgnored says whether .stignore keeps a name out of the folder at the device, whatever its file does.
+func (n *Name) IsIgnored() bool {
+	return slices.IndexFunc(n.Out, func(out LeftOut) bool { return out.Kind == Ignored }) >= 0
+}

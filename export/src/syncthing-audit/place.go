@@ -1,0 +1,141 @@
+package main
+
+import (
+	"bytes"
+	"errors"
+	"fmt"
+	"os"
+	"os/exec"
+	"path/filepath"
+	"runtime"
+	"strconv"
+	"strings"
+	"syscall"
+	"time"
+
+	"syncthing-audit/part"
+	"syncthing-audit/shell"
+)
+
+// place is where a device is: a home on this machine or, by ssh, on another one.
+type place struct {
+	given  string // as the command line has it
+	host   string // nothing for this machine
+	home   string // nothing for the one that Syncthing takes by itself
+	self   string // this program
+	looked time.Time
+}
+
+// placesOf reads the places of a command line. As rsync has it, a colon before any slash stands behind a machine.
+func placesOf(asked options) ([]*place, error) {
+	self, err := os.Executable()
+	if err != nil {
+		return nil, err
+	}
+	made := []*place{}
+	seen := map[string]bool{}
+	for _, word := range asked.parts {
+		one := &place{given: word, home: word, self: self}
+		if host, home, is := strings.Cut(word, ":"); is && !strings.Contains(host, "/") {
+			one.host, one.home = host, strings.TrimPrefix(home, "~/")
+			if host == "" || strings.HasPrefix(host, "-") {
+				return nil, &wrongUsage{fmt.Sprintf("%q names no machine", word)}
+			}
+		}
+		if seen[word] {
+			return nil, &wrongUsage{fmt.Sprintf("%q is given twice", word)}
+		}
+		seen[word] = true
+		made = append(made, one)
+	}
+	return made, nil
+}
+
+// label gives a short name for files.
+func (p *place) label() string {
+	if p.host != "" {
+		return p.host
+	}
+	return strings.Trim(strings.ReplaceAll(filepath.Clean(p.home), "/", "-"), "-")
+}
+
+// gently has a command take no more of a machine than others leave: the devices' own work goes before the hashing.
+var gently = []string{"nice", "-n", "19"}
+
+// begin gives the command of the first look.
+func (p *place) begin(asked options) []string {
+	words := []string{"part", "--begin"}
+	if asked.rescan {
+		words = append(words, "--rescan")
+	}
+	if asked.hasJobs {
+		words = append(words, "--jobs", strconv.Itoa(asked.jobs))
+	}
+	return p.words(gently, append(words, p.about(asked)...), asked)
+}
+
+// end gives the command of the second look. Whose first looks it comes after is judged by the one who joins all.
+func (p *place) end(asked options) []string {
+	return p.words(nil, append([]string{"part", "--end", "--tokens", "-", "--leave-out", part.Absent}, p.about(asked)...), asked)
+}
+
+// about gives the words that both looks have.
+func (p *place) about(asked options) []string {
+	words := []string{}
+	if p.home != "" {
+		words = append(words, "--home", p.home)
+	}
+	for _, one := range asked.folders {
+		words = append(words, "--folder", one)
+	}
+	if asked.names != "" {
+		words = append(words, "--names", asked.names)
+	}
+	return append(words, "-o", "-")
+}
+
+// words gives a command behind other words: here this program, elsewhere the one that ssh is to run, as one word for its shell.
+func (p *place) words(before, words []string, asked options) []string {
+	if p.host == "" {
+		return append(append(before[:len(before):len(before)], p.self), words...)
+	}
+	return []string{"ssh", p.host, quotedWords(append(append(before[:len(before):len(before)], asked.remote), words...))}
+}
+
+// run runs a command with what it reads, has what it writes go into a file, and gives what it says on standard error.
+func (p *place) run(words []string, input, path string) (string, error) {
+	file, err := os.OpenFile(path, os.O_WRONLY|os.O_CREATE|os.O_EXCL, 0o600)
+	if err != nil {
+		return "", err
+	}
+	defer file.Close()
+	var told bytes.Buffer
+	command := exec.Command(words[0], words[1:]...)
+	command.Stdin, command.Stdout, command.Stderr = strings.NewReader(input), file, &told
+	command.SysProcAttr = &syscall.SysProcAttr{Pdeathsig: syscall.SIGTERM} // of the thread that starts it
+	runtime.LockOSThread()
+	defer runtime.UnlockOSThread()
+	err = command.Run()
+	var ended *exec.ExitError
+	if errors.As(err, &ended) {
+		return "", fmt.Errorf("%s: its command ended with %v: %s", p.given, ended, strings.TrimSpace(told.String()))
+	}
+	if err != nil {
+		return "", fmt.Errorf("%s: %s can't be run: %w", p.given, shell.Quoted(words[0]), err)
+	}
+	return told.String(), nil
+}
+
+// headOf reads the head of a part.
+func headOf(path string) (*part.Head, error) {
+	file, err := os.Open(path)
+	if err != nil {
+		return nil, err
+	}
+	defer file.Close()
+	read, err := part.NewReader(file)
+	if err != nil {
+		return nil, err
+	}
+	return read.Head(), nil
+}

@@ -1,0 +1,47 @@
+package main
+
+import (
+	"strings"
+	"testing"
+)
+
+// A place is a machine where a colon stands before any slash, and its command is one word for the shell there.
+func TestPlaces(t *testing.T) {
+	cases := []struct{ word, host, home, command string }{
+		{"laptop:", "laptop", "", "ssh laptop 'audit part --end --tokens - --leave-out absent --folder docs -o -'"},
+		{"ann@laptop:~/a b", "ann@laptop", "a b", "ssh ann@laptop 'audit part --end --tokens - --leave-out absent --home '\\''a b'\\'' --folder docs -o -'"},
+		{"laptop:/srv/$HOME", "laptop", "/srv/$HOME", "ssh laptop 'audit part --end --tokens - --leave-out absent --home '\\''/srv/$HOME'\\'' --folder docs -o -'"},
+		{"/srv/a:b", "", "/srv/a:b", "here part --end --tokens - --leave-out absent --home /srv/a:b --folder docs -o -"},
+		{"./home", "", "./home", "here part --end --tokens - --leave-out absent --home ./home --folder docs -o -"},
+	}
+	for _, one := range cases {
+		asked := options{parts: []string{one.word}, folders: []string{"docs"}, remote: "audit"}
+		places, err := placesOf(asked)
+		if err != nil {
+			t.Fatal(err)
+		}
+		places[0].self = "here"
+		if places[0].host != one.host || places[0].home != one.home || quotedWords(places[0].end(asked)) != one.command {
+			t.Errorf("%s: %+v, %s", one.word, *places[0], quotedWords(places[0].end(asked)))
+		}
+		if begin := quotedWords(places[0].begin(asked)); !strings.Contains(begin, "nice -n 19 ") || !strings.Contains(begin, " part --begin ") {
+			t.Errorf("%s begins with %s", one.word, begin)
+		}
+	}
+}
+
+// How long a look has been over is read from what its command tells, among other lines.
+func TestAgeOfALook(t *testing.T) {
+	cases := []struct {
+		told    string
+		seconds float64
+	}{
+		{"syncthing-audit: 7 bytes\nsyncthing-audit: the first look was over 12.345 s ago\nTOKEN\n", 12.345},
+		{"syncthing-audit: the first look was over -3.000 s ago\n", 0}, {"syncthing-audit: the first look was over soon s ago\n", 0}, {"", 0},
+	}
+	for _, one := range cases {
+		if age := ageOf(one.told); age.Seconds() != one.seconds {
+			t.Errorf("%q: %v", one.told, age)
+		}
+	}
+}

@@ -1,0 +1,86 @@
+// Package rest asks a running Syncthing for what a person would ask it for. Nothing that a verdict says comes from here.
+package rest
+
+import (
+	"bytes"
+	"context"
+	"crypto/tls"
+	"crypto/x509"
+	"encoding/pem"
+	"errors"
+	"fmt"
+	"io"
+	"net"
+	"net/http"
+	"net/url"
+	"os"
+	"path/filepath"
+	"strings"
+
+	"github.com/syncthing/syncthing/lib/config"
+)
+
+// Scan has the Syncthing of a home scan a folder, and waits until that is done.
+func Scan(home string, about config.GUIConfiguration, folder string) error {
+	client := &http.Client{Transport: transport(home, about)}
+	scheme := "http"
+	if about.UseTLS() {
+		scheme = "https"
+	}
+	asked, err := http.NewRequest(http.MethodPost, scheme+"://localhost/rest/db/scan?"+url.Values{"folder": {folder}}.Encode(), nil)
+	if err != nil {
+		return err
+	}
+	asked.Header.Set("X-API-Key", about.APIKey)
+	answer, err := client.Do(asked)
+	if err != nil {
+		return fmt.Errorf("folder %s isn't scanned: does Syncthing run there? %w", folder, err)
+	}
+	defer answer.Body.Close()
+	if answer.StatusCode != http.StatusOK {
+		text, _ := io.ReadAll(io.LimitReader(answer.Body, 1000))
+		return fmt.Errorf("folder %s isn't scanned: %s: %s", folder, answer.Status, strings.TrimSpace(string(text)))
+	}
+	return nil
+}
+
+// transport gives how the Syncthing of a home is spoken to: at its own address alone, and with its own certificate.
+func transport(home string, about config.GUIConfiguration) *http.Transport {
+	return &http.Transport{
+		DialContext: func(ctx context.Context, _, _ string) (net.Conn, error) {
+			return (&net.Dialer{}).DialContext(ctx, about.Network(), localAddress(about))
+		},
+		TLSClientConfig: &tls.Config{InsecureSkipVerify: true, VerifyPeerCertificate: func(raw [][]byte, _ [][]*x509.Certificate) error {
+			return checkCertificate(filepath.Join(home, "https-cert.pem"), raw)
+		}},
+	}
+}
+
+// localAddress gives the address on this machine: Syncthing may listen on all.
+func localAddress(about config.GUIConfiguration) string {
+	address := about.Address()
+	if about.Network() == "unix" {
+		return address
+	}
+	host, port, err := net.SplitHostPort(address)
+	if err != nil {
+		return address
+	}
+	if host == "" || net.ParseIP(host).IsUnspecified() {
+		host = "localhost"
+	}
+	return net.JoinHostPort(host, port)
+}
+
+// checkCertificate says whether whoever answers hasn't the certificate that the home has for it.
+func checkCertificate(path string, raw [][]byte) error {
+	text, err := os.ReadFile(path)
+	if err != nil {
+		return err
+	}
+	block, _ := pem.Decode(text)
+	if block == nil || len(raw) == 0 || !bytes.Equal(block.Bytes, raw[0]) {
+		return errors.New("whoever answers there isn't this home's Syncthing")
+	}
+	return nil
+}

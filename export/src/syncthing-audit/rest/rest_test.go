@@ -1,0 +1,73 @@
+package rest
+
+import (
+	"encoding/pem"
+	"net/http"
+	"net/http/httptest"
+	"os"
+	"path/filepath"
+	"strings"
+	"testing"
+
+	"github.com/syncthing/syncthing/lib/config"
+)
+
+// answering gives a server that scans the folder 'a b' alone, for whoever has the key.
+func answering(t *testing.T, isSecure bool) (*httptest.Server, config.GUIConfiguration) {
+	made := httptest.NewUnstartedServer(http.HandlerFunc(func(to http.ResponseWriter, asked *http.Request) {
+		switch {
+		case asked.Method != http.MethodPost || asked.URL.Path != "/rest/db/scan":
+			http.Error(to, "odd", http.StatusNotFound)
+		case asked.Header.Get("X-API-Key") != "key":
+			http.Error(to, "Forbidden", http.StatusForbidden)
+		case asked.URL.Query().Get("folder") != "a b":
+			http.Error(to, "no such folder", http.StatusInternalServerError)
+		}
+	}))
+	if isSecure {
+		made.StartTLS()
+	} else {
+		made.Start()
+	}
+	t.Cleanup(made.Close)
+	return made, config.GUIConfiguration{RawAddress: made.Listener.Addr().String(), RawUseTLS: isSecure, APIKey: "key"}
+}
+
+// A scan is asked of the home's own Syncthing alone, by its key and its certificate.
+func TestScan(t *testing.T) {
+	cases := []struct {
+		why      string
+		isSecure bool
+		folder   string
+		change   func(home string, about *config.GUIConfiguration)
+		told     string
+	}{
+		{"as it is", false, "a b", func(string, *config.GUIConfiguration) {}, ""},
+		{"with the home's certificate", true, "a b", func(string, *config.GUIConfiguration) {}, ""},
+		{"on all addresses", false, "a b", func(_ string, about *config.GUIConfiguration) {
+			about.RawAddress = strings.Replace(about.RawAddress, "127.0.0.1", "0.0.0.0", 1)
+		}, ""},
+		{"another folder", false, "pics", func(string, *config.GUIConfiguration) {}, "no such folder"},
+		{"another key", false, "a b", func(_ string, about *config.GUIConfiguration) { about.APIKey = "x" }, "403 Forbidden"},
+		{"nobody there", false, "a b", func(_ string, about *config.GUIConfiguration) { about.RawAddress = "127.0.0.1:1" }, "does Syncthing run there?"},
+		{"another certificate", true, "a b", func(home string, _ *config.GUIConfiguration) {
+			os.WriteFile(filepath.Join(home, "https-cert.pem"), pem.EncodeToMemory(&pem.Block{Type: "CERTIFICATE", Bytes: []byte("x")}), 0o600)
+		}, "isn't this home's Syncthing"},
+		{"no certificate", true, "a b", func(home string, _ *config.GUIConfiguration) { os.Remove(filepath.Join(home, "https-cert.pem")) }, "https-cert.pem"},
+	}
+	for _, one := range cases {
+		home := t.TempDir()
+		server, about := answering(t, one.isSecure)
+		if one.isSecure {
+			text := pem.EncodeToMemory(&pem.Block{Type: "CERTIFICATE", Bytes: server.Certificate().Raw})
+			if err := os.WriteFile(filepath.Join(home, "https-cert.pem"), text, 0o600); err != nil {
+				t.Fatal(err)
+			}
+		}
+		one.change(home, &about)
+		err := Scan(home, about, one.folder)
+		if (err == nil) != (one.told == "") || err != nil && !strings.Contains(err.Error(), one.told) {
+			t.Errorf("%s: %v", one.why, err)
+		}
+	}
+}

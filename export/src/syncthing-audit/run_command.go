@@ -1,0 +1,278 @@
+package main
+
+import (
+	"errors"
+	"flag"
+	"fmt"
+	"io"
+	"path/filepath"
+	"strconv"
+	"strings"
+	"sync"
+	"time"
+
+	"syncthing-audit/ask"
+	"syncthing-audit/finding"
+	"syncthing-audit/leftover"
+	"syncthing-audit/looks"
+	"syncthing-audit/report"
+	"syncthing-audit/shell"
+)
+
+// secondsOfStillness is how long second looks wait once all first ones are over, where --still doesn't say it: what is on
+// its way between devices mostly arrives in that time.
+const secondsOfStillness = 10
+
+// runRun looks twice at devices that run, here and by ssh elsewhere, and has syncaudit answer.
+func runRun(words []string, output, log io.Writer) (int, error) {
+	asked, err := readOptions("run", words, func(flags *flag.FlagSet, read *options) {
+		flags.Var(kinds(read.leaveOut), "leave-out", "")
+		answerFlags(flags, read)
+		flags.StringVar(&read.program, "syncaudit", defaultProgram(), "")
+		flags.StringVar(&read.remote, "remote-program", "syncthing-audit", "")
+		flags.Float64Var(&read.still, "still", secondsOfStillness, "")
+		flags.BoolVar(&read.rescan, "rescan", false, "")
+		flags.BoolVar(&read.dryRun, "dry-run", false, "")
+	})
+	if err == nil {
+		err = asked.checkRun()
+	}
+	if err != nil {
+		return 0, err
+	}
+	places, err := placesOf(asked)
+	if err != nil {
+		return 0, err
+	}
+	if asked.dryRun {
+		tellCommands(output, places, asked)
+		return statusDone, nil
+	}
+	program := ask.Program{Path: asked.program}
+	if err := program.Find(); err != nil {
+		return 0, err
+	}
+	room, err := leftover.Directory("syncthing-audit-")
+	if err != nil {
+		return 0, err
+	}
+	defer leftover.Remove(room)
+	run := &running{asked: asked, places: places, room: room, log: log}
+	if err := run.look(); err != nil {
+		return 0, err
+	}
+	return run.answer(program, output)
+}
+
+// checkRun says what is wrong with the words of 'run'.
+func (o *options) checkRun() error {
+	switch {
+	case len(o.homes) > 0:
+		return &wrongUsage{"'run' has the devices' places without --home: 'laptop:' or 'laptop:DIR' by ssh, a directory on this machine"}
+	case len(o.parts) == 0:
+		return &wrongUsage{"no device is given: 'laptop:' or 'laptop:DIR' by ssh, or a home on this machine"}
+	case o.still < 0:
+		return &wrongUsage{"--still is at least 0"}
+	}
+	return o.checkForm()
+}
+
+// running is a run of both looks at all devices.
+type running struct {
+	asked  options
+	places []*place
+	room   string
+	log    io.Writer
+	tokens string
+	mutex  sync.Mutex // of the log
+	began  time.Time  // before the first second look began
+}
+
+// file gives where a look at a place is kept.
+func (r *running) file(at int, look string) string {
+	return filepath.Join(r.room, fmt.Sprintf("%s-%d.part", look, at+1))
+}
+
+// look makes the first look at all devices, and the second one once all of these are over.
+func (r *running) look() error {
+	fmt.Fprintf(r.log, "syncthing-audit: first look at %d devices, and hashing their files\n", len(r.places))
+	if err := r.all(r.begin); err != nil {
+		return err
+	}
+	var tokens strings.Builder
+	for at := range r.places {
+		head, err := headOf(r.file(at, "begin"))
+		if err != nil {
+			return fmt.Errorf("%s: %w", r.places[at].given, err)
+		}
+		if head.Look == nil {
+			return fmt.Errorf("%s: its part isn't of a first look: is the program of this version there?", r.places[at].given)
+		}
+		fmt.Fprintln(&tokens, looks.Token(head.Device, head.Look.ID))
+	}
+	r.tokens = tokens.String()
+	if left := time.Until(r.lastLook().Add(time.Duration(r.asked.still * float64(time.Second)))); left > 0 {
+		time.Sleep(left)
+	}
+	fmt.Fprintln(r.log, "syncthing-audit: second look")
+	r.began = time.Now()
+	return r.all(r.end)
+}
+
+// all does something at all places at once, and gives the first error by their order.
+func (r *running) all(do func(at int) error) error {
+	errs := make([]error, len(r.places))
+	ended := make(chan int)
+	for at := range r.places {
+		go func(at int) {
+			errs[at] = do(at)
+			ended <- at
+		}(at)
+	}
+	for range r.places {
+		<-ended
+	}
+	for _, err := range errs {
+		if err != nil {
+			return err
+		}
+	}
+	return nil
+}
+
+// begin makes the first look at a device.
+func (r *running) begin(at int) error {
+	told, err := r.places[at].run(r.places[at].begin(r.asked), "", r.file(at, "begin"))
+	if err != nil {
+		return err
+	}
+	r.places[at].looked = time.Now().Add(-ageOf(told))
+	r.tell(at, told)
+	return nil
+}
+
+// end makes the second look at a device.
+func (r *running) end(at int) error {
+	told, err := r.places[at].run(r.places[at].end(r.asked), r.tokens, r.file(at, "end"))
+	r.tell(at, told)
+	return err
+}
+
+// tell tells what was said at a place.
+func (r *running) tell(at int, told string) {
+	r.mutex.Lock()
+	defer r.mutex.Unlock()
+	for _, line := range strings.Split(told, "\n") {
+		if said := strings.TrimPrefix(line, "syncthing-audit: "); said != line {
+			fmt.Fprintf(r.log, "syncthing-audit: %s %s\n", r.places[at].given, said)
+		}
+	}
+}
+
+// lineOfAge is how 'part --begin' says on standard error how long its look has been over.
+const lineOfAge = "syncthing-audit: the first look was over %.3f s ago\n"
+
+// ageOf reads how long a first look had been over when its command ended; 0 where that isn't said.
+func ageOf(told string) time.Duration {
+	begin, end, _ := strings.Cut(lineOfAge, "%.3f")
+	for _, line := range strings.SplitAfter(told, "\n") {
+		if seconds, err := strconv.ParseFloat(strings.TrimSuffix(strings.TrimPrefix(line, begin), end), 64); err == nil && seconds >= 0 {
+			return time.Duration(seconds * float64(time.Second))
+		}
+	}
+	return 0
+}
+
+// answer joins what was seen at all devices, and tells the answer.
+func (r *running) answer(program ask.Program, output io.Writer) (int, error) {
+	read := options{folders: r.asked.folders, leaveOut: r.asked.leaveOut, lines: r.asked.lines, json: r.asked.json, jobs: r.asked.jobs}
+	names := map[string]string{}
+	for at, one := range r.places {
+		for _, look := range []string{"begin", "end"} {
+			path := r.file(at, look)
+			read.parts = append(read.parts, path)
+			names[path] = one.given
+		}
+	}
+	opened, err := openInputs(read)
+	if err != nil {
+		return 0, r.renamed(err, names)
+	}
+	defer opened.close()
+	for _, one := range opened.devices {
+		one.From = names[one.From]
+	}
+	if read.lines {
+		tellDevices(r.log, opened.devices)
+	}
+	endProgress := opened.startProgress(r.log, read)
+	answer, err := answerOf(opened, read, program)
+	endProgress()
+	if err != nil {
+		return 0, r.renamed(err, names)
+	}
+	if len(answer.Refusals) > 0 {
+		report.Refusals(r.log, answer)
+		return 0, errTold
+	}
+	r.time(answer)
+	return tell(output, r.log, read, answer)
+}
+
+// renamed gives an error with places in place of this run's own files. One that says a status stays as it is.
+func (r *running) renamed(err error, names map[string]string) error {
+	var failed *ask.Failed
+	text := err.Error()
+	if errors.As(err, &failed) {
+		return err
+	}
+	for path, name := range names {
+		text = strings.ReplaceAll(text, path, name)
+	}
+	return fmt.Errorf("%s", text)
+}
+
+// time says by this machine's clock how long the cluster was still: the devices' clocks may differ.
+func (r *running) time(answer *finding.Answer) {
+	for _, one := range answer.Folders {
+		if one.Live != nil {
+			one.Live.Seconds, one.Live.Timed = r.began.Sub(r.lastLook()).Seconds(), true
+		}
+	}
+}
+
+// lastLook gives a time at which all first looks were over.
+func (r *running) lastLook() time.Time {
+	last := r.places[0].looked
+	for _, one := range r.places {
+		if one.looked.After(last) {
+			last = one.looked
+		}
+	}
+	return last
+}
+
+// tellCommands tells what a run would do.
+func tellCommands(output io.Writer, places []*place, asked options) {
+	for _, one := range places {
+		fmt.Fprintf(output, "%s > %s\n", quotedWords(one.begin(asked)), shell.Quoted(one.label()+".begin"))
+	}
+	fmt.Fprintf(output, "# each tells its token on standard error; they go into tokens, one on a line. At least %g s later:\n", asked.still)
+	for _, one := range places {
+		fmt.Fprintf(output, "%s < tokens > %s\n", quotedWords(one.end(asked)), shell.Quoted(one.label()+".end"))
+	}
+	files := []string{}
+	for _, one := range places {
+		files = append(files, shell.Quoted(one.label()+".begin"), shell.Quoted(one.label()+".end"))
+	}
+	fmt.Fprintf(output, "syncthing-audit check %s\n", strings.Join(files, " "))
+}
+
+// quotedWords gives a command as a shell reads it.
+func quotedWords(words []string) string {
+	made := []string{}
+	for _, one := range words {
+		made = append(made, shell.Word(one))
+	}
+	return strings.Join(made, " ")
+}

@@ -1,0 +1,116 @@
+package summary
+
+import (
+	"fmt"
+	"math"
+	"strings"
+
+	"syncthing-audit/finding"
+	"syncthing-audit/part"
+	"syncthing-audit/shell"
+)
+
+// Live is what two looks at running devices say of a folder beside what is still.
+type Live struct {
+	Seconds *float64  `json:"still_seconds"` // between the last first look and the first second one; none where clocks differ too much
+	Moving  int64     `json:"names_in_motion"`
+	Names   []Moving  `json:"in_motion"` // as many as are kept
+	Unheard []Unheard `json:"not_heard_of"`
+}
+
+// Moving is a name that changed while a device was looked at, or waits there. It isn't audited.
+type Moving struct {
+	Name    Text    `json:"name"`
+	Devices []Moved `json:"devices"`
+}
+
+// Moved says what changed at a device.
+type Moved struct {
+	Device string   `json:"device"`
+	Why    []string `json:"why"`
+}
+
+// Unheard counts the still names whose record a device hadn't heard of from another one.
+type Unheard struct {
+	Device string `json:"device"`
+	Of     string `json:"of"`
+	Names  int64  `json:"names"`
+}
+
+// liveOf gives what two looks say; nothing of devices that were looked at once.
+func liveOf(from *finding.Folder) *Live {
+	if from.Live == nil {
+		return nil
+	}
+	made := &Live{Moving: from.Live.Moving, Names: []Moving{}, Unheard: []Unheard{}}
+	if from.Live.Timed {
+		seconds := math.Round(from.Live.Seconds*1000) / 1000
+		made.Seconds = &seconds
+	}
+	id := func(member int) string { return from.Members[member].Head.Device }
+	for _, one := range from.Live.Names {
+		next := Moving{Name: one.Name, Devices: []Moved{}}
+		for _, at := range one.At {
+			next.Devices = append(next.Devices, Moved{id(at.Member), at.Why})
+		}
+		made.Names = append(made.Names, next)
+	}
+	for _, one := range from.Live.Unheard {
+		made.Unheard = append(made.Unheard, Unheard{id(one.Member), id(one.Of), one.Names})
+	}
+	return made
+}
+
+// still says for how long how many names were still, and how many weren't.
+func (p *printer) still(one *Folder) string {
+	spent := ""
+	if one.Live.Seconds != nil {
+		spent = fmt.Sprintf(" for %s s", thousands(int64(*one.Live.Seconds)))
+	}
+	return fmt.Sprintf("still%s: %s; in motion: %s", spent, counted(one.Names, "name", "names"), thousands(one.Live.Moving))
+}
+
+// mostMoving is how many names in motion are told.
+const mostMoving = 10
+
+// wordsOfMoved say what changed, or what a device waits with.
+var wordsOfMoved = map[string]string{
+	part.MovedRecord:    "its record changed",
+	part.MovedViews:     "what it knows of others' records changed",
+	part.MovedDisk:      "what stands on the disk changed",
+	part.MovedReceiving: "it is being received",
+	part.MovedUnscanned: "the disk isn't as recorded: it waits for a scan",
+}
+
+// moving prints the names in motion, and what hasn't been heard of.
+func (p *printer) moving(folder *Folder) {
+	live := folder.Live
+	if live == nil {
+		return
+	}
+	if live.Seconds == nil {
+		p.line("for how long %s was still isn't known: the devices' clocks differ by more than that", folder.ID)
+	}
+	if live.Moving > 0 {
+		p.line("in motion in %s: %s, not audited: audit again", folder.ID, counted(live.Moving, "name", "names"))
+	}
+	for place, one := range live.Names {
+		if place == mostMoving {
+			p.line("  and %s more (--json has %s)", thousands(live.Moving-mostMoving), thousands(int64(len(live.Names))))
+			break
+		}
+		words := []string{}
+		for _, at := range one.Devices {
+			why := []string{}
+			for _, word := range at.Why {
+				why = append(why, wordsOfMoved[word])
+			}
+			words = append(words, p.named.of(at.Device)+": "+strings.Join(why, ", "))
+		}
+		p.line("  %s: %s", shell.Path(string(one.Name)), strings.Join(words, "; "))
+	}
+	for _, one := range live.Unheard {
+		p.line("not heard of in %s: what %s recorded last of %s hasn't reached %s: it is on its way, or the two aren't connected", folder.ID,
+			p.named.of(one.Of), counted(one.Names, "still name", "still names"), p.named.of(one.Device))
+	}
+}

@@ -1,0 +1,83 @@
+package summary
+
+import (
+	"fmt"
+	"strings"
+	"testing"
+	"time"
+
+	"syncthing-audit/finding"
+	"syncthing-audit/part"
+)
+
+// inMotion gives names that changed on the server.
+func inMotion(count int) []finding.Moving {
+	made := []finding.Moving{}
+	for next := 0; next < count; next++ {
+		made = append(made, finding.Moving{Name: part.Bytes(fmt.Sprint("n", next)), At: []finding.Moved{{Member: 1, Why: []string{part.MovedDisk}}}})
+	}
+	return made
+}
+
+// What was still, for how long, and what was in motion: it is never called in step.
+func TestTextOfRunningDevices(t *testing.T) {
+	cases := []struct {
+		why  string
+		live finding.Live
+		text string
+	}{
+		{"all still", finding.Live{Timed: true, Seconds: 312.9},
+			`docs (Documents): in step; still for 312 s: 1,204 names; in motion: 0 (4 deleted, 335.2 MB hashed on laptop, server)
+
+` + strings.TrimPrefix(lastLine, "\n")},
+		{"two in motion", finding.Live{Timed: true, Seconds: 1312, Moving: 2, Names: []finding.Moving{
+			{Name: "a b", At: []finding.Moved{{Member: 0, Why: []string{part.MovedRecord, part.MovedDisk}}, {Member: 1, Why: []string{part.MovedViews}}}},
+			{Name: "c", At: []finding.Moved{{Member: 1, Why: []string{part.MovedReceiving}}}}}},
+			`docs (Documents): in step as far as audited; still for 1,312 s: 1,204 names; in motion: 2 (4 deleted, 335.2 MB hashed on laptop, server)
+
+in motion in docs: 2 names, not audited: audit again
+  'a b': laptop: its record changed, what stands on the disk changed; server: what it knows of others' records changed
+  c: server: it is being received
+` + strings.TrimPrefix(lastLine, "\n")},
+		{"more than are told", finding.Live{Timed: true, Moving: 12, Names: inMotion(11)},
+			`docs (Documents): in step as far as audited; still for 0 s: 1,204 names; in motion: 12 (4 deleted, 335.2 MB hashed on laptop, server)
+
+in motion in docs: 12 names, not audited: audit again
+` + firstTen + `  and 2 more (--json has 11)
+` + strings.TrimPrefix(lastLine, "\n")},
+		{"clocks that differ, and what wasn't heard of", finding.Live{Unheard: []finding.Unheard{{Member: 1, Of: 0, Names: 3}}},
+			`docs (Documents): in step as far as audited; still: 1,204 names; in motion: 0 (4 deleted, 335.2 MB hashed on laptop, server)
+
+for how long docs was still isn't known: the devices' clocks differ by more than that
+not heard of in docs: what laptop recorded last of 3 still names hasn't reached server: it is on its way, or the two aren't connected
+` + strings.TrimPrefix(lastLine, "\n")},
+	}
+	var documents strings.Builder
+	for _, one := range cases {
+		var written strings.Builder
+		live := one.live
+		answer := answerOf(2, func(folder *finding.Folder) { folder.Live = &live })
+		Of(answer).Print(&written, time.UTC)
+		if written.String() != one.text {
+			t.Errorf("%s:\n%s\nnot\n%s", one.why, written.String(), one.text)
+		}
+		if err := Of(answer).WriteJSON(&documents); err != nil {
+			t.Fatal(err)
+		}
+	}
+	if told, err := validate(t, documents.String()); err != nil {
+		t.Error(told)
+	}
+}
+
+const firstTen = `  n0: server: what stands on the disk changed
+  n1: server: what stands on the disk changed
+  n2: server: what stands on the disk changed
+  n3: server: what stands on the disk changed
+  n4: server: what stands on the disk changed
+  n5: server: what stands on the disk changed
+  n6: server: what stands on the disk changed
+  n7: server: what stands on the disk changed
+  n8: server: what stands on the disk changed
+  n9: server: what stands on the disk changed
+`
