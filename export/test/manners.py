@@ -18,6 +18,7 @@ from exporting import PROGRAM, auditor, built, is_over, main, run
 from syncthing import SECONDS_TO_WAIT, wait_until
 
 FILES = 2000
+SIGNALS = (signal.SIGINT, signal.SIGTERM, signal.SIGHUP)
 # Larger than what any machine hashes while a test waits; it takes no room.
 ENDLESS_BYTES = 1 << 42
 SETTLED = f"docs: in step; {FILES + FILES // 100:,} names (0 deleted), "
@@ -50,7 +51,8 @@ class Manners(unittest.TestCase):
 
     def start(self, *words, **options):
         """Starts the audit, its temporary directory being this case's."""
-        process = subprocess.Popen([self.program, *words], env={**os.environ, "TMPDIR": str(self.temporary)}, **options)
+        process = subprocess.Popen([self.program, *words], env={**os.environ, "TMPDIR": str(self.temporary)}, preexec_fn=take_signals,
+                                   **options)
         self.addCleanup(process.wait)
         self.addCleanup(process.kill)
         return process
@@ -98,8 +100,7 @@ class Manners(unittest.TestCase):
             file.truncate(ENDLESS_BYTES)
         self.addCleanup(endless.unlink)
         into = self.temporary / "into"
-        signal.signal(signal.SIGHUP, signal.SIG_DFL)  # else it is ignored under nohup, and so it is by the audit
-        for number in (signal.SIGINT, signal.SIGTERM, signal.SIGHUP):
+        for number in SIGNALS:
             into.mkdir()
             process = self.start("part", "--home", self.homes[0], "-o", into / "one.part")
             wait_until("the part is begun", lambda: list(into.glob(".syncthing-audit-*")))
@@ -161,6 +162,12 @@ class Manners(unittest.TestCase):
             ran = run([self.program, *words, "--folder", "pics"])
             self.assertEqual((ran.returncode, ran.stdout), (2, ""))
             self.assertIn("refused: no folder here has the id pics: the only one is docs", ran.stderr)
+
+
+def take_signals():
+    """Has a process take the signals that it may inherit as ignored, from nohup or from a shell's background."""
+    for number in SIGNALS:
+        signal.signal(number, signal.SIG_DFL)
 
 
 def has_ended(number):
