@@ -77,10 +77,7 @@ impl<S: Store> Peer<S> {
     }
 
     // The device with these folders.
-    fn copy_over(
-        &self,
-        folders: FolderMap<Replica<MemStore>>,
-    ) -> Result<Peer<MemStore>, AllocError>
+    fn copy_over(&self, folders: FolderMap<Replica<MemStore>>) -> Result<Peer<MemStore>, AllocError>
         requires { folders ≡ folders_copied self.now.folders }
         ensures { IfOk result (λ copy. copy ≡ member_copied self.now) }
     {
