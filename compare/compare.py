@@ -1,5 +1,5 @@
 #!/usr/bin/env python3
-"""Compares the program's answers, of `check`, `firm`, `explain` and `certify`, with those of a second reading (reading.py): on the
+"""Compares the program's answers, of `check`, `firm`, `explain` (with `--firm` too) and `certify` (with `--partial` too), with those of a second reading (reading.py): on the
 examples, on documents with something as great as it may be or one more, and on random documents.
 
     compare/compare.py [COUNT [SEED]]
@@ -17,7 +17,7 @@ import firm
 import reading
 import reports
 import things
-from cluster.cut import NoWinner, certify
+from cluster.cut import NoWinner, certify, certify_part
 from documents import Documents, at_limits
 
 TOP = pathlib.Path(__file__).resolve().parent.parent
@@ -32,9 +32,9 @@ def is_hint(said, written):
 
 def run(command, document):
     """What the program writes, and its exit status; an explanation without what is indented."""
-    ran = subprocess.run([PROGRAM, command], input=document, capture_output=True, check=False)
+    ran = subprocess.run([PROGRAM, *command.split()], input=document, capture_output=True, check=False)
     written = ran.stdout
-    if command == "explain":
+    if command.startswith("explain"):
         written = b"".join(line for line in written.splitlines(keepends=True) if not line.startswith(b"  "))
     if not is_hint(ran.stderr, written):
         sys.exit(f"{command}: on standard error stands {ran.stderr}, beside {written}")
@@ -79,15 +79,33 @@ def compare_certified(document):
         tell_difference("certify", document, wanted, told)
 
 
+def compare_part(document):
+    """Whether `certify --partial` writes the cut of the document with the winners of all names that have one."""
+    ran = subprocess.run([PROGRAM, "certify", "--partial"], input=document, capture_output=True, check=False)
+    try:
+        read = reading.read_cut(document)
+    except things.Fault as fault:
+        wanted = reports.written(*reports.refusal(fault))
+        if (ran.stdout, ran.returncode) != wanted:
+            tell_difference("certify --partial", document, wanted, (ran.stdout, ran.returncode))
+        return
+    rows, without = certify_part(read)
+    lines = b"".join(b"not settled: NotWinner %s %s\n" % (folder, reports.printed(name)) for folder, name in without)
+    status = 6 if without else 0
+    if (reading.read_check(ran.stdout) != in_order(read | {"rows": rows})) or (ran.stderr, ran.returncode) != (lines, status):
+        tell_difference("certify --partial", document, (rows, lines, status), (ran.stdout, ran.stderr, ran.returncode))
+
+
 def compare(document):
     """Compares what is told of a document, and answers what `check` should write."""
     check, explain = reports.answers(document)
-    whether_firm, _ = firm.answers(document)
-    for command, wanted in (("check", check), ("firm", whether_firm), ("explain", explain)):
+    whether_firm, why_not = firm.answers(document)
+    for command, wanted in (("check", check), ("firm", whether_firm), ("explain", explain), ("explain --firm", why_not)):
         told = run(command, document)
         if told != wanted:
             tell_difference(command, document, wanted, told)
     compare_certified(document)
+    compare_part(document)
     return check[0]
 
 

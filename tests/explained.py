@@ -1,5 +1,5 @@
-"""Compares what `explain --json` writes of a document with what `explain` writes: the status, the verdict, and the reason
-and place of each failure, in order; and each detail with what the document says there."""
+"""Compares what `explain --json` writes of a document with what `explain` writes, each also with `--firm`: the status, the
+verdict, and the reason and place of each failure, in order; and each detail with what the document says there."""
 
 import hashlib
 import json
@@ -7,6 +7,9 @@ import re
 import subprocess
 
 BLOCK = 131072
+
+# The reasons that only `--firm` tells.
+OF_FIRM = ("VersionDiffers", "ViewNotBelow", "FlightNotBelow", "PullNotBelow")
 
 
 def run(program, words, document):
@@ -39,9 +42,13 @@ def lines_of(document):
     """The lines without indent that tell the same."""
     if "refused" in document:
         return [refusal_line(document["refused"])]
-    if document["settled"] != (not document["failures"]):
+    failures = document["failures"]
+    good = "firm" if "firm" in document else "settled"
+    if document["settled"] != all(failure["reason"] in OF_FIRM for failure in failures):
         return [f"settled is {document['settled']}"]
-    return [line_of(failure) for failure in document["failures"]] or ["settled"]
+    if document[good] != (not failures):
+        return [f"{good} is {document[good]}"]
+    return [line_of(failure) for failure in failures] or [good]
 
 
 def record_of(record):
@@ -104,8 +111,13 @@ def is_said(document, failure, detail):
 
 def difference(program, document):
     """What differs, if anything does."""
-    status, text = run(program, ["explain"], document)
-    json_status, written = run(program, ["explain", "--json"], document)
+    return difference_in(program, ["explain"], document) or difference_in(program, ["explain", "--firm"], document)
+
+
+def difference_in(program, words, document):
+    """The same of what is told for these words."""
+    status, text = run(program, words, document)
+    json_status, written = run(program, [*words, "--json"], document)
     if written.count("\n") != 1 or not written.endswith("\n"):
         return f"this isn't one line: {written!r}"
     try:

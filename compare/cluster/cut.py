@@ -63,16 +63,25 @@ def cut_of(cluster: Cluster) -> dict:
                         for folder in folders], "links": links}
 
 
-def certify(cut: dict) -> list[dict]:
-    """The list of winners, rising by folder and name; NoWinner for the least known name that has none."""
+def certify_part(cut: dict) -> tuple[list[dict], list[tuple[bytes, bytes]]]:
+    """The winners of the known names that have one, rising by folder and name, and the names that have none, rising too."""
     tables = verdict.Cut(cut)
-    rows = []
+    rows, without = [], []
     for folder in tables.folders:
         for name in sorted(tables.known(folder)):
             winner = tables.winner(folder, name)
             if winner is None:
-                raise NoWinner(folder, name)
-            rows.append({"folder": folder, "device": winner[0], "record": winner[1]})
+                without.append((folder, name))
+            else:
+                rows.append({"folder": folder, "device": winner[0], "record": winner[1]})
+    return rows, without
+
+
+def certify(cut: dict) -> list[dict]:
+    """The list of winners, rising by folder and name; NoWinner for the least known name that has none."""
+    rows, without = certify_part(cut)
+    if without:
+        raise NoWinner(*without[0])
     return rows
 
 

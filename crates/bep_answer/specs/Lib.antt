@@ -2,5 +2,6 @@ pub mod Answer
 pub mod Certified
 pub mod Exchange
 pub mod Firm
+pub mod Partial
 pub mod Status
 pub mod Laws

@@ -6,10 +6,13 @@ use Rattle.bep_answer.specs.Answer.{IsAnswerOfBytes}
 use Rattle.bep_answer.specs.Certified.{IsCertifiedOfBytes}
 use Rattle.bep_answer.specs.Exchange.{IsEndedEarly, IsWhole}
 use Rattle.bep_answer.specs.Firm.{IsFirmAnswerOfBytes}
+use Rattle.bep_answer.specs.Partial.{IsPartlyOfBytes}
 use Rattle.bep_answer.specs.declared.outcome.Certified.{Certified}
 use Rattle.bep_answer.specs.declared.outcome.Certified.TheVariants as certificates
 use Rattle.bep_answer.specs.declared.outcome.Firmness.{Firmness}
 use Rattle.bep_answer.specs.declared.outcome.Firmness.TheVariants as firmness
+use Rattle.bep_answer.specs.declared.outcome.Partial.{Partial}
+use Rattle.bep_answer.specs.declared.outcome.Partial.TheVariants as partials
 use Rattle.bep_answer.specs.declared.outcome.Outcome.{Outcome}
 use Rattle.bep_answer.specs.declared.outcome.Outcome.TheVariants.{Settled, NotSettled, Refused}
 
@@ -40,6 +43,15 @@ certified_status_of (Err Memory) = 4
 certified_status_of (Err Read) = 5
 certified_status_of (Err Write) = 5
 
+-- the status after a certificate was asked for as far as there are winners
+abbrev pub partial_status_of : Result Partial ReportError → ℕ
+partial_status_of (Ok partials.Whole) = 0
+partial_status_of (Ok partials.Part) = 6
+partial_status_of (Ok partials.Refused) = 2
+partial_status_of (Err Memory) = 4
+partial_status_of (Err Read) = 5
+partial_status_of (Err Write) = 5
+
 -- the status where the words aren't understood, or ask for help
 abbrev pub usage : ℕ
 usage = 3
@@ -66,3 +78,7 @@ IsFirmTold = IsToldAs IsFirmAnswerOfBytes firm_status_of
 -- a certificate was written or refused
 abbrev pub IsCertificateTold : Option (List ℕ) → Option (List ℕ) → Option (List ℕ) → Option (List ℕ) → ℕ → Type 0
 IsCertificateTold = IsToldAs IsCertifiedOfBytes certified_status_of
+
+-- a certificate was written as far as there are winners, or refused
+abbrev pub IsPartTold : Option (List ℕ) → Option (List ℕ) → Option (List ℕ) → Option (List ℕ) → ℕ → Type 0
+IsPartTold = IsToldAs IsPartlyOfBytes partial_status_of

@@ -4,6 +4,7 @@ ghost use Rattle.bep_answer.specs.Answer.{IsAnswerOfBytes, SaysSettled};
 ghost use Rattle.bep_answer.specs.Certified.{IsCertifiedOfBytes};
 ghost use Rattle.bep_answer.specs.Exchange.{IsEndedEarly, IsWhole};
 ghost use Rattle.bep_answer.specs.Firm.{IsFirmAnswerOfBytes, SaysFirm};
+ghost use Rattle.bep_answer.specs.Partial.{IsPartlyOfBytes};
 ghost use Rattle.bep_answer.specs.declared.outcome.Firmness.TheVariants as firmness;
 ghost use Rattle.bep_answer.specs.declared.outcome.Outcome.TheVariants as outcomes;
 
@@ -11,7 +12,8 @@ use crate::certify::CertificateOfCut;
 use crate::check::AuditOfCut;
 use crate::exchanging::{Hinted, exchange};
 use crate::firm::FirmnessOfCut;
-use crate::outcome::{Certified, Firmness, Outcome};
+use crate::outcome::{Certified, Firmness, Outcome, Partial};
+use crate::partial::PartOfCut;
 use bep_machine::{firm_stays_put, settled_stays_put, settled_stays_settled};
 use bep_model::firm_stays_firm;
 use bep_report::ReportError;
@@ -117,4 +119,20 @@ pub fn certified<R: Read, W: Write>(
     ensures err { IfErr result (IsEndedEarly IsCertifiedOfBytes (R.remaining reader.old) (R.remaining reader.new) (W.contents writer.old) (W.contents writer.new)) }
 {
     exchange(alloc, CertificateOfCut, reader, writer)
+}
+
+/// Reads the cut of a check document, as `certified` does, and writes its check document with the winners of the known names
+/// that have one, whether all have or not; or the line of the fault for which the document is refused. Beside the outcome it
+/// tells the names without, or where a refused document is at fault. At most 67108865 bytes are read.
+///
+/// Its errors are those of `certify_text`.
+pub fn partly_certified<R: Read, W: Write>(
+    alloc: Global,
+    reader: &mut R,
+    writer: &mut W,
+) -> Result<Hinted<Partial>, ReportError>
+    ensures ok { IfOk result (λ told. IsWhole IsPartlyOfBytes (R.remaining reader.old) (R.remaining reader.new) (W.contents writer.old) (W.contents writer.new) told.0) }
+    ensures err { IfErr result (IsEndedEarly IsPartlyOfBytes (R.remaining reader.old) (R.remaining reader.new) (W.contents writer.old) (W.contents writer.new)) }
+{
+    exchange(alloc, PartOfCut, reader, writer)
 }

@@ -1,7 +1,8 @@
 //! The certificate for a document's cut.
-ghost use Rattle.std.specs.Prelude.{◌≡◌, ◌≤◌, None, length, IfOk, OnOk};
+ghost use Rattle.std.specs.Prelude.{◌≡◌, ◌≤◌, None, Contains, length, IfOk, OnOk};
 ghost use Rattle.bep_document.specs.Reading.{Read, most_bytes};
-ghost use Rattle.bep_model.specs.Settled.{IsListOfWinners};
+ghost use Rattle.bep_model.specs.declared.row.Row.{Row};
+ghost use Rattle.bep_model.specs.Winner.{IsWinner};
 ghost use Rattle.bep_tables.specs.Cut.{tables_of};
 ghost use Rattle.bep_tables.specs.document.Trees.{check_text};
 ghost use Rattle.bep_model.specs.declared.reason.Reason.TheVariants.{NotWinner};
@@ -58,9 +59,13 @@ pub fn certify_cut(alloc: Global, cut: &Cut) -> Result<(Certified, Vec<u8>), All
     }
 }
 
-// The document of the cut with this certificate, which is the list of its winners.
-fn document_of(alloc: Global, cut: &Cut, certificate: &Certificate) -> Result<Vec<u8>, AllocError>
-    requires winners { IsListOfWinners (tables_of cut.now) certificate.now }
+/// The document of the cut with this certificate, whose rows hold winners.
+pub(crate) fn document_of(
+    alloc: Global,
+    cut: &Cut,
+    certificate: &Certificate,
+) -> Result<Vec<u8>, AllocError>
+    requires winners { (row : Row) → Contains certificate.now row → IsWinner (tables_of cut.now) row.folder row.entry.name (row.device, row.entry) }
     ensures text { IfOk result (λ text. text.items ≡ document_text cut.now certificate.now) }
     ensures read_back { OnOk result (length (check_text cut.now certificate.now) ≤ most_bytes → check_of (check_text cut.now certificate.now) ≡ Read (cut.now, certificate.now)) }
 {

@@ -32,3 +32,14 @@ pub enum Certified {
     /// The document couldn't be read as a cut.
     Refused,
 }
+
+/// What is answered where a certificate is asked for as far as there are winners.
+#[derive(Clone, Copy, Debug, PartialEq, Eq)]
+pub enum Partial {
+    /// The document's cut was written with the list of its names' winners.
+    Whole,
+    /// It was written with the winners of the names that have one; some known name has none.
+    Part,
+    /// The document couldn't be read as a cut.
+    Refused,
+}

@@ -2,7 +2,7 @@
 ghost use Rattle.std.specs.Prelude.{◌≡◌};
 ghost use Rattle.bep_answer.specs.Status as spec;
 
-use crate::outcome::{Certified, Firmness, Outcome};
+use crate::outcome::{Certified, Firmness, Outcome, Partial};
 use bep_report::ReportError;
 
 /// The exit status for words that aren't understood, and for help.
@@ -43,6 +43,20 @@ pub fn certified_status_of(answer: Result<Certified, ReportError>) -> u8
         Ok(Certified::Written) => 0,
         Ok(Certified::NoWinner) => 1,
         Ok(Certified::Refused) => 2,
+        Err(ReportError::Memory) => 4,
+        Err(ReportError::Read | ReportError::Write) => 5,
+    }
+}
+
+/// The exit status where a certificate was asked for as far as there are winners: 0 written for all known names, 6 written
+/// for those that have a winner, 2 refused, 4 memory, 5 a read or write fault.
+pub fn partial_status_of(answer: Result<Partial, ReportError>) -> u8
+    ensures { result ≡ spec.partial_status_of answer }
+{
+    match answer {
+        Ok(Partial::Whole) => 0,
+        Ok(Partial::Part) => 6,
+        Ok(Partial::Refused) => 2,
         Err(ReportError::Memory) => 4,
         Err(ReportError::Read | ReportError::Write) => 5,
     }

@@ -2,13 +2,13 @@
 ghost use Rattle.std.specs.Prelude.{◌≡◌};
 ghost use Rattle.bep_answer.specs.Answer.{SaysSettled};
 ghost use Rattle.bep_answer.specs.Firm.{SaysFirm};
-ghost use Rattle.bep_answer.specs.Status.{IsCertificateTold, IsFirmTold, IsTold, without_hint};
+ghost use Rattle.bep_answer.specs.Status.{IsCertificateTold, IsFirmTold, IsPartTold, IsTold, without_hint};
 ghost use Rattle.bep_answer.specs.Status as spec;
 
-use crate::answers::{certified, checked, firm_checked};
+use crate::answers::{certified, checked, firm_checked, partly_certified};
 use crate::exchanging::Hinted;
 use crate::outcome::{Certified, Firmness, Outcome};
-use crate::status::{certified_status_of, firm_status_of, status_of};
+use crate::status::{certified_status_of, firm_status_of, partial_status_of, status_of};
 use bep_report::ReportError;
 use std::io::{Read, Write};
 
@@ -46,6 +46,18 @@ pub fn certify_and_tell<P: AllocGlobal + Eprint, R: Read, W: Write>(
     ensures { IsCertificateTold (R.remaining reader.old) (R.remaining reader.new) (W.contents writer.old) (W.contents writer.new) result }
 {
     end_certified(rt, certified(rt.alloc(), reader, writer))
+}
+
+/// The same for the certificate as far as there are winners, as `partly_certified` makes it; tells the names without.
+pub fn certify_partly_and_tell<P: AllocGlobal + Eprint, R: Read, W: Write>(
+    rt: &P,
+    reader: &mut R,
+    writer: &mut W,
+) -> u8
+    ensures { IsPartTold (R.remaining reader.old) (R.remaining reader.new) (W.contents writer.old) (W.contents writer.new) result }
+{
+    let answer = partly_certified(rt.alloc(), reader, writer);
+    partial_status_of(tell(rt, answer))
 }
 
 /// Tells what was answered beside an outcome, if there is anything, or why there is no answer, and answers the exit status.

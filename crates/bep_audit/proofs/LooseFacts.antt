@@ -1,21 +1,23 @@
 -- What the entries of a cut are asked is what the four reasons ask; the least that is asked in vain is the verdict.
-use Rattle.std.proofs.Common.{◌≡◌, ◌≢◌, ℕ, ◌+◌, ◌<◌, ◌≤◌, List, [], ◌∷◌, ◌++◌, cond, length, get_or, take, Contains, Option, Some, None, map, refl, sym, ap, subst, ◌∙◌, ⊎_elim}
-use Rattle.std.specs.declared.cmp.Ordering.TheVariants.{Less}
-use Rattle.std.specs.Ordering.{ordering_then}
-use Rattle.std.specs.Cmp.{IsTotalOrder, nat_cmp_total}
-use Rattle.std.proofs.lemmas.Cmp.{then_total, on_total, tied_itself}
+use Rattle.std.proofs.Common.{◌≡◌, ◌≢◌, ◌↔◌, IsTrue, Bool, true, ℕ, ◌+◌, ◌<◌, ◌≤◌, List, [], ◌∷◌, ◌++◌, cond, length, get_or, take, Contains, Option, Some, None, map, refl, sym, ap, subst, ◌∙◌, ⊎_elim}
+use Rattle.std.specs.declared.cmp.Ordering.{Ordering}
+use Rattle.std.specs.declared.cmp.Ordering.TheVariants.{Less, Equal, Greater}
+use Rattle.std.specs.Ordering.{is_eq, ordering_then}
+use Rattle.std.specs.Cmp.{nat_cmp_total}
+use Rattle.std.proofs.lemmas.Cmp.{tied_itself}
 use Rattle.std.proofs.lemmas.List.{take_all}
 use Rattle.std.proofs.lemmas.List.Elements.{Contains-push, Contains-push_cases, Contains-append_left}
-use Rattle.bep_facts.specs.Members.{not_in_none, Contains-cons_cases, Contains-image, Contains-from_image}
+use Rattle.bep_facts.specs.Members.{not_in_none, Contains-first, Contains-one, Contains-cons_cases, Contains-image, Contains-from_image}
 use Rattle.bep_facts.specs.Places.{done_with}
-use Rattle.bep_facts.specs.Orders.{texts_total, not_less_itself}
+use Rattle.bep_facts.specs.Orders.{Equal_from_same, texts_exact, texts_total, not_less_itself}
 use Rattle.bep_facts.specs.Rising.{below_later}
 use Rattle.bep_record.specs.declared.entry.Entry.{Entry}
+use Rattle.bep_record.specs.declared.node.NodeParts.{NodeParts}
 use Rattle.bep_model.specs.declared.row.Row.{Row}
 use Rattle.bep_model.specs.declared.firm_reason.FirmReason.{FirmReason}
 use Rattle.bep_model.specs.declared.firm_reason.FirmReason.TheVariants.{VersionDiffers, ViewNotBelow, FlightNotBelow, PullNotBelow}
 use Rattle.bep_model.specs.Tables.{Tables, Device, Folder, FileName, Shares}
-use Rattle.bep_model.specs.Settled.{IsSettled, Rise, key_of, key_cmp}
+use Rattle.bep_model.specs.Settled.{HasRow, IsSettled, Rise, key_of, key_cmp}
 use Rattle.bep_model.specs.Firm.{OwnHasVersion, IsFirm}
 use Rattle.bep_model.specs.FirmVerdict.{AsksFirmShare, AsksFirm, IsFirstLoose, firm_number_of}
 use Rattle.bep_model.specs.Reasons.{Place, place_cmp}
@@ -25,11 +27,11 @@ use Rattle.bep_tables.specs.declared.table.entry.TableEntry.{TableEntry}
 use Rattle.bep_tables.specs.declared.table.entry.Source.{Source}
 use Rattle.bep_tables.specs.declared.table.entry.Source.TheVariants.{Own, View, Flight, Pull}
 use Rattle.bep_tables.specs.Cut.{IsCut, tables_of}
-use Rattle.bep_tables.specs.Listed.{Holding, Record, Listed, key_at, listed, listed_at, cut_listed, IsGrouped}
+use Rattle.bep_tables.specs.Listed.{Holding, Record, Node, Listed, key_at, listed, listed_at, cut_listed, IsGrouped}
 use Rattle.bep_tables.specs.Said.{Holds, EntriesAreHeld, HoldersShare}
-use Rattle.bep_audit.specs.FailureOrder.{place_total}
 use Rattle.bep_audit.specs.Grouped.{same_group_same}
-use Rattle.bep_audit.specs.Loose.{Loosening, loose_cmp, precedes, asked_by, AsksVersion, place_at, AsksEntry, AsksEntries}
+use Rattle.bep_audit.specs.Loose.{Loosening, loose_cmp, precedes, asked_by, loosening_at, loosening_of, AsksVersion, place_at, AsksEntry, AsksEntries, MeetsFirm}
+use Rattle.bep_audit.specs.LooseOrder.{loose_total}
 use Rattle.bep_audit.specs.Search.{FindsFirst, lesser}
 use Rattle.bep_audit.proofs.FailingRow.{less_by_order}
 use Rattle.bep_audit.proofs.RowsFacts.{rows_sorted}
@@ -61,46 +63,77 @@ one_row (row ∷ more) rise one other here there same =
 
 -- ---- the order
 
-pub loose_total : IsTotalOrder loose_cmp
-loose_total = then_total (on_total (λ (one : Loosening). firm_number_of one.reason) nat_cmp_total) (on_total (λ (one : Loosening). one.place) place_total)
-
 pub not_before_itself : (one other : Loosening) → loose_cmp one other ≡ Less → one ≢ other
 not_before_itself one other less same = not_less_itself loose_total other (subst (λ (o : Loosening). loose_cmp o other ≡ Less) same less)
 
 -- ---- one entry
 
--- an entry with no record is asked nothing
-pub asked_nothing : (rows : List Row) (one : Listed) → ((source : Source) (entry : Entry) → one.holding ≢ Record source entry) → (loose : Loosening) → AsksEntry rows one loose
-asked_nothing rows one no_record loose source entry row holding = absurd (no_record source entry holding)
+tied : (o : Ordering) → is_eq o ≡ true → o ≡ Equal
+tied Less e = absurd (cc)
+tied Equal e = refl
+tied Greater e = absurd (cc)
 
--- nor one without a row
-pub asked_without_row : (rows : List Row) (one : Listed) → ((row : Row) → Contains rows row → key_of row ≢ key_at one) → (loose : Loosening) → AsksEntry rows one loose
-asked_without_row rows one no_row loose source entry row holding reason place member key = absurd (no_row row member key)
+-- a test for a tie tells whether two names are one
+pub same_exactly : (o : Ordering) (b : Bool) (one other : Folder × FileName) → o ≡ key_cmp one other → b ≡ is_eq o → IsTrue b ↔ (one ≡ other)
+same_exactly o b one other same is = (
+  λ holds. texts_exact one other (sym same ∙ tied o (sym is ∙ holds)),
+  λ e. is ∙ ap is_eq (same ∙ Equal_from_same texts_total one other e),
+)
 
-module _ (rows : List Row) (rise : Rise rows) (one : Listed) (source : Source) (entry : Entry) (holding : one.holding ≡ Record source entry) (row : Row) (member : Contains rows row) (key : key_of row ≡ key_at one) where
-  -- what it is, whichever way it is told
-  same_source : (other : Source) (found : Entry) → one.holding ≡ Record other found → other ≡ source
-  same_source other found is = let e : Record other found ≡ Record source entry = sym is ∙ holding in cc
+-- an entry that meets what it is asked is asked nothing in vain
+pub asked_as_met : (rows : List Row) (one : Listed) → MeetsFirm rows one → (loose : Loosening) → AsksEntry rows one loose
+asked_as_met rows one meets loose source entry row holding reason place member key = meets source entry row holding member key
 
-  same_entry : (other : Source) (found : Entry) → one.holding ≡ Record other found → found ≡ entry
-  same_entry other found is = let e : Record other found ≡ Record source entry = sym is ∙ holding in cc
+-- nothing is asked beside rows that are about other names
+pub met_without_row : (rows : List Row) (one : Listed) → ¬ HasRow rows one.folder one.name → MeetsFirm rows one
+met_without_row rows one none source entry row holding member key = absurd (none (row, member, key))
 
-  pub asked_in_place : AsksVersion source entry row.entry → (loose : Loosening) → AsksEntry rows one loose
-  asked_in_place meets loose other found next is reason place there at =
-      let rest = one_row rows rise row next member there (key ∙ sym at) in
-      subst (λ (r : Row). AsksVersion other found r.entry) rest
-      (subst (λ (e : Entry). AsksVersion other e row.entry) (sym (same_entry other found is))
-      (subst (λ (s : Source). AsksVersion s entry row.entry) (sym (same_source other found is)) meets))
+-- beside the one row that is about its name it is asked what it is asked beside all
+pub met_beside_one : (rows : List Row) → Rise rows → (one : Listed) (row : Row) → Contains rows row → key_of row ≡ key_at one → MeetsFirm (row ∷ []) one ↔ MeetsFirm rows one
+met_beside_one rows rise one row member key = (
+  λ meets source entry other holding there at.
+      let same : row ≡ other = one_row rows rise row other member there (key ∙ sym at) in
+      meets source entry other holding (subst (λ (r : Row). Contains (row ∷ []) r) same (Contains-first row [])) at,
+  λ meets source entry other holding there at.
+      meets source entry other holding (subst (λ (r : Row). Contains rows r) (Contains-one row other there) member) at,
+)
 
-  pub asked_in_vain : (¬ AsksVersion source entry row.entry) → FindsFirst loose_cmp (AsksEntry rows one) (Some (record { reason = asked_by source; place = place_at one }))
-  asked_in_vain fails = record {
-    fails = λ asks. fails (asks source entry row holding refl refl member key);
-    before = λ earlier less other found next is reason place there at.
-        absurd
-        (not_before_itself earlier (record { reason = asked_by source; place = place_at one }) less
-        (let why : earlier.reason ≡ asked_by source = reason ∙ ap asked_by (same_source other found is) in
-        λ i. record { reason = why i; place = place i }));
+-- what an entry that holds a record is asked beside one row
+pub met_by_version : (row : Row) (one : Listed) (source : Source) (entry : Entry) → one.holding ≡ Record source entry → ((key_of row ≡ key_at one → AsksVersion source entry row.entry) ↔ MeetsFirm (row ∷ []) one)
+met_by_version row one source entry holding = (
+  λ asks other found next is there at.
+      let e : Record source entry ≡ Record other found = sym holding ∙ is in
+      let source_is : source ≡ other = cc in
+      let entry_is : entry ≡ found = cc in
+      let row_is = Contains-one row next there in
+      subst (λ (r : Row). AsksVersion other found r.entry) row_is
+      (subst (λ (s : Source). AsksVersion s found row.entry) source_is
+      (subst (λ (e : Entry). AsksVersion source e row.entry) entry_is (asks (ap key_of row_is ∙ at)))),
+  λ meets at. meets source entry row holding (Contains-first row []) at,
+)
+
+-- a node meets all
+pub met_by_node : (rows : List Row) (one : Listed) (node : NodeParts) → one.holding ≡ Node node → MeetsFirm rows one
+met_by_node rows one node holding source entry row is = let e : Node node ≡ Record source entry = sym holding ∙ is in absurd (cc)
+
+-- an entry that doesn't meet it is asked that in vain, and nothing else
+module _ (rows : List Row) (one : Listed) (fails : ¬ MeetsFirm rows one) where
+  fails_at : (holding : Holding) → one.holding ≡ holding → FindsFirst loose_cmp (AsksEntry rows one) (loosening_at one holding)
+  fails_at (Node node) is = absurd (fails (met_by_node rows one node is))
+  fails_at (Record source entry) is = record {
+    fails = λ asks. fails (λ other found row holding member key.
+        let e : Record other found ≡ Record source entry = sym holding ∙ is in
+        let same : source ≡ other = cc in
+        asks other found row holding (ap asked_by same) refl member key);
+    before = λ earlier less other found row holding reason place member key.
+        let e : Record other found ≡ Record source entry = sym holding ∙ is in
+        let same : other ≡ source = cc in
+        let why : earlier.reason ≡ asked_by source = reason ∙ ap asked_by same in
+        absurd (not_before_itself earlier (record { reason = asked_by source; place = place_at one }) less (λ i. record { reason = why i; place = place i }));
   }
+
+  pub asked_in_vain : (found : Option Loosening) → found ≡ loosening_of one → FindsFirst loose_cmp (AsksEntry rows one) found
+  asked_in_vain found is = subst (FindsFirst loose_cmp (AsksEntry rows one)) (sym is) (fails_at one.holding refl)
 
 -- ---- the entries of a table, one after the other
 

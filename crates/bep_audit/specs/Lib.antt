@@ -8,6 +8,7 @@ pub mod Grouped
 pub mod Held
 pub mod Known
 pub mod Loose
+pub mod LooseOrder
 pub mod Missing
 pub mod Search
 pub mod Share

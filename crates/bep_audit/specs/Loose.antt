@@ -1,5 +1,5 @@
 -- What keeps a settled cut from being firm, as the entries of the cut tell it (this project's profile).
-use Rattle.std.specs.Prelude.{◌≡◌, Bool, true, false, List, Option, Some, None, Contains}
+use Rattle.std.specs.Prelude.{◌≡◌, ◌↔◌, Bool, true, false, List, Option, Some, None, Contains, map}
 use Rattle.std.specs.declared.cmp.Ordering.{Ordering}
 use Rattle.std.specs.Ordering.{nat_cmp, is_lt, on, then_cmp}
 use Rattle.bep_record.specs.declared.entry.Entry.{Entry}
@@ -9,11 +9,14 @@ use Rattle.bep_model.specs.declared.firm_reason.FirmReason.{FirmReason}
 use Rattle.bep_model.specs.declared.firm_reason.FirmReason.TheVariants.{VersionDiffers, ViewNotBelow, FlightNotBelow, PullNotBelow}
 use Rattle.bep_model.specs.Settled.{key_of}
 use Rattle.bep_model.specs.Firm.{AreEqual}
-use Rattle.bep_model.specs.FirmVerdict.{FirmVerdict, Firm, Unsettled, Loose, firm_number_of}
+use Rattle.bep_model.specs.FirmVerdict.{FirmVerdict, Firm, Unsettled, Loose, AsksFirm, firm_number_of}
 use Rattle.bep_model.specs.Reasons.{Place, place_cmp}
 use Rattle.bep_tables.specs.declared.table.entry.Source.{Source}
 use Rattle.bep_tables.specs.declared.table.entry.Source.TheVariants.{Own, View, Flight, Pull}
-use Rattle.bep_tables.specs.Listed.{Record, Listed, key_at}
+use Rattle.bep_tables.specs.declared.cut.CutParts.{CutParts}
+use Rattle.bep_tables.specs.declared.table.entry.TableEntry.{TableEntry}
+use Rattle.bep_tables.specs.Cut.{IsCut, tables_of}
+use Rattle.bep_tables.specs.Listed.{Holding, Record, Node, Listed, IsGrouped, cut_listed, key_at, listed}
 use Rattle.bep_audit.specs.declared.loose.Looseness.{Looseness}
 use Rattle.bep_audit.specs.declared.firm.FirmVerdict as program
 use Rattle.bep_audit.specs.declared.firm.FirmVerdict.TheVariants as lends
@@ -68,3 +71,21 @@ AsksEntry rows one loose = (source : Source) (entry : Entry) (row : Row) →
 -- what all of these entries are asked
 abbrev pub AsksEntries : List Row → List Listed → Loosening → Type 0
 AsksEntries rows ones loose = (one : Listed) → Contains ones one → AsksEntry rows one loose
+
+-- what an entry is asked and where, if it holds a record
+abbrev pub loosening_at : Listed → Holding → Option Loosening
+loosening_at one (Record source entry) = Some (record { reason = asked_by source; place = place_at one })
+loosening_at one (Node node) = None
+
+abbrev pub loosening_of : Listed → Option Loosening
+loosening_of one = loosening_at one one.holding
+
+-- an entry's record, if it holds one, has the version that it should have beside each of these rows that is about its name
+abbrev pub MeetsFirm : List Row → Listed → Type 0
+MeetsFirm rows one = (source : Source) (entry : Entry) (row : Row) →
+    one.holding ≡ Record source entry → Contains rows row → key_of row ≡ key_at one → AsksVersion source entry row.entry
+
+-- what the entries of a cut's table are asked is what the four reasons ask
+abbrev pub EntriesAreAsked : Type 0
+EntriesAreAsked = (cut : CutParts) (table : List TableEntry) (rows : List Row) (loose : Loosening) → IsCut cut → IsGrouped (cut_listed cut) table →
+    AsksEntries rows (map listed table) loose ↔ AsksFirm (tables_of cut) rows loose.reason loose.place

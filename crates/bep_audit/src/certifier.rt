@@ -1,25 +1,26 @@
-//! The certificate of a cut.
-ghost use Rattle.std.specs.Prelude.{◌≡◌, IfOk, IfErr, OnOk, map};
+//! The winners of a cut's names, and its certificate where each known name has one.
+ghost use Rattle.std.specs.Prelude.{◌≡◌, ◌++◌, ◌∷◌, [], IfOk, IfErr, OnOk, map};
 ghost use Rattle.bep_tables.specs.Cut.{tables_of};
 ghost use Rattle.bep_tables.specs.Listed.{IsGrouped, cut_listed, listed};
 ghost use Rattle.bep_model.specs.Settled.{IsListOfWinners};
-ghost use Rattle.bep_audit.specs.Certifier.{TellsOf, TellsOfFirst, IsSettledIfAny, IsNeverSettled, IsWon, IsUnwon, AddsIfKnown, IsUnwonHere};
+ghost use Rattle.bep_audit.specs.Certifier.{TellsOf, TellsOfFirst, IsSettledIfAny, IsNeverSettled, AddsName, AreWinners, place_of};
 ghost use Rattle.bep_audit.specs.Group.{IsGroupOf};
+ghost use Rattle.bep_audit.specs.Shown.{place_shown};
 
 use crate::group::has_known;
+use crate::spot::Spot;
 use crate::walk::{entries_at, next_key};
 use crate::winner::winner_in;
 use crate::{Certificate, CertifyError};
 use bep_model::{Row, certificate_is_unique, winners_or_first_without};
 use bep_record::{FolderName, Name};
 use bep_tables::{Cut, Table, TableEntry, entries_are_held};
-use std::alloc::Global;
+use std::alloc::{AllocError, Global};
 
 /// The certificate of the cut: the winner of each known name, names rising. Where a known name has no winner there is
 /// none, and the error tells the first such name; or want of memory.
 ///
-/// Groups the cut by folder and name, and walks once over the groups. Where the cut is settled for any list of rows, it
-/// is settled for this certificate, which is that list.
+/// Where the cut is settled for any list of rows, it is settled for this certificate, which is that list.
 pub fn certify(alloc: Global, cut: &Cut) -> Result<Certificate, CertifyError>
     ensures winners { IfOk result (IsListOfWinners (tables_of cut.now)) }
     ensures settled_if_any { IfOk result (IsSettledIfAny (tables_of cut.now)) }
@@ -29,69 +30,89 @@ pub fn certify(alloc: Global, cut: &Cut) -> Result<Certificate, CertifyError>
 {
     certificate_is_unique();
     winners_or_first_without();
-    let table = Table::of(alloc, cut)?;
-    let rows = winning_rows(alloc, cut, table.entries())?;
-    Ok(Certificate::of(rows))
+    let (certificate, without) = winners(alloc, cut)?;
+    match without.as_slice() {
+        [] => Ok(certificate),
+        [first, ..] => {
+            let (folder, name) = (first.folder.copy(alloc)?, first.name.copy(alloc)?);
+            Err(CertifyError::NoWinner(folder, name))
+        }
+    }
 }
 
-// The rows of all known names, each with its winner.
-fn winning_rows<'a>(
+/// The winners of the cut as far as there are any: the row of each known name that has one, names rising, and the places of
+/// the known names that have none, rising too; or want of memory.
+///
+/// Groups the cut by folder and name, and walks once over the groups.
+pub fn winners<'a>(alloc: Global, cut: &'a Cut) -> Result<(Certificate, Vec<Spot<'a>>), AllocError>
+    ensures { IfOk result (λ found. AreWinners (tables_of cut.now) found.0 (map place_shown found.1.items)) }
+{
+    let table = Table::of(alloc, cut)?;
+    let (rows, without) = winners_among(alloc, cut, table.entries())?;
+    Ok((Certificate::of(rows), without))
+}
+
+// The rows and the places of all known names of the table.
+fn winners_among<'a>(
     alloc: Global,
     cut: &'a Cut,
     table: &[TableEntry<'a>],
-) -> Result<Vec<Row>, CertifyError>
+) -> Result<(Vec<Row>, Vec<Spot<'a>>), AllocError>
     requires { IsGrouped (cut_listed cut.now) table.now }
-    ensures winners { IfOk result (λ rows. IsListOfWinners (tables_of cut.now) rows.items) }
-    ensures no_winner { IfErr result (TellsOfFirst (tables_of cut.now)) }
+    ensures { IfOk result (λ found. AreWinners (tables_of cut.now) found.0.items (map place_shown found.1.items)) }
 {
     entries_are_held();
     let _folders = cut.folders();
     let mut rows = Vec::new(alloc);
+    let mut without = Vec::new(alloc);
     let mut at = 0;
     while let Some((folder, name)) = next_key(&table[at..], &[]) {
         let group = entries_at(&table[at..], folder, name);
-        add_row(alloc, cut, group, folder, name, &mut rows)?;
+        add_name(alloc, cut, group, folder, name, &mut rows, &mut without)?;
         at += group.len();
     }
-    Ok(rows)
+    Ok((rows, without))
 }
 
-// Adds the row of the name, whose entries these are, if it is known.
-fn add_row<'a>(
+// Adds the row of the name, whose entries these are, if it is known, or its place where it has no winner.
+fn add_name<'a>(
     alloc: Global,
     cut: &'a Cut,
     group: &[TableEntry<'a>],
-    folder: &FolderName,
-    name: &Name,
+    folder: &'a FolderName,
+    name: &'a Name,
     rows: &mut Vec<Row>,
-) -> Result<(), CertifyError>
+    without: &mut Vec<Spot<'a>>,
+) -> Result<(), AllocError>
     requires { IsGroupOf cut.now (folder.now, name.now) (map listed group.now) }
-    ensures ok { OnOk result (AddsIfKnown (tables_of cut.now) (folder.now, name.now) rows.old.items rows.new.items) }
-    ensures no_winner { IfErr result (TellsOf (IsUnwonHere (tables_of cut.now) (folder.now, name.now))) }
+    ensures { OnOk result (AddsName (tables_of cut.now) (folder.now, name.now) rows.old.items rows.new.items (map place_shown without.old.items) (map place_shown without.new.items)) }
 {
     entries_are_held();
     let _folders = cut.folders();
     if !has_known(group) {
         return Ok(());
     }
-    rows.push(winning_row(alloc, cut, group, folder, name)?)?;
-    Ok(())
+    match winner_in(cut, group, folder) {
+        Some(one) => {
+            rows.push(Row::of(alloc, folder, one.0, one.1)?)?;
+            Ok(())
+        }
+        None => {
+            add_place(without, folder, name)?;
+            Ok(())
+        }
+    }
 }
 
-// The row of the name, whose entries these are, with copies of the folder's name and the record.
-fn winning_row<'a>(
-    alloc: Global,
-    cut: &'a Cut,
-    group: &[TableEntry<'a>],
-    folder: &FolderName,
-    name: &Name,
-) -> Result<Row, CertifyError>
-    requires { IsGroupOf cut.now (folder.now, name.now) (map listed group.now) }
-    ensures won { IfOk result (IsWon (tables_of cut.now) (folder.now, name.now)) }
-    ensures unwon { IfErr result (TellsOf (λ key. (key ≡ (folder.now, name.now)) × IsUnwon (tables_of cut.now) key)) }
+// Adds the place of the name as a whole.
+fn add_place<'a>(
+    places: &mut Vec<Spot<'a>>,
+    folder: &'a FolderName,
+    name: &'a Name,
+) -> Result<(), AllocError>
+    ensures { OnOk result (map place_shown places.new.items ≡ map place_shown places.old.items ++ place_of (folder.now, name.now) ∷ []) }
 {
-    match winner_in(cut, group, folder) {
-        Some(one) => Ok(Row::of(alloc, folder, one.0, one.1)?),
-        None => Err(CertifyError::NoWinner(folder.copy(alloc)?, name.copy(alloc)?)),
-    }
+    places.reserve(1)?;
+    places.push_reserved(Spot::of_name(folder, name));
+    Ok(())
 }

@@ -1,17 +1,18 @@
 //! Whether a cut and a certificate are firm: settled, and no version is beyond the winner's.
-ghost use Rattle.std.specs.Prelude.{◌≡◌, ◌↔◌, IfOk, IsTrue, map, option_map};
+ghost use Rattle.std.specs.Prelude.{◌≡◌, ◌↔◌, ◌∷◌, [], IfOk, IsTrue, map, option_map};
 ghost use Rattle.bep_model.specs.Firm.{IsFirm, StaysFirm};
 ghost use Rattle.bep_model.specs.FirmVerdict.{IsFirmVerdict};
-ghost use Rattle.bep_model.specs.Settled.{IsSettled, Rise};
+ghost use Rattle.bep_model.specs.Settled.{IsSettled, Rise, key_of};
 ghost use Rattle.bep_machine.specs.FreeLaws.{FirmStaysPut};
 ghost use Rattle.bep_tables.specs.Cut.{tables_of};
 ghost use Rattle.bep_tables.specs.Listed.{listed};
 ghost use Rattle.bep_audit.specs.declared.firm.FirmVerdict.TheVariants.{Firm};
-ghost use Rattle.bep_audit.specs.Loose.{loose_cmp, loose_shown, firm_shown, asked_by, AsksVersion, AsksEntry, AsksEntries};
+ghost use Rattle.bep_audit.specs.Loose.{loose_cmp, loose_shown, firm_shown, asked_by, AsksVersion, AsksEntry, AsksEntries, MeetsFirm, EntriesAreAsked};
+ghost use Rattle.bep_audit.specs.Loose as spec;
 ghost use Rattle.bep_audit.specs.Search.{FindsFirst};
 
 use crate::loose::{Looseness, precedes};
-use crate::{Certificate, Verdict, check, find_row};
+use crate::{Certificate, Verdict, check, compare_row, find_row};
 use bep_machine::firm_stays_put;
 use bep_model::{FirmReason, Reason, Row, firm_is_faultless, firm_stays_firm};
 use bep_record::{DeviceId, FolderName, Name, Record};
@@ -98,21 +99,76 @@ fn loose_at<'a>(rows: &[Row], entry: &TableEntry<'a>) -> Option<Looseness<'a>>
     requires { Rise rows.now }
     ensures { FindsFirst loose_cmp (AsksEntry rows.now (listed entry.now)) (option_map loose_shown result) }
 {
-    let Held::Record(source, found) = entry.held else {
-        return None;
-    };
-    let Some(row) = find_row(rows, entry.folder, entry.name) else {
-        return None;
-    };
-    if meets_version(source, found, &row.entry) {
+    if meets_rows(rows, entry) {
         return None;
     }
-    Some(Looseness {
-        reason: asked_by(source),
-        folder: entry.folder,
-        name: entry.name,
-        device: entry.device,
-    })
+    loosening_of(entry)
+}
+
+/// What the entry is asked where firm is asked for, and where: `None` exactly where it holds no record.
+pub fn loosening_of<'a>(entry: &TableEntry<'a>) -> Option<Looseness<'a>>
+    ensures { option_map loose_shown result ≡ spec.loosening_of (listed entry.now) }
+{
+    match entry.held {
+        Held::Record(source, _) => Some(Looseness {
+            reason: asked_by(source),
+            folder: entry.folder,
+            name: entry.name,
+            device: entry.device,
+        }),
+        Held::Node(_) => None,
+    }
+}
+
+/// Whether the entry meets what it is asked beside these rows, which rise: where it holds a record, whether that has the
+/// version that it should have beside its name's row.
+pub fn meets_rows(rows: &[Row], entry: &TableEntry<'_>) -> bool
+    requires { Rise rows.now }
+    ensures { IsTrue result ↔ MeetsFirm rows.now (listed entry.now) }
+{
+    match find_row(rows, entry.folder, entry.name) {
+        None => true,
+        Some(row) => meets_row(row, entry),
+    }
+}
+
+/// The same beside one row, as if there were no other.
+pub fn meets_row(row: &Row, entry: &TableEntry<'_>) -> bool
+    ensures { IsTrue result ↔ MeetsFirm (row.now ∷ []) (listed entry.now) }
+{
+    match entry.held {
+        Held::Record(source, found) => {
+            meets_if_about(row, entry.folder, entry.name, source, found)
+        }
+        Held::Node(_) => true,
+    }
+}
+
+// Whether the row is about another name, or a record from there meets what it is asked beside its winner.
+fn meets_if_about(
+    row: &Row,
+    folder: &FolderName,
+    name: &Name,
+    source: Source,
+    found: &Record,
+) -> bool
+    ensures { IsTrue result ↔ (key_of row.now ≡ (folder.now, name.now) → AsksVersion source found.now row.now.entry) }
+{
+    !is_about(row, folder, name) || meets_version(source, found, &row.entry)
+}
+
+// Whether the row is about the name.
+fn is_about(row: &Row, folder: &FolderName, name: &Name) -> bool
+    ensures { IsTrue result ↔ (key_of row.now ≡ (folder.now, name.now)) }
+{
+    compare_row(row, folder, name).is_eq()
+}
+
+/// What the entries of a cut are asked is what the four reasons ask: a law, which does nothing when it runs.
+pub fn entries_are_asked()
+    ensures { EntriesAreAsked }
+{
+    entries_are_held();
 }
 
 // Whether a record from there meets what it is asked beside the winner.

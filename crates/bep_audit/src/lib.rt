@@ -37,13 +37,14 @@ mod walk;
 mod winner;
 
 pub use bep_model::{FirmReason, Reason};
-pub use certifier::certify;
+pub use certifier::{certify, winners};
 pub use checkers::{REASONS, check, check_plain};
 pub use error::CertifyError;
 pub use failing::meets_asked;
 pub use failure::Failure;
-pub use firm::{FirmVerdict, firm_verdict};
+pub use firm::{FirmVerdict, entries_are_asked, firm_verdict, loosening_of, meets_row, meets_rows};
 pub use known::is_known;
+pub use loose::Looseness;
 pub use rows::{Certificate, compare_row, compare_rows, find_row, first_disordered};
 pub use share::{
     is_clean, is_harmless, is_there, is_valid, meets_share, says_as_winner, share_is_asked,

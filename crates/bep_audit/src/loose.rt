@@ -1,7 +1,12 @@
 //! What keeps a settled cut from being firm, with its place.
-ghost use Rattle.std.specs.Prelude.{◌≡◌, option_map};
+ghost use Rattle.std.specs.Prelude.{◌≡◌, Some, option_map};
+ghost use Rattle.std.specs.Ordering.{eq_by_cmp, is_eq};
+ghost use Rattle.std.specs.Cmp.{partial_equiv_from_equiv, eq_by_cmp_equiv, partial_order_from_total};
+ghost use Rattle.std.specs.Cmp.Rules.{comparing};
+ghost use Rattle.std.proofs.Common.{rules};
 ghost use Rattle.bep_model.specs.FirmVerdict.{firm_number_of};
 ghost use Rattle.bep_audit.specs.Loose.{loose_cmp, loose_shown, precedes};
+ghost use Rattle.bep_audit.specs.LooseOrder.{loose_lent_cmp, loose_lent_total};
 ghost use Rattle.bep_audit.specs.Shown.{place_shown};
 
 use crate::spot::Spot;
@@ -10,8 +15,10 @@ use bep_record::{DeviceId, FolderName, Name};
 use std::cmp::Ordering;
 
 /// A reason for which a settled cut isn't firm, and where, lent.
+///
+/// They are compared by their reasons, in the order in which reasons are told, and then by their places.
 #[derive(Clone, Copy, Debug)]
-pub(crate) struct Looseness<'a> {
+pub struct Looseness<'a> {
     /// The reason.
     pub reason: FirmReason,
     /// The folder.
@@ -23,16 +30,16 @@ pub(crate) struct Looseness<'a> {
 }
 
 impl<'a> Looseness<'a> {
-    // How two stand: by reason, then by folder, name and device.
-    fn compare(&self, other: &Looseness<'_>) -> Ordering
+    /// How two stand: by reason, then by folder, name and device.
+    pub fn compare(&self, other: &Looseness<'_>) -> Ordering
         ensures { result ≡ loose_cmp (loose_shown self.now) (loose_shown other.now) }
     {
         let reasons = number_of(self.reason).cmp(&number_of(other.reason));
         reasons.then(self.spot().compare(&other.spot()))
     }
 
-    // Its place.
-    fn spot(&self) -> Spot<'a>
+    /// Its place.
+    pub fn spot(&self) -> Spot<'a>
         ensures { place_shown result ≡ (loose_shown self.now).place }
     {
         Spot {
@@ -40,6 +47,44 @@ impl<'a> Looseness<'a> {
             name: self.name,
             device: Some(self.device),
         }
+    }
+}
+
+impl<'a> PartialEq for Looseness<'a> {
+    ghost eq = { eq_by_cmp loose_lent_cmp };
+
+    ghost laws = { partial_equiv_from_equiv (eq_by_cmp_equiv loose_lent_total) };
+
+    fn eq(&self, other: &Looseness<'a>) -> bool {
+        self.compare(other).is_eq()
+    }
+}
+
+impl<'a> Eq for Looseness<'a> {
+    ghost laws = { eq_by_cmp_equiv loose_lent_total };
+}
+
+impl<'a> PartialOrd for Looseness<'a> {
+    ghost partial_cmp = { λ x y. Some (loose_lent_cmp x y) };
+
+    ghost laws = { partial_order_from_total loose_lent_total };
+
+    fn partial_cmp(&self, other: &Looseness<'a>) -> Option<Ordering> {
+        Some(self.compare(other))
+    }
+}
+
+impl<'a> Ord for Looseness<'a> {
+    ghost cmp = { loose_lent_cmp };
+
+    ghost total = { loose_lent_total };
+
+    ghost matches_partial_cmp = { Prim.search (comparing, rules) };
+
+    ghost matches_eq = { Prim.search (comparing, rules) };
+
+    fn cmp(&self, other: &Looseness<'a>) -> Ordering {
+        self.compare(other)
     }
 }
 

@@ -15,7 +15,7 @@ use Rattle.bep_explain.specs.Distinct.{is_below_next, distinct}
 -- ---- by images
 
 module _ {X Y : Type 0} (shown : X → Y) (cmp : Y → Y → Ordering) where
-  abbrev lent : X → X → Ordering
+  abbrev pub lent : X → X → Ordering
   lent one other = cmp (shown one) (shown other)
 
   same_test : (one : X) (more : List X) → is_below_next lent one more ≡ is_below_next cmp (shown one) (map shown more)

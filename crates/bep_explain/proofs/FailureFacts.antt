@@ -14,7 +14,7 @@ use Rattle.bep_model.specs.Laws.{NumbersDiffer}
 use Rattle.bep_audit.specs.FailureOrder.{failure_total}
 use Rattle.bep_audit.specs.Walk.{Failure, failure_cmp}
 
-same_number : (m n : ℕ) → nat_cmp m n ≡ Equal → m ≡ n
+pub same_number : (m n : ℕ) → nat_cmp m n ≡ Equal → m ≡ n
 same_number m n e = ranked m n Equal (sym e)
 
 same_device : (one other : Option Device) → device_rank one ≡ device_rank other → one ≡ other
@@ -23,7 +23,7 @@ same_device None (Some device) e = absurd (omega (arith, e))
 same_device (Some device) None e = absurd (omega (arith, e))
 same_device (Some one) (Some other) e = let same : one ≡ other = omega (arith, e) in ap Some same
 
-same_place : (one other : Place) → place_cmp one other ≡ Equal → one ≡ other
+pub same_place : (one other : Place) → place_cmp one other ≡ Equal → one ≡ other
 same_place one other tied =
     let by_device = nat_cmp (device_rank one.device) (device_rank other.device) in
     let folders = both_tied (slice_cmp nat_cmp one.folder other.folder) (ordering_then (slice_cmp nat_cmp one.name other.name) by_device) tied in

@@ -1,7 +1,9 @@
 pub mod AddFacts
 pub mod DistinctFacts
+pub mod KeptFacts
 pub mod FailureFacts
 pub mod RowFacts
 pub mod Gathered
 pub mod Results
 pub mod OneFact
+pub mod LooseFacts

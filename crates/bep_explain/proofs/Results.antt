@@ -1,13 +1,12 @@
 -- What the sorted list of all failures, each once, says: it is all of them, and its first is the verdict.
-use Rattle.std.proofs.Common.{◌≡◌, ◌⊎◌, ◌↔◌, false, List, [], ◌∷◌, Contains, map, get_or, refl, sym, ap, subst, ◌∙◌, inl, inr, ⊎_elim, arith}
+use Rattle.std.proofs.Common.{◌≡◌, ◌↔◌, List, [], ◌∷◌, Contains, map, refl, sym, ap, subst, ⊎_elim}
 use Rattle.std.specs.declared.cmp.Ordering.{Ordering}
 use Rattle.std.specs.declared.cmp.Ordering.TheVariants.{Less, Equal, Greater}
-use Rattle.std.specs.Ordering.{nat_cmp, is_lt, ordering_then}
+use Rattle.std.specs.Ordering.{nat_cmp, ordering_then}
 use Rattle.std.specs.List.Sorted.{IsStrictlySortedBy, IsSorted, IsPermutation}
 use Rattle.std.proofs.lemmas.Cmp.{tied_itself}
-use Rattle.std.proofs.lemmas.List.Sorted.{Contains-permutation, IsPermutation-sym}
 use Rattle.std.specs.Cmp.{nat_cmp_total, nat_cmp_is}
-use Rattle.bep_facts.specs.Members.{Contains-first, Contains-cons_cases, Contains-image, Contains-from_image, not_in_none}
+use Rattle.bep_facts.specs.Members.{Contains-first, Contains-cons_cases, not_in_none}
 use Rattle.bep_facts.specs.Orders.{not_less_itself}
 use Rattle.bep_facts.specs.Rising.{below_later}
 use Rattle.bep_model.specs.declared.row.Row.{Row}
@@ -17,21 +16,16 @@ use Rattle.bep_model.specs.Reasons.{place_cmp}
 use Rattle.bep_model.specs.Verdict.{number_of, IsVerdict}
 use Rattle.bep_model.specs.Laws.{NumbersDiffer, SettledIsFaultless}
 use Rattle.bep_audit.specs.declared.failure.Failure as lends
-use Rattle.bep_audit.specs.FailureOrder.{failure_total, lent_cmp, lent_total}
+use Rattle.bep_audit.specs.FailureOrder.{failure_total, lent_cmp}
 use Rattle.bep_audit.specs.Walk.{Failure, failure_cmp, failure_shown}
 use Rattle.bep_explain.specs.Adding.{AddsFailing}
 use Rattle.bep_explain.specs.Distinct.{distinct}
 use Rattle.bep_explain.specs.Found.{IsMet, AreFailures, verdict_of}
-use Rattle.bep_explain.proofs.DistinctFacts.{distinct_shown, Steps, steps_from_sorted, distinct_rises, kept_in_distinct, distinct_from}
+use Rattle.bep_explain.proofs.KeptFacts as kept
 use Rattle.bep_explain.proofs.FailureFacts.{failure_exact}
 
 abbrev shown : List lends.Failure → List Failure
 shown = map failure_shown
-
-steps_shown : (lent : List lends.Failure) → Steps lent_cmp lent → Steps failure_cmp (shown lent)
-steps_shown [] steps = tt
-steps_shown (one ∷ []) steps = tt
-steps_shown (one ∷ next ∷ more) steps = (steps.0, steps_shown (next ∷ more) steps.1)
 
 -- what stands before the first of a list that rises doesn't stand in it
 not_before : (one : Failure) (more : List Failure) → IsStrictlySortedBy failure_cmp (one ∷ more) → (before : Failure) → failure_cmp before one ≡ Less → ¬ Contains (one ∷ more) before
@@ -47,39 +41,11 @@ not_before one more rise before less member =
 
 module _ (t : Tables) (rows : List Row) where
   -- all that fails stands in the list, and nothing else
-  pub record Tells (found : List Failure) : Type 0 where
-    pub fails : (one : Failure) → Contains found one → ¬ IsMet t rows one
-    pub rest : (one : Failure) → Contains found one ⊎ IsMet t rows one
-    pub rise : IsStrictlySortedBy failure_cmp found
+  abbrev pub Tells : List Failure → Type 0
+  Tells = kept.Tells failure_cmp (IsMet t rows)
 
-  pub tells : NumbersDiffer → (gathered sorted kept : List lends.Failure) → AddsFailing (IsMet t rows) [] (shown gathered) → IsPermutation gathered sorted → IsSorted lent_cmp sorted → kept ≡ distinct lent_cmp sorted → Tells (shown kept)
-  tells different gathered sorted kept adds permutation in_order is = record {
-    fails = λ one there.
-        ⊎_elim (λ none. absurd (not_in_none one none)) (λ unmet. unmet) (adds.fails one (to_gathered one (subst (λ all. Contains all one) same there)));
-    rest = λ one. ⊎_elim (λ there. inl (subst (λ all. Contains all one) (sym same) (from_gathered one there))) (λ met. inr met) (adds.rest one);
-    rise = subst (IsStrictlySortedBy failure_cmp) (sym same) (distinct_rises failure_cmp failure_total (shown sorted) steps);
-  }
-    where
-      same : shown kept ≡ distinct failure_cmp (shown sorted)
-      same = ap shown is ∙ distinct_shown failure_shown failure_cmp sorted
-
-      steps : Steps failure_cmp (shown sorted)
-      steps =
-          steps_shown sorted
-          (steps_from_sorted lent_cmp lent_total sorted
-          (λ k n d next below. subst (λ m. is_lt (lent_cmp (get_or sorted m d) (get_or sorted k d)) ≡ false) (sym next) (in_order k d (omega arith) (omega (arith, next, below)))))
-
-      to_gathered : (one : Failure) → Contains (distinct failure_cmp (shown sorted)) one → Contains (shown gathered) one
-      to_gathered one there =
-          let found = Contains-from_image failure_shown sorted one (distinct_from failure_cmp (shown sorted) one there) in
-          subst (Contains (shown gathered)) found.2
-          (Contains-image failure_shown gathered found.0 (Contains-permutation sorted gathered found.0 (IsPermutation-sym gathered sorted permutation) found.1))
-
-      from_gathered : (one : Failure) → Contains (shown gathered) one → Contains (distinct failure_cmp (shown sorted)) one
-      from_gathered one there =
-          let found = Contains-from_image failure_shown gathered one there in
-          kept_in_distinct failure_cmp failure_total (failure_exact different) (shown sorted) steps one
-          (subst (Contains (shown sorted)) found.2 (Contains-image failure_shown sorted found.0 (Contains-permutation gathered sorted found.0 permutation found.1)))
+  pub tells : NumbersDiffer → (gathered sorted found : List lends.Failure) → AddsFailing (IsMet t rows) [] (shown gathered) → IsPermutation gathered sorted → IsSorted lent_cmp sorted → found ≡ distinct lent_cmp sorted → Tells (shown found)
+  tells different = kept.tells failure_shown failure_cmp failure_total (failure_exact different) (IsMet t rows)
 
   -- ---- what the caller is told
 

@@ -5,6 +5,7 @@ use Rattle.serde_json.specs.Read.{read, max_depth}
 use Rattle.serde_json.specs.View.{view}
 use Rattle.serde_json.specs.Written.{IsInOrder}
 use Rattle.bep_json.specs.Written.{whole, list_of}
+use Rattle.bep_model.specs.Reasons.{Place}
 use Rattle.bep_model.specs.Tables.{Device}
 use Rattle.bep_audit.specs.Walk.{Failure, failure_shown}
 use Rattle.bep_lines.specs.Lines.{word_of, newline}
@@ -28,16 +29,19 @@ abbrev pub device_tree : Option Device → Data
 device_tree None = null
 device_tree (Some device) = whole device
 
--- the tree of a failure: its reason and place, and what is said of it
-unfoldable pub failure_tree : Annotated → Data
-failure_tree one =
-    let place = one.failure.place in
+-- the tree of a reason that fails, by its word, with its place and what is said of it
+unfoldable pub reason_tree : List ℕ → Place → Data → Data
+reason_tree word place details =
     object
-    (member (codes "details") one.details
+    (member (codes "details") details
     (member (codes "device") (device_tree place.device)
     (member (codes "folder") (string place.folder)
     (member (codes "name") (string place.name)
-    (member (codes "reason") (string (word_of one.failure.reason)) no_members)))))
+    (member (codes "reason") (string word) no_members)))))
+
+-- the tree of a failure
+abbrev pub failure_tree : Annotated → Data
+failure_tree one = reason_tree (word_of one.failure.reason) one.failure.place one.details
 
 -- whether nothing fails
 abbrev pub is_none : List Annotated → Bool

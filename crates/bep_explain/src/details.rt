@@ -4,9 +4,9 @@ ghost use Rattle.bep_model.specs.Settled.{Rise};
 
 use crate::detail::{Detail, What, add_record, add_store};
 use crate::missing::row_of;
-use crate::sources::{Asked, add_flights, add_pull, add_views};
-use bep_audit::{Failure, winner_of};
-use bep_model::{Reason, Row};
+use crate::sources::{Asked, Which, add_flights, add_pull, add_views};
+use bep_audit::{Failure, Looseness, winner_of};
+use bep_model::{FirmReason, Reason, Row};
 use bep_record::{FolderName, Name};
 use bep_tables::{Cut, Share};
 use std::alloc::{AllocError, Global};
@@ -40,6 +40,55 @@ pub(crate) fn details_of<'a>(
     Ok(details)
 }
 
+/// The details of what keeps a cut from being firm at a device: the winner, the device's record, and the records that it
+/// knows of whose version isn't at most the row's.
+pub(crate) fn details_of_loose<'a>(
+    alloc: Global,
+    cut: &'a Cut,
+    rows: &'a [Row],
+    rise: bool,
+    one: &Looseness<'a>,
+) -> Result<Vec<Detail<'a>>, AllocError>
+    requires { IsTrue rise → Rise rows.now }
+{
+    let row = row_of(rows, rise, one.folder, one.name);
+    let mut details = Vec::new(alloc);
+    add_winner(&mut details, cut, one.folder, one.name)?;
+    for share in cut.shares(one.folder) {
+        if one.device == share.device {
+            add_not_below(&mut details, cut, one, row, share)?;
+        }
+    }
+    Ok(details)
+}
+
+// What a device has whose version isn't the row's, or not at most that.
+fn add_not_below<'a>(
+    details: &mut Vec<Detail<'a>>,
+    cut: &'a Cut,
+    one: &Looseness<'a>,
+    row: Option<&'a Row>,
+    share: &'a Share,
+) -> Result<(), AllocError> {
+    let which = match row {
+        None => Which::All,
+        Some(row) => Which::NotBelow(row),
+    };
+    let asked = Asked {
+        folder: one.folder,
+        name: one.name,
+        which,
+    };
+    let own = share.own.get(one.name);
+    add_record(details, What::Own, Some(share.device), None, own)?;
+    match one.reason {
+        FirmReason::VersionDiffers => Ok(()),
+        FirmReason::ViewNotBelow => add_views(details, &asked, share),
+        FirmReason::FlightNotBelow => add_flights(details, &asked, cut.links(), share.device),
+        FirmReason::PullNotBelow => add_pull(details, &asked, share),
+    }
+}
+
 fn add_winner<'a>(
     details: &mut Vec<Detail<'a>>,
     cut: &'a Cut,
@@ -63,11 +112,14 @@ fn add_share<'a>(
     share: &'a Share,
 ) -> Result<(), AllocError> {
     let own = share.own.get(one.spot.name);
+    let which = match row {
+        None => Which::All,
+        Some(row) => Which::Ahead(own, row),
+    };
     let asked = Asked {
         folder: one.spot.folder,
         name: one.spot.name,
-        own,
-        row,
+        which,
     };
     add_record(details, What::Own, Some(share.device), None, own)?;
     match one.reason {
@@ -88,8 +140,7 @@ fn add_known<'a>(
     let asked = Asked {
         folder: one.spot.folder,
         name: one.spot.name,
-        own: None,
-        row: None,
+        which: Which::All,
     };
     add_held(details, share, one.spot.name)?;
     add_views(details, &asked, share)?;

@@ -1,12 +1,12 @@
 //! An explanation as JSON.
 ghost use Rattle.std.specs.Prelude.{◌≡◌, map, IfOk};
 ghost use Rattle.serde_json.specs.View.{view};
-ghost use Rattle.bep_json.specs.Written.{list_of};
+ghost use Rattle.bep_audit.specs.Shown.{place_shown};
 ghost use Rattle.bep_audit.specs.Walk.{failure_shown};
-ghost use Rattle.bep_explain.specs.Annotated.{IsJsonLine, annotated_of, device_tree, explanation_tree, failure_tree, is_none};
+ghost use Rattle.bep_explain.specs.Annotated.{IsJsonLine, annotated_of, device_tree, explanation_tree, failure_tree, is_none, reason_tree};
 
 use crate::Annotated;
-use bep_audit::Failure;
+use bep_audit::{Failure, Spot};
 use bep_json::Members;
 use bep_lines::word_of;
 use bep_record::DeviceId;
@@ -37,11 +37,12 @@ fn explanation_tree(alloc: Global, told: Vec<Annotated<'_>>) -> Result<Value, Al
     ensures { IfOk result (λ v. view v ≡ explanation_tree (map annotated_of told.entry.items)) }
 {
     let settled = is_none(told.as_slice());
-    let failures = failure_trees(alloc, told)?;
+    let failures = Value::Array(failure_trees(alloc, told)?);
     json!(in alloc; {"failures": failures, "settled": settled})
 }
 
-fn is_none(told: &[Annotated<'_>]) -> bool
+/// Whether nothing fails.
+pub(crate) fn is_none(told: &[Annotated<'_>]) -> bool
     ensures { result ≡ is_none (map annotated_of told.now) }
 {
     match told {
@@ -50,9 +51,12 @@ fn is_none(told: &[Annotated<'_>]) -> bool
     }
 }
 
-// The trees of these, in order.
-fn failure_trees(alloc: Global, told: Vec<Annotated<'_>>) -> Result<Value, AllocError>
-    ensures { IfOk result (λ v. view v ≡ list_of (map failure_tree (map annotated_of told.entry.items))) }
+/// The trees of these, in order.
+pub(crate) fn failure_trees(
+    alloc: Global,
+    told: Vec<Annotated<'_>>,
+) -> Result<Vec<Value>, AllocError>
+    ensures { IfOk result (λ trees. map view trees.items ≡ map failure_tree (map annotated_of told.entry.items)) }
 {
     let mut trees = Vec::with_capacity(alloc, told.len())?;
     for one in told {
@@ -60,20 +64,32 @@ fn failure_trees(alloc: Global, told: Vec<Annotated<'_>>) -> Result<Value, Alloc
         let tree = failure_tree(alloc, &failure, details)?;
         trees.push(tree)?;
     }
-    Ok(Value::Array(trees))
+    Ok(trees)
 }
 
 // The tree of one of them.
-#[tactic(auto, unfolding(crate::specs::Annotated::failure_tree))]
 fn failure_tree(alloc: Global, failure: &Failure<'_>, details: Value) -> Result<Value, AllocError>
     ensures { IfOk result (λ v. view v ≡ failure_tree (record { failure = failure_shown failure.now; details = view details })) }
 {
+    reason_tree(alloc, word_of(failure.reason), &failure.spot, details)
+}
+
+/// The tree of a reason that fails, by its word, with its place and details.
+#[tactic(auto, unfolding(crate::specs::Annotated::reason_tree))]
+pub(crate) fn reason_tree(
+    alloc: Global,
+    word: &str,
+    spot: &Spot<'_>,
+    details: Value,
+) -> Result<Value, AllocError>
+    ensures { IfOk result (λ v. view v ≡ reason_tree word.now (place_shown spot.now) (view details)) }
+{
     let members = Members::new(alloc)
         .with("details", details)?
-        .with("device", device_tree(failure.spot.device))?
-        .with_text("folder", failure.spot.folder.as_str())?
-        .with_text("name", failure.spot.name.as_str())?
-        .with_text("reason", word_of(failure.reason))?;
+        .with("device", device_tree(spot.device))?
+        .with_text("folder", spot.folder.as_str())?
+        .with_text("name", spot.name.as_str())?
+        .with_text("reason", word)?;
     Ok(members.into_value())
 }
 

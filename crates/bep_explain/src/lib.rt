@@ -11,6 +11,9 @@
 //!
 //!     let told = annotate(alloc, &cut, &Certificate::of(rows))?;
 //!     let text = explanation_json(alloc, told)?;
+//!
+//! `loosenings` has all that keeps a cut from being firm beside these; `explain_loose` and `annotate_loose` say more of each,
+//! and `firm_explanation` and `firm_explanation_json` print both.
 #![tactic(auto)]
 
 mod annotated;
@@ -18,9 +21,12 @@ mod collect;
 mod detail;
 mod details;
 mod explained;
+mod firm;
+mod firm_json;
 mod gather;
 mod json;
 mod lines;
+mod loose;
 mod missing;
 mod sources;
 mod text;
@@ -28,6 +34,9 @@ mod trees;
 
 pub use annotated::{Annotated, annotate};
 pub use explained::{Explained, explain};
+pub use firm::{AnnotatedLoose, ExplainedLoose, annotate_loose, explain_loose};
+pub use firm_json::firm_explanation_json;
 pub use gather::failures;
 pub use json::{device_tree, explanation_json, json_line};
-pub use text::explanation;
+pub use loose::loosenings;
+pub use text::{explanation, firm_explanation};

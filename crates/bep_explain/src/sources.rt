@@ -6,14 +6,23 @@ use bep_record::{DeviceId, FolderName, Name, Record};
 use bep_tables::{LinkState, Share};
 use std::alloc::AllocError;
 
-/// Which records are asked for: those of this name that aren't harmless beside the own record and the row, or, where
-/// there is no row, all of them.
+/// Which records of a name are asked for.
+#[derive(Clone, Copy)]
+pub(crate) enum Which<'a> {
+    /// All of them.
+    All,
+    /// Those that aren't harmless beside this own record and the row.
+    Ahead(Option<&'a Record>, &'a Row),
+    /// Those whose version isn't at most the row's.
+    NotBelow(&'a Row),
+}
+
+/// Which records are asked for: these of this name.
 #[derive(Drop)]
 pub(crate) struct Asked<'a> {
     pub(crate) folder: &'a FolderName,
     pub(crate) name: &'a Name,
-    pub(crate) own: Option<&'a Record>,
-    pub(crate) row: Option<&'a Row>,
+    pub(crate) which: Which<'a>,
 }
 
 impl Asked<'_> {
@@ -22,9 +31,17 @@ impl Asked<'_> {
         if foreign.entry().name != *self.name {
             return false;
         }
-        match self.row {
-            None => true,
-            Some(row) => !foreign.entry().invalid && !is_harmless(self.own, &row.entry, foreign),
+        let valid = !foreign.entry().invalid;
+        match self.which {
+            Which::All => true,
+            Which::Ahead(own, row) => valid && !is_harmless(own, &row.entry, foreign),
+            Which::NotBelow(row) => {
+                valid
+                    && !foreign
+                        .entry()
+                        .version
+                        .is_at_most(&row.entry.entry().version)
+            }
         }
     }
 }

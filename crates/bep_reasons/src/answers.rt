@@ -2,10 +2,12 @@
 ghost use Rattle.std.specs.Prelude.{IfOk, IfErr};
 ghost use Rattle.bep_answer.specs.Exchange.{IsEndedEarly, IsWhole};
 ghost use Rattle.bep_reasons.specs.Explained.{IsExplainedOfBytes};
+ghost use Rattle.bep_reasons.specs.FirmExplained.{IsFirmExplainedOfBytes};
 ghost use Rattle.bep_lines.specs.declared.form.Form.TheVariants.{Text};
 
 use crate::explain::ReasonsOfCut;
-use bep_answer::{Hinted, Outcome, exchange};
+use crate::firm::FirmReasonsOfCut;
+use bep_answer::{Firmness, Hinted, Outcome, exchange};
 use bep_lines::Form;
 use bep_report::ReportError;
 use std::alloc::Global;
@@ -41,4 +43,21 @@ pub fn explained<R: Read, W: Write>(
     ensures err { IfErr result (IsEndedEarly (IsExplainedOfBytes form) (R.remaining reader.old) (R.remaining reader.new) (W.contents writer.old) (W.contents writer.new)) }
 {
     exchange(alloc, ReasonsOfCut { form }, reader, writer)
+}
+
+/// Reads a check document, and writes all that keeps its cut from being firm, in one of two forms: what `explained` writes,
+/// and behind that each of the four further reasons that fails, at each place at which it fails; `firm` alone where nothing
+/// fails; or the fault for which the document is refused, with a hint on where that is. At most 67108865 bytes are read.
+///
+/// Its errors are those of `explain_text`.
+pub fn firm_explained<R: Read, W: Write>(
+    alloc: Global,
+    form: Form,
+    reader: &mut R,
+    writer: &mut W,
+) -> Result<Hinted<Firmness>, ReportError>
+    ensures ok { IfOk result (λ told. IsWhole (IsFirmExplainedOfBytes form) (R.remaining reader.old) (R.remaining reader.new) (W.contents writer.old) (W.contents writer.new) told.0) }
+    ensures err { IfErr result (IsEndedEarly (IsFirmExplainedOfBytes form) (R.remaining reader.old) (R.remaining reader.new) (W.contents writer.old) (W.contents writer.new)) }
+{
+    exchange(alloc, FirmReasonsOfCut { form }, reader, writer)
 }

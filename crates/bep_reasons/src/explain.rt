@@ -7,7 +7,7 @@ ghost use Rattle.bep_reasons.specs.Explained.{IsExplainedOfBytes, IsExplanation,
 ghost use Rattle.bep_answer.specs.declared.outcome.Outcome.TheVariants as outcomes;
 
 use crate::json::{explain_in_json, refusal_json};
-use bep_answer::{Answer, Outcome, Question, refusal};
+use bep_answer::{Answer, Outcome, Question, fault_line};
 use bep_audit::Certificate;
 use bep_explain::{Explained, explain, explanation};
 use bep_hints::{Expected, hint_at};
@@ -75,8 +75,16 @@ fn outcome_for(told: &[Explained<'_>]) -> Outcome
 fn refusal_in(alloc: Global, form: Form, fault: &DocFault) -> Result<(Outcome, Vec<u8>), AllocError>
     ensures { IfOk result (λ answer. (answer.0 ≡ outcomes.Refused) × IsRefusal form fault.now answer.1.items) }
 {
+    let text = fault_in(alloc, form, fault)?;
+    Ok((Outcome::Refused, text))
+}
+
+/// The fault for which a document is refused, in this form.
+pub(crate) fn fault_in(alloc: Global, form: Form, fault: &DocFault) -> Result<Vec<u8>, AllocError>
+    ensures { IfOk result (λ text. IsRefusal form fault.now text.items) }
+{
     match form {
-        Form::Text => refusal(alloc, fault),
-        Form::Json => Ok((Outcome::Refused, refusal_json(alloc, fault)?)),
+        Form::Text => fault_line(alloc, fault),
+        Form::Json => refusal_json(alloc, fault),
     }
 }

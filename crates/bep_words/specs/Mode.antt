@@ -9,6 +9,10 @@ use Rattle.bep_lines.specs.declared.form.Form.{Form}
 use Rattle.bep_lines.specs.declared.form.Form.TheVariants as forms
 use Rattle.bep_words.specs.declared.mode.Ending.{Ending}
 use Rattle.bep_words.specs.declared.mode.Ending.TheVariants.{Report, Document}
+use Rattle.bep_words.specs.declared.mode.Extent.{Extent}
+use Rattle.bep_words.specs.declared.mode.Extent.TheVariants.{All, Won}
+use Rattle.bep_words.specs.declared.mode.Goal.{Goal}
+use Rattle.bep_words.specs.declared.mode.Goal.TheVariants as goals
 use Rattle.bep_words.specs.declared.mode.Mode.{Mode}
 use Rattle.bep_words.specs.declared.mode.Mode.TheVariants.{Check, Firm, Certify, Explain, Run}
 
@@ -22,9 +26,12 @@ top_level =
 abbrev pub flag : Text → Rule
 flag name = record (new_rule name) { long = Some name; action = Some SetTrue }
 
--- the subcommands that take a flag
+-- the subcommands that take flags
 abbrev pub explain_app : App
-explain_app = with_rule (new_app (codes "explain")) (flag (codes "json"))
+explain_app = with_rule (with_rule (new_app (codes "explain")) (flag (codes "json"))) (flag (codes "firm"))
+
+abbrev pub certify_app : App
+certify_app = with_rule (new_app (codes "certify")) (flag (codes "partial"))
 
 abbrev pub run_app : App
 run_app = with_rule (new_app (codes "run")) (flag (codes "document"))
@@ -34,7 +41,7 @@ abbrev pub program : App
 program =
     let check = with_subcommand top_level (new_app (codes "check")).top in
     let firm = with_subcommand check (new_app (codes "firm")).top in
-    let certify = with_subcommand firm (new_app (codes "certify")).top in
+    let certify = with_subcommand firm certify_app.top in
     let explain = with_subcommand certify explain_app.top in
     with_subcommand explain run_app.top
 
@@ -65,6 +72,14 @@ is_set name met = is_set_under name (option_map (λ one. one.1) met)
 abbrev pub form_of : Option (Text × List Row) → Form
 form_of met = if is_set (codes "json") met then forms.Json else forms.Text
 
+-- whether the subcommand in the words asks for firm
+abbrev pub goal_of : Option (Text × List Row) → Goal
+goal_of met = if is_set (codes "firm") met then goals.Firm else goals.Settled
+
+-- for which names the subcommand in the words asks for rows
+abbrev pub extent_of : Option (Text × List Row) → Extent
+extent_of met = if is_set (codes "partial") met then Won else All
+
 -- what of a scenario's end the subcommand in the words asks for
 abbrev pub ending_of : Option (Text × List Row) → Ending
 ending_of met = if is_set (codes "document") met then Document else Report
@@ -73,8 +88,9 @@ ending_of met = if is_set (codes "document") met then Document else Report
 abbrev pub Asks : List Text → Mode → Type 0
 Asks words Check = named words ≡ Some (codes "check")
 Asks words Firm = named words ≡ Some (codes "firm")
-Asks words Certify = named words ≡ Some (codes "certify")
-Asks words (Explain form) = (named words ≡ Some (codes "explain")) × (form ≡ form_of (subcommand_of program words))
+Asks words (Certify extent) = (named words ≡ Some (codes "certify")) × (extent ≡ extent_of (subcommand_of program words))
+Asks words (Explain goal form) =
+    (named words ≡ Some (codes "explain")) × (goal ≡ goal_of (subcommand_of program words)) × (form ≡ form_of (subcommand_of program words))
 Asks words (Run ending) = (named words ≡ Some (codes "run")) × (ending ≡ ending_of (subcommand_of program words))
 
 -- words in which nothing is at fault ask for some mode

@@ -1,7 +1,7 @@
 //! What the words of the command line ask for.
 ghost use Rattle.std.specs.Prelude.{◌≡◌, IfOk, false, map};
 ghost use Rattle.clap.specs.Words.{FailsBy, app_of, fault_of, first_value, found_of, new_app, rule_of, subcommand_rows_of};
-ghost use Rattle.bep_words.specs.Mode.{Asks, FaultlessWordsAsk, IsCommand, ending_of, explain_app, flag, form_of, is_set, is_true, program, run_app, top_level};
+ghost use Rattle.bep_words.specs.Mode.{Asks, FaultlessWordsAsk, IsCommand, certify_app, ending_of, explain_app, extent_of, flag, form_of, goal_of, is_set, is_true, program, run_app, top_level};
 
 use crate::release::RELEASE;
 use bep_lines::Form;
@@ -16,12 +16,30 @@ pub enum Mode {
     Check,
     /// Ask whether the check document that comes on standard input is firm.
     Firm,
-    /// Write the cut that comes on standard input as a check document, with its certificate.
-    Certify,
-    /// Tell all that keeps the check document that comes on standard input from being settled, in this form.
-    Explain(Form),
+    /// Write the cut that comes on standard input as a check document, with the winners of these names.
+    Certify(Extent),
+    /// Tell all that keeps the check document that comes on standard input from this, in this form.
+    Explain(Goal, Form),
     /// Make the steps of the scenario that comes on standard input, and write this of where they lead.
     Run(Ending),
+}
+
+/// Of which known names a certificate has rows.
+#[derive(Clone, Copy, Debug, PartialEq, Eq)]
+pub enum Extent {
+    /// Of all, or there is no certificate.
+    All,
+    /// Of those that have a winner.
+    Won,
+}
+
+/// What a check document may be kept from.
+#[derive(Clone, Copy, Debug, PartialEq, Eq)]
+pub enum Goal {
+    /// Being settled.
+    Settled,
+    /// Being firm.
+    Firm,
 }
 
 /// What is written of the cut to which a scenario leads.
@@ -54,15 +72,17 @@ const CERTIFY_HELP: &str =
     "The document FILE is a check document, whose certificate may be missing and isn't looked at: documents.md \
      describes it.\n\n\
      Example: syncaudit certify < examples/cut-alone.json\n\n\
+     With --partial it leaves out the names that have no winner and tells them on standard error.\n\n\
      Exit status: 0 certificate written, 1 a name has no winner, 2 document refused, 3 usage or help, 4 out of memory, \
-     5 read or write fault";
+     5 read or write fault, 6 written without the names that have no winner";
 
 const EXPLAIN_HELP: &str =
     "The document FILE is a cut of the cluster with its certificate: documents.md describes it, and reasons.md what \
      is told.\n\n\
      Example: syncaudit explain < examples/file-missing-in-store.json\n\
+     With --firm it tells all that keeps it from being firm.\n\
      With --json it writes one JSON document on a line: explanation.schema.json describes it.\n\n\
-     Exit status: 0 settled, 1 not settled, 2 document refused, 3 usage or help, 4 out of memory, \
+     Exit status: 0 settled, or firm, 1 not, 2 document refused, 3 usage or help, 4 out of memory, \
      5 read or write fault";
 
 const RUN_HELP: &str =
@@ -94,13 +114,7 @@ fn command<'a>(alloc: Global) -> Result<Command<'a>, AllocError>
         FIRM_HELP,
     );
     let firms = checks.subcommand(firm)?;
-    let certify = plain_command(
-        alloc,
-        "certify",
-        "Writes the check document on standard input with the certificate of its cut",
-        "syncaudit certify < FILE",
-        CERTIFY_HELP,
-    );
+    let certify = certify_command(alloc)?;
     let certifies = firms.subcommand(certify)?;
     let explain = explain_command(alloc)?;
     let explains = certifies.subcommand(explain)?;
@@ -139,18 +153,34 @@ fn plain_command<'a>(
         .after_help(end)
 }
 
+fn certify_command<'a>(alloc: Global) -> Result<Command<'a>, AllocError>
+    ensures { IfOk result (IsCommand certify_app) }
+{
+    let partial = flag(alloc, "partial", "Leaves out the names that have no winner");
+    plain_command(
+        alloc,
+        "certify",
+        "Writes the check document on standard input with the certificate of its cut",
+        "syncaudit certify [--partial] < FILE",
+        CERTIFY_HELP,
+    )
+    .arg(partial)
+}
+
 fn explain_command<'a>(alloc: Global) -> Result<Command<'a>, AllocError>
     ensures { IfOk result (IsCommand explain_app) }
 {
     let json = flag(alloc, "json", "Writes one JSON document");
-    plain_command(
+    let firm = flag(alloc, "firm", "Tells all that keeps it from being firm");
+    let with_json = plain_command(
         alloc,
         "explain",
         "Tells all that keeps the check document on standard input from being settled",
-        "syncaudit explain [--json] < FILE",
+        "syncaudit explain [--json] [--firm] < FILE",
         EXPLAIN_HELP,
     )
-    .arg(json)
+    .arg(json)?;
+    with_json.arg(firm)
 }
 
 fn run_command<'a>(alloc: Global) -> Result<Command<'a>, AllocError>
@@ -190,8 +220,8 @@ pub fn mode_of<'a, S: AsStr>(alloc: Global, words: &'a [S]) -> Result<Mode, Erro
     match matches.subcommand_name() {
         Some("check") => Ok(Mode::Check),
         Some("firm") => Ok(Mode::Firm),
-        Some("certify") => Ok(Mode::Certify),
-        Some("explain") => Ok(Mode::Explain(form_of(&matches))),
+        Some("certify") => Ok(Mode::Certify(extent_of(&matches))),
+        Some("explain") => Ok(Mode::Explain(goal_of(&matches), form_of(&matches))),
         Some("run") => Ok(Mode::Run(ending_of(&matches))),
         _ => unreachable!(),
     }
@@ -210,6 +240,28 @@ fn form_of(matches: &ArgMatches<'_>) -> Form
         Form::Json
     } else {
         Form::Text
+    }
+}
+
+// Of which names the subcommand's words ask for rows.
+fn extent_of(matches: &ArgMatches<'_>) -> Extent
+    ensures { result ≡ extent_of (subcommand_rows_of matches.now) }
+{
+    if is_set(matches, "partial") {
+        Extent::Won
+    } else {
+        Extent::All
+    }
+}
+
+// From what the subcommand's words ask that it be kept.
+fn goal_of(matches: &ArgMatches<'_>) -> Goal
+    ensures { result ≡ goal_of (subcommand_rows_of matches.now) }
+{
+    if is_set(matches, "firm") {
+        Goal::Firm
+    } else {
+        Goal::Settled
     }
 }
 

@@ -7,14 +7,19 @@ use Rattle.clap.specs.Words.{Text, fault_of}
 use Rattle.bep_words.specs.Mode.{FaultlessWordsAsk, program}
 use Rattle.syncaudit.specs.Status.{IsDone, IsFollowed}
 use Rattle.bep_words.specs.declared.mode.Ending.TheVariants.{Report, Document}
+use Rattle.bep_words.specs.declared.mode.Extent.TheVariants.{All, Won}
+use Rattle.bep_words.specs.declared.mode.Goal.TheVariants.{Settled}
+use Rattle.bep_words.specs.declared.mode.Goal.TheVariants as goals
 use Rattle.bep_words.specs.declared.mode.Mode.{Mode}
 use Rattle.bep_words.specs.declared.mode.Mode.TheVariants.{Check, Firm, Certify, Explain, Run}
 
 done_without_memory : (mode : Mode) (unread held : Option (List ℕ)) (status : ℕ) → status ≡ status_of (Err Memory) → IsDone mode unread unread held held status
 done_without_memory Check unread held status told = record { answer = Err Memory; told = told; done = Keeps-refl held }
 done_without_memory Firm unread held status told = record { answer = Err Memory; told = told; done = Keeps-refl held }
-done_without_memory Certify unread held status told = record { answer = Err Memory; told = told; done = Keeps-refl held }
-done_without_memory (Explain form) unread held status told = record { answer = Err Memory; told = told; done = Keeps-refl held }
+done_without_memory (Certify All) unread held status told = record { answer = Err Memory; told = told; done = Keeps-refl held }
+done_without_memory (Certify Won) unread held status told = record { answer = Err Memory; told = told; done = Keeps-refl held }
+done_without_memory (Explain Settled form) unread held status told = record { answer = Err Memory; told = told; done = Keeps-refl held }
+done_without_memory (Explain goals.Firm form) unread held status told = record { answer = Err Memory; told = told; done = Keeps-refl held }
 done_without_memory (Run Report) unread held status told = record { answer = Err Memory; told = told; done = Keeps-refl held }
 done_without_memory (Run Document) unread held status told = record { answer = Err Memory; told = told; done = Keeps-refl held }
 

@@ -1,14 +1,18 @@
 -- What came of the words of the command line (this project's profile).
 use Rattle.std.specs.Prelude.{◌≡◌, ◌⊎◌, ℕ, List, Option, Err}
 use Rattle.std.specs.Io.KnownBytes.{Keeps}
-use Rattle.bep_answer.specs.Status.{IsCertificateTold, IsFirmTold, IsTold, status_of, usage}
+use Rattle.bep_answer.specs.Status.{IsCertificateTold, IsFirmTold, IsPartTold, IsTold, status_of, usage}
 use Rattle.bep_play.specs.Told.{IsEndTold, IsRunTold}
+use Rattle.bep_reasons.specs.FirmExplained.{IsFirmExplanationTold}
 use Rattle.bep_reasons.specs.Told.{IsExplanationTold}
 use Rattle.bep_report.specs.declared.error.ReportError.TheVariants.{Memory}
 use Rattle.clap.specs.Words.{Text}
 use Rattle.bep_words.specs.Mode.{Asks}
 use Rattle.bep_words.specs.declared.mode.Ending.{Ending}
 use Rattle.bep_words.specs.declared.mode.Ending.TheVariants.{Report, Document}
+use Rattle.bep_words.specs.declared.mode.Extent.TheVariants.{All, Won}
+use Rattle.bep_words.specs.declared.mode.Goal.TheVariants.{Settled}
+use Rattle.bep_words.specs.declared.mode.Goal.TheVariants as goals
 use Rattle.bep_words.specs.declared.mode.Mode.{Mode}
 use Rattle.bep_words.specs.declared.mode.Mode.TheVariants.{Check, Firm, Certify, Explain, Run}
 
@@ -21,8 +25,10 @@ IsEnding Document = IsEndTold
 abbrev pub IsDone : Mode → Option (List ℕ) → Option (List ℕ) → Option (List ℕ) → Option (List ℕ) → ℕ → Type 0
 IsDone Check = IsTold
 IsDone Firm = IsFirmTold
-IsDone Certify = IsCertificateTold
-IsDone (Explain form) = IsExplanationTold form
+IsDone (Certify All) = IsCertificateTold
+IsDone (Certify Won) = IsPartTold
+IsDone (Explain Settled form) = IsExplanationTold form
+IsDone (Explain goals.Firm form) = IsFirmExplanationTold form
 IsDone (Run ending) = IsEnding ending
 
 -- the words ask for a mode, and this came of the document in it

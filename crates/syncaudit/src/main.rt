@@ -11,8 +11,8 @@ pub use bep_answer::{
 };
 pub use bep_lines::Form;
 pub use bep_play::{run_document, run_text};
-pub use bep_reasons::explain_text;
-pub use bep_words::{Ending, Mode, mode_of};
+pub use bep_reasons::{explain_text, firm_explained};
+pub use bep_words::{Ending, Extent, Goal, Mode, mode_of};
 use std::process::ExitCode;
 
 fn main(rt: HostRuntime) -> ExitCode {

@@ -11,11 +11,13 @@ ghost use Rattle.syncaudit.specs.Status.{IsEnd, IsEnding, IsFollowed};
 ghost use Rattle.bep_words.specs.declared.mode.Ending.TheVariants.{Report};
 ghost use Rattle.bep_words.specs.declared.mode.Mode.TheVariants.{Check, Firm, Run};
 
-use bep_answer::{USAGE, certify_and_tell, check_and_tell, end, firm_and_tell};
+use bep_answer::{
+    USAGE, certify_and_tell, certify_partly_and_tell, check_and_tell, end, firm_and_tell,
+};
 use bep_play::{run_and_tell, run_document_and_tell};
-use bep_reasons::explain_and_tell;
+use bep_reasons::{explain_and_tell, explain_firm_and_tell};
 use bep_report::ReportError;
-use bep_words::{Ending, Mode, Unfollowed, faultless_words_ask, mode_told};
+use bep_words::{Ending, Extent, Goal, Mode, Unfollowed, faultless_words_ask, mode_told};
 use std::convert::AsStr;
 use std::env::{self, Env};
 use std::io::{self, Read, Write};
@@ -44,8 +46,10 @@ pub fn run<P: AllocGlobal + Eprint, R: Read, W: Write, S: AsStr>(
     match mode_told(rt, words) {
         Ok(Mode::Check) => check_and_tell(rt, reader, writer),
         Ok(Mode::Firm) => firm_and_tell(rt, reader, writer),
-        Ok(Mode::Certify) => certify_and_tell(rt, reader, writer),
-        Ok(Mode::Explain(form)) => explain_and_tell(rt, form, reader, writer),
+        Ok(Mode::Certify(Extent::All)) => certify_and_tell(rt, reader, writer),
+        Ok(Mode::Certify(Extent::Won)) => certify_partly_and_tell(rt, reader, writer),
+        Ok(Mode::Explain(Goal::Settled, form)) => explain_and_tell(rt, form, reader, writer),
+        Ok(Mode::Explain(Goal::Firm, form)) => explain_firm_and_tell(rt, form, reader, writer),
         Ok(Mode::Run(ending)) => run_scenario(rt, ending, reader, writer),
         Err(Unfollowed::Memory) => end(rt, Err(ReportError::Memory)),
         Err(Unfollowed::Usage) => USAGE,

@@ -53,4 +53,4 @@ rows_in_range (row ∷ more) each = (each row (Contains-first row more), rows_in
 pub winners_are_in_range : (cut : CutParts) → IsCut cut → WinnersAreInRange cut
 winners_are_in_range cut is_cut rows winners = rows_in_range rows (λ row there.
     own_in_range cut row.device row.folder row.entry.name row.entry is_cut
-    (owned_says (tables_of cut) row.folder row.entry.name ((tables_of cut).sharing row.folder) (row.device, row.entry) (winners.winners row there).left.valid.0))
+    (owned_says (tables_of cut) row.folder row.entry.name ((tables_of cut).sharing row.folder) (row.device, row.entry) (winners row there).left.valid.0))

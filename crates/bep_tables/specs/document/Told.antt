@@ -1,5 +1,5 @@
 -- What is written of a cut is read again as its lists (this project's profile).
-use Rattle.std.specs.Prelude.{◌≡◌, ◌≤◌, ℕ, List, [], length, map}
+use Rattle.std.specs.Prelude.{◌≡◌, ◌≤◌, ℕ, List, [], Contains, length, map}
 use Rattle.std.specs.FinMap.{entries, values}
 use Rattle.std.specs.List.{AllByRecursion}
 use Rattle.bep_record.specs.declared.entry.Entry.{Entry}
@@ -27,7 +27,7 @@ use Rattle.bep_document.specs.read.Shares.{is_share, read_share}
 use Rattle.bep_document.specs.read.Views.{is_view, read_view}
 use Rattle.bep_model.specs.declared.flight.Flight.{Flight}
 use Rattle.bep_model.specs.declared.row.Row.{Row}
-use Rattle.bep_model.specs.Settled.{IsListOfWinners}
+use Rattle.bep_model.specs.Winner.{IsWinner}
 use Rattle.bep_tables.specs.declared.share.Share.{Share}
 use Rattle.bep_tables.specs.declared.share.PeerView.{PeerView}
 use Rattle.bep_tables.specs.declared.share.SharedFolder.{SharedFolder}
@@ -125,9 +125,10 @@ pub record IsLinkInRange (link : LinkState) : Type 0 where
 abbrev pub AreRowsInRange : List Row → Type 0
 AreRowsInRange = AllByRecursion (λ row. row.entry.sequence ≤ MAX_SEQUENCE)
 
--- the rows of a cut's winners are
+-- rows that hold their names' winners are
 abbrev pub WinnersAreInRange : CutParts → Type 0
-WinnersAreInRange cut = (rows : List Row) → IsListOfWinners (tables_of cut) rows → AreRowsInRange rows
+WinnersAreInRange cut = (rows : List Row) →
+    ((row : Row) → Contains rows row → IsWinner (tables_of cut) row.folder row.entry.name (row.device, row.entry)) → AreRowsInRange rows
 
 -- ---- what is read again, where it is in range
 abbrev pub IsRecordTold : Entry → Type 0

@@ -19,7 +19,7 @@ pub fn cut_is_as_written()
     records_make_an_index();
 }
 
-/// The rows of the cut's winners have sequences that a document can have.
+/// Rows that hold their names' winners have sequences that a document can have.
 pub fn winners_are_in_range(cut: &Cut)
     ensures { WinnersAreInRange cut.now }
 {
