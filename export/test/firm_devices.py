@@ -9,10 +9,11 @@ $SECONDS_OF_STANDING says how long firm devices are let run, which is 20 where i
 import gzip
 import json
 import os
+import subprocess
 import time
 import unittest
 
-from exporting import Exporting, in_step, knows_firm, main
+from exporting import STAND_IN, Exporting, in_step, knows_firm, main, run, without_firmness
 from syncthing import FOLDER, wait_until, wait_until_in_step
 
 SECONDS_OF_STANDING = float(os.environ.get("SECONDS_OF_STANDING", 20))
@@ -71,7 +72,7 @@ class Firm(Exporting):
             self.assertRegex(line, rf"^not firm: VersionDiffers {FOLDER} twice on \d+$")
         ran = self.answer()
         self.assertIn(f"{FOLDER}: in step, not firm; 7 names", ran.stdout)
-        self.assertIn(f"1 name isn't firm in {FOLDER}\n  twice: ", ran.stdout)
+        self.assertIn(f"1 name keeps {FOLDER} from being firm\n  twice: ", ran.stdout)
         self.assertEqual(ran.stdout.count("has it under a concurrent version"), 2)
         for told in ("Syncthing may still exchange records", "this project's own peers"):
             self.assertIn(told, " ".join(ran.stdout.split()))
@@ -80,11 +81,45 @@ class Firm(Exporting):
         folder, = read["folders"]
         self.assertEqual((read["verdict"], read["firm"], folder["names_not_firm"]), ("in-step", "not-firm", 1))
         self.assertEqual({one["reason"] for one in folder["not_firm"][0]["devices"]}, {"VersionDiffers"})
+        self.assert_sum()
         self.start()
         wait_until("all devices have taken one version", lambda: len({self.version(device, "twice") for device in self.devices}) == 1)
         wait_until_in_step(*self.devices)
         self.stop()
         self.assert_firm()
+
+    def assert_sum(self):
+        """The sum of the answers to exported documents is what 'check' says; without those on firmness it says that these are
+        missing."""
+        into = self.room / "documents"
+        self.assertEqual(self.export("--into", into).returncode, 0)
+        alone = self.check().stdout
+        for words, said in ((("check", "explain", "firm"), alone.splitlines()),
+                            (("check", "explain"), without_firmness(alone.splitlines()) + [f"firm wasn't asked: {FOLDER}"])):
+            for document in into.glob("cut-*.json"):
+                certified = self.answered("certify", document.read_bytes())
+                document.with_suffix(".reply").write_bytes(b"".join(self.answered(word, certified) for word in words))
+            ran = run([self.program, "sum", into, "--lines"])
+            self.assertEqual((ran.returncode, ran.stdout.splitlines()), (0, said), ran.stderr)
+            self.assertIn("merge versions", ran.stderr)
+
+    def answered(self, word, document):
+        """What the program that answers writes of a document."""
+        return subprocess.run([self.auditor, word], input=document, capture_output=True).stdout
+
+    def test_an_older_program_is_asked_what_it_knows(self):
+        if self.auditor != str(STAND_IN):
+            self.skipTest("another program than what stands for it answers")
+        os.environ["WITHOUT_FIRM"] = "1"
+        try:
+            self.assertEqual((self.verdict(), self.firmness), ("settled", [f"firm wasn't asked: {FOLDER}"]))
+            ran = self.answer()
+            self.assertIn(f"{FOLDER}: in step; 6 names", ran.stdout)
+            self.assertIn("is firm, too: this syncaudit is too old", ran.stdout)
+            self.assertIn("merge versions", ran.stderr)
+            self.assertEqual(json.loads(self.answer("--json").stdout)["firm"], "not-asked")
+        finally:
+            del os.environ["WITHOUT_FIRM"]
 
     @staticmethod
     def version(device, name):

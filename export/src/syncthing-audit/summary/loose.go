@@ -55,9 +55,9 @@ var wordsOfLoose = map[string]string{
 
 // What it means for Syncthing that a folder in step isn't firm, and what to do.
 const (
-	meaningOfLoose = "all devices have the same bytes, and not all under one version. Syncthing may still exchange records of it. " +
+	meaningOfLoose = "all devices have the same content, and have or know of versions that differ. Syncthing may still exchange records. " +
 		"That this changes no file is proved of this project's own peers only, which merge versions when they adopt a record, as Syncthing doesn't."
-	adviceOfLoose = "let all of these devices run and be connected until they are idle: they then take one version. Audit again, before the file is changed"
+	adviceOfLoose = "let all of these devices run, connected, until they are idle: as a rule they take one version then. Audit again after that"
 )
 
 // loose prints what keeps a folder in step from being firm.
@@ -65,7 +65,7 @@ func (p *printer) loose(folder *Folder) {
 	if folder.Loose == 0 {
 		return
 	}
-	p.line("\n%s in %s", counted(folder.Loose, "name isn't firm", "names aren't firm"), folder.ID)
+	p.line("\n%s %s from being firm", counted(folder.Loose, "name keeps", "names keep"), folder.ID)
 	for place, one := range folder.NotFirm {
 		if place == mostLoose {
 			p.line("  and %s more (--lines has all)", thousands(folder.Loose-mostLoose))

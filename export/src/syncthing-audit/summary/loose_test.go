@@ -19,11 +19,11 @@ func notFirm(folder *finding.Folder) {
 // What keeps a folder in step from being firm is told by name and device, with what it means.
 func TestWhatAPersonReadsOfFirmness(t *testing.T) {
 	const lineOfDevices = "1,204 names (4 deleted), 335.2 MB hashed on laptop, phone, server\n"
-	meaning := `  that is: all devices have the same bytes, and not all under one version. Syncthing may still
-         exchange records of it. That this changes no file is proved of this project's own peers
+	meaning := `  that is: all devices have the same content, and have or know of versions that differ. Syncthing
+         may still exchange records. That this changes no file is proved of this project's own peers
          only, which merge versions when they adopt a record, as Syncthing doesn't.
-  to do: let all of these devices run and be connected until they are idle: they then take one
-         version. Audit again, before the file is changed.
+  to do: let all of these devices run, connected, until they are idle: as a rule they take one
+         version then. Audit again after that.
 `
 	cases := []struct {
 		why  string
@@ -31,7 +31,7 @@ func TestWhatAPersonReadsOfFirmness(t *testing.T) {
 		text string
 	}{
 		{"two names", notFirm, "docs (Documents): in step, not firm; " + lineOfDevices + `
-2 names aren't firm in docs
+2 names keep docs from being firm
   'a b': server has it under a concurrent version; phone knows of a concurrent or newer version at another device
   c: phone has it under an older version
 ` + meaning + lastLine},
@@ -42,7 +42,7 @@ func TestWhatAPersonReadsOfFirmness(t *testing.T) {
 			folder.Firmness.First = &finding.Failure{Reason: finding.VersionDiffers, Name: "0000", Device: 1}
 			folder.Live = &finding.Live{Moving: 1}
 		}, "docs (Documents): in step as far as audited, not firm; still: 1,204 names; in motion: 1 (4 deleted, 335.2 MB hashed on laptop, phone, server)\n" + `
-1,244 names aren't firm in docs
+1,244 names keep docs from being firm
 ` + linesOf(mostLoose, "  %04d: laptop has it under a concurrent version\n") + "  and 1,234 more (--lines has all)\n" + meaning},
 		{"it wasn't asked", func(folder *finding.Folder) { folder.Firmness = finding.Firmness{} }, "docs (Documents): in step; " + lineOfDevices +
 			"\nnot asked: whether what is in step is firm, too: this syncaudit is too old to say so\n" + lastLine[1:]},
