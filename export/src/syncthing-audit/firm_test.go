@@ -2,10 +2,12 @@ package main
 
 import (
 	"math/rand"
+	"os"
 	"path/filepath"
 	"strings"
 	"testing"
 
+	"syncthing-audit/ask"
 	"syncthing-audit/device"
 	"syncthing-audit/finding"
 	"syncthing-audit/part"
@@ -21,7 +23,8 @@ func drawAlike(t *testing.T, random *rand.Rand, names, rarely int) []*drawn {
 		usualVersion := usual.Record.Version
 		pick := func() device.Entry {
 			record := *usual.Record
-			record.ModifiedS = int64(random.Intn(2) + 1000)
+			record.ModifiedS, record.ModifiedNs = int64(random.Intn(2)+1000), random.Intn(2)
+			record.ModifiedBy = uint64(random.Intn(2) + 1)
 			if record.Version = usualVersion; random.Intn(rarely) == 0 {
 				record.Version = [][2]uint64{{1, uint64(random.Intn(2) + 1)}, {2, uint64(random.Intn(2) + 1)}}
 			}
@@ -88,6 +91,31 @@ func TestViewsOfOthersDoNotCount(t *testing.T) {
 	for count, is := range map[int]finding.Firm{3: finding.NotFirm, 2: finding.IsFirm} {
 		if how := answerOfSome(t, devices[:count], asked).HowFirm(); how != is && how != finding.NotAsked {
 			t.Errorf("of %d devices: %s", count, how)
+		}
+	}
+}
+
+// A program that calls firm what isn't is refused: its answer doesn't go with what is found here.
+func TestAnAnswerThatDiffersIsRefused(t *testing.T) {
+	path := filepath.Join(t.TempDir(), "program")
+	text := "#!/bin/sh\ncase $1 in certify) cat;; firm) echo firm; echo 'folder docs: 1 names, 0 deleted, 3 devices';; esac\n"
+	if err := os.WriteFile(path, []byte(text), 0o700); err != nil {
+		t.Fatal(err)
+	}
+	for versions, isRefused := range map[uint64]bool{1: false, 2: true} {
+		devices := drawDevices(t, rand.New(rand.NewSource(1)))
+		for place, one := range devices {
+			own := drawRecord(rand.New(rand.NewSource(2)), 1)
+			own.Name, own.Record.Invalid, own.Record.Version = "a", false, [][2]uint64{{1, 1}}
+			if place == 0 {
+				own.Record.Version[0][1] = versions
+			}
+			one.own = []device.Entry{own}
+			putNode(t, filepath.Join(one.path, "a"), own, false)
+		}
+		_, err := answerBy(ask.Program{Path: path}, devices, options{jobs: 1})
+		if (err != nil) != isRefused || err != nil && !strings.Contains(err.Error(), `this program that VersionDiffers of "a" on `) {
+			t.Errorf("%d: %v", versions, err)
 		}
 	}
 }

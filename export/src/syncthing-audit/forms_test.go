@@ -168,7 +168,7 @@ func putNode(t *testing.T, path string, entry device.Entry, isLate bool) {
 		err = os.WriteFile(path, dataOf(record.Content), 0o644)
 	}
 	if err == nil && record.Target == "" {
-		when := time.Unix(record.ModifiedS, 0)
+		when := time.Unix(record.ModifiedS, int64(record.ModifiedNs))
 		if isLate {
 			when = when.Add(time.Nanosecond)
 		}
@@ -217,6 +217,15 @@ func answerOfDrawn(t *testing.T, devices []*drawn, withBytes bool) *finding.Answ
 
 // answerOfSome audits these devices as it is asked.
 func answerOfSome(t *testing.T, devices []*drawn, asked options) *finding.Answer {
+	answer, err := answerBy(auditor(), devices, asked)
+	if err != nil || len(answer.Refusals) > 0 {
+		t.Fatal(err, answer)
+	}
+	return answer
+}
+
+// answerBy has a program answer.
+func answerBy(program ask.Program, devices []*drawn, asked options) (*finding.Answer, error) {
 	pool := disk.NewPool(2)
 	defer pool.Close()
 	opened := &inputs{}
@@ -226,11 +235,7 @@ func answerOfSome(t *testing.T, devices []*drawn, asked options) *finding.Answer
 		opened.closers = append(opened.closers, stream.Close)
 		opened.devices = append(opened.devices, join.NewDevice(stream, one.id))
 	}
-	answer, err := answerOf(opened, asked, auditor())
-	if err != nil || len(answer.Refusals) > 0 {
-		t.Fatal(err, answer)
-	}
-	return answer
+	return answerOf(opened, asked, program)
 }
 
 // failures gives what an audit of the devices finds, in one form of documents.

@@ -2,6 +2,7 @@ package ask
 
 import (
 	"errors"
+	"fmt"
 	"os"
 	"path/filepath"
 	"reflect"
@@ -116,6 +117,7 @@ func TestRepliesOnFirmness(t *testing.T) {
 		{isnt + differs, false, nil},
 		{isnt + "not firm: NotWinner docs b\n" + counts, false, nil},
 		{isSettled + "not firm: NotWinner docs a\n" + counts, false, nil},
+		{isSettled + "NotWinner docs a\nnot firm: NotWinner docs a\n" + counts, false, nil},
 		{isSettled + "not firm: Odd docs a\n" + counts, false, nil},
 		{isSettled + "firm\nfolder docs: 3 names, 1 deleted, 3 devices\n", false, nil},
 		{isSettled + "firm\n", false, nil},
@@ -149,6 +151,18 @@ func TestWhatAProgramIsAsked(t *testing.T) {
 		asked, _ := os.ReadFile(log)
 		if err != nil || string(asked) != one.asked {
 			t.Errorf("%s: %q was asked, not %q: %v", one.firm, asked, one.asked, err)
+		}
+	}
+}
+
+// What fails in 'firm' fails, unless it is the usage.
+func TestAProgramThatFailsInFirm(t *testing.T) {
+	for _, status := range []int{2, 4, 5, 126} {
+		program := aProgram(t, fmt.Sprintf(`case $1 in certify) cat;; firm) exit %d;; *) echo settled; echo "folder docs: 1 names, 0 deleted, 2 devices";; esac`, status))
+		_, err := program.Ask("docs", []byte("{}"))
+		var failed *Failed
+		if !errors.As(err, &failed) || failed.Status != status {
+			t.Errorf("%d: %v", status, err)
 		}
 	}
 }

@@ -19,6 +19,7 @@ func TestFirmnessOfSeveralDocuments(t *testing.T) {
 		t.Errorf("%+v", sum)
 	}
 	sum.Take(Firmness{})
+	sum.Take(Firmness{Asked: true})
 	if sum.Asked {
 		t.Error("one document wasn't asked")
 	}
