@@ -1,5 +1,6 @@
 """Real Syncthing devices in step, stopped, and the audit run on them."""
 
+import functools
 import json
 import os
 import shutil
@@ -22,6 +23,7 @@ BUILT = SOURCES.parent / "crates/syncaudit/out/syncaudit"
 STAND_IN = Path(__file__).with_name("stand_in.py")
 # The variable with the time, by the monotonic clock, from which on no case is begun.
 UNTIL = "SYNCTHING_AUDIT_UNTIL"
+STATUS_OF_USAGE = 3
 STATUSES = {"settled": 0, "settled as far as audited": 6}
 
 
@@ -61,6 +63,28 @@ def built(room):
 def auditor():
     """The program that audits: $SYNCAUDIT, the one that is built here, or where none is, what stands for it."""
     return os.environ.get("SYNCAUDIT") or str(BUILT if BUILT.exists() else STAND_IN)
+
+
+@functools.cache
+def knows_firm():
+    """Whether the program that audits says whether a cut is firm; an older one doesn't know what that is."""
+    asked = subprocess.run([auditor(), "firm"], stdin=subprocess.DEVNULL, capture_output=True)
+    return asked.returncode != STATUS_OF_USAGE
+
+
+def in_step():
+    """What a person reads of a folder that is in step, and firm where that is asked."""
+    return "in step and firm" if knows_firm() else "in step"
+
+
+def is_on_firmness(line):
+    """Whether a line says that a folder is firm, what keeps it from that, or that it wasn't asked."""
+    return line.startswith(("firm: ", "not firm: ", "firm wasn't asked: "))
+
+
+def without_firmness(lines):
+    """The lines but for those on firmness."""
+    return [line for line in lines if not is_on_firmness(line)]
 
 
 def is_over():
@@ -192,14 +216,16 @@ class Exporting(unittest.TestCase):
         return json.loads(ran.stdout)
 
     def report(self, *words):
-        """The lines that an audit of the devices writes. With bytes the verdict is the same, and so it is by parts."""
+        """The lines that an audit of the devices writes, but for those on firmness, which are kept. With bytes they are the same,
+        and so they are by parts."""
         ran = self.check(*words)
         lines = ran.stdout.splitlines()
         self.assertTrue(lines, ran.stderr)
         self.assertEqual(ran.returncode, STATUSES.get(lines[0], 1), ran.stderr)
         if not self.is_large:
             self.assertEqual(self.check("--bytes", *words).stdout.splitlines(), lines)
-        return lines
+        self.firmness = [line for line in lines if is_on_firmness(line)]
+        return without_firmness(lines)
 
     def verdict(self, *words):
         """The first line of what an audit writes."""

@@ -11,7 +11,7 @@ import tempfile
 import unittest
 from pathlib import Path
 
-from exporting import PROGRAM, Exporting, auditor, built, is_over, main, run
+from exporting import PROGRAM, Exporting, auditor, built, is_over, main, run, without_firmness
 from syncthing import FOLDER
 
 MEGA = 1 << 20
@@ -77,7 +77,7 @@ class LargeFolder(Exporting):
         with path.open("wb") as file:
             file.truncate(16 * MEGA + 1)
         try:
-            lines = self.check("--bytes", "--leave-out", "large").stdout.splitlines()
+            lines = without_firmness(self.check("--bytes", "--leave-out", "large").stdout.splitlines())
             self.assertEqual(lines[0], "settled as far as audited")
             self.assertIn(f"left out: {FOLDER} huge on {self.number(self.one)}: a document with bytes", lines[2])
             self.assertIn("there is nothing to audit", self.refused("--bytes", "--leave-out", "large", "--names", "huge"))
@@ -134,7 +134,7 @@ class ManyFiles(unittest.TestCase):
     def check(self, *words):
         """The lines of an audit of these."""
         ran = run([self.programs / PROGRAM, "check", *words, "--lines", "--syncaudit", auditor()])
-        return ran.stdout.splitlines()
+        return without_firmness(ran.stdout.splitlines())
 
     def test_five_thousand_names(self):
         homes = [self.room / f"device{number}" / "home" for number in (1, 2)]
@@ -159,7 +159,7 @@ class ManyFiles(unittest.TestCase):
         ran = run([self.programs / PROGRAM, "sum", into, "--lines"])
         self.assertEqual((ran.returncode, ran.stdout), (2, ""))
         self.assertIn("a document has no answer yet", ran.stderr)
-        answer = f"{auditor()} certify < $1 > $1.c; {auditor()} check < $1.c; {auditor()} explain < $1.c"
+        answer = f"{auditor()} certify < $1 > $1.c; {auditor()} check < $1.c; {auditor()} explain < $1.c; {auditor()} firm < $1.c"
         for one in documents:
             one.with_suffix(".reply").write_text(run(["sh", "-c", answer, "-", one]).stdout)
         ran = run([self.programs / PROGRAM, "sum", into, "--lines"])

@@ -14,7 +14,7 @@ import xml.etree.ElementTree as xml
 from contextlib import contextmanager
 
 from answers import SCHEMA, STATUS_MISSING
-from exporting import Exporting, main, run
+from exporting import Exporting, in_step, main, run, without_firmness
 from large_folders import MEGA, rot as flip_byte
 from syncthing import FOLDER, SECONDS_TO_WAIT, wait_until, wait_until_in_step
 
@@ -85,9 +85,14 @@ class Live(Exporting):
     def told(self, *words):
         """The lines that an audit of both looks writes, but for how long they were apart."""
         ran = self.check_parts(self.looks(), *words)
-        lines = [line.split(" s, ")[-1] if line.startswith("still: ") else line for line in ran.stdout.splitlines()]
+        lines = self.without_times(ran)
         self.assertTrue(lines, ran.stderr)
         return ran.returncode, lines
+
+    @staticmethod
+    def without_times(ran):
+        """The lines that an audit wrote, but for how long the looks were apart, and for those on firmness."""
+        return [line.split(" s, ")[-1] if line.startswith("still: ") else line for line in without_firmness(ran.stdout.splitlines())]
 
     def look(self, between=lambda: None):
         """Looks twice at all devices, and gives the status and the lines."""
@@ -111,7 +116,7 @@ class LiveDevices(Live):
         self.assertEqual((status, lines), (0, ["settled", f"folder {FOLDER}: 6 names, 1 deleted, 3 devices", "in motion: 0 names"]))
         ran = run([self.program, "check", *self.looks(), "--syncaudit", self.auditor])
         self.assertRegex(ran.stdout.splitlines()[0],
-                         rf"^{FOLDER}: in step; still for \d+ s: 6 names; in motion: 0 \(1 deleted, .* hashed on ")
+                         rf"^{FOLDER}: {in_step()}; still for \d+ s: 6 names; in motion: 0 \(1 deleted, .* hashed on ")
 
     def test_other_bytes_while_running(self):
         with rot(self.two.files / "folder" / "large", 1000):
@@ -147,10 +152,9 @@ class LiveDevices(Live):
         for document in documents.glob("cut-*.json"):
             certified = subprocess.run([self.auditor, "certify"], input=document.read_bytes(), capture_output=True, check=True).stdout
             document.with_suffix(".reply").write_bytes(b"".join(subprocess.run([self.auditor, word], input=certified, capture_output=True).stdout
-                                                                for word in ("check", "explain")))
+                                                                for word in ("check", "explain", "firm")))
         ran = run([self.program, "sum", documents, "--lines"])
-        told = [line.split(" s, ")[-1] if line.startswith("still: ") else line for line in ran.stdout.splitlines()]
-        self.assertEqual((ran.returncode, told), (status, lines))
+        self.assertEqual((ran.returncode, self.without_times(ran)), (status, lines))
 
     def test_what_waits_for_a_scan_is_in_motion(self):
         path = self.one.files / "waits"
@@ -368,7 +372,7 @@ cd "{room}/$machine/user" && HOME=$PWD PATH={programs}:$PATH exec sh -c "$*"
     def test_in_step(self):
         ran = self.run_on()
         self.assertEqual(ran.returncode, 0, ran.stderr)
-        self.assertRegex(ran.stdout.splitlines()[0], rf"^{FOLDER}: in step; still for \d+ s: 6 names; in motion: 0 ")
+        self.assertRegex(ran.stdout.splitlines()[0], rf"^{FOLDER}: {in_step()}; still for \d+ s: 6 names; in motion: 0 ")
 
     def test_other_bytes(self):
         with rot(self.two.files / "folder" / "large", 1000):

@@ -14,14 +14,14 @@ import tempfile
 import unittest
 from pathlib import Path
 
-from exporting import PROGRAM, auditor, built, is_over, main, run
+from exporting import PROGRAM, auditor, built, in_step, is_over, main, run
 from syncthing import SECONDS_TO_WAIT, wait_until
 
 FILES = 2000
 SIGNALS = (signal.SIGINT, signal.SIGTERM, signal.SIGHUP)
 # Larger than what any machine hashes while a test waits; it takes no room.
 ENDLESS_BYTES = 1 << 42
-SETTLED = f"docs: in step; {FILES + FILES // 100:,} names (0 deleted), "
+SETTLED = f"docs: {in_step()}; {FILES + FILES // 100:,} names (0 deleted), "
 
 
 class Manners(unittest.TestCase):

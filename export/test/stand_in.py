@@ -1,17 +1,20 @@
 #!/usr/bin/env python3
-"""Stands for the program `syncaudit` where it isn't built: `certify`, `check` and `explain`, by the second reading in
-compare/. It explains without what is indented.
+"""Stands for the program `syncaudit` where it isn't built: `certify`, `check`, `firm` and `explain`, by the second reading
+in compare/. It explains without what is indented.
 
     export/test/stand_in.py certify < CUT
     export/test/stand_in.py check < DOCUMENT
+    export/test/stand_in.py firm < DOCUMENT
     export/test/stand_in.py explain < DOCUMENT
 
-CUT is what is exported, without a certificate.
+CUT is what is exported, without a certificate. Where $WITHOUT_FIRM is set, it doesn't know `firm`, as an older program.
 """
 
+import os
 import sys
 
 from documents import certified  # first: it finds compare/
+import firm
 from reports import answer, answers, printed, refusal
 from things import Fault
 
@@ -33,8 +36,19 @@ def explain(written):
     return answers(written)[1]
 
 
+def say_whether_firm(written):
+    """What `syncaudit firm` writes for the document, and its exit status."""
+    return firm.answers(written)[0]
+
+
+COMMANDS = {"certify": certify, "check": answer, "explain": explain, "firm": say_whether_firm}
+STATUS_OF_USAGE = 3
+
+
 def main():
-    said, status = {"certify": certify, "check": answer, "explain": explain}[sys.argv[1]](sys.stdin.buffer.read())
+    if sys.argv[1] == "firm" and "WITHOUT_FIRM" in os.environ:
+        sys.exit(STATUS_OF_USAGE)
+    said, status = COMMANDS[sys.argv[1]](sys.stdin.buffer.read())
     sys.stdout.buffer.write(said)
     sys.stdout.flush()
     sys.exit(status)

@@ -47,6 +47,6 @@ func tell(output, log io.Writer, asked options, answer *finding.Answer) (int, er
 	if err != nil {
 		return 0, fmt.Errorf("the answer can't be written: %w", err)
 	}
-	fmt.Fprint(log, meaning)
+	fmt.Fprint(log, meaningOf(answer))
 	return statusOfAnswer(answer), nil
 }

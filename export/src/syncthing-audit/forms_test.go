@@ -68,6 +68,15 @@ func give(entries []device.Entry, take func(device.Entry) bool) error {
 
 // draw draws a folder at all devices.
 func draw(t *testing.T, random *rand.Rand) []*drawn {
+	devices := drawDevices(t, random)
+	for number := int64(1); number <= namesOfARound; number++ {
+		drawName(t, random, devices, fmt.Sprintf("%03d", number), number)
+	}
+	return devices
+}
+
+// drawDevices draws a folder without names at all devices.
+func drawDevices(t *testing.T, random *rand.Rand) []*drawn {
 	devices := make([]*drawn, devicesOfARound)
 	for place := range devices {
 		id := protocol.DeviceID{7: byte(place + 1)}.String()
@@ -81,9 +90,6 @@ func draw(t *testing.T, random *rand.Rand) []*drawn {
 				one.about.Views = append(one.about.Views, part.View{Device: two.id, IndexID: 1, Max: namesOfARound})
 			}
 		}
-	}
-	for number := int64(1); number <= namesOfARound; number++ {
-		drawName(t, random, devices, fmt.Sprintf("%03d", number), number)
 	}
 	return devices
 }
@@ -162,7 +168,7 @@ func putNode(t *testing.T, path string, entry device.Entry, isLate bool) {
 		err = os.WriteFile(path, dataOf(record.Content), 0o644)
 	}
 	if err == nil && record.Target == "" {
-		when := time.Unix(record.ModifiedS, 0)
+		when := time.Unix(record.ModifiedS, int64(record.ModifiedNs))
 		if isLate {
 			when = when.Add(time.Nanosecond)
 		}
@@ -198,26 +204,44 @@ func auditor() ask.Program {
 			return ask.Program{Path: path}
 		}
 	}
-	return ask.Program{Path: "../../test/stand_in.py"}
+	return ask.Program{Path: "../../test/" + standIn}
 }
 
-// failures gives what an audit of the devices finds, in one form of documents.
-func failures(t *testing.T, devices []*drawn, withBytes bool) []finding.Failure {
+// standIn is what stands for the program.
+const standIn = "stand_in.py"
+
+// answerOfDrawn audits the devices, in one form of documents.
+func answerOfDrawn(t *testing.T, devices []*drawn, withBytes bool) *finding.Answer {
+	return answerOfSome(t, devices, options{bytes: withBytes, jobs: 1})
+}
+
+// answerOfSome audits these devices as it is asked.
+func answerOfSome(t *testing.T, devices []*drawn, asked options) *finding.Answer {
+	answer, err := answerBy(auditor(), devices, asked)
+	if err != nil || len(answer.Refusals) > 0 {
+		t.Fatal(err, answer)
+	}
+	return answer
+}
+
+// answerBy has a program answer.
+func answerBy(program ask.Program, devices []*drawn, asked options) (*finding.Answer, error) {
 	pool := disk.NewPool(2)
 	defer pool.Close()
 	opened := &inputs{}
 	defer opened.close()
 	for _, one := range devices {
-		stream := (&gather.Device{ID: one.id, Folders: []gather.Folder{one}, Bytes: withBytes, Pool: pool}).Stream()
+		stream := (&gather.Device{ID: one.id, Folders: []gather.Folder{one}, Bytes: asked.bytes, Pool: pool}).Stream()
 		opened.closers = append(opened.closers, stream.Close)
 		opened.devices = append(opened.devices, join.NewDevice(stream, one.id))
 	}
-	answer, err := answerOf(opened, options{bytes: withBytes, jobs: 1}, auditor())
-	if err != nil || len(answer.Refusals) > 0 {
-		t.Fatal(err, answer.Refusals)
-	}
+	return answerOf(opened, asked, program)
+}
+
+// failures gives what an audit of the devices finds, in one form of documents.
+func failures(t *testing.T, devices []*drawn, withBytes bool) []finding.Failure {
 	var made []finding.Failure
-	answer.Folders[0].EachFailure(func(one *finding.Failure) { made = append(made, *one) })
+	answerOfDrawn(t, devices, withBytes).Folders[0].EachFailure(func(one *finding.Failure) { made = append(made, *one) })
 	return made
 }
 

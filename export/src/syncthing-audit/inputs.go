@@ -133,12 +133,6 @@ func (i *inputs) deviceOf(home *device.Home, asked options) (*gather.Device, err
 	return made, nil
 }
 
-// meaning says once, on standard error, what an answer means for real Syncthing.
-const meaning = `syncthing-audit: what an answer means: the files, records and views are compared exactly as they were when
-they were read. That a settled cut stays settled is proved of this project's peers, which merge versions when they
-adopt a record, as Syncthing does not.
-`
-
 // tellDevices tells whose homes and parts these are.
 func tellDevices(log io.Writer, devices []*join.Device) {
 	for _, one := range devices {

@@ -51,8 +51,8 @@ Says whether Syncthing devices are in step, and where not which device is wrong.
   part --begin, --end  make the two looks one by one: begin on all, end on all, check
   check   joins the parts of all devices that share a folder, and has syncaudit answer
   export  writes the check documents of such an answer, for 'syncaudit certify' and 'syncaudit check'
-  sum     joins the answers to exported documents, cut-0001.reply and so on: what 'syncaudit check' and then
-          'syncaudit explain' write of each
+  sum     joins the answers to exported documents, cut-0001.reply and so on: what 'syncaudit check', then
+          'syncaudit explain' and then 'syncaudit firm' write of each
 
   --home DIR           a device's home on this machine: config.xml, cert.pem and index-v0.14.0.db
   --folder ID          only this folder (may be given more than once; all folders if it isn't)
@@ -74,7 +74,7 @@ Says whether Syncthing devices are in step, and where not which device is wrong.
   --syncaudit FILE     the program that answers; if it isn't given, $SYNCAUDIT, or syncaudit on PATH
   --jobs N             how many of it run at once, and how many files are hashed at once (%d)
 
-Exit status: 0 in step, or written; 1 not in step; 2 refused; 3 usage; 4 syncaudit is out of memory; 5 what was asked for
+Exit status: 0 in step, firm or not, or written; 1 not in step; 2 refused; 3 usage; 4 syncaudit is out of memory; 5 what was asked for
 can't be written, or syncaudit has a read or write fault; 6 in step as far as audited: something was left out; 127
 syncaudit can't be run.
 `, strings.Join(part.Kinds, ","), runtime.NumCPU())

@@ -7,13 +7,17 @@ import (
 	"fmt"
 	"os/exec"
 	"strings"
+	"sync/atomic"
 
 	"syncthing-audit/finding"
 	"syncthing-audit/leftover"
 )
 
-// settled is the first line of a report on a cut that is settled.
-const settled = "settled"
+// The first lines of reports on a cut for which an answer is yes. For no, "not " stands before it and the reason behind.
+const (
+	settled = "settled"
+	firm    = "firm"
+)
 
 // StatusCannotRun is a shell's status for a program that isn't there.
 const StatusCannotRun = 127
@@ -21,6 +25,7 @@ const StatusCannotRun = 127
 const (
 	statusNotSettled = 1
 	statusRefused    = 2
+	statusUsage      = 3
 )
 
 // Failed is why there is no answer, with the status that this program is to end with.
@@ -35,10 +40,14 @@ func (f *Failed) Error() string { return f.reason }
 type Reply struct {
 	Names, Deleted int64
 	Failures       []finding.Failure // in the order in which they are told; none where it is settled
+	Firmness       finding.Firmness
 }
 
 // Program is the syncaudit that is asked.
-type Program struct{ Path string }
+type Program struct {
+	Path      string
+	lacksFirm *atomic.Bool // it was asked for 'firm' and doesn't know that; nothing where it is asked each time
+}
 
 // Find says why the program can't be run, if so.
 func (p Program) Find() error {
@@ -49,8 +58,9 @@ func (p Program) Find() error {
 	return nil
 }
 
-// Ask has the program certify a document, each of whose names has a winner, and check it; and explain it where it isn't
-// settled.
+// Ask has the program certify a document, each of whose names has a winner, and say whether it is firm. What is firm is
+// settled, too, and what isn't firm for a reason of 'check' isn't; else it is asked whether it is settled. Where it isn't,
+// all that fails is explained.
 func (p Program) Ask(folder string, document []byte) (*Reply, error) {
 	status, certified, err := p.run("certify", document)
 	if err != nil {
@@ -59,59 +69,55 @@ func (p Program) Ask(folder string, document []byte) (*Reply, error) {
 	if status != 0 {
 		return nil, &Failed{statusRefused, fmt.Sprintf("'%s certify' answered %q", p.Path, firstLine(certified))}
 	}
-	_, report, err := p.run("check", certified)
-	if err != nil {
+	said := answers{}
+	if said.firm, err = p.firm(certified); err != nil {
 		return nil, err
 	}
-	if firstLine(report) != settled {
-		_, explanation, err := p.run("explain", certified)
-		if err != nil {
+	line := firstLine([]byte(said.firm))
+	if line == firm {
+		return said.reply(folder)
+	}
+	isUnsettled := finding.Place(reasonIn(line)) >= 0
+	if !isUnsettled {
+		if said.check, err = p.text("check", certified); err != nil {
 			return nil, err
 		}
-		report = append(report, explanation...)
+		isUnsettled = firstLine([]byte(said.check)) != settled
 	}
-	return ReadReply(folder, string(report))
-}
-
-// ReadReply reads what 'check' writes of a document of one folder, and behind it what 'explain' writes, which may be
-// missing of a document that is settled.
-func ReadReply(folder, text string) (*Reply, error) {
-	lines := strings.SplitAfterN(text, "\n", 3)
-	if len(lines) < 3 {
-		return nil, &Failed{statusRefused, fmt.Sprintf("syncaudit's report is %q", text)}
-	}
-	reply, line, err := readReport(folder, lines[0]+lines[1])
-	if err != nil {
-		return nil, err
-	}
-	explanation := lines[2]
-	if line == settled {
-		if explanation != "" && explanation != settled+"\n" {
-			return nil, &Failed{statusRefused, fmt.Sprintf("syncaudit's answers differ: %q and %q", line, firstLine([]byte(explanation)))}
-		}
-		return reply, nil
-	}
-	if reply.Failures, err = readFailures(folder, explanation); err != nil {
-		return nil, err
-	}
-	if first := Line(folder, &reply.Failures[0]); "not settled: "+first != line {
-		return nil, &Failed{statusRefused, fmt.Sprintf("syncaudit's answers differ: %q and %q", line, first)}
-	}
-	return reply, nil
-}
-
-// readReport reads a report's first line and its counts.
-func readReport(folder, report string) (*Reply, string, error) {
-	lines := strings.Split(strings.TrimSuffix(report, "\n"), "\n")
-	reply := &Reply{}
-	devices := 0
-	if len(lines) == 2 {
-		_, err := fmt.Sscanf(lines[1], "folder "+folder+": %d names, %d deleted, %d devices", &reply.Names, &reply.Deleted, &devices)
-		if err == nil && (lines[0] == settled || strings.HasPrefix(lines[0], "not settled: ")) {
-			return reply, lines[0], nil
+	if isUnsettled {
+		if said.explanation, err = p.text("explain", certified); err != nil {
+			return nil, err
 		}
 	}
-	return nil, "", &Failed{statusRefused, fmt.Sprintf("syncaudit's report begins with %q", lines[0])}
+	return said.reply(folder)
+}
+
+// reasonIn gives the reason in a line of 'firm' for what isn't.
+func reasonIn(line string) string {
+	reason, _, _ := strings.Cut(strings.TrimPrefix(line, "not "+firm+": "), " ")
+	return reason
+}
+
+// firm has the program say whether a document is firm; nothing where it is too old to know what that is.
+func (p Program) firm(certified []byte) (string, error) {
+	if p.lacksFirm != nil && p.lacksFirm.Load() {
+		return "", nil
+	}
+	text, err := p.text("firm", certified)
+	var failed *Failed
+	if errors.As(err, &failed) && failed.Status == statusUsage {
+		if p.lacksFirm != nil {
+			p.lacksFirm.Store(true)
+		}
+		return "", nil
+	}
+	return text, err
+}
+
+// text gives what the program writes of a document for this command.
+func (p Program) text(word string, document []byte) (string, error) {
+	_, written, err := p.run(word, document)
+	return string(written), err
 }
 
 // run runs the program on a document, and gives its status, 0 or 1, and what it wrote.

@@ -2,9 +2,14 @@ package ask
 
 import (
 	"errors"
+	"fmt"
+	"os"
+	"path/filepath"
+	"reflect"
 	"strings"
 	"testing"
 
+	"syncthing-audit/document"
 	"syncthing-audit/finding"
 )
 
@@ -54,13 +59,13 @@ func TestExplanations(t *testing.T) {
 }
 
 func TestReports(t *testing.T) {
-	reply, line, err := readReport("docs", "settled\nfolder docs: 2 names, 1 deleted, 3 devices\n")
+	reply, line, err := readReport("docs", "settled\nfolder docs: 2 names, 1 deleted, 3 devices\n", settled)
 	if err != nil || line != "settled" || reply.Names != 2 || reply.Deleted != 1 {
 		t.Errorf("%v, %q, %v", reply, line, err)
 	}
 	for _, report := range []string{"", "refused: 184 Range\n", "settled\n", "settled\nfolder pics: 2 names, 1 deleted, 3 devices\n",
 		"odd\nfolder docs: 2 names, 1 deleted, 3 devices\n"} {
-		if _, _, err := readReport("docs", report); err == nil {
+		if _, _, err := readReport("docs", report, settled); err == nil {
 			t.Errorf("%q was taken", report)
 		}
 	}
@@ -83,9 +88,105 @@ func TestReplies(t *testing.T) {
 	}
 	for _, one := range cases {
 		reply, err := ReadReply("docs", one.text)
-		if (err == nil) != one.good || err == nil && len(reply.Failures) != one.failures {
+		if (err == nil) != one.good || err == nil && (len(reply.Failures) != one.failures || reply.Firmness.Asked) {
 			t.Errorf("%q: %v, %v", one.text, reply, err)
 		}
+	}
+}
+
+// What 'firm' says goes with what 'check' and 'explain' say, or isn't taken.
+func TestRepliesOnFirmness(t *testing.T) {
+	const (
+		counts    = "folder docs: 2 names, 1 deleted, 3 devices\n"
+		isSettled = "settled\n" + counts
+		isnt      = "not settled: NotWinner docs a\n" + counts + "NotWinner docs a\n"
+		differs   = "not firm: VersionDiffers docs a on 1\n" + counts
+	)
+	first := &finding.Failure{Reason: "VersionDiffers", Name: "a", Device: 1}
+	cases := []struct {
+		text  string
+		good  bool
+		first *finding.Failure
+	}{
+		{isSettled + "firm\n" + counts, true, nil},
+		{isSettled + "settled\nfirm\n" + counts, true, nil},
+		{isSettled + differs, true, first},
+		{isSettled + "settled\n" + differs, true, first},
+		{isnt + "not firm: NotWinner docs a\n" + counts, true, nil},
+		{isnt + "firm\n" + counts, false, nil},
+		{isnt + differs, false, nil},
+		{isnt + "not firm: NotWinner docs b\n" + counts, false, nil},
+		{isSettled + "not firm: NotWinner docs a\n" + counts, false, nil},
+		{isSettled + "NotWinner docs a\nnot firm: NotWinner docs a\n" + counts, false, nil},
+		{isSettled + "not firm: Odd docs a\n" + counts, false, nil},
+		{isSettled + "firm\nfolder docs: 3 names, 1 deleted, 3 devices\n", false, nil},
+		{isSettled + "firm\n", false, nil},
+		{"not settled: VersionDiffers docs a on 1\n" + counts + "VersionDiffers docs a on 1\n", false, nil},
+	}
+	for _, one := range cases {
+		reply, err := ReadReply("docs", one.text)
+		if (err == nil) != one.good {
+			t.Errorf("%q: %v, %v", one.text, reply, err)
+		}
+		if err == nil && (!reply.Firmness.Asked || !reflect.DeepEqual(reply.Firmness.First, one.first)) {
+			t.Errorf("%q: %+v", one.text, reply.Firmness)
+		}
+	}
+}
+
+// A program is asked for no more than its answers ask for: what is firm is settled, and what isn't settled isn't firm.
+func TestWhatAProgramIsAsked(t *testing.T) {
+	const counts = "echo 'folder docs: 1 names, 0 deleted, 2 devices'"
+	cases := []struct{ firm, check, explain, asked string }{
+		{"echo firm; " + counts, "exit 9", "exit 9", "certify firm "},
+		{"echo 'not firm: ViewNotBelow docs a on 1'; " + counts + "; exit 1", "echo settled; " + counts, "exit 9", "certify firm check "},
+		{"echo 'not firm: NotWinner docs a'; " + counts + "; exit 1", "exit 9", "echo NotWinner docs a; exit 1", "certify firm explain "},
+		{"exit 3", "echo settled; " + counts, "exit 9", "certify firm check "},
+		{"exit 3", "echo 'not settled: NotWinner docs a'; " + counts + "; exit 1", "echo NotWinner docs a; exit 1", "certify firm check explain "},
+	}
+	for _, one := range cases {
+		log := filepath.Join(t.TempDir(), "log")
+		program := aProgram(t, "printf '%s ' $1 >> '"+log+"'\ncase $1 in certify) cat;; firm) "+one.firm+";; check) "+one.check+";; explain) "+one.explain+";; esac")
+		_, err := program.Ask("docs", []byte("{}"))
+		asked, _ := os.ReadFile(log)
+		if err != nil || string(asked) != one.asked {
+			t.Errorf("%s: %q was asked, not %q: %v", one.firm, asked, one.asked, err)
+		}
+	}
+}
+
+// What fails in 'firm' fails, unless it is the usage.
+func TestAProgramThatFailsInFirm(t *testing.T) {
+	for _, status := range []int{2, 4, 5, 126} {
+		program := aProgram(t, fmt.Sprintf(`case $1 in certify) cat;; firm) exit %d;; *) echo settled; echo "folder docs: 1 names, 0 deleted, 2 devices";; esac`, status))
+		_, err := program.Ask("docs", []byte("{}"))
+		var failed *Failed
+		if !errors.As(err, &failed) || failed.Status != status {
+			t.Errorf("%d: %v", status, err)
+		}
+	}
+}
+
+// A program that is too old to say whether something is firm is asked for that once.
+func TestAnOldProgram(t *testing.T) {
+	log := filepath.Join(t.TempDir(), "log")
+	program := aProgram(t, "echo $1 >> '"+log+`'
+case $1 in certify) cat;; firm) exit 3;; *) echo settled; echo "folder docs: 1 names, 0 deleted, 2 devices";; esac`)
+	unasked := 0
+	pool := NewPool(program, 1, func(_ *document.Document, reply *Reply) {
+		if !reply.Firmness.Asked {
+			unasked++
+		}
+	})
+	for place := 0; place < 3; place++ {
+		if err := pool.Ask(&document.Document{Folder: "docs", Place: place, Written: []byte("{}")}); err != nil {
+			t.Fatal(err)
+		}
+	}
+	err := pool.Close()
+	asked, _ := os.ReadFile(log)
+	if err != nil || unasked != 3 || strings.Count(string(asked), "firm") != 1 {
+		t.Errorf("%d weren't asked, by %q: %v", unasked, asked, err)
 	}
 }
 
@@ -95,7 +196,7 @@ func TestProgramsThatFail(t *testing.T) {
 		status  int
 	}{{"/nowhere/syncaudit", StatusCannotRun}, {"/bin/false", statusRefused}, {"/bin/true", statusRefused}}
 	for _, one := range cases {
-		_, err := Program{one.program}.Ask("docs", []byte("{}"))
+		_, err := Program{Path: one.program}.Ask("docs", []byte("{}"))
 		var failed *Failed
 		if !errors.As(err, &failed) || failed.Status != one.status {
 			t.Errorf("%s: %v", one.program, err)

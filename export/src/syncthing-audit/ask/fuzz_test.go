@@ -9,6 +9,8 @@ func FuzzReplies(f *testing.F) {
 	f.Add("settled\n" + counts)
 	f.Add("settled\n" + counts + "settled\n")
 	f.Add("not settled: NotWinner docs a\n" + counts + "NotWinner docs a\n  winner: none\nLocalOnly docs b\\x20c on 1\n")
+	f.Add("settled\n" + counts + "not firm: ViewNotBelow docs a on 2\n" + counts)
+	f.Add("not settled: NotWinner docs a\n" + counts + "NotWinner docs a\nnot firm: NotWinner docs a\n" + counts)
 	f.Fuzz(func(t *testing.T, text string) {
 		reply, err := ReadReply("docs", text)
 		switch {

@@ -60,7 +60,7 @@ func readFailures(folder, report string) ([]finding.Failure, error) {
 			continue
 		}
 		one, is := readFailure(folder, line)
-		if !is {
+		if !is || finding.Place(one.Reason) < 0 {
 			return nil, &Failed{statusRefused, fmt.Sprintf("syncaudit explains %q", line)}
 		}
 		if last := len(failures) - 1; last >= 0 && !finding.IsBefore(&failures[last], &one) {
@@ -77,7 +77,7 @@ func readFailures(folder, report string) ([]finding.Failure, error) {
 // readFailure reads one of its lines.
 func readFailure(folder, line string) (finding.Failure, bool) {
 	words := strings.Split(line, " ")
-	if len(words) != 3 && len(words) != 5 || finding.Place(words[0]) < 0 || words[1] != folder {
+	if len(words) != 3 && len(words) != 5 || finding.Place(words[0]) < 0 && !finding.IsFirmReason(words[0]) || words[1] != folder {
 		return finding.Failure{}, false
 	}
 	name, is := unprinted(words[2])

@@ -56,6 +56,7 @@ func (n *names) audit(row *join.Row) error {
 		n.leaveOut(row, []finding.Reason{{Member: -1, Kind: out.Kind, Why: out.Why}})
 		return nil
 	}
+	n.addLoose(row)
 	if full == nil {
 		return nil
 	}

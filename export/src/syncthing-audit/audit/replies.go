@@ -16,6 +16,7 @@ type Replies struct {
 // replied is what it says of one folder.
 type replied struct {
 	names, deleted int64
+	firmness       finding.Firmness
 	failures       finding.Failures
 	rows           []*join.Row // of names that fail, as far as there is room
 }
@@ -27,11 +28,12 @@ func NewReplies() *Replies { return &Replies{folders: map[string]*replied{}} }
 func (r *Replies) Take(one *document.Document, reply *ask.Reply) {
 	to := r.folders[one.Folder]
 	if to == nil {
-		to = &replied{}
+		to = &replied{firmness: finding.Firmness{Asked: true}}
 		r.folders[one.Folder] = to
 	}
 	to.names += reply.Names
 	to.deleted += reply.Deleted
+	to.firmness.Take(reply.Firmness)
 	failed := map[string]bool{}
 	for _, failure := range reply.Failures {
 		to.failures.Add(failure)
@@ -54,9 +56,15 @@ func (r *Replies) AddTo(answer *finding.Answer) error {
 			one.Names += from.names
 			one.Deleted += from.deleted
 			one.Failures = from.failures
+			one.Firmness = from.firmness
 			for _, row := range from.rows {
 				one.Rows[row.Name] = row
 			}
+		}
+	}
+	for _, one := range answer.Folders {
+		if err := one.CheckLoose(); err != nil {
+			return err
 		}
 	}
 	return answer.Err()

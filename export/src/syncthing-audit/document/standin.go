@@ -49,5 +49,8 @@ func contentOnDisk(row []*part.Name, at int) *part.Content {
 
 // isContent says whether a record has this content.
 func isContent(one *part.Record, content *part.Content) bool {
-	return one.Content != nil && (*one.Content == *content || StandIn(one.Content) == StandIn(content))
+	return one.Content != nil && IsSame(one.Content, content)
 }
+
+// IsSame says whether two contents are one list of block hashes.
+func IsSame(one, other *part.Content) bool { return *one == *other || StandIn(one) == StandIn(other) }

@@ -159,6 +159,9 @@ func (a *Answer) Err() error {
 		if err := folder.Permissions.Err(); err != nil {
 			return err
 		}
+		if err := folder.Loose.Err(); err != nil {
+			return err
+		}
 	}
 	return nil
 }

@@ -37,6 +37,8 @@ type Folder struct {
 	Failures    Failures                `json:"-"` // what documents tell
 	Unwon       spill.List[Unwon]       // names without a winner, rising; each is a failure, too
 	Permissions spill.List[Permissions] // rising
+	Firmness    Firmness                `json:"-"` // what documents tell, where none tells a failure
+	Loose       spill.List[Loose]       // rising: what keeps a settled folder from being firm
 	Conflicts   []Conflict              // copies that a device still has, whether they are in step or not: the first MostListed
 	LeftOut     []*LeftOut              // names that were left out on request: the first MostListed
 	Unlisted    Unlisted

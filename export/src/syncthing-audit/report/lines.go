@@ -35,7 +35,25 @@ func Lines(to io.Writer, answer *finding.Answer) {
 	for _, folder := range answer.Folders {
 		folder.EachFailure(func(one *finding.Failure) { fmt.Fprintln(to, ask.Line(folder.ID, one)) })
 	}
+	for _, folder := range answer.Folders {
+		firm(to, folder)
+	}
 	Rest(to, answer)
+}
+
+// firm prints of a folder that is settled whether it is firm, and all that keeps it from that.
+func firm(to io.Writer, folder *finding.Folder) {
+	if folder.HasFailures() {
+		return
+	}
+	switch folder.HowFirm() {
+	case finding.IsFirm:
+		fmt.Fprintf(to, "firm: %s\n", folder.ID)
+	case finding.NotAsked:
+		fmt.Fprintf(to, "firm wasn't asked: %s\n", folder.ID)
+	case finding.NotFirm:
+		folder.EachLoose(func(one *finding.Failure) { fmt.Fprintf(to, "not firm: %s\n", ask.Line(folder.ID, one)) })
+	}
 }
 
 // Rest prints what no document says: names without a winner, permissions that differ, what was left out.

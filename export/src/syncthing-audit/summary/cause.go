@@ -147,20 +147,6 @@ func blocksOf(at *part.Name) *Blocks {
 	return made
 }
 
-// isBelow says whether a version is at most another one everywhere.
-func isBelow(version, other [][2]uint64) bool {
-	values := map[uint64]uint64{}
-	for _, one := range other {
-		values[one[0]] = one[1]
-	}
-	for _, one := range version {
-		if one[1] > values[one[0]] {
-			return false
-		}
-	}
-	return true
-}
-
 // isCutOtherwise says whether a device has the winner's bytes on its disk and in its record, cut into blocks otherwise.
 func isCutOtherwise(at *part.Name, winner *part.Record) bool {
 	if at == nil || at.Own == nil || at.Own.Content == nil || at.Disk == nil || at.Disk.Differ != nil || winner.Content == nil {

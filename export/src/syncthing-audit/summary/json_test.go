@@ -37,7 +37,7 @@ func TestSchema(t *testing.T) {
 	answer := answerOf(2, full)
 	answer.LeftOut = []finding.Refusal{{Kind: part.Absent, Folder: "docs", Device: "phone", Why: "no part of it is given"}}
 	var written strings.Builder
-	for _, one := range []*finding.Answer{answer, answerOf(1, func(*finding.Folder) {}), {}} {
+	for _, one := range []*finding.Answer{answer, answerOf(1, func(*finding.Folder) {}), answerOf(3, notFirm), {}} {
 		if err := Of(one).WriteJSON(&written); err != nil {
 			t.Fatal(err)
 		}

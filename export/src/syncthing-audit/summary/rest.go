@@ -3,6 +3,7 @@ package summary
 import (
 	"strings"
 
+	"syncthing-audit/finding"
 	"syncthing-audit/shell"
 )
 
@@ -27,6 +28,9 @@ func (p *printer) rest(s *Summary) {
 		if one.Prefix != "" {
 			p.line("not asked for: names on %s that don't begin with %s", p.named.of(one.ID), shell.Quoted(string(one.Prefix)))
 		}
+	}
+	if s.Firm == finding.NotAsked {
+		p.line("not asked: whether what is in step is firm, too: this syncaudit is too old to say so")
 	}
 	p.line("not compared: %s", strings.Join(s.NotCompared, ", "))
 }

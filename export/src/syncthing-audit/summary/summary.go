@@ -24,6 +24,7 @@ const (
 type Summary struct {
 	Version     int        `json:"version"`
 	Verdict     string     `json:"verdict"`
+	Firm        Firm       `json:"firm"`
 	Devices     []Device   `json:"devices"`
 	Folders     []*Folder  `json:"folders"`
 	LeftOut     []LeftOut  `json:"left_out"`  // devices, and folders as a whole
@@ -59,6 +60,9 @@ type Folder struct {
 	More    Count    `json:"conflict_copies_unlisted"`
 	Ignored Count    `json:"ignored"`
 	Live    *Live    `json:"live,omitempty"` // of devices that were looked at while they ran
+	Firm    Firm     `json:"firm"`
+	Loose   int64    `json:"names_not_firm"` // that keep a folder in step from being firm
+	NotFirm []Loose  `json:"not_firm"`       // the first of these names
 }
 
 // Member is a device that shares a folder.
@@ -123,7 +127,7 @@ var notCompared = []string{"owners", "extended attributes", "old versions"}
 
 // Of gives the summary of an answer.
 func Of(answer *finding.Answer) *Summary {
-	made := &Summary{Version: Version, Verdict: verdictOf(answer), Devices: []Device{}, Folders: []*Folder{}, LeftOut: []LeftOut{},
+	made := &Summary{Version: Version, Verdict: verdictOf(answer), Firm: answer.HowFirm(), Devices: []Device{}, Folders: []*Folder{}, LeftOut: []LeftOut{},
 		NotAsked: notAsked(answer), NotCompared: notCompared}
 	prefixes := prefixesOf(answer)
 	for _, one := range answer.Devices {
@@ -199,6 +203,8 @@ func folderOf(answer *finding.Answer, from *finding.Folder, named labels) *Folde
 		made.LeftOut = append(made.LeftOut, namesOf(from, one))
 	}
 	made.Live = liveOf(from)
+	made.Firm = from.HowFirm()
+	made.Loose, made.NotFirm = looseOf(from)
 	return made
 }
 

@@ -7,6 +7,7 @@ import (
 	"strings"
 	"time"
 
+	"syncthing-audit/finding"
 	"syncthing-audit/shell"
 )
 
@@ -30,21 +31,34 @@ func (s *Summary) Print(to io.Writer, zone *time.Location) {
 		for _, one := range folder.Files {
 			p.file(folder, one)
 		}
+		p.loose(folder)
 	}
 	p.rest(s)
 }
 
 func (p *printer) line(format string, words ...interface{}) { fmt.Fprintf(p.to, format+"\n", words...) }
 
+// verdict says whether a folder is in step, and firm.
+func (p *printer) verdict(one *Folder) string {
+	if one.Verdict == NotInStep {
+		return "NOT in step, " + counted(one.Wrong, "name is wrong", "names are wrong")
+	}
+	verdict := "in step"
+	if one.Firm == finding.IsFirm {
+		verdict += " and firm"
+	}
+	if one.Verdict == AsFar {
+		verdict += " as far as audited"
+	}
+	if one.Firm == finding.NotFirm {
+		verdict += ", not firm"
+	}
+	return verdict
+}
+
 // folder prints the one line of a folder.
 func (p *printer) folder(one *Folder) {
-	verdict := "in step"
-	switch one.Verdict {
-	case NotInStep:
-		verdict = "NOT in step, " + counted(one.Wrong, "name is wrong", "names are wrong")
-	case AsFar:
-		verdict = "in step as far as audited"
-	}
+	verdict := p.verdict(one)
 	label := ""
 	if one.Label != "" && one.Label != one.ID {
 		label = " (" + shell.Printable(one.Label) + ")"
@@ -258,14 +272,18 @@ const widthOfText = 100
 // advice prints what to do, over as many lines as it takes.
 func (p *printer) advice(all []string) {
 	for _, one := range all {
-		line := "  to do:"
-		for _, word := range strings.Split(one+".", " ") {
-			if len(line)+1+len(word) > widthOfText {
-				p.line("%s", line)
-				line = "        "
-			}
-			line += " " + word
-		}
-		p.line("%s", line)
+		p.running("  to do:", one+".")
 	}
+}
+
+// running prints running text behind a word, over as many lines as it takes.
+func (p *printer) running(line, text string) {
+	for _, word := range strings.Split(text, " ") {
+		if len(line)+1+len(word) > widthOfText {
+			p.line("%s", line)
+			line = "        "
+		}
+		line += " " + word
+	}
+	p.line("%s", line)
 }

@@ -30,7 +30,8 @@ const (
 
 // answerOf gives an answer of one folder, docs, at so many devices, numbered from 1.
 func answerOf(devices int, fill func(*finding.Folder)) *finding.Answer {
-	folder := &finding.Folder{ID: "docs", Label: "Documents", Names: 1204, Deleted: 4, Bytes: 335200000, Rows: map[string]*join.Row{}}
+	folder := &finding.Folder{ID: "docs", Label: "Documents", Names: 1204, Deleted: 4, Bytes: 335200000, Rows: map[string]*join.Row{},
+		Firmness: finding.Firmness{Asked: true}}
 	answer := &finding.Answer{Folders: []*finding.Folder{folder}}
 	for place, name := range []string{"laptop", "server", "phone"}[:devices] {
 		head := &part.Head{Device: ids[place], Name: name, Folders: []part.Folder{{ID: "docs", Kind: "send-receive", Path: "/srv/docs"}}}
@@ -102,7 +103,7 @@ func TestWhatAPersonReads(t *testing.T) {
 		text    string
 	}{
 		{"all in step", 2, func(*finding.Folder) {},
-			"docs (Documents): in step; 1,204 names (4 deleted), 335.2 MB hashed on laptop, server\n" + lastLine},
+			"docs (Documents): in step and firm; 1,204 names (4 deleted), 335.2 MB hashed on laptop, server\n" + lastLine},
 		{"a file of other bytes", 2, func(folder *finding.Folder) {
 			fails(folder, "my budget.txt", []*part.Name{file(1, 1), with(file(1, 1), rotten)}, "StoreDiffers 2")
 		}, lineOfFolder + `
@@ -212,7 +213,7 @@ a  (in docs, 300.0 kB)
 ` + lastLine},
 		{"permissions that differ", 2, func(folder *finding.Folder) {
 			folder.Permissions.Add(finding.Permissions{Name: "a", At: []finding.Bits{{Has: true, Index: 0o644, OnDisk: true, Disk: 0o600}, {Has: true, Index: 0o644}}})
-		}, `docs (Documents): in step; 1,204 names (4 deleted), 335.2 MB hashed on laptop, server
+		}, `docs (Documents): in step and firm; 1,204 names (4 deleted), 335.2 MB hashed on laptop, server
 
 a  (in docs)
   permissions differ (they don't count for the verdict): laptop 0644 recorded, 0600 on the disk; server 0644
@@ -223,7 +224,7 @@ a  (in docs)
 			for _, name := range []string{"1", "2", "3", "4", "5", "6"} {
 				folder.Permissions.Add(finding.Permissions{Name: name, At: []finding.Bits{{Has: true, Index: 0o644}, {Has: true, Index: 0o600}}})
 			}
-		}, `docs (Documents): in step; 1,204 names (4 deleted), 335.2 MB hashed on laptop, server
+		}, `docs (Documents): in step and firm; 1,204 names (4 deleted), 335.2 MB hashed on laptop, server
 
 6 names in docs: 0 bytes, without 6 names whose details weren't kept
   permissions differ (they don't count for the verdict): laptop 0644; server 0600
@@ -236,7 +237,7 @@ a  (in docs)
 			folder.Outside = finding.Count{Names: 4, Bytes: 7}
 			folder.Members[1].Head.Folders = append(folder.Members[1].Head.Folders, part.Folder{ID: "music"})
 			folder.Members[0].Head.Prefix = "a b"
-		}, `docs (Documents): in step as far as audited; 1,204 names (4 deleted), 335.2 MB hashed on laptop, server
+		}, `docs (Documents): in step and firm as far as audited; 1,204 names (4 deleted), 335.2 MB hashed on laptop, server
 
 left out of docs: 1 name, 3.0 MB
   $'odd\377', 3.0 MB: laptop: its name isn't UTF-8
@@ -247,7 +248,7 @@ not compared: owners, extended attributes, old versions
 `},
 		{"a conflict copy that lies about", 2, func(folder *finding.Folder) {
 			folder.Conflicts = []finding.Conflict{{Name: "a.sync-conflict-20261126-170000-ABCDEF2.txt", Bytes: 1500000}}
-		}, `docs (Documents): in step; 1,204 names (4 deleted), 335.2 MB hashed on laptop, server
+		}, `docs (Documents): in step and firm; 1,204 names (4 deleted), 335.2 MB hashed on laptop, server
 
 1 conflict copy in docs, 1.5 MB: compare each with its file, and keep what you want of both
   a.sync-conflict-20261126-170000-ABCDEF2.txt
@@ -257,7 +258,7 @@ not compared: owners, extended attributes, old versions
 			for next := 0; next <= mostCopies+6; next++ {
 				folder.Conflicts = append(folder.Conflicts, finding.Conflict{Name: "a", Bytes: 1})
 			}
-		}, `docs (Documents): in step; 1,204 names (4 deleted), 335.2 MB hashed on laptop, server
+		}, `docs (Documents): in step and firm; 1,204 names (4 deleted), 335.2 MB hashed on laptop, server
 
 17 conflict copies in docs, 17 bytes: compare each with its file, and keep what you want of both
 ` + strings.Repeat("  a\n", mostCopies) + `  and 7 more (--json has all)
@@ -270,7 +271,7 @@ not compared: owners, extended attributes, old versions
 				folder.Conflicts = append(folder.Conflicts, finding.Conflict{Name: "a", Bytes: 1})
 			}
 			folder.Unlisted.Conflicts = finding.Count{Names: 5, Bytes: 1000}
-		}, `docs (Documents): in step as far as audited; 1,204 names (4 deleted), 335.2 MB hashed on laptop, server
+		}, `docs (Documents): in step and firm as far as audited; 1,204 names (4 deleted), 335.2 MB hashed on laptop, server
 
 16 conflict copies in docs, 1.0 kB: compare each with its file, and keep what you want of both
 ` + strings.Repeat("  a\n", mostCopies) + `  and 6 more (--json has the first 11)
@@ -280,7 +281,7 @@ left out of docs: 1,235 names, 3.0 MB
 not compared: owners, extended attributes, old versions
 `},
 		{"one device alone", 1, func(*finding.Folder) {},
-			`docs (Documents): in step as far as audited; 1,204 names (4 deleted), 335.2 MB hashed on laptop
+			`docs (Documents): in step and firm as far as audited; 1,204 names (4 deleted), 335.2 MB hashed on laptop
 
 alone: docs is audited on one device, so there is nothing to compare it with
 not compared: owners, extended attributes, old versions

@@ -1,0 +1,106 @@
+package audit
+
+import (
+	"syncthing-audit/document"
+	"syncthing-audit/finding"
+	"syncthing-audit/join"
+	"syncthing-audit/part"
+)
+
+// addLoose adds a name that keeps its folder from being firm, if that is all that is wrong with its records: whether the
+// folder is settled and firm syncaudit says; which names keep it from that, and how many, is told here.
+func (n *names) addLoose(row *join.Row) {
+	winner := winnerOf(row)
+	if winner == nil || !areAlike(row, winner) {
+		return
+	}
+	made := finding.Loose{Name: row.Name}
+	for member, one := range row.At {
+		if one != nil && one.Own != nil && !isSame(one.Own.Version, winner.Version) {
+			made.At = append(made.At, finding.LooseAt{Member: member, Reason: finding.VersionDiffers,
+				IsOlder: part.IsAtMost(one.Own.Version, winner.Version)})
+		}
+	}
+	for member, one := range row.At {
+		if one != nil && n.seesNotBelow(member, one, winner) {
+			made.At = append(made.At, finding.LooseAt{Member: member, Reason: finding.ViewNotBelow})
+		}
+	}
+	if len(made.At) > 0 {
+		n.found.Loose.Add(made)
+	}
+}
+
+// seesNotBelow says whether a member knows of a record at another member whose version isn't at most the winner's.
+func (n *names) seesNotBelow(member int, one *part.Name, winner *part.Record) bool {
+	views := n.folder.Members[member].About.Views
+	for _, seen := range one.Views {
+		if n.folder.Member(views[seen.View].Device) >= 0 && !seen.Record.Invalid && !part.IsAtMost(seen.Record.Version, winner.Version) {
+			return true
+		}
+	}
+	return false
+}
+
+// areAlike says whether all own records have the winner's content: without that the folder isn't settled.
+func areAlike(row *join.Row, winner *part.Record) bool {
+	for _, one := range row.At {
+		if one != nil && one.Own != nil && (one.Own.Invalid || !isAlike(one.Own, winner)) {
+			return false
+		}
+	}
+	return true
+}
+
+// isAlike says whether two records have one content.
+func isAlike(one, other *part.Record) bool {
+	if one.Deleted || other.Deleted {
+		return one.Deleted == other.Deleted
+	}
+	if one.Content == nil || other.Content == nil {
+		return one.Content == other.Content && one.Type == other.Type && one.Target == other.Target
+	}
+	return one.Type == other.Type && document.IsSame(one.Content, other.Content)
+}
+
+func isSame(one, other [][2]uint64) bool {
+	return part.IsAtMost(one, other) && part.IsAtMost(other, one)
+}
+
+// winnerOf gives the own record that wins a name, by the rules of docs/reasons.md; nothing where there is none.
+func winnerOf(row *join.Row) *part.Record {
+	var winner *part.Record
+	for _, one := range row.At {
+		if one == nil || one.Own == nil || one.Own.Invalid || isDominated(one.Own, row) {
+			continue
+		}
+		if winner == nil || wins(one.Own, winner) {
+			winner = one.Own
+		}
+	}
+	return winner
+}
+
+// isDominated says whether another one's version is above the record's.
+func isDominated(record *part.Record, row *join.Row) bool {
+	for _, one := range row.At {
+		if one != nil && one.Own != nil && !one.Own.Invalid && part.IsAtMost(record.Version, one.Own.Version) &&
+			!part.IsAtMost(one.Own.Version, record.Version) {
+			return true
+		}
+	}
+	return false
+}
+
+// wins says whether a record wins against the one of a device with a smaller number, neither version being above the other.
+func wins(one, other *part.Record) bool {
+	switch {
+	case one.Deleted != other.Deleted:
+		return other.Deleted
+	case one.ModifiedS != other.ModifiedS:
+		return one.ModifiedS > other.ModifiedS
+	case one.ModifiedNs != other.ModifiedNs:
+		return one.ModifiedNs > other.ModifiedNs
+	}
+	return one.ModifiedBy < other.ModifiedBy
+}

@@ -1,0 +1,161 @@
+package main
+
+import (
+	"math/rand"
+	"os"
+	"path/filepath"
+	"strings"
+	"testing"
+
+	"syncthing-audit/ask"
+	"syncthing-audit/device"
+	"syncthing-audit/finding"
+	"syncthing-audit/part"
+)
+
+// drawAlike draws a folder that is settled, whose names all devices have alike. One in so many records has a version of its
+// own.
+func drawAlike(t *testing.T, random *rand.Rand, names, rarely int) []*drawn {
+	devices := drawDevices(t, random)
+	for number := 0; number < names; number++ {
+		name, usual := string(rune('a'+number)), drawRecord(random, int64(number+1))
+		usual.Record.Invalid = false
+		usualVersion := usual.Record.Version
+		pick := func() device.Entry {
+			record := *usual.Record
+			record.ModifiedS, record.ModifiedNs = int64(random.Intn(2)+1000), random.Intn(2)
+			record.ModifiedBy = uint64(random.Intn(2) + 1)
+			if record.Version = usualVersion; random.Intn(rarely) == 0 {
+				record.Version = [][2]uint64{{1, uint64(random.Intn(2) + 1)}, {2, uint64(random.Intn(2) + 1)}}
+			}
+			if record.Content != nil && record.Content.Size <= block {
+				content := *record.Content
+				content.BlockSize = block << random.Intn(2)
+				record.Content = &content
+			}
+			return device.Entry{Name: name, Record: &record, Blocks: usual.Blocks}
+		}
+		for _, one := range devices {
+			if own := pick(); !own.Record.Deleted || random.Intn(3) > 0 {
+				one.own = append(one.own, own)
+				putNode(t, filepath.Join(one.path, name), own, false)
+			}
+			for _, view := range one.about.Views {
+				if random.Intn(3) > 0 {
+					one.views[view.Device] = append(one.views[view.Device], pick())
+				}
+			}
+		}
+		if usual.Record.Deleted && len(devices[0].own) == number {
+			own := pick()
+			devices[0].own = append(devices[0].own, own)
+		}
+	}
+	return devices
+}
+
+// Which names keep a settled folder from being firm is found as syncaudit says it: an answer in which its first one differs
+// is refused.
+func TestWhatKeepsAFolderFromBeingFirm(t *testing.T) {
+	seen := map[string]int{}
+	for seed := int64(1); seed <= 6; seed++ {
+		rarely := []int{6, 100}[seed%2]
+		answer := answerOfDrawn(t, drawAlike(t, rand.New(rand.NewSource(seed)), 3, rarely), false)
+		folder := answer.Folders[0]
+		if first := folder.FirstFailure(); first != nil {
+			t.Fatalf("seed %d: %v", seed, first)
+		}
+		seen[string(folder.HowFirm())]++
+		folder.EachLoose(func(one *finding.Failure) { seen[one.Reason]++ })
+	}
+	for _, one := range []string{string(finding.IsFirm), string(finding.NotFirm), finding.VersionDiffers, finding.ViewNotBelow} {
+		if seen[one] == 0 && seen[string(finding.NotAsked)] == 0 {
+			t.Errorf("no %s was drawn: %v", one, seen)
+		}
+	}
+}
+
+// What is known of a device that isn't audited doesn't count.
+func TestViewsOfOthersDoNotCount(t *testing.T) {
+	devices := drawDevices(t, rand.New(rand.NewSource(1)))
+	own := drawRecord(rand.New(rand.NewSource(2)), 1)
+	own.Name, own.Record.Invalid, own.Record.Version = "a", false, [][2]uint64{{1, 1}}
+	newer := *own.Record
+	newer.Version = [][2]uint64{{1, 1}, {3, 1}}
+	for _, one := range devices {
+		one.own = []device.Entry{own}
+		putNode(t, filepath.Join(one.path, "a"), own, false)
+	}
+	devices[0].views[devices[2].id] = []device.Entry{{Name: "a", Record: &newer, Blocks: own.Blocks}}
+	asked := options{leaveOut: map[string]bool{part.Absent: true}, jobs: 1}
+	for count, is := range map[int]finding.Firm{3: finding.NotFirm, 2: finding.IsFirm} {
+		if how := answerOfSome(t, devices[:count], asked).HowFirm(); how != is && how != finding.NotAsked {
+			t.Errorf("of %d devices: %s", count, how)
+		}
+	}
+}
+
+// A program that calls firm what isn't is refused: its answer doesn't go with what is found here.
+func TestAnAnswerThatDiffersIsRefused(t *testing.T) {
+	path := filepath.Join(t.TempDir(), "program")
+	text := "#!/bin/sh\ncase $1 in certify) cat;; firm) echo firm; echo 'folder docs: 1 names, 0 deleted, 3 devices';; esac\n"
+	if err := os.WriteFile(path, []byte(text), 0o700); err != nil {
+		t.Fatal(err)
+	}
+	for versions, isRefused := range map[uint64]bool{1: false, 2: true} {
+		devices := drawDevices(t, rand.New(rand.NewSource(1)))
+		for place, one := range devices {
+			own := drawRecord(rand.New(rand.NewSource(2)), 1)
+			own.Name, own.Record.Invalid, own.Record.Version = "a", false, [][2]uint64{{1, 1}}
+			if place == 0 {
+				own.Record.Version[0][1] = versions
+			}
+			one.own = []device.Entry{own}
+			putNode(t, filepath.Join(one.path, "a"), own, false)
+		}
+		_, err := answerBy(ask.Program{Path: path}, devices, options{jobs: 1})
+		if (err != nil) != isRefused || err != nil && !strings.Contains(err.Error(), `this program that VersionDiffers of "a" on `) {
+			t.Errorf("%d: %v", versions, err)
+		}
+	}
+}
+
+// What an answer means is said as far as it was asked.
+func TestMeaning(t *testing.T) {
+	const caveat, argued, old = "merge versions", "argued", "too old"
+	first := &finding.Failure{Reason: finding.VersionDiffers, Name: "a", Device: 1}
+	scans := finding.Permissions{Name: "a", At: []finding.Bits{{Has: true, Index: 0o644, OnDisk: true, Disk: 0o600}}}
+	for _, one := range []struct {
+		firmness finding.Firmness
+		modes    []finding.Permissions
+		told     []string
+	}{{finding.Firmness{Asked: true}, nil, []string{argued}}, {finding.Firmness{Asked: true}, []finding.Permissions{scans}, []string{argued, "next scan"}},
+		{finding.Firmness{Asked: true, First: first}, nil, []string{caveat}}, {finding.Firmness{}, nil, []string{caveat, old}}} {
+		folder := &finding.Folder{Firmness: one.firmness}
+		for _, modes := range one.modes {
+			folder.Permissions.Add(modes)
+		}
+		text := meaningOf(&finding.Answer{Folders: []*finding.Folder{folder}})
+		for _, words := range []string{caveat, argued, old, "next scan"} {
+			is := false
+			for _, other := range one.told {
+				is = is || words == other
+			}
+			if strings.Contains(text, words) != is {
+				t.Errorf("%+v: %q", one.firmness, text)
+			}
+		}
+	}
+}
+
+// A program that is too old to be asked leaves an answer as it was, and says that.
+func TestAnAnswerByAnOldProgram(t *testing.T) {
+	if !strings.HasSuffix(auditor().Path, standIn) {
+		t.Skip("another program than what stands for it answers")
+	}
+	t.Setenv("WITHOUT_FIRM", "1")
+	answer := answerOfDrawn(t, drawAlike(t, rand.New(rand.NewSource(1)), 1, 6), false)
+	if how := answer.HowFirm(); how != finding.NotAsked || answer.Folders[0].HasFailures() {
+		t.Errorf("%s", how)
+	}
+}

@@ -1,0 +1,21 @@
+package part
+
+// IsAtMost says whether a version is at most another one everywhere.
+func IsAtMost(version, other [][2]uint64) bool {
+	for _, one := range version {
+		if one[1] > valueAt(other, one[0]) {
+			return false
+		}
+	}
+	return true
+}
+
+// valueAt gives a version's value for an id; 0 where it isn't listed.
+func valueAt(version [][2]uint64, id uint64) uint64 {
+	for _, one := range version {
+		if one[0] == id {
+			return one[1]
+		}
+	}
+	return 0
+}

@@ -1,0 +1,86 @@
+package summary
+
+import (
+	"strings"
+
+	"syncthing-audit/finding"
+	"syncthing-audit/shell"
+)
+
+// Firm says whether a folder or all of them are firm, or that it wasn't asked. What isn't in step isn't firm.
+type Firm = finding.Firm
+
+// Loose is a name that is in step and that keeps its folder from being firm.
+type Loose struct {
+	Name    Text      `json:"name"`
+	Devices []LooseAt `json:"devices"`
+}
+
+// LooseAt is why, at a device.
+type LooseAt struct {
+	Device  string `json:"device"`
+	Reason  string `json:"reason"`          // in syncaudit's words
+	IsOlder bool   `json:"older,omitempty"` // of VersionDiffers: its version is older than the winner's, and not concurrent
+}
+
+// looseOf gives how many names keep a folder in step from being firm, and the first of them.
+func looseOf(from *finding.Folder) (int64, []Loose) {
+	made := []Loose{}
+	if from.HasFailures() || from.HowFirm() != finding.NotFirm {
+		return 0, made
+	}
+	from.Loose.Each(func(one *finding.Loose) {
+		if len(made) == finding.MostListed {
+			return
+		}
+		next := Loose{Name: Text(one.Name), Devices: []LooseAt{}}
+		for _, at := range one.At {
+			next.Devices = append(next.Devices, LooseAt{from.Members[at.Member].Head.Device, at.Reason, at.IsOlder})
+		}
+		made = append(made, next)
+	})
+	return from.Loose.Len(), made
+}
+
+// mostLoose is how many names that keep a folder from being firm are told.
+const mostLoose = 10
+
+// wordsOfLoose say why a name keeps its folder from being firm.
+var wordsOfLoose = map[string]string{
+	finding.VersionDiffers: "has it under a concurrent version",
+	finding.ViewNotBelow:   "knows of a concurrent or newer version at another device",
+	finding.FlightNotBelow: "is being told of a concurrent or newer version",
+	finding.PullNotBelow:   "pulls a concurrent or newer version",
+}
+
+// What it means for Syncthing that a folder in step isn't firm, and what to do.
+const (
+	meaningOfLoose = "all devices have the same content, and have or know of versions that differ. Syncthing may still exchange records. " +
+		"That this changes no file is proved of this project's own peers only, which merge versions when they adopt a record, as Syncthing doesn't."
+	adviceOfLoose = "let all of these devices run, connected, until they are idle: as a rule they take one version then. Audit again after that"
+)
+
+// loose prints what keeps a folder in step from being firm.
+func (p *printer) loose(folder *Folder) {
+	if folder.Loose == 0 {
+		return
+	}
+	p.line("\n%s %s from being firm", counted(folder.Loose, "name keeps", "names keep"), folder.ID)
+	for place, one := range folder.NotFirm {
+		if place == mostLoose {
+			p.line("  and %s more (--lines has all)", thousands(folder.Loose-mostLoose))
+			break
+		}
+		words := []string{}
+		for _, at := range one.Devices {
+			why := wordsOfLoose[at.Reason]
+			if at.IsOlder {
+				why = "has it under an older version"
+			}
+			words = append(words, p.named.of(at.Device)+" "+why)
+		}
+		p.line("  %s: %s", shell.Path(string(one.Name)), strings.Join(words, "; "))
+	}
+	p.running("  that is:", meaningOfLoose)
+	p.advice([]string{adviceOfLoose})
+}
