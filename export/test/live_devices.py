@@ -337,6 +337,8 @@ class LiveRun(Live):
 
     names = ("one", "two", "three")
     SSH = """#!/bin/sh
+[ "$1" != -G ] || exec echo serveraliveinterval 7
+while [ "$1" = -o ]; do shift 2; done
 machine=$1
 shift
 case $machine in off) echo "ssh: connect to host off port 22: No route to host" >&2; exit 255;; esac
@@ -416,8 +418,8 @@ cd "{room}/$machine/user" && HOME=$PWD PATH={programs}:$PATH exec sh -c "$*"
     def test_commands_are_told(self):
         ran = self.run_on("--dry-run", "--folder", FOLDER, "--jobs", "1")
         self.assertEqual(ran.returncode, 0, ran.stderr)
-        self.assertIn(f"ssh one 'nice -n 19 syncthing-audit part --begin --jobs 1 --folder {FOLDER} -o -' > one.begin\n", ran.stdout)
-        self.assertIn(f"ssh two 'syncthing-audit part --end --tokens - --leave-out absent --home {self.two.home} --folder {FOLDER} -o -'"
+        self.assertIn(f"ssh -o 'ConnectTimeout=20' one 'nice -n 19 syncthing-audit part --begin --jobs 1 --folder {FOLDER} -o -' > one.begin\n", ran.stdout)
+        self.assertIn(f"ssh -o 'ConnectTimeout=20' two 'syncthing-audit part --end --tokens - --leave-out absent --home {self.two.home} --folder {FOLDER} -o -'"
                       " < tokens > two.end\n", ran.stdout)
 
     def test_a_machine_that_does_not_answer(self):

@@ -23,6 +23,7 @@ type place struct {
 	host   string // nothing for this machine
 	home   string // nothing for the one that Syncthing takes by itself
 	self   string // this program
+	ssh    []string
 	looked time.Time
 }
 
@@ -41,6 +42,7 @@ func placesOf(asked options) ([]*place, error) {
 			if host == "" || strings.HasPrefix(host, "-") {
 				return nil, &wrongUsage{fmt.Sprintf("%q names no machine", word)}
 			}
+			one.ssh = append(append([]string{"ssh"}, optionsOfSSH(host)...), host)
 		}
 		if seen[word] {
 			return nil, &wrongUsage{fmt.Sprintf("%q is given twice", word)}
@@ -99,7 +101,8 @@ func (p *place) words(before, words []string, asked options) []string {
 	if p.host == "" {
 		return append(append(before[:len(before):len(before)], p.self), words...)
 	}
-	return []string{"ssh", p.host, quotedWords(append(append(before[:len(before):len(before)], asked.remote), words...))}
+	command := quotedWords(append(append(before[:len(before):len(before)], asked.remote), words...))
+	return append(p.ssh[:len(p.ssh):len(p.ssh)], command)
 }
 
 // run runs a command with what it reads, has what it writes go into a file, and gives what it says on standard error.

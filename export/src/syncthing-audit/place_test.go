@@ -20,7 +20,7 @@ func TestPlaces(t *testing.T) {
 		if err != nil {
 			t.Fatal(err)
 		}
-		places[0].self = "here"
+		places[0].self, places[0].ssh = "here", []string{"ssh", places[0].host}
 		if places[0].host != one.host || places[0].home != one.home || quotedWords(places[0].end(asked)) != one.command {
 			t.Errorf("%s: %+v, %s", one.word, *places[0], quotedWords(places[0].end(asked)))
 		}

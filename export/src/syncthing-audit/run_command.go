@@ -23,6 +23,9 @@ import (
 // its way between devices mostly arrives in that time.
 const secondsOfStillness = 10
 
+// secondsOfPatience is how long a machine may be silent before it is told that it is awaited.
+const secondsOfPatience = 10
+
 // runRun looks twice at devices that run, here and by ssh elsewhere, and has syncaudit answer.
 func runRun(words []string, output, log io.Writer) (int, error) {
 	asked, err := readOptions("run", words, func(flags *flag.FlagSet, read *options) {
@@ -57,7 +60,7 @@ func runRun(words []string, output, log io.Writer) (int, error) {
 		return 0, err
 	}
 	defer leftover.Remove(room)
-	run := &running{asked: asked, places: places, room: room, log: log}
+	run := &running{asked: asked, places: places, room: room, log: log, patience: secondsOfPatience * time.Second}
 	if err := run.look(); err != nil {
 		return 0, err
 	}
@@ -86,6 +89,8 @@ type running struct {
 	tokens string
 	mutex  sync.Mutex // of the log
 	began  time.Time  // before the first second look began
+
+	patience time.Duration // after which it is told who is awaited, and after twice as long again, and so on
 }
 
 // file gives where a look at a place is kept.
@@ -96,7 +101,7 @@ func (r *running) file(at int, look string) string {
 // look makes the first look at all devices, and the second one once all of these are over.
 func (r *running) look() error {
 	fmt.Fprintf(r.log, "syncthing-audit: first look at %d devices, and hashing their files\n", len(r.places))
-	if err := r.all(r.begin); err != nil {
+	if err := r.all("first look", r.begin); err != nil {
 		return err
 	}
 	var tokens strings.Builder
@@ -116,11 +121,11 @@ func (r *running) look() error {
 	}
 	fmt.Fprintln(r.log, "syncthing-audit: second look")
 	r.began = time.Now()
-	return r.all(r.end)
+	return r.all("second look", r.end)
 }
 
-// all does something at all places at once, and gives the first error by their order.
-func (r *running) all(do func(at int) error) error {
+// all does something at all places at once, tells which ones are awaited, and gives the first error by their order.
+func (r *running) all(what string, do func(at int) error) error {
 	errs := make([]error, len(r.places))
 	ended := make(chan int)
 	for at := range r.places {
@@ -129,15 +134,45 @@ func (r *running) all(do func(at int) error) error {
 			ended <- at
 		}(at)
 	}
-	for range r.places {
-		<-ended
-	}
+	r.await(what, ended)
 	for _, err := range errs {
 		if err != nil {
 			return err
 		}
 	}
 	return nil
+}
+
+// await waits until all places have ended.
+func (r *running) await(what string, ended <-chan int) {
+	began, next := time.Now(), r.patience
+	isOver := make([]bool, len(r.places))
+	told := time.NewTimer(next)
+	defer told.Stop()
+	for left := len(r.places); left > 0; {
+		select {
+		case at := <-ended:
+			isOver[at] = true
+			left--
+		case <-told.C:
+			next *= 2
+			told.Reset(next)
+			r.tellAwaited(what, time.Since(began), isOver)
+		}
+	}
+}
+
+// tellAwaited tells which places haven't ended.
+func (r *running) tellAwaited(what string, spent time.Duration, isOver []bool) {
+	names := []string{}
+	for at, one := range r.places {
+		if !isOver[at] {
+			names = append(names, one.given)
+		}
+	}
+	r.mutex.Lock()
+	defer r.mutex.Unlock()
+	fmt.Fprintf(r.log, "syncthing-audit: %s: waiting for %s for %.0f s\n", what, strings.Join(names, ", "), spent.Seconds())
 }
 
 // begin makes the first look at a device.
