@@ -12,6 +12,7 @@ import sys
 import threading
 import xml.etree.ElementTree as xml
 from contextlib import contextmanager
+from pathlib import Path
 
 from answers import SCHEMA, STATUS_MISSING
 from exporting import Exporting, main, run
@@ -341,6 +342,8 @@ class LiveRun(Live):
 while [ "$1" = -o ]; do shift 2; done
 machine=$1
 shift
+# As with a real connection, no signal reaches the program on this machine; its input ends with the one who asks.
+case $machine in far) machine=one; cat | HOME="{room}/one/user" TMPDIR="{room}/far" PATH={programs}:$PATH setsid sh -c "$*"; exit;; esac
 case $machine in off) echo "ssh: connect to host off port 22: No route to host" >&2; exit 255;; esac
 cd "{room}/$machine/user" && HOME=$PWD PATH={programs}:$PATH exec sh -c "$*"
 """
@@ -433,6 +436,35 @@ cd "{room}/$machine/user" && HOME=$PWD PATH={programs}:$PATH exec sh -c "$*"
         self.assertIn(self.devices[2].id, ran.stderr)
         ran = self.run_at(["one:", "two:"], "--leave-out", "absent", "--lines")
         self.assertEqual((ran.returncode, ran.stdout.splitlines()[0]), (6, "settled as far as audited"), ran.stderr)
+
+    def test_the_other_machine_ends_with_the_run(self):
+        """What hashes elsewhere ends once the one who asks is gone, and takes away its copy of the index."""
+        room = self.room / "far"
+        room.mkdir()
+        endless = self.one.files / "endless"
+        with endless.open("wb") as file:
+            file.truncate(1 << 40)
+        try:
+            process = subprocess.Popen([self.program, "run", "far:", self.two.home, self.devices[2].home, "--syncaudit", self.auditor],
+                                       env={**os.environ, "PATH": self.path_with_ssh}, stdout=subprocess.DEVNULL, stderr=subprocess.DEVNULL)
+            wait_until("the other machine hashes", lambda: len(list(room.iterdir())) > 1)
+            process.send_signal(signal.SIGINT)
+            self.assertEqual(process.wait(SECONDS_TO_WAIT), 128 + signal.SIGINT)
+            wait_until("nothing is there", lambda: not list(room.iterdir()))
+            wait_until("nothing hashes", lambda: not self.reads(endless))
+        finally:
+            endless.unlink()
+
+    @staticmethod
+    def reads(path):
+        """Whether a process has a file open."""
+        for link in Path("/proc").glob("[0-9]*/fd/*"):
+            try:
+                if os.readlink(link) == str(path):
+                    return True
+            except OSError:
+                pass
+        return False
 
     def test_signals_leave_nothing_behind(self):
         room = self.room / "temporary"

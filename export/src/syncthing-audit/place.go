@@ -4,6 +4,7 @@ import (
 	"bytes"
 	"errors"
 	"fmt"
+	"io"
 	"os"
 	"os/exec"
 	"path/filepath"
@@ -64,11 +65,14 @@ func (p *place) label() string {
 // gently has a command take no more of a machine than others leave: the devices' own work goes before the hashing.
 var gently = []string{"nice", "-n", "19"}
 
-// begin gives the command of the first look.
+// begin gives the command of the first look. On another machine it ends when this program does, which keeps its input open.
 func (p *place) begin(asked options) []string {
 	words := []string{"part", "--begin"}
 	if asked.rescan {
 		words = append(words, "--rescan")
+	}
+	if p.host != "" && !asked.dryRun {
+		words = append(words, "--heed-input")
 	}
 	if asked.hasJobs {
 		words = append(words, "--jobs", strconv.Itoa(asked.jobs))
@@ -106,7 +110,7 @@ func (p *place) words(before, words []string, asked options) []string {
 }
 
 // run runs a command with what it reads, has what it writes go into a file, and gives what it says on standard error.
-func (p *place) run(words []string, input, path string) (string, error) {
+func (p *place) run(words []string, input io.Reader, path string) (string, error) {
 	file, err := os.OpenFile(path, os.O_WRONLY|os.O_CREATE|os.O_EXCL, 0o600)
 	if err != nil {
 		return "", err
@@ -114,7 +118,7 @@ func (p *place) run(words []string, input, path string) (string, error) {
 	defer file.Close()
 	var told bytes.Buffer
 	command := exec.Command(words[0], words[1:]...)
-	command.Stdin, command.Stdout, command.Stderr = strings.NewReader(input), file, &told
+	command.Stdin, command.Stdout, command.Stderr = input, file, &told
 	command.SysProcAttr = &syscall.SysProcAttr{Pdeathsig: syscall.SIGTERM} // of the thread that starts it
 	runtime.LockOSThread()
 	defer runtime.UnlockOSThread()

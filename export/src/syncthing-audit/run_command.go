@@ -5,6 +5,7 @@ import (
 	"flag"
 	"fmt"
 	"io"
+	"os"
 	"path/filepath"
 	"strconv"
 	"strings"
@@ -177,7 +178,13 @@ func (r *running) tellAwaited(what string, spent time.Duration, isOver []bool) {
 
 // begin makes the first look at a device.
 func (r *running) begin(at int) error {
-	told, err := r.places[at].run(r.places[at].begin(r.asked), "", r.file(at, "begin"))
+	input, open, err := os.Pipe()
+	if err != nil {
+		return err
+	}
+	defer input.Close()
+	defer open.Close() // once it has ended, or by the end of this program
+	told, err := r.places[at].run(r.places[at].begin(r.asked), input, r.file(at, "begin"))
 	if err != nil {
 		return err
 	}
@@ -188,7 +195,7 @@ func (r *running) begin(at int) error {
 
 // end makes the second look at a device.
 func (r *running) end(at int) error {
-	told, err := r.places[at].run(r.places[at].end(r.asked), r.tokens, r.file(at, "end"))
+	told, err := r.places[at].run(r.places[at].end(r.asked), strings.NewReader(r.tokens), r.file(at, "end"))
 	r.tell(at, told)
 	return err
 }
