@@ -45,6 +45,9 @@ func placesOf(asked options) ([]*place, error) {
 			}
 			one.ssh = append(append([]string{"ssh"}, optionsOfSSH(host)...), host)
 		}
+		if err := one.checkHere(); err != nil {
+			return nil, err
+		}
 		if seen[word] {
 			return nil, &wrongUsage{fmt.Sprintf("%q is given twice", word)}
 		}
@@ -52,6 +55,17 @@ func placesOf(asked options) ([]*place, error) {
 		made = append(made, one)
 	}
 	return made, nil
+}
+
+// checkHere says of a word that may be a machine's that it needs a colon.
+func (p *place) checkHere() error {
+	if p.host != "" || strings.Contains(p.given, "/") {
+		return nil
+	}
+	if _, err := os.Stat(p.home); !os.IsNotExist(err) {
+		return nil
+	}
+	return fmt.Errorf("refused: there is no directory %s here; a machine has a colon behind its name: %s", shell.Quoted(p.given), shell.Quoted(p.given+":"))
 }
 
 // label gives a short name for files.
@@ -131,6 +145,15 @@ func (p *place) run(words []string, input io.Reader, path string) (string, error
 		return "", fmt.Errorf("%s: %s can't be run: %w", p.given, shell.Quoted(words[0]), err)
 	}
 	return told.String(), nil
+}
+
+// hint adds to an error what may be its cause: what a shell prints as it starts goes before the part.
+func (p *place) hint(err error) error {
+	if p.host == "" || !errors.Is(err, part.ErrNone) {
+		return err
+	}
+	return fmt.Errorf("%w: the shell there may print something as it starts, by its .bashrc say, which goes before the part: %s is to print nothing",
+		err, quotedWords([]string{"ssh", p.host, "true"}))
 }
 
 // headOf reads the head of a part.

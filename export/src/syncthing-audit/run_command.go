@@ -109,7 +109,7 @@ func (r *running) look() error {
 	for at := range r.places {
 		head, err := headOf(r.file(at, "begin"))
 		if err != nil {
-			return fmt.Errorf("%s: %w", r.places[at].given, err)
+			return fmt.Errorf("%s: %w", r.places[at].given, r.places[at].hint(err))
 		}
 		if head.Look == nil {
 			return fmt.Errorf("%s: its part isn't of a first look: is the program of this version there?", r.places[at].given)
