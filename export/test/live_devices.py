@@ -421,9 +421,21 @@ cd "{room}/$machine/user" && HOME=$PWD PATH={programs}:$PATH exec sh -c "$*"
     def test_commands_are_told(self):
         ran = self.run_on("--dry-run", "--folder", FOLDER, "--jobs", "1")
         self.assertEqual(ran.returncode, 0, ran.stderr)
-        self.assertIn(f"ssh -o 'ConnectTimeout=20' one 'nice -n 19 syncthing-audit part --begin --jobs 1 --folder {FOLDER} -o -' > one.begin\n", ran.stdout)
+        self.assertIn(f"ssh -o 'ConnectTimeout=20' one 'nice -n 19 syncthing-audit part --begin --jobs 1 --folder {FOLDER} -o -' < /dev/null > one.begin 2> one.log\n", ran.stdout)
         self.assertIn(f"ssh -o 'ConnectTimeout=20' two 'syncthing-audit part --end --tokens - --leave-out absent --home {self.two.home} --folder {FOLDER} -o -'"
                       " < tokens > two.end\n", ran.stdout)
+
+    def test_the_told_commands_work(self):
+        """A shell runs what is told, and comes to the same answer; progress among the tokens doesn't matter."""
+        told = self.run_on("--dry-run")
+        room = self.room / "recipe"
+        room.mkdir()
+        with rot(self.two.files / "folder" / "large", 1000):
+            ran = run(["sh", "-e"], cwd=room, input=told.stdout,
+                      env={**os.environ, "PATH": self.path_with_ssh, "SYNCAUDIT": str(self.auditor)})
+        self.assertEqual(ran.returncode, 1, ran.stderr)
+        self.assertIn("folder/large", ran.stdout)
+        self.assertEqual(len((room / "tokens").read_text().splitlines()), 3)
 
     def test_a_machine_that_does_not_answer(self):
         ran = self.run_at(["one:", "off:"])

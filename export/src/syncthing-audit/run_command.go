@@ -17,7 +17,6 @@ import (
 	"syncthing-audit/leftover"
 	"syncthing-audit/looks"
 	"syncthing-audit/report"
-	"syncthing-audit/shell"
 )
 
 // secondsOfStillness is how long second looks wait once all first ones are over, where --still doesn't say it: what is on
@@ -292,29 +291,4 @@ func (r *running) lastLook() time.Time {
 		}
 	}
 	return last
-}
-
-// tellCommands tells what a run would do.
-func tellCommands(output io.Writer, places []*place, asked options) {
-	for _, one := range places {
-		fmt.Fprintf(output, "%s > %s\n", quotedWords(one.begin(asked)), shell.Quoted(one.label()+".begin"))
-	}
-	fmt.Fprintf(output, "# each tells its token on standard error; they go into tokens, one on a line. At least %g s later:\n", asked.still)
-	for _, one := range places {
-		fmt.Fprintf(output, "%s < tokens > %s\n", quotedWords(one.end(asked)), shell.Quoted(one.label()+".end"))
-	}
-	files := []string{}
-	for _, one := range places {
-		files = append(files, shell.Quoted(one.label()+".begin"), shell.Quoted(one.label()+".end"))
-	}
-	fmt.Fprintf(output, "syncthing-audit check %s\n", strings.Join(files, " "))
-}
-
-// quotedWords gives a command as a shell reads it.
-func quotedWords(words []string) string {
-	made := []string{}
-	for _, one := range words {
-		made = append(made, shell.Word(one))
-	}
-	return strings.Join(made, " ")
 }
