@@ -151,6 +151,9 @@ func (f *File) path() string { return filepath.Join(f.Disk.URI(), f.Name) }
 // have the same size and time.
 func (f *File) open() (*os.File, error) {
 	file, err := os.OpenFile(f.path(), os.O_RDONLY|syscall.O_NOFOLLOW|syscall.O_NONBLOCK, 0) // a pipe in its place would block
+	if errors.Is(err, syscall.EWOULDBLOCK) {                                                 // a file's lease, as Samba may have one, is given back meanwhile
+		file, err = os.OpenFile(f.path(), os.O_RDONLY|syscall.O_NOFOLLOW, 0)
+	}
 	switch {
 	case errors.Is(err, os.ErrNotExist) || errors.Is(err, syscall.ENOTDIR) || errors.Is(err, syscall.ELOOP):
 		return nil, ErrChanged

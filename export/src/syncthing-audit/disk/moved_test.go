@@ -3,6 +3,7 @@ package disk
 import (
 	"errors"
 	"os"
+	"os/signal"
 	"path/filepath"
 	"syscall"
 	"testing"
@@ -155,5 +156,34 @@ func TestWhatTakesTheFilesPlace(t *testing.T) {
 			}
 			pool.Close()
 		}
+	}
+}
+
+// A file on which someone has a lease is read once it is given back.
+func TestAFileWithALease(t *testing.T) {
+	room, file := twoRooms(t, 100)
+	held, err := os.OpenFile(filepath.Join(room, file.Name), os.O_RDWR, 0)
+	if err != nil {
+		t.Fatal(err)
+	}
+	defer held.Close()
+	asked := make(chan os.Signal, 1)
+	signal.Notify(asked, syscall.SIGIO)
+	defer signal.Stop(asked)
+	lease := func(kind int) syscall.Errno {
+		_, _, err := syscall.Syscall(syscall.SYS_FCNTL, held.Fd(), syscall.F_SETLEASE, uintptr(kind))
+		return err
+	}
+	if err := lease(syscall.F_WRLCK); err != 0 {
+		t.Skip("no lease is to be had here: ", err)
+	}
+	go func() {
+		<-asked
+		lease(syscall.F_UNLCK)
+	}()
+	pool := NewPool(1)
+	defer pool.Close()
+	if _, _, _, err := pool.Begin(file).Wait(); err != nil {
+		t.Error(err)
 	}
 }
