@@ -17,6 +17,7 @@ complete -c syncthing-audit -n "__fish_seen_subcommand_from part check run expor
 complete -c syncthing-audit -n "__fish_seen_subcommand_from part" -l begin -d 'The first look at a device that may run'
 complete -c syncthing-audit -n "__fish_seen_subcommand_from part" -l end -d 'The second look'
 complete -c syncthing-audit -n "__fish_seen_subcommand_from part" -l tokens -r -d 'What all first looks told'
+complete -c syncthing-audit -n "__fish_seen_subcommand_from part" -l heed-input -d 'End once standard input ends'
 complete -c syncthing-audit -n "__fish_seen_subcommand_from part run" -l rescan -d 'Ask Syncthing for a scan first'
 complete -c syncthing-audit -n "__fish_seen_subcommand_from run" -l still -x -d 'How many seconds second looks wait at least'
 complete -c syncthing-audit -n "__fish_seen_subcommand_from run" -l remote-program -x -d 'How this program is called elsewhere'

@@ -12,6 +12,7 @@ import sys
 import threading
 import xml.etree.ElementTree as xml
 from contextlib import contextmanager
+from pathlib import Path
 
 from answers import SCHEMA, STATUS_MISSING
 from exporting import Exporting, in_step, main, run, without_firmness
@@ -341,8 +342,12 @@ class LiveRun(Live):
 
     names = ("one", "two", "three")
     SSH = """#!/bin/sh
+[ "$1" != -G ] || exec echo serveraliveinterval 7
+while [ "$1" = -o ]; do shift 2; done
 machine=$1
 shift
+# As with a real connection, no signal reaches the program on this machine; its input ends with the one who asks.
+case $machine in far) machine=one; cat | HOME="{room}/one/user" TMPDIR="{room}/far" PATH={programs}:$PATH setsid sh -c "$*"; exit;; esac
 case $machine in off) echo "ssh: connect to host off port 22: No route to host" >&2; exit 255;; esac
 cd "{room}/$machine/user" && HOME=$PWD PATH={programs}:$PATH exec sh -c "$*"
 """
@@ -420,9 +425,21 @@ cd "{room}/$machine/user" && HOME=$PWD PATH={programs}:$PATH exec sh -c "$*"
     def test_commands_are_told(self):
         ran = self.run_on("--dry-run", "--folder", FOLDER, "--jobs", "1")
         self.assertEqual(ran.returncode, 0, ran.stderr)
-        self.assertIn(f"ssh one 'nice -n 19 syncthing-audit part --begin --jobs 1 --folder {FOLDER} -o -' > one.begin\n", ran.stdout)
-        self.assertIn(f"ssh two 'syncthing-audit part --end --tokens - --leave-out absent --home {self.two.home} --folder {FOLDER} -o -'"
+        self.assertIn(f"ssh -o 'ConnectTimeout=20' one 'nice -n 19 syncthing-audit part --begin --jobs 1 --folder {FOLDER} -o -' < /dev/null > one.begin 2> one.log\n", ran.stdout)
+        self.assertIn(f"ssh -o 'ConnectTimeout=20' two 'syncthing-audit part --end --tokens - --leave-out absent --home {self.two.home} --folder {FOLDER} -o -'"
                       " < tokens > two.end\n", ran.stdout)
+
+    def test_the_told_commands_work(self):
+        """A shell runs what is told, and comes to the same answer; progress among the tokens doesn't matter."""
+        told = self.run_on("--dry-run")
+        room = self.room / "recipe"
+        room.mkdir()
+        with rot(self.two.files / "folder" / "large", 1000):
+            ran = run(["sh", "-e"], cwd=room, input=told.stdout,
+                      env={**os.environ, "PATH": self.path_with_ssh, "SYNCAUDIT": str(self.auditor)})
+        self.assertEqual(ran.returncode, 1, ran.stderr)
+        self.assertIn("folder/large", ran.stdout)
+        self.assertEqual(len((room / "tokens").read_text().splitlines()), 3)
 
     def test_a_machine_that_does_not_answer(self):
         ran = self.run_at(["one:", "off:"])
@@ -435,6 +452,35 @@ cd "{room}/$machine/user" && HOME=$PWD PATH={programs}:$PATH exec sh -c "$*"
         self.assertIn(self.devices[2].id, ran.stderr)
         ran = self.run_at(["one:", "two:"], "--leave-out", "absent", "--lines")
         self.assertEqual((ran.returncode, ran.stdout.splitlines()[0]), (6, "settled as far as audited"), ran.stderr)
+
+    def test_the_other_machine_ends_with_the_run(self):
+        """What hashes elsewhere ends once the one who asks is gone, and takes away its copy of the index."""
+        room = self.room / "far"
+        room.mkdir()
+        endless = self.one.files / "endless"
+        with endless.open("wb") as file:
+            file.truncate(1 << 40)
+        try:
+            process = subprocess.Popen([self.program, "run", "far:", self.two.home, self.devices[2].home, "--syncaudit", self.auditor],
+                                       env={**os.environ, "PATH": self.path_with_ssh}, stdout=subprocess.DEVNULL, stderr=subprocess.DEVNULL)
+            wait_until("the other machine hashes", lambda: len(list(room.iterdir())) > 1)
+            process.send_signal(signal.SIGINT)
+            self.assertEqual(process.wait(SECONDS_TO_WAIT), 128 + signal.SIGINT)
+            wait_until("nothing is there", lambda: not list(room.iterdir()))
+            wait_until("nothing hashes", lambda: not self.reads(endless))
+        finally:
+            endless.unlink()
+
+    @staticmethod
+    def reads(path):
+        """Whether a process has a file open."""
+        for link in Path("/proc").glob("[0-9]*/fd/*"):
+            try:
+                if os.readlink(link) == str(path):
+                    return True
+            except OSError:
+                pass
+        return False
 
     def test_signals_leave_nothing_behind(self):
         room = self.room / "temporary"

@@ -4,9 +4,11 @@ import (
 	"fmt"
 	"io"
 	"os"
+	"os/signal"
 	"path/filepath"
 	"sort"
 	"strings"
+	"syscall"
 	"time"
 
 	"golang.org/x/exp/slices"
@@ -29,6 +31,8 @@ func (o *options) checkLooks() error {
 		return &wrongUsage{"--tokens is for --end"}
 	case !o.begin && o.rescan:
 		return &wrongUsage{"--rescan is for --begin: a stopped Syncthing scans nothing"}
+	case !o.begin && o.heeds:
+		return &wrongUsage{"--heed-input is for --begin"}
 	case !o.end && len(o.leaveOut) > 0:
 		return &wrongUsage{"--leave-out is for 'check', and for 'part --end' with a device that has no token"}
 	}
@@ -38,6 +42,9 @@ func (o *options) checkLooks() error {
 // beginPart writes the part of the first look at a device that may run: its index, a glance at its disk, then the hashes of
 // its files. The look is over before they are hashed. Its id is made after that, and leaves this program once all is written.
 func beginPart(asked options, write writing, output, log io.Writer) error {
+	if asked.heeds {
+		heedInput(log)
+	}
 	if asked.rescan {
 		if err := rescan(asked); err != nil {
 			return err
@@ -72,6 +79,16 @@ func beginPart(asked options, write writing, output, log io.Writer) error {
 	}
 	_, err = fmt.Fprintln(faulty{output}, token)
 	return err
+}
+
+// heedInput has the end of standard input end the program, as a hangup does. Nobody may read standard error by then.
+func heedInput(log io.Writer) {
+	signal.Ignore(syscall.SIGPIPE)
+	go func() {
+		io.Copy(io.Discard, os.Stdin)
+		fmt.Fprintln(log, "syncthing-audit: standard input ended, so nobody waits for this look any more")
+		leftover.End(syscall.SIGHUP)
+	}()
 }
 
 // firstLook looks at a device's disk, whose index was copied before, and then gives the look its id; it says when it was over.

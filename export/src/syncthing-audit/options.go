@@ -29,6 +29,7 @@ type options struct {
 	tokens   []string // files with tokens
 	rescan   bool
 	dryRun   bool
+	heeds    bool    // whether the end of standard input ends a first look
 	still    float64 // seconds
 	remote   string  // how this program is called on other machines
 	program  string
@@ -60,6 +61,7 @@ Says whether Syncthing devices are in step, and where not which device is wrong.
   --begin              first look at a device that may run; writes a token to standard output, or error where the part is there
   --end                second look; needs the tokens of all
   --tokens FILE        tokens, one on a line; - is standard input
+  --heed-input         of --begin: end without a part once standard input ends; 'run' has it so on other machines
   --rescan             ask Syncthing for a scan before the first look, by its REST API, and wait for it
   --still SECONDS      of run: how long second looks wait at least, once first ones are over (10)
   --remote-program P   of run: how this program is called on the other machines (syncthing-audit)

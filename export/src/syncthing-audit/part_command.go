@@ -20,6 +20,7 @@ func runPart(words []string, output, log io.Writer) (int, error) {
 		flags.BoolVar(&read.begin, "begin", false, "")
 		flags.BoolVar(&read.end, "end", false, "")
 		flags.BoolVar(&read.rescan, "rescan", false, "")
+		flags.BoolVar(&read.heeds, "heed-input", false, "")
 		flags.Var((*list)(&read.tokens), "tokens", "")
 		flags.Var(kinds(read.leaveOut), "leave-out", "")
 	})

@@ -4,6 +4,7 @@ import (
 	"bytes"
 	"errors"
 	"fmt"
+	"io"
 	"os"
 	"os/exec"
 	"path/filepath"
@@ -23,6 +24,7 @@ type place struct {
 	host   string // nothing for this machine
 	home   string // nothing for the one that Syncthing takes by itself
 	self   string // this program
+	ssh    []string
 	looked time.Time
 }
 
@@ -41,6 +43,10 @@ func placesOf(asked options) ([]*place, error) {
 			if host == "" || strings.HasPrefix(host, "-") {
 				return nil, &wrongUsage{fmt.Sprintf("%q names no machine", word)}
 			}
+			one.ssh = append(append([]string{"ssh"}, optionsOfSSH(host)...), host)
+		}
+		if err := one.checkHere(); err != nil {
+			return nil, err
 		}
 		if seen[word] {
 			return nil, &wrongUsage{fmt.Sprintf("%q is given twice", word)}
@@ -49,6 +55,17 @@ func placesOf(asked options) ([]*place, error) {
 		made = append(made, one)
 	}
 	return made, nil
+}
+
+// checkHere says of a word that may be a machine's that it needs a colon.
+func (p *place) checkHere() error {
+	if p.host != "" || strings.Contains(p.given, "/") {
+		return nil
+	}
+	if _, err := os.Stat(p.home); !os.IsNotExist(err) {
+		return nil
+	}
+	return fmt.Errorf("refused: there is no directory %s here; a machine has a colon behind its name: %s", shell.Quoted(p.given), shell.Quoted(p.given+":"))
 }
 
 // label gives a short name for files.
@@ -62,11 +79,14 @@ func (p *place) label() string {
 // gently has a command take no more of a machine than others leave: the devices' own work goes before the hashing.
 var gently = []string{"nice", "-n", "19"}
 
-// begin gives the command of the first look.
+// begin gives the command of the first look. On another machine it ends when this program does, which keeps its input open.
 func (p *place) begin(asked options) []string {
 	words := []string{"part", "--begin"}
 	if asked.rescan {
 		words = append(words, "--rescan")
+	}
+	if p.host != "" && !asked.dryRun {
+		words = append(words, "--heed-input")
 	}
 	if asked.hasJobs {
 		words = append(words, "--jobs", strconv.Itoa(asked.jobs))
@@ -99,11 +119,12 @@ func (p *place) words(before, words []string, asked options) []string {
 	if p.host == "" {
 		return append(append(before[:len(before):len(before)], p.self), words...)
 	}
-	return []string{"ssh", p.host, quotedWords(append(append(before[:len(before):len(before)], asked.remote), words...))}
+	command := quotedWords(append(append(before[:len(before):len(before)], asked.remote), words...))
+	return append(p.ssh[:len(p.ssh):len(p.ssh)], command)
 }
 
 // run runs a command with what it reads, has what it writes go into a file, and gives what it says on standard error.
-func (p *place) run(words []string, input, path string) (string, error) {
+func (p *place) run(words []string, input io.Reader, path string) (string, error) {
 	file, err := os.OpenFile(path, os.O_WRONLY|os.O_CREATE|os.O_EXCL, 0o600)
 	if err != nil {
 		return "", err
@@ -111,7 +132,7 @@ func (p *place) run(words []string, input, path string) (string, error) {
 	defer file.Close()
 	var told bytes.Buffer
 	command := exec.Command(words[0], words[1:]...)
-	command.Stdin, command.Stdout, command.Stderr = strings.NewReader(input), file, &told
+	command.Stdin, command.Stdout, command.Stderr = input, file, &told
 	command.SysProcAttr = &syscall.SysProcAttr{Pdeathsig: syscall.SIGTERM} // of the thread that starts it
 	runtime.LockOSThread()
 	defer runtime.UnlockOSThread()
@@ -124,6 +145,15 @@ func (p *place) run(words []string, input, path string) (string, error) {
 		return "", fmt.Errorf("%s: %s can't be run: %w", p.given, shell.Quoted(words[0]), err)
 	}
 	return told.String(), nil
+}
+
+// hint adds to an error what may be its cause: what a shell prints as it starts goes before the part.
+func (p *place) hint(err error) error {
+	if p.host == "" || !errors.Is(err, part.ErrNone) {
+		return err
+	}
+	return fmt.Errorf("%w: the shell there may print something as it starts, by its .bashrc say, which goes before the part: %s is to print nothing",
+		err, quotedWords([]string{"ssh", p.host, "true"}))
 }
 
 // headOf reads the head of a part.

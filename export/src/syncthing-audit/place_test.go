@@ -1,6 +1,8 @@
 package main
 
 import (
+	"os"
+	"path/filepath"
 	"strings"
 	"testing"
 )
@@ -20,7 +22,7 @@ func TestPlaces(t *testing.T) {
 		if err != nil {
 			t.Fatal(err)
 		}
-		places[0].self = "here"
+		places[0].self, places[0].ssh = "here", []string{"ssh", places[0].host}
 		if places[0].host != one.host || places[0].home != one.home || quotedWords(places[0].end(asked)) != one.command {
 			t.Errorf("%s: %+v, %s", one.word, *places[0], quotedWords(places[0].end(asked)))
 		}
@@ -42,6 +44,41 @@ func TestAgeOfALook(t *testing.T) {
 	for _, one := range cases {
 		if age := ageOf(one.told); age.Seconds() != one.seconds {
 			t.Errorf("%q: %v", one.told, age)
+		}
+	}
+}
+
+// What a machine's shell prints before the part is told as what may be wrong; a part that is here has no shell.
+func TestAPartBehindWhatAShellPrints(t *testing.T) {
+	path := filepath.Join(t.TempDir(), "part")
+	for _, text := range []string{"Welcome to laptop\nand a part", ""} {
+		if err := os.WriteFile(path, []byte(text), 0o600); err != nil {
+			t.Fatal(err)
+		}
+		_, err := headOf(path)
+		told := (&place{host: "laptop"}).hint(err).Error()
+		if !strings.Contains(told, "this is no part: ") || !strings.HasSuffix(told, "ssh laptop true is to print nothing") {
+			t.Errorf("%q: %s", text, told)
+		}
+		if here := (&place{}).hint(err); here != err {
+			t.Errorf("here: %v", here)
+		}
+	}
+	if _, err := headOf(path + "-"); (&place{host: "laptop"}).hint(err) != err {
+		t.Errorf("a file that isn't there: %v", err)
+	}
+}
+
+// A word that is no directory here may be a machine without its colon; 'part' is one here.
+func TestAMachineWithoutAColon(t *testing.T) {
+	cases := []struct {
+		word   string
+		isTold bool
+	}{{"laptop", true}, {"ann@laptop", true}, {"./laptop", false}, {"/laptop", false}, {"part", false}}
+	for _, one := range cases {
+		_, err := placesOf(options{parts: []string{one.word}})
+		if told := err != nil && strings.Contains(err.Error(), "a machine has a colon behind its name: "+one.word+":"); told != one.isTold {
+			t.Errorf("%s: %v", one.word, err)
 		}
 	}
 }

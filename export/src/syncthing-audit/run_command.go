@@ -5,6 +5,7 @@ import (
 	"flag"
 	"fmt"
 	"io"
+	"os"
 	"path/filepath"
 	"strconv"
 	"strings"
@@ -16,12 +17,14 @@ import (
 	"syncthing-audit/leftover"
 	"syncthing-audit/looks"
 	"syncthing-audit/report"
-	"syncthing-audit/shell"
 )
 
 // secondsOfStillness is how long second looks wait once all first ones are over, where --still doesn't say it: what is on
 // its way between devices mostly arrives in that time.
 const secondsOfStillness = 10
+
+// secondsOfPatience is how long a machine may be silent before it is told that it is awaited.
+const secondsOfPatience = 10
 
 // runRun looks twice at devices that run, here and by ssh elsewhere, and has syncaudit answer.
 func runRun(words []string, output, log io.Writer) (int, error) {
@@ -57,7 +60,7 @@ func runRun(words []string, output, log io.Writer) (int, error) {
 		return 0, err
 	}
 	defer leftover.Remove(room)
-	run := &running{asked: asked, places: places, room: room, log: log}
+	run := &running{asked: asked, places: places, room: room, log: log, patience: secondsOfPatience * time.Second}
 	if err := run.look(); err != nil {
 		return 0, err
 	}
@@ -86,6 +89,8 @@ type running struct {
 	tokens string
 	mutex  sync.Mutex // of the log
 	began  time.Time  // before the first second look began
+
+	patience time.Duration // after which it is told who is awaited, and after twice as long again, and so on
 }
 
 // file gives where a look at a place is kept.
@@ -96,14 +101,14 @@ func (r *running) file(at int, look string) string {
 // look makes the first look at all devices, and the second one once all of these are over.
 func (r *running) look() error {
 	fmt.Fprintf(r.log, "syncthing-audit: first look at %d devices, and hashing their files\n", len(r.places))
-	if err := r.all(r.begin); err != nil {
+	if err := r.all("first look", r.begin); err != nil {
 		return err
 	}
 	var tokens strings.Builder
 	for at := range r.places {
 		head, err := headOf(r.file(at, "begin"))
 		if err != nil {
-			return fmt.Errorf("%s: %w", r.places[at].given, err)
+			return fmt.Errorf("%s: %w", r.places[at].given, r.places[at].hint(err))
 		}
 		if head.Look == nil {
 			return fmt.Errorf("%s: its part isn't of a first look: is the program of this version there?", r.places[at].given)
@@ -116,11 +121,11 @@ func (r *running) look() error {
 	}
 	fmt.Fprintln(r.log, "syncthing-audit: second look")
 	r.began = time.Now()
-	return r.all(r.end)
+	return r.all("second look", r.end)
 }
 
-// all does something at all places at once, and gives the first error by their order.
-func (r *running) all(do func(at int) error) error {
+// all does something at all places at once, tells which ones are awaited, and gives the first error by their order.
+func (r *running) all(what string, do func(at int) error) error {
 	errs := make([]error, len(r.places))
 	ended := make(chan int)
 	for at := range r.places {
@@ -129,9 +134,7 @@ func (r *running) all(do func(at int) error) error {
 			ended <- at
 		}(at)
 	}
-	for range r.places {
-		<-ended
-	}
+	r.await(what, ended)
 	for _, err := range errs {
 		if err != nil {
 			return err
@@ -140,9 +143,47 @@ func (r *running) all(do func(at int) error) error {
 	return nil
 }
 
+// await waits until all places have ended.
+func (r *running) await(what string, ended <-chan int) {
+	began, next := time.Now(), r.patience
+	isOver := make([]bool, len(r.places))
+	told := time.NewTimer(next)
+	defer told.Stop()
+	for left := len(r.places); left > 0; {
+		select {
+		case at := <-ended:
+			isOver[at] = true
+			left--
+		case <-told.C:
+			next *= 2
+			told.Reset(next)
+			r.tellAwaited(what, time.Since(began), isOver)
+		}
+	}
+}
+
+// tellAwaited tells which places haven't ended.
+func (r *running) tellAwaited(what string, spent time.Duration, isOver []bool) {
+	names := []string{}
+	for at, one := range r.places {
+		if !isOver[at] {
+			names = append(names, one.given)
+		}
+	}
+	r.mutex.Lock()
+	defer r.mutex.Unlock()
+	fmt.Fprintf(r.log, "syncthing-audit: %s: waiting for %s for %.0f s\n", what, strings.Join(names, ", "), spent.Seconds())
+}
+
 // begin makes the first look at a device.
 func (r *running) begin(at int) error {
-	told, err := r.places[at].run(r.places[at].begin(r.asked), "", r.file(at, "begin"))
+	input, open, err := os.Pipe()
+	if err != nil {
+		return err
+	}
+	defer input.Close()
+	defer open.Close() // once it has ended, or by the end of this program
+	told, err := r.places[at].run(r.places[at].begin(r.asked), input, r.file(at, "begin"))
 	if err != nil {
 		return err
 	}
@@ -153,7 +194,7 @@ func (r *running) begin(at int) error {
 
 // end makes the second look at a device.
 func (r *running) end(at int) error {
-	told, err := r.places[at].run(r.places[at].end(r.asked), r.tokens, r.file(at, "end"))
+	told, err := r.places[at].run(r.places[at].end(r.asked), strings.NewReader(r.tokens), r.file(at, "end"))
 	r.tell(at, told)
 	return err
 }
@@ -250,29 +291,4 @@ func (r *running) lastLook() time.Time {
 		}
 	}
 	return last
-}
-
-// tellCommands tells what a run would do.
-func tellCommands(output io.Writer, places []*place, asked options) {
-	for _, one := range places {
-		fmt.Fprintf(output, "%s > %s\n", quotedWords(one.begin(asked)), shell.Quoted(one.label()+".begin"))
-	}
-	fmt.Fprintf(output, "# each tells its token on standard error; they go into tokens, one on a line. At least %g s later:\n", asked.still)
-	for _, one := range places {
-		fmt.Fprintf(output, "%s < tokens > %s\n", quotedWords(one.end(asked)), shell.Quoted(one.label()+".end"))
-	}
-	files := []string{}
-	for _, one := range places {
-		files = append(files, shell.Quoted(one.label()+".begin"), shell.Quoted(one.label()+".end"))
-	}
-	fmt.Fprintf(output, "syncthing-audit check %s\n", strings.Join(files, " "))
-}
-
-// quotedWords gives a command as a shell reads it.
-func quotedWords(words []string) string {
-	made := []string{}
-	for _, one := range words {
-		made = append(made, shell.Word(one))
-	}
-	return strings.Join(made, " ")
 }

@@ -5,8 +5,11 @@ import (
 	"errors"
 	"fmt"
 	"io"
+	"os"
+	"path/filepath"
 	"sync"
 	"sync/atomic"
+	"syscall"
 
 	"github.com/syncthing/syncthing/lib/fs"
 	"github.com/syncthing/syncthing/lib/protocol"
@@ -27,6 +30,7 @@ var ErrChanged = errors.New("it changed while it was read")
 type File struct {
 	Disk       fs.Filesystem // gives times as Syncthing sees them
 	Name       string
+	Stamp      string // as it was when it was found
 	Node       *part.Node
 	BlockSizes []int64
 	Recorded   [][32]byte // the own record's block hashes, to be compared with those of the first block size; or none
@@ -119,9 +123,9 @@ func (p *Pool) hash(job *Job, offset int64) error {
 	if length > pieceBytes {
 		length = pieceBytes
 	}
-	file, err := job.file.Disk.Open(job.file.Name)
+	file, err := job.file.open()
 	if err != nil {
-		return fmt.Errorf("it can't be read: %w", err)
+		return err
 	}
 	defer file.Close()
 	cuts := make([]*cutter, len(job.file.BlockSizes))
@@ -131,8 +135,46 @@ func (p *Pool) hash(job *Job, offset int64) error {
 	if err := p.read(file, job, offset, length, cuts); err != nil {
 		return err
 	}
+	if err := job.file.checkOpened(file); err != nil {
+		return err
+	}
 	for _, cut := range cuts {
 		cut.end()
+	}
+	return nil
+}
+
+// path gives where the file is.
+func (f *File) path() string { return filepath.Join(f.Disk.URI(), f.Name) }
+
+// open opens the very file that was found. Where a directory above it was renamed, its path leads to another one, which may
+// have the same size and time.
+func (f *File) open() (*os.File, error) {
+	file, err := os.OpenFile(f.path(), os.O_RDONLY|syscall.O_NOFOLLOW|syscall.O_NONBLOCK, 0) // a pipe in its place would block
+	if errors.Is(err, syscall.EWOULDBLOCK) {                                                 // a file's lease, as Samba may have one, is given back meanwhile
+		file, err = os.OpenFile(f.path(), os.O_RDONLY|syscall.O_NOFOLLOW, 0)
+	}
+	switch {
+	case errors.Is(err, os.ErrNotExist) || errors.Is(err, syscall.ENOTDIR) || errors.Is(err, syscall.ELOOP):
+		return nil, ErrChanged
+	case err != nil:
+		return nil, fmt.Errorf("it can't be read: %w", err)
+	}
+	if err := f.checkOpened(file); err != nil {
+		file.Close()
+		return nil, err
+	}
+	return file, nil
+}
+
+// checkOpened says whether an opened file is the one that was found, as it was then.
+func (f *File) checkOpened(file *os.File) error {
+	about, err := file.Stat()
+	if err != nil {
+		return fmt.Errorf("it can't be read: %w", err)
+	}
+	if stampOf(about) != f.Stamp || !about.Mode().IsRegular() {
+		return ErrChanged
 	}
 	return nil
 }
@@ -187,11 +229,12 @@ func (j *Job) Wait() ([]part.Content, *part.Differ, []byte, error) {
 	return contents, differ, j.data, nil
 }
 
-// check says whether the file has the size and time still with which it was found.
+// check says whether the file that was found is at its path still, with its size and time.
 func (j *Job) check() error {
 	after, err := j.file.Disk.Lstat(j.file.Name)
 	if err != nil || !after.IsRegular() || after.Size() != j.file.Node.Size ||
-		after.ModTime().Unix() != j.file.Node.ModifiedS || after.ModTime().Nanosecond() != j.file.Node.ModifiedNs {
+		after.ModTime().Unix() != j.file.Node.ModifiedS || after.ModTime().Nanosecond() != j.file.Node.ModifiedNs ||
+		Stamp(j.file.path()) != j.file.Stamp {
 		return ErrChanged
 	}
 	return nil

@@ -61,7 +61,8 @@ func TestContents(t *testing.T) {
 		if err := os.WriteFile(path, data, 0o600); err != nil {
 			t.Fatal(err)
 		}
-		file := File{Disk: fs.NewFilesystem(fs.FilesystemTypeBasic, room), Name: "file", Node: nodeAt(t, path), BlockSizes: one.sizes, Keep: true}
+		file := File{Disk: fs.NewFilesystem(fs.FilesystemTypeBasic, room), Name: "file", Stamp: Stamp(path), Node: nodeAt(t, path),
+			BlockSizes: one.sizes, Keep: true}
 		found, _, kept, err := pool.Begin(file).Wait()
 		if err != nil || !bytes.Equal(kept, data) {
 			t.Errorf("%d bytes: %v, %d kept", one.bytes, err, len(kept))
@@ -95,7 +96,8 @@ func TestFilesThatChange(t *testing.T) {
 	for _, one := range cases {
 		node := nodeAt(t, path)
 		one.change(node)
-		file := File{Disk: fs.NewFilesystem(fs.FilesystemTypeBasic, room), Name: "file", Node: node, BlockSizes: []int64{protocol.MinBlockSize}}
+		file := File{Disk: fs.NewFilesystem(fs.FilesystemTypeBasic, room), Name: "file", Stamp: Stamp(path), Node: node,
+			BlockSizes: []int64{protocol.MinBlockSize}}
 		if _, _, _, err := pool.Begin(file).Wait(); !errors.Is(err, ErrChanged) {
 			t.Errorf("%s: %v", one.why, err)
 		}

@@ -16,16 +16,17 @@ import (
 
 // Found is what stands under a name: a node, or why there is none, or both.
 type Found struct {
-	Name string
-	Node *part.Node
-	Out  *part.LeftOut
+	Name  string
+	Node  *part.Node
+	Out   *part.LeftOut
+	Stamp string // of a file, for its hashing
 }
 
 // Walker reads the nodes of a folder, without the bytes of files.
 type Walker struct {
 	Disk   fs.Filesystem // gives times as Syncthing sees them
 	Prefix string        // only names that begin so are read
-	Stamps bool          // of files and symlinks are read, too
+	Stamps bool          // stand in the nodes, too
 	Take   func(Found) error
 }
 
@@ -130,8 +131,11 @@ func (w *Walker) found(name string, info fs.FileInfo) Found {
 	default:
 		return out(part.Special, "it is no file, directory or symlink")
 	}
-	if w.Stamps && node.Type != int(protocol.FileInfoTypeDirectory) {
-		node.Stamp = Stamp(w.PathOf(name))
+	if w.Stamps || info.IsRegular() {
+		made.Stamp = Stamp(w.PathOf(name))
+	}
+	if w.Stamps {
+		node.Stamp = made.Stamp
 	}
 	made.Node = node
 	return made

@@ -37,6 +37,9 @@ func movedSinceGlance(t *testing.T, change func(path func(string) string) error)
 			t.Fatal(err)
 		}
 	}
+	if err := os.Mkdir(path("e"), 0o755); err != nil {
+		t.Fatal(err)
+	}
 	pool := disk.NewPool(1)
 	defer pool.Close()
 	read := &Device{Folders: []Folder{directory{room}}, Pool: pool, Look: &part.Look{ID: "id"}}
@@ -74,11 +77,11 @@ func TestGlance(t *testing.T) {
 		change func(path func(string) string) error
 		told   string
 	}{
-		{"nothing", func(func(string) string) error { return nil }, "a.log b d"},
-		{"a new file", func(path func(string) string) error { return os.WriteFile(path("a"), nil, 0o600) }, "(a) a.log b d"},
-		{"the first one is gone", func(path func(string) string) error { return os.Remove(path("b")) }, "a.log (b) d"},
-		{"the last one is gone", func(path func(string) string) error { return os.Remove(path("d")) }, "a.log b (d)"},
-		{"longer", func(path func(string) string) error { return os.WriteFile(path("b"), []byte("longer"), 0o600) }, "a.log (b) d"},
+		{"nothing", func(func(string) string) error { return nil }, "a.log b d e"},
+		{"a new file", func(path func(string) string) error { return os.WriteFile(path("a"), nil, 0o600) }, "(a) a.log b d e"},
+		{"the first one is gone", func(path func(string) string) error { return os.Remove(path("b")) }, "a.log (b) d e"},
+		{"the last one is gone", func(path func(string) string) error { return os.Remove(path("d")) }, "a.log b (d) e"},
+		{"longer", func(path func(string) string) error { return os.WriteFile(path("b"), []byte("longer"), 0o600) }, "a.log (b) d e"},
 		{"with its time put back", func(path func(string) string) error {
 			about, err := os.Stat(path("b"))
 			if err == nil {
@@ -88,7 +91,7 @@ func TestGlance(t *testing.T) {
 				err = os.Chtimes(path("b"), about.ModTime(), about.ModTime())
 			}
 			return err
-		}, "a.log (b) d"},
+		}, "a.log (b) d e"},
 		{"another file of the same bytes and time", func(path func(string) string) error {
 			about, err := os.Stat(path("b"))
 			if err == nil {
@@ -101,22 +104,30 @@ func TestGlance(t *testing.T) {
 				err = os.Rename(path(".syncthing.b.tmp"), path("b"))
 			}
 			return err
-		}, "a.log (b) d"},
-		{"other permissions", func(path func(string) string) error { return os.Chmod(path("d"), 0o640) }, "a.log b (d)"},
+		}, "a.log (b) d e"},
+		{"other permissions", func(path func(string) string) error { return os.Chmod(path("d"), 0o640) }, "a.log b (d) e"},
 		{"a directory in its place", func(path func(string) string) error {
 			if err := os.Remove(path("d")); err != nil {
 				return err
 			}
 			return os.Mkdir(path("d"), 0o755)
-		}, "a.log b (d)"},
-		{"what is ignored changes", func(path func(string) string) error { return os.WriteFile(path("a.log"), []byte("more"), 0o600) }, "a.log b d"},
+		}, "a.log b (d) e"},
+		{"what is ignored changes", func(path func(string) string) error { return os.WriteFile(path("a.log"), []byte("more"), 0o600) }, "a.log b d e"},
 		{"what is ignored goes and comes", func(path func(string) string) error {
 			if err := os.Remove(path("a.log")); err != nil {
 				return err
 			}
 			return os.WriteFile(path("c.log"), nil, 0o600)
-		}, "b c.log d"},
-		{"an odd name", func(path func(string) string) error { return os.WriteFile(path("a\xff\n\""), nil, 0o600) }, "a.log a\xff\n\" b d"},
+		}, "b c.log d e"},
+		{"another directory of the same name", func(path func(string) string) error {
+			if err := os.Rename(path("e"), path("e.log")); err != nil {
+				return err
+			}
+			return os.Mkdir(path("e"), 0o755)
+		}, "a.log b d (e) e.log"},
+		{"what stands in a directory", func(path func(string) string) error { return os.WriteFile(path("e/f.log"), nil, 0o600) },
+			"a.log b d e e/f.log"},
+		{"an odd name", func(path func(string) string) error { return os.WriteFile(path("a\xff\n\""), nil, 0o600) }, "a.log a\xff\n\" b d e"},
 	}
 	for _, one := range cases {
 		if told := movedSinceGlance(t, one.change); told != one.told {

@@ -107,6 +107,7 @@ func (m *merge) least() (string, bool) {
 func (m *merge) put(name string) bool {
 	line := &part.Name{Name: part.Bytes(name)}
 	var recorded [][32]byte
+	stamp := ""
 	for place, one := range m.entries() {
 		next := one.peek()
 		if next == nil || next.Name != name {
@@ -124,7 +125,7 @@ func (m *merge) put(name string) bool {
 	}
 	if next := m.nodes.peek(); next != nil && next.Name == name {
 		m.nodes.take()
-		line.Disk = next.Node
+		line.Disk, stamp = next.Node, next.Stamp
 		if next.Out != nil {
 			line.Out = append(line.Out, *next.Out)
 		}
@@ -135,7 +136,7 @@ func (m *merge) put(name string) bool {
 	if m.patterns.Match(name).IsIgnored() {
 		line.Out = append(line.Out, part.LeftOut{Kind: part.Ignored, Why: "it is ignored there by .stignore", Bytes: sizeOf(line)})
 	}
-	return m.send(line, recorded)
+	return m.send(line, recorded, stamp)
 }
 
 // addRecord adds a record to a name: the own one, or one of a view.
@@ -173,8 +174,8 @@ func sizeOf(line *part.Name) int64 {
 	return 0
 }
 
-// send puts a name into the queue, its file being hashed.
-func (m *merge) send(line *part.Name, recorded [][32]byte) bool {
+// send puts a name into the queue, its file, which had this stamp when it was found, being hashed.
+func (m *merge) send(line *part.Name, recorded [][32]byte, stamp string) bool {
 	node := line.Disk
 	if node != nil && m.device.Bytes && node.Size > limits.MostFileBytes && len(line.Out) == 0 {
 		line.Out = append(line.Out, tooLarge(node.Size))
@@ -183,8 +184,8 @@ func (m *merge) send(line *part.Name, recorded [][32]byte) bool {
 	isHashed := node != nil && node.Type == int(protocol.FileInfoTypeFile) && len(line.Out) == 0 && !m.device.isSecondLook()
 	file := disk.File{}
 	if isHashed {
-		file = disk.File{Disk: m.walker.Disk, Name: string(line.Name), Node: node, BlockSizes: blockSizes(line), Recorded: recorded,
-			Keep: m.device.Bytes}
+		file = disk.File{Disk: m.walker.Disk, Name: string(line.Name), Stamp: stamp, Node: node, BlockSizes: blockSizes(line),
+			Recorded: recorded, Keep: m.device.Bytes}
 		one.weight += len(recorded)
 		for _, size := range file.BlockSizes {
 			one.weight += int(part.CountOfBlocks(node.Size, size))

@@ -77,10 +77,14 @@ func WatchSignals() {
 		}
 	}
 	go func() {
-		number := (<-told).(syscall.Signal)
-		removeAll()
-		os.Exit(statusOfSignal + int(number))
+		End((<-told).(syscall.Signal))
 	}()
+}
+
+// End ends the program as a signal does: all that was made is taken away first.
+func End(number syscall.Signal) {
+	removeAll()
+	os.Exit(statusOfSignal + int(number))
 }
 
 // removeAll takes all away, and ends what runs. It keeps the lock, so that nothing is made any more.

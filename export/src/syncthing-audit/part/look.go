@@ -50,8 +50,8 @@ func checkLook(head *Head) error {
 // hasBytes says whether files have contents in a part: a second look reads none.
 func (h *Head) hasBytes() bool { return h.Look == nil || !h.Look.IsSecond() }
 
-// Mark gives a text that stays as it is while nobody changes what stands on the disk. Of a directory it is its kind and
-// its permissions: what stands in it has names of its own.
+// Mark gives a text that stays as it is while nobody changes what stands on the disk. Of a directory it is its kind, its
+// permissions and which directory it is: what stands in it has names of its own.
 func (n *Node) Mark() string {
 	switch {
 	case n == nil:
@@ -59,7 +59,7 @@ func (n *Node) Mark() string {
 	case isFile(n.Type) || n.Type == symlink:
 		return fmt.Sprint(n.Type, n.Size, n.ModifiedS, n.ModifiedNs, n.Permissions, n.Stamp, n.Target)
 	}
-	return fmt.Sprint(n.Type, n.Permissions)
+	return fmt.Sprint(n.Type, n.Permissions, " ", n.Stamp)
 }
 
 // IsAsRecorded says whether what stands on the disk is what the own record says, by kind, size, time and target.

@@ -20,18 +20,29 @@ type Reader struct {
 	count int
 }
 
+// ErrNone says that something is no part.
+var ErrNone = errors.New("this is no part")
+
+// notPart is an error that says why something is no part.
+type notPart struct{ error }
+
+func (n notPart) Is(target error) bool { return target == ErrNone }
+func (n notPart) Unwrap() error        { return n.error }
+
+func noPart(why error) error { return notPart{fmt.Errorf("%v: %w", ErrNone, why)} }
+
 // NewReader reads a part's head.
 func NewReader(from io.Reader) (*Reader, error) {
 	unzipped, err := gzip.NewReader(bufio.NewReaderSize(from, 1<<16))
 	if err != nil {
-		return nil, fmt.Errorf("this is no part: %w", err)
+		return nil, noPart(err)
 	}
 	made := &Reader{lines: bufio.NewReaderSize(unzipped, mostLineBytes)}
 	if err := made.read(&made.head); err != nil {
 		if err == io.EOF {
 			err = errors.New("it is empty")
 		}
-		return nil, fmt.Errorf("this is no part: %w", err)
+		return nil, noPart(err)
 	}
 	if err := checkHead(&made.head); err != nil {
 		return nil, err

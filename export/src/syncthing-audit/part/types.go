@@ -142,7 +142,7 @@ type Node struct {
 	Target      string    `json:"target,omitempty"`
 	Permissions uint32    `json:"permissions"`
 	Differ      *Differ   `json:"differ,omitempty"`
-	Stamp       string    `json:"stamp,omitempty"` // of a look: another one for each file, and for each write to it
+	Stamp       string    `json:"stamp,omitempty"` // of a look: another one for each file and directory, and for each write to a file
 
 	Data []byte `json:"-"` // in memory alone, for documents with bytes
 }

@@ -5,6 +5,7 @@ import (
 	"math"
 	"strings"
 
+	"golang.org/x/exp/slices"
 	"syncthing-audit/finding"
 	"syncthing-audit/part"
 	"syncthing-audit/shell"
@@ -79,7 +80,24 @@ var wordsOfMoved = map[string]string{
 	part.MovedViews:     "what it knows of others' records changed",
 	part.MovedDisk:      "what stands on the disk changed",
 	part.MovedReceiving: "it is being received",
-	part.MovedUnscanned: "the disk isn't as recorded: it waits for a scan",
+	part.MovedUnscanned: "the disk isn't as recorded: it waits for a scan by Syncthing",
+}
+
+// advice says what brings names in motion to rest. What waits for a scan waits on where none comes, however often one audits.
+func (l *Live) advice() string {
+	waiting := 0
+	for _, one := range l.Names {
+		if slices.IndexFunc(one.Devices, func(at Moved) bool { return slices.Contains(at.Why, part.MovedUnscanned) }) >= 0 {
+			waiting++
+		}
+	}
+	switch {
+	case waiting == 0:
+		return "audit again"
+	case int64(waiting) == l.Moving:
+		return "audit again after a scan by Syncthing, as with --rescan"
+	}
+	return "audit again, and for what waits for a scan after one by Syncthing, as with --rescan"
 }
 
 // moving prints the names in motion, and what hasn't been heard of.
@@ -92,7 +110,7 @@ func (p *printer) moving(folder *Folder) {
 		p.line("for how long %s was still isn't known: the devices' clocks differ by more than that", folder.ID)
 	}
 	if live.Moving > 0 {
-		p.line("in motion in %s: %s, not audited: audit again", folder.ID, counted(live.Moving, "name", "names"))
+		p.line("in motion in %s: %s, not audited: %s", folder.ID, counted(live.Moving, "name", "names"), live.advice())
 	}
 	for place, one := range live.Names {
 		if place == mostMoving {

@@ -19,6 +19,28 @@ func inMotion(count int) []finding.Moving {
 	return made
 }
 
+// What waits for a scan is never told to come to rest by itself.
+func TestAdviceForWhatWaitsForAScan(t *testing.T) {
+	moved := func(why ...string) Moving {
+		return Moving{Devices: []Moved{{Device: "a", Why: []string{part.MovedViews}}, {Device: "b", Why: why}}}
+	}
+	cases := []struct {
+		live   Live
+		advice string
+	}{
+		{Live{Moving: 1, Names: []Moving{moved(part.MovedDisk)}}, "audit again"},
+		{Live{Moving: 1, Names: []Moving{moved(part.MovedUnscanned)}}, "audit again after a scan by Syncthing, as with --rescan"},
+		{Live{Moving: 2, Names: []Moving{moved(part.MovedDisk), moved(part.MovedRecord, part.MovedUnscanned)}},
+			"audit again, and for what waits for a scan after one by Syncthing, as with --rescan"},
+		{Live{Moving: 2, Names: []Moving{moved(part.MovedUnscanned)}}, "audit again, and for what waits for a scan after one by Syncthing, as with --rescan"},
+	}
+	for _, one := range cases {
+		if made := one.live.advice(); made != one.advice {
+			t.Errorf("%+v: %s", one.live, made)
+		}
+	}
+}
+
 // What was still, for how long, and what was in motion: it is never called in step.
 func TestTextOfRunningDevices(t *testing.T) {
 	cases := []struct {
@@ -38,6 +60,13 @@ func TestTextOfRunningDevices(t *testing.T) {
 in motion in docs: 2 names, not audited: audit again
   'a b': laptop: its record changed, what stands on the disk changed; server: what it knows of others' records changed
   c: server: it is being received
+` + strings.TrimPrefix(lastLine, "\n")},
+		{"one waits for a scan", finding.Live{Timed: true, Moving: 1, Names: []finding.Moving{
+			{Name: "c", At: []finding.Moved{{Member: 1, Why: []string{part.MovedUnscanned}}}}}},
+			`docs (Documents): in step as far as audited; still for 0 s: 1,204 names; in motion: 1 (4 deleted, 335.2 MB hashed on laptop, server)
+
+in motion in docs: 1 name, not audited: audit again after a scan by Syncthing, as with --rescan
+  c: server: the disk isn't as recorded: it waits for a scan by Syncthing
 ` + strings.TrimPrefix(lastLine, "\n")},
 		{"more than are told", finding.Live{Timed: true, Moving: 12, Names: inMotion(11)},
 			`docs (Documents): in step and firm as far as audited; still for 0 s: 1,204 names; in motion: 12 (4 deleted, 335.2 MB hashed on laptop, server)

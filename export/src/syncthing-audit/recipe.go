@@ -1,0 +1,81 @@
+package main
+
+import (
+	"fmt"
+	"io"
+	"strings"
+
+	"syncthing-audit/part"
+	"syncthing-audit/shell"
+)
+
+// tokenLine is what a token looks like among all that is told on standard error, for grep.
+const tokenLine = "^[0-9A-Z-]{63}:[0-9a-f]{32}$"
+
+// tellCommands tells what a run would do, as a script for a shell. Where a part goes to standard output, its token is told on
+// standard error, beside other lines.
+func tellCommands(output io.Writer, places []*place, asked options) {
+	labels := labelsOf(places)
+	named := func(ending string) string {
+		words := []string{}
+		for _, one := range labels {
+			words = append(words, shell.Quoted(one+ending))
+		}
+		return strings.Join(words, " ")
+	}
+	fmt.Fprintln(output, "# The first looks, at once or one after another. Each tells its token on standard error.")
+	for at, one := range places {
+		fmt.Fprintf(output, "%s < /dev/null > %s 2> %s\n", quotedWords(one.begin(asked)), shell.Quoted(labels[at]+".begin"), shell.Quoted(labels[at]+".log"))
+	}
+	fmt.Fprintf(output, "# Once all are over: the tokens of all, one on a line.\ngrep -hE %s %s > tokens\nsleep %g\n", shell.Word(tokenLine), named(".log"), asked.still)
+	fmt.Fprintln(output, "# The second looks. A device doesn't know whose looks are asked for, so each goes on without the tokens of others (--leave-out\n"+
+		"# absent). 'check' refuses where a device, or a token of one, is missing.")
+	for at, one := range places {
+		fmt.Fprintf(output, "%s < tokens > %s\n", quotedWords(one.end(asked)), shell.Quoted(labels[at]+".end"))
+	}
+	fmt.Fprintf(output, "%s %s %s\n", quotedWords(places[0].check(asked)), named(".begin"), named(".end"))
+}
+
+// check gives the command that joins all looks, but for their parts.
+func (p *place) check(asked options) []string {
+	words := []string{p.self, "check"}
+	for _, one := range asked.folders {
+		words = append(words, "--folder", one)
+	}
+	for _, kind := range part.Kinds {
+		if asked.leaveOut[kind] {
+			words = append(words, "--leave-out", kind)
+		}
+	}
+	if asked.lines {
+		words = append(words, "--lines")
+	}
+	if asked.json {
+		words = append(words, "--json")
+	}
+	return append(words, "--syncaudit", asked.program)
+}
+
+// labelsOf gives each place a name for its files that no other one has.
+func labelsOf(places []*place) []string {
+	made := []string{}
+	had := map[string]bool{}
+	for _, one := range places {
+		label := one.label()
+		for next := 2; had[label]; next++ {
+			label = fmt.Sprintf("%s-%d", one.label(), next)
+		}
+		had[label] = true
+		made = append(made, label)
+	}
+	return made
+}
+
+// quotedWords gives a command as a shell reads it.
+func quotedWords(words []string) string {
+	made := []string{}
+	for _, one := range words {
+		made = append(made, shell.Word(one))
+	}
+	return strings.Join(made, " ")
+}

@@ -1,0 +1,42 @@
+package main
+
+import (
+	"fmt"
+	"os/exec"
+	"strings"
+	"testing"
+
+	"github.com/syncthing/syncthing/lib/protocol"
+	"syncthing-audit/looks"
+)
+
+// Two homes of one machine have files of their own.
+func TestLabels(t *testing.T) {
+	places := []*place{{host: "a"}, {host: "a", home: "x"}, {home: "/a-2"}, {host: "a", home: "y"}}
+	if made := fmt.Sprint(labelsOf(places)); made != "[a a-2 a-2-2 a-3]" {
+		t.Error(made)
+	}
+}
+
+// What was asked of the run is asked of its last command.
+func TestLastCommandOfTheRecipe(t *testing.T) {
+	asked := options{folders: []string{"docs", "a b"}, leaveOut: map[string]bool{"special": true, "absent": true}, json: true, program: "audit"}
+	made := quotedWords((&place{self: "here"}).check(asked))
+	if made != "here check --folder docs --folder 'a b' --leave-out special --leave-out absent --json --syncaudit audit" {
+		t.Error(made)
+	}
+}
+
+// The recipe's grep takes a token, and no line of progress.
+func TestTokenLine(t *testing.T) {
+	id, err := looks.NewID()
+	if err != nil {
+		t.Fatal(err)
+	}
+	token := looks.Token(protocol.DeviceID{7: 1}.String(), id) + "\n"
+	grep := exec.Command("grep", "-hE", tokenLine)
+	grep.Stdin = strings.NewReader("syncthing-audit: hashed 1 MB: 7\nsyncthing-audit: x " + token + token + "Welcome: to a machine\n")
+	if taken, err := grep.Output(); err != nil || string(taken) != token {
+		t.Errorf("%q, %v", taken, err)
+	}
+}

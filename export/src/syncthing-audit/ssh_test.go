@@ -1,0 +1,62 @@
+package main
+
+import (
+	"os"
+	"path/filepath"
+	"strings"
+	"testing"
+	"time"
+)
+
+// What ssh's configuration sets is left alone.
+func TestOptionsOfSSH(t *testing.T) {
+	const all = "-o ConnectTimeout=20 -o ServerAliveInterval=15 -o ServerAliveCountMax=4"
+	cases := []struct{ told, options string }{
+		{"", all},
+		{"connecttimeout none\nserveraliveinterval 0\nserveralivecountmax 3\n", all},
+		{"connecttimeout 5\nserveraliveinterval 0\n", "-o ServerAliveInterval=15 -o ServerAliveCountMax=4"},
+		{"ConnectTimeout none\nServerAliveInterval 300\n", "-o ConnectTimeout=20"},
+		{"connecttimeout 5\nserveraliveinterval 300\n", ""},
+	}
+	for _, one := range cases {
+		if made := strings.Join(missingOptions(one.told), " "); made != one.options {
+			t.Errorf("%q: %q", one.told, made)
+		}
+	}
+	room := t.TempDir()
+	text := "#!/bin/sh\n[ \"$*\" = '-G laptop' ] && echo connecttimeout 7\n"
+	if err := os.WriteFile(filepath.Join(room, "ssh"), []byte(text), 0o700); err != nil {
+		t.Fatal(err)
+	}
+	t.Setenv("PATH", room+":"+os.Getenv("PATH"))
+	for host, expected := range map[string]string{"laptop": "-o ServerAliveInterval=15 -o ServerAliveCountMax=4", "off": all} {
+		if made := strings.Join(optionsOfSSH(host), " "); made != expected {
+			t.Errorf("%s: %q", host, made)
+		}
+	}
+}
+
+// Whoever is awaited is told again and again, and nobody who has answered.
+func TestWhoIsAwaited(t *testing.T) {
+	var log strings.Builder
+	run := &running{places: []*place{{given: "quick:"}, {given: "slow:"}}, log: &log, patience: 20 * time.Millisecond}
+	if err := run.all("first look", func(at int) error {
+		time.Sleep(time.Duration(at) * 100 * time.Millisecond)
+		return nil
+	}); err != nil {
+		t.Fatal(err)
+	}
+	told := strings.Split(strings.TrimSpace(log.String()), "\n")
+	if len(told) < 2 || len(told) > 3 {
+		t.Errorf("told %d times: %q", len(told), told)
+	}
+	for _, line := range told {
+		if !strings.HasPrefix(line, "syncthing-audit: first look: waiting for slow: for ") {
+			t.Errorf("%q", line)
+		}
+	}
+	log.Reset()
+	if err := run.all("first look", func(int) error { return nil }); err != nil || log.Len() > 0 {
+		t.Errorf("%v, %q", err, log.String())
+	}
+}
