@@ -2,6 +2,7 @@
 use Rattle.std.specs.Prelude.{◌≡◌, ◌⊎◌, ℕ, List, Option, Err}
 use Rattle.std.specs.Io.KnownBytes.{Keeps}
 use Rattle.bep_answer.specs.Status.{IsCertificateTold, IsFirmTold, IsPartTold, IsTold, status_of, usage}
+use Rattle.bep_lines.specs.declared.form.Form.{Form}
 use Rattle.bep_play.specs.Told.{IsEndTold, IsRunTold}
 use Rattle.bep_reasons.specs.FirmExplained.{IsFirmExplanationTold}
 use Rattle.bep_reasons.specs.Told.{IsExplanationTold}
@@ -10,7 +11,9 @@ use Rattle.clap.specs.Words.{Text}
 use Rattle.bep_words.specs.Mode.{Asks}
 use Rattle.bep_words.specs.declared.mode.Ending.{Ending}
 use Rattle.bep_words.specs.declared.mode.Ending.TheVariants.{Report, Document}
+use Rattle.bep_words.specs.declared.mode.Extent.{Extent}
 use Rattle.bep_words.specs.declared.mode.Extent.TheVariants.{All, Won}
+use Rattle.bep_words.specs.declared.mode.Goal.{Goal}
 use Rattle.bep_words.specs.declared.mode.Goal.TheVariants.{Settled}
 use Rattle.bep_words.specs.declared.mode.Goal.TheVariants as goals
 use Rattle.bep_words.specs.declared.mode.Mode.{Mode}
@@ -21,14 +24,22 @@ abbrev pub IsEnding : Ending → Option (List ℕ) → Option (List ℕ) → Opt
 IsEnding Report = IsRunTold
 IsEnding Document = IsEndTold
 
+-- what came of the document for the certificate that is asked for
+abbrev pub IsCertifying : Extent → Option (List ℕ) → Option (List ℕ) → Option (List ℕ) → Option (List ℕ) → ℕ → Type 0
+IsCertifying All = IsCertificateTold
+IsCertifying Won = IsPartTold
+
+-- what came of the document for what is to be explained, in the form that is asked for
+abbrev pub IsExplaining : Goal → Form → Option (List ℕ) → Option (List ℕ) → Option (List ℕ) → Option (List ℕ) → ℕ → Type 0
+IsExplaining Settled form = IsExplanationTold form
+IsExplaining goals.Firm form = IsFirmExplanationTold form
+
 -- what came of the document in each mode
 abbrev pub IsDone : Mode → Option (List ℕ) → Option (List ℕ) → Option (List ℕ) → Option (List ℕ) → ℕ → Type 0
 IsDone Check = IsTold
 IsDone Firm = IsFirmTold
-IsDone (Certify All) = IsCertificateTold
-IsDone (Certify Won) = IsPartTold
-IsDone (Explain Settled form) = IsExplanationTold form
-IsDone (Explain goals.Firm form) = IsFirmExplanationTold form
+IsDone (Certify extent) = IsCertifying extent
+IsDone (Explain goal form) = IsExplaining goal form
 IsDone (Run ending) = IsEnding ending
 
 -- the words ask for a mode, and this came of the document in it

@@ -7,13 +7,14 @@ ghost use Rattle.bep_play.specs.Played.{EndsSettled};
 ghost use Rattle.bep_report.specs.declared.error.ReportError.TheVariants.{Memory};
 ghost use Rattle.bep_words.specs.Mode.{Asks, program};
 ghost use Rattle.bep_answer.specs.Status.{status_of, usage};
-ghost use Rattle.syncaudit.specs.Status.{IsEnd, IsEnding, IsFollowed};
+ghost use Rattle.syncaudit.specs.Status.{IsCertifying, IsEnd, IsEnding, IsExplaining, IsFollowed};
 ghost use Rattle.bep_words.specs.declared.mode.Ending.TheVariants.{Report};
 ghost use Rattle.bep_words.specs.declared.mode.Mode.TheVariants.{Check, Firm, Run};
 
 use bep_answer::{
     USAGE, certify_and_tell, certify_partly_and_tell, check_and_tell, end, firm_and_tell,
 };
+use bep_lines::Form;
 use bep_play::{run_and_tell, run_document_and_tell};
 use bep_reasons::{explain_and_tell, explain_firm_and_tell};
 use bep_report::ReportError;
@@ -46,10 +47,8 @@ pub fn run<P: AllocGlobal + Eprint, R: Read, W: Write, S: AsStr>(
     match mode_told(rt, words) {
         Ok(Mode::Check) => check_and_tell(rt, reader, writer),
         Ok(Mode::Firm) => firm_and_tell(rt, reader, writer),
-        Ok(Mode::Certify(Extent::All)) => certify_and_tell(rt, reader, writer),
-        Ok(Mode::Certify(Extent::Won)) => certify_partly_and_tell(rt, reader, writer),
-        Ok(Mode::Explain(Goal::Settled, form)) => explain_and_tell(rt, form, reader, writer),
-        Ok(Mode::Explain(Goal::Firm, form)) => explain_firm_and_tell(rt, form, reader, writer),
+        Ok(Mode::Certify(extent)) => certify(rt, extent, reader, writer),
+        Ok(Mode::Explain(goal, form)) => explain(rt, goal, form, reader, writer),
         Ok(Mode::Run(ending)) => run_scenario(rt, ending, reader, writer),
         Err(Unfollowed::Memory) => end(rt, Err(ReportError::Memory)),
         Err(Unfollowed::Usage) => USAGE,
@@ -70,6 +69,37 @@ pub fn run_without_words<P: Eprint>(rt: &P, error: io::Error) -> u8
     } else {
         let _ = eprint!(rt; "error: the words are no UTF-8\n");
         USAGE
+    }
+}
+
+// Certifies a document, and writes as much of the certificate as is asked for.
+fn certify<P: AllocGlobal + Eprint, R: Read, W: Write>(
+    rt: &P,
+    extent: Extent,
+    reader: &mut R,
+    writer: &mut W,
+) -> u8
+    ensures { IsCertifying extent (R.remaining reader.old) (R.remaining reader.new) (W.contents writer.old) (W.contents writer.new) result }
+{
+    match extent {
+        Extent::All => certify_and_tell(rt, reader, writer),
+        Extent::Won => certify_partly_and_tell(rt, reader, writer),
+    }
+}
+
+// Explains a document, and writes what keeps it from being what is asked for.
+fn explain<P: AllocGlobal + Eprint, R: Read, W: Write>(
+    rt: &P,
+    goal: Goal,
+    form: Form,
+    reader: &mut R,
+    writer: &mut W,
+) -> u8
+    ensures { IsExplaining goal form (R.remaining reader.old) (R.remaining reader.new) (W.contents writer.old) (W.contents writer.new) result }
+{
+    match goal {
+        Goal::Settled => explain_and_tell(rt, form, reader, writer),
+        Goal::Firm => explain_firm_and_tell(rt, form, reader, writer),
     }
 }
 
