@@ -63,7 +63,7 @@ in motion in docs: 2 names, not audited: audit again
 ` + strings.TrimPrefix(lastLine, "\n")},
 		{"one waits for a scan", finding.Live{Timed: true, Moving: 1, Names: []finding.Moving{
 			{Name: "c", At: []finding.Moved{{Member: 1, Why: []string{part.MovedUnscanned}}}}}},
-			`docs (Documents): in step as far as audited; still for 0 s: 1,204 names; in motion: 1 (4 deleted, 335.2 MB hashed on laptop, server)
+			`docs (Documents): in step and firm as far as audited; still for 0 s: 1,204 names; in motion: 1 (4 deleted, 335.2 MB hashed on laptop, server)
 
 in motion in docs: 1 name, not audited: audit again after a scan by Syncthing, as with --rescan
   c: server: the disk isn't as recorded: it waits for a scan by Syncthing
