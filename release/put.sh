@@ -24,13 +24,21 @@ put() {
   esac
 }
 
+# is_for_program PLACE: what stands in this place is there to run the program.
+is_for_program() {
+  case $1 in
+    bin/syncaudit | lib/syncaudit/*) true ;;
+    *) false ;;
+  esac
+}
+
 # put_all PREFIX: puts all that is listed below the prefix, and tells each place.
 put_all() {
   local mode file place
   grep '^[0-9]' "$release/files" | while read -r mode file place; do
     if [ "$file" = exporter ] && ! has_exporter; then
       echo "without Go and Syncthing's packages there is no $place" >&2
-    elif [ "$file" = syncaudit ] && [ -z "$program" ]; then
+    elif [ -z "$program" ] && is_for_program "$place"; then
       echo "without the program there is no $place" >&2
     else
       put "$mode" "$file" "$1/$place"
