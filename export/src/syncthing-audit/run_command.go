@@ -16,11 +16,10 @@ import (
 	"syncthing-audit/finding"
 	"syncthing-audit/leftover"
 	"syncthing-audit/looks"
-	"syncthing-audit/report"
 )
 
-// secondsOfStillness is how long second looks wait once all first ones are over, where --still doesn't say it: what is on
-// its way between devices mostly arrives in that time.
+// secondsOfStillness is how long second looks wait once all first ones are over, if --still doesn't say it. Mostly, what is
+// on its way between devices arrives in that time.
 const secondsOfStillness = 10
 
 // secondsOfPatience is how long a machine may be silent before it is told that it is awaited.
@@ -246,25 +245,19 @@ func (r *running) answer(program ask.Program, output io.Writer) (int, error) {
 	if read.lines {
 		tellDevices(r.log, opened.devices)
 	}
-	endProgress := opened.startProgress(r.log, read)
-	answer, err := answerOf(opened, read, program)
-	endProgress()
+	answer, err := opened.audited(read, r.log, func() (*finding.Answer, error) { return answerOf(opened, read, program) })
 	if err != nil {
 		return 0, r.renamed(err, names)
-	}
-	if len(answer.Refusals) > 0 {
-		report.Refusals(r.log, answer)
-		return 0, errTold
 	}
 	r.time(answer)
 	return tell(output, r.log, read, answer)
 }
 
-// renamed gives an error with places in place of this run's own files. One that says a status stays as it is.
+// renamed gives an error with places in place of this run's own files. One that says a status or was told stays as it is.
 func (r *running) renamed(err error, names map[string]string) error {
 	var failed *ask.Failed
 	text := err.Error()
-	if errors.As(err, &failed) {
+	if errors.As(err, &failed) || errors.Is(err, errTold) {
 		return err
 	}
 	for path, name := range names {
