@@ -155,8 +155,8 @@ func reasonsOf(row *join.Row) []finding.Reason {
 	return reasons
 }
 
-// isOutside says whether a name is ignored by each member that has it on its disk, and no index names it: Syncthing
-// doesn't take it for the folder's.
+// isOutside says whether a name is ignored by each member that has it on its disk, and no index names it. Syncthing doesn't
+// take such a name for the folder's.
 func isOutside(row *join.Row) bool {
 	for _, one := range row.At {
 		if one == nil {

@@ -68,8 +68,8 @@ func Join(first, second part.Stream) (*Stream, error) {
 	return made, nil
 }
 
-// joinFolder joins what the heads of two looks say of a folder: its own greatest sequence is that of the second look, those
-// of its views are of both.
+// joinFolder joins what the heads of two looks say of a folder. Its own greatest sequence is that of the second look. The
+// greatest sequences of its views are of both.
 func joinFolder(one, other *part.Folder) (*part.Folder, error) {
 	switch {
 	case one.ID != other.ID:

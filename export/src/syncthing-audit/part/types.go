@@ -1,6 +1,6 @@
-// Package part has what one device tells of its folders: what its index says, what it knows of others' indexes, and
-// what stands on its disk, with hashes in place of bytes. A part is a stream: a head, then for each folder its names,
-// rising byte by byte. It holds no private key and no file's bytes.
+// Package part has what one device tells of its folders: what its index says, what it knows of others' indexes, and what
+// stands on its disk. Hashes stand in place of bytes. A part is a stream: a head, then for each folder its names, rising
+// byte by byte. It holds no private key and no file's bytes.
 package part
 
 import (
@@ -148,7 +148,7 @@ type Node struct {
 }
 
 // Content is a file's list of block hashes: how long the file is, how it is cut, and the SHA-256 of the hashes one after
-// another. Of a file of one block the block size isn't part of the content.
+// another. If a file has one block, its block size isn't part of the content.
 type Content struct {
 	Size      int64 `json:"size"`
 	BlockSize int64 `json:"block_size"`

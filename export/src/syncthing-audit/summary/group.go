@@ -45,8 +45,8 @@ func keyOf(file *File) string {
 	return key + " of " + strings.Join(file.Have, " ")
 }
 
-// shorten makes the faults of a name whose details weren't kept such that it can be told with others: there is no end to
-// how many of these there are.
+// shorten keeps the device of each fault alone, of a name whose details weren't kept. So the name can be told together with
+// others. There may be any number of such names.
 func (f *File) shorten() {
 	for place := range f.Faults {
 		one := &f.Faults[place]

@@ -1,5 +1,5 @@
-// Package summary has what an audit found as a person asks for it: one entry a file, with what is wrong on which device,
-// who has the recorded bytes, and what to do. Its JSON is docs/audit.schema.json.
+// Package summary has what an audit found as a person asks for it. There is one entry a file. It says what is wrong on
+// which device, who has the recorded bytes, and what to do. Its JSON is docs/audit.schema.json.
 package summary
 
 import (
