@@ -24,7 +24,7 @@ class LiveDevices(Live):
         self.assertEqual((status, lines), (0, ["settled", f"folder {FOLDER}: 6 names, 1 deleted, 3 devices", "in motion: 0 names"]))
         ran = run([self.program, "check", *self.looks(), "--syncaudit", self.auditor])
         self.assertRegex(ran.stdout.splitlines()[0],
-                         rf"^{FOLDER}: {in_step()}; still for \d+ s: 6 names; in motion: 0 \(1 deleted, .* hashed on ")
+                         rf"^{FOLDER}: {in_step()}; still for \d+ s: 6 names \(1 deleted\), .* hashed on .*; in motion: 0$")
 
     def test_other_bytes_while_running(self):
         with rot(self.two.files / "folder" / "large", 1000):

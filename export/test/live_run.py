@@ -57,7 +57,7 @@ cd "{room}/$machine/user" && HOME=$PWD PATH={programs}:$PATH exec sh -c "$*"
     def test_in_step(self):
         ran = self.run_on()
         self.assertEqual(ran.returncode, 0, ran.stderr)
-        self.assertRegex(ran.stdout.splitlines()[0], rf"^{FOLDER}: {in_step()}; still for \d+ s: 6 names; in motion: 0 ")
+        self.assertRegex(ran.stdout.splitlines()[0], rf"^{FOLDER}: {in_step()}; still for \d+ s: 6 names .*; in motion: 0$")
 
     def test_other_bytes(self):
         with rot(self.two.files / "folder" / "large", 1000):

@@ -52,6 +52,21 @@ status=0
 expect "the installed command without its program has status $status" [ "$status" = 127 ]
 expect "it doesn't say what is missing: $(cat "$work/error")" tells "the program isn't in $work/alone/lib/syncaudit"
 
+# ---- without Go, and off PATH
+
+rm -f "$work/tools/go"
+tools install mkdir
+# install_by PATH: installs where these directories are on PATH.
+install_by() {
+  PATH=$1 "$place/install" "$work/goless" > "$work/output" 2> "$work/error" || true
+}
+install_by "$work/tools"
+expect "install without Go puts an exporter in place" [ ! -e "$work/goless/bin/syncthing-audit" ]
+expect "install without Go doesn't say what to do: $(cat "$work/error")" says 'apt-get install golang-go' "$work/error"
+expect "install doesn't say that its programs aren't on PATH: $(cat "$work/error")" says "$work/goless/bin isn't on PATH" "$work/error"
+install_by "$work/tools:$work/goless/bin"
+expect "install says of a place on PATH that it isn't: $(cat "$work/error")" [ "$(grep -c PATH "$work/error")" = 0 ]
+
 # ---- packages
 
 cp package README.md CHANGELOG.md "$place"

@@ -204,7 +204,7 @@ func (r *running) tell(at int, told string) {
 	defer r.mutex.Unlock()
 	for _, line := range strings.Split(told, "\n") {
 		if said := strings.TrimPrefix(line, "syncthing-audit: "); said != line {
-			fmt.Fprintf(r.log, "syncthing-audit: %s %s\n", r.places[at].given, said)
+			fmt.Fprintf(r.log, "syncthing-audit: %s: %s\n", strings.TrimSuffix(r.places[at].given, ":"), said)
 		}
 	}
 }
