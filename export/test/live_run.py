@@ -105,8 +105,8 @@ cd "{room}/$machine/user" && HOME=$PWD PATH={programs}:$PATH exec sh -c "$*"
     def test_commands_are_told(self):
         ran = self.run_on("--dry-run", "--folder", FOLDER, "--jobs", "1")
         self.assertEqual(ran.returncode, 0, ran.stderr)
-        self.assertIn(f"ssh -o 'ConnectTimeout=20' one 'nice -n 19 syncthing-audit part --begin --jobs 1 --folder {FOLDER} -o -' < /dev/null > one.begin 2> one.log\n", ran.stdout)
-        self.assertIn(f"ssh -o 'ConnectTimeout=20' two 'syncthing-audit part --end --tokens - --leave-out absent --home {self.two.home} --folder {FOLDER} -o -'"
+        self.assertIn(f"ssh -o 'ConnectTimeout=20' one 'PATH=\"$PATH:$HOME/.local/bin\" nice -n 19 syncthing-audit part --begin --jobs 1 --folder {FOLDER} -o -' < /dev/null > one.begin 2> one.log\n", ran.stdout)
+        self.assertIn(f"ssh -o 'ConnectTimeout=20' two 'PATH=\"$PATH:$HOME/.local/bin\" syncthing-audit part --end --tokens - --leave-out absent --home {self.two.home} --folder {FOLDER} -o -'"
                       " < tokens > two.end\n", ran.stdout)
 
     def test_the_told_commands_work(self):
@@ -124,7 +124,13 @@ cd "{room}/$machine/user" && HOME=$PWD PATH={programs}:$PATH exec sh -c "$*"
     def test_a_machine_that_does_not_answer(self):
         ran = self.run_at(["one:", "off:"])
         self.assertEqual((ran.returncode, ran.stdout), (2, ""))
-        self.assertIn("off:: its command ended with exit status 255: ssh: connect to host off", ran.stderr)
+        self.assertIn("off: its command ended with exit status 255: ssh: connect to host off", ran.stderr)
+
+    def test_a_machine_without_the_program(self):
+        ran = self.run_at(["one:"], "--remote-program", "nothing-there")
+        self.assertEqual((ran.returncode, ran.stdout), (2, ""))
+        self.assertIn("one: its command ended with exit status 127: ", ran.stderr)
+        self.assertIn("Is syncthing-audit installed there? --remote-program says how it is called", ran.stderr)
 
     def test_a_device_that_is_not_asked(self):
         ran = self.run_at(["one:", "two:"])

@@ -31,7 +31,7 @@ func runRun(words []string, output, log io.Writer) (int, error) {
 		flags.Var(kinds(read.leaveOut), "leave-out", "")
 		answerFlags(flags, read)
 		flags.StringVar(&read.program, "syncaudit", defaultProgram(), "")
-		flags.StringVar(&read.remote, "remote-program", "syncthing-audit", "")
+		flags.StringVar(&read.remote, "remote-program", "", "")
 		flags.Float64Var(&read.still, "still", secondsOfStillness, "")
 		flags.BoolVar(&read.rescan, "rescan", false, "")
 		flags.BoolVar(&read.dryRun, "dry-run", false, "")
@@ -107,10 +107,10 @@ func (r *running) look() error {
 	for at := range r.places {
 		head, err := headOf(r.file(at, "begin"))
 		if err != nil {
-			return fmt.Errorf("%s: %w", r.places[at].given, r.places[at].hint(err))
+			return fmt.Errorf("%s: %w", r.places[at].called(), r.places[at].hint(err))
 		}
 		if head.Look == nil {
-			return fmt.Errorf("%s: its part isn't of a first look: is the program of this version there?", r.places[at].given)
+			return fmt.Errorf("%s: its part isn't of a first look: is the program of this version there?", r.places[at].called())
 		}
 		fmt.Fprintln(&tokens, looks.Token(head.Device, head.Look.ID))
 	}
@@ -204,7 +204,7 @@ func (r *running) tell(at int, told string) {
 	defer r.mutex.Unlock()
 	for _, line := range strings.Split(told, "\n") {
 		if said := strings.TrimPrefix(line, "syncthing-audit: "); said != line {
-			fmt.Fprintf(r.log, "syncthing-audit: %s: %s\n", strings.TrimSuffix(r.places[at].given, ":"), said)
+			fmt.Fprintf(r.log, "syncthing-audit: %s: %s\n", r.places[at].called(), said)
 		}
 	}
 }
