@@ -3,6 +3,7 @@ package main
 import (
 	"bufio"
 	"encoding/json"
+	"errors"
 	"fmt"
 	"io"
 	"os"
@@ -44,17 +45,23 @@ func readExported(directory string) (*exported, error) {
 	path := filepath.Join(directory, restName)
 	file, err := os.Open(path)
 	if err != nil {
-		return nil, err
+		return nil, fmt.Errorf("refused: 'export --into' fills a directory for 'sum': %w", err)
 	}
 	defer file.Close()
 	read := &exported{}
-	lines := json.NewDecoder(bufio.NewReader(file))
-	err = lines.Decode(read)
-	if err == nil && read.Answer != nil {
-		err = read.Answer.ReadLists(lines)
-	}
-	if err != nil || read.Answer == nil {
-		return nil, fmt.Errorf("refused: %s isn't what 'export' writes: %v", path, err)
+	if err := read.readFrom(json.NewDecoder(bufio.NewReader(file))); err != nil {
+		return nil, fmt.Errorf("refused: %s isn't what 'export' writes: %w", path, err)
 	}
 	return read, nil
+}
+
+// readFrom reads the lines that save writes.
+func (e *exported) readFrom(lines *json.Decoder) error {
+	if err := lines.Decode(e); err != nil {
+		return err
+	}
+	if e.Answer == nil {
+		return errors.New("it has no answer")
+	}
+	return e.Answer.ReadLists(lines)
 }

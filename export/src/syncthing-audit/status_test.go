@@ -74,14 +74,7 @@ func (full) Write([]byte) (int, error) { return 0, errors.New("no space left on 
 
 // An answer that can't be written is a fault, and never done.
 func TestAnAnswerThatCannotBeWritten(t *testing.T) {
-	room := t.TempDir()
-	t.Setenv("SYNCAUDIT", "/bin/true")
-	if status := run([]string{"export", "--into", room, aPart(t)}, io.Discard, io.Discard); status != statusDone {
-		t.Fatalf("the export has status %d", status)
-	}
-	if err := os.WriteFile(filepath.Join(room, "cut-0001.reply"), []byte("settled\nfolder docs: 1 names, 0 deleted, 1 devices\n"), 0o600); err != nil {
-		t.Fatal(err)
-	}
+	room := exportedPart(t)
 	for _, form := range []string{"", "--lines", "--json"} {
 		words := strings.Fields("sum " + room + " " + form)
 		if status := run(words, io.Discard, io.Discard); status != statusPartial {
