@@ -104,19 +104,24 @@ def measure_hashing(room, asked):
     shutil.rmtree(folder)
 
 
+def on_line(values, size):
+    """What a straight line through the first and the last of these values, one for each of SIZES, has at another size."""
+    slope = (values[-1] - values[0]) / (SIZES[-1] - SIZES[0])
+    return values[0] + slope * (size - SIZES[0])
+
+
 def measure_joining(room, asked):
     """Three devices by their parts, of three sizes."""
-    times = []
+    seconds, processor = [], []
     for names in SIZES:
         parts = sample_parts(room, str(names), names)
         figures = best(asked.runs, [room / PROGRAM, "check", *parts, "--syncaudit", asked.auditor])
         tell(f"join and audit of {names:,} names on 3 devices", figures)
-        times.append(figures[0])
-    tell_goal(f"seconds of {SIZES[2]:,} names", times[2], MOST_SECONDS)
-    slope = (times[2] - times[0]) / (SIZES[2] - SIZES[0])
-    middle = times[0] + slope * (SIZES[1] - SIZES[0])
-    print(f"{ESTIMATED:,} names by these: {times[2] + slope * (ESTIMATED - SIZES[2]):.0f} s "
-          f"(of {SIZES[1]:,} names a straight line has {middle:.2f} s)")
+        seconds.append(figures[0])
+        processor.append(figures[1])
+    tell_goal(f"seconds of {SIZES[-1]:,} names", seconds[-1], MOST_SECONDS)
+    print(f"{ESTIMATED:,} names by these: {on_line(seconds, ESTIMATED):.0f} s, {on_line(processor, ESTIMATED):.0f} processor seconds")
+    print(f"of {SIZES[1]:,} names that line has {on_line(seconds, SIZES[1]):.2f} s, {on_line(processor, SIZES[1]):.2f} processor seconds")
 
 
 def in_form(form):

@@ -12,8 +12,8 @@ import (
 	"syncthing-audit/finding"
 )
 
-// restName is the file beside exported documents with what no document says, in lines of JSON: an exported, and then the
-// long lists of its answer.
+// restName is the file beside exported documents. It has what no document says, in lines of JSON. The first line is an
+// exported. Behind it stand the long lists of its answer.
 const restName = "rest.jsonl"
 
 // exported is what an export into a directory leaves there beside the documents.

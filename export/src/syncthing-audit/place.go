@@ -114,7 +114,8 @@ func (p *place) about(asked options) []string {
 	return append(words, "-o", "-")
 }
 
-// words gives a command behind other words: here this program, elsewhere the one that ssh is to run, as one word for its shell.
+// words gives a command, behind other words. Here it is this program. Elsewhere ssh runs it, as one word for the shell
+// there.
 func (p *place) words(before, words []string, asked options) []string {
 	if p.host == "" {
 		return append(append(before[:len(before):len(before)], p.self), words...)

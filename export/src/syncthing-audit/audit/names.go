@@ -63,7 +63,7 @@ func (n *names) audit(row *join.Row) error {
 	return n.give(full)
 }
 
-// keep keeps what the devices have of a name that something is told of, once, as far as there is room.
+// keep keeps what the devices have of a name of which something is told, once, as far as there is room.
 func (n *names) keep(row *join.Row) {
 	if n.found.Rows[row.Name] != nil {
 		return

@@ -9,7 +9,7 @@ import (
 // FirmReasons are why a folder that is settled isn't firm, in the order in which they are told.
 var FirmReasons = []string{VersionDiffers, ViewNotBelow, FlightNotBelow, PullNotBelow}
 
-// These reasons. The last two are of records on their way and of pulls, of which nobody knows who reads a device's index.
+// These reasons. The last two are of records on their way and of pulls. Nobody who reads a device's index knows of those.
 const (
 	VersionDiffers = "VersionDiffers"
 	ViewNotBelow   = "ViewNotBelow"

@@ -6,8 +6,8 @@ import (
 	"io"
 )
 
-// listed is a thing of one of a folder's lists that may be longer than memory has room for, as JSON. All of them stand
-// behind an answer, one by one, so that neither who writes nor who reads them has all in memory.
+// listed is, as JSON, one thing of a folder's long lists. Memory may have no room for such a list. All things stand behind
+// an answer, one by one, so neither who writes nor who reads them has all in memory.
 type listed struct {
 	Folder      int          // its place in the answer
 	Unwon       *Unwon       `json:",omitempty"`

@@ -176,7 +176,7 @@ func (c *comparing) name(line part.Line) error {
 	return c.sink(line)
 }
 
-// WithoutChanging gives a name that was changing while it was read, or waits for a scan, as one that moved.
+// WithoutChanging gives a name that was changing while it was read, or that waits for a scan, as one that moved.
 func WithoutChanging(one *part.Name) *part.Name {
 	if one.IsIgnored() {
 		return one

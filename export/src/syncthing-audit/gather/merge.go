@@ -174,7 +174,7 @@ func sizeOf(line *part.Name) int64 {
 	return 0
 }
 
-// send puts a name into the queue, its file, which had this stamp when it was found, being hashed.
+// send puts a name into the queue, and has its file hashed. The file had this stamp when it was found.
 func (m *merge) send(line *part.Name, recorded [][32]byte, stamp string) bool {
 	node := line.Disk
 	if node != nil && m.device.Bytes && node.Size > limits.MostFileBytes && len(line.Out) == 0 {

@@ -25,7 +25,7 @@ func checkLooks(devices []*Device) error {
 	return nil
 }
 
-// checkOrder refuses a second look that began before the first look of another device was over: it can't name it then.
+// checkOrder refuses a second look that began before another device's first look was over. It can't name that look then.
 func (p *Plan) checkOrder(folder *Folder) {
 	for _, one := range folder.Members {
 		for _, other := range folder.Members {

@@ -138,7 +138,7 @@ func (s *Stream) take(line part.Line) part.Line {
 	return line
 }
 
-// name gives the lesser of two names, or what both say of one; one of them may be at its end.
+// name gives the lesser of two names, or joins what both looks say of one name. One of them may be at its end.
 func (s *Stream) name(one, other *part.Name) part.Line {
 	switch {
 	case other == nil || one != nil && one.Name < other.Name:

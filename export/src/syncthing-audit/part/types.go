@@ -107,8 +107,8 @@ type Name struct {
 	Moved     []string `json:"moved,omitempty"`     // what changed while the device was looked at; the rest isn't told then
 }
 
-// Seen is a record in a view. Most are the own one with another sequence, and are written so; in memory the record is
-// always there.
+// Seen is a record in a view. Most records are the own one with another sequence. In a part they are written so. In memory
+// the record is always there.
 type Seen struct {
 	View   int     `json:"view"`           // the place among the folder's views
 	Same   int64   `json:"same,omitempty"` // the sequence of a record that is the own one but for it

@@ -6,8 +6,8 @@ import (
 	"syncthing-audit/part"
 )
 
-// faults are what may be wrong with each name on the last of the devices, by the words of --each. Each gives what a device
-// has of a name in place of this; nothing where it has nothing of it.
+// faults are what may be wrong with each name on the last of the devices, by the words of --each. Each function is given
+// what a device in step has of a name. It gives what the device has instead, or nothing.
 var faults = map[string]func(line *part.Name, isLast bool) *part.Name{
 	"rotten":      onLast(rot),
 	"permissions": onLast(func(line *part.Name) { line.Disk.Permissions = 0o600 }),

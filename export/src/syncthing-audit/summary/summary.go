@@ -221,7 +221,7 @@ func namesOf(folder *finding.Folder, one *finding.LeftOut) Names {
 	return made
 }
 
-// prefixesOf gives how the names begin that were read of each device, where not all were.
+// prefixesOf gives, for each device of which not all names were read, how those begin that were.
 func prefixesOf(answer *finding.Answer) map[string]Text {
 	made := map[string]Text{}
 	for _, folder := range answer.Folders {

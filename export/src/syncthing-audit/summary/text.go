@@ -194,7 +194,7 @@ func (p *printer) wordsOf(one *Fault) string {
 	return wordsOf[one.Cause]
 }
 
-// since says when a file was modified, or of when a deletion is, as far as that is known.
+// since says when a file was modified, as far as that is known. For a deletion it says of when the deletion is.
 func (p *printer) since(one *Fault) string {
 	switch {
 	case one.Cause == OtherBytes && one.Recorded != nil:
