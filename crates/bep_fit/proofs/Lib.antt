@@ -1,0 +1,10 @@
+mod Rising
+mod Merged
+mod Deciding
+mod Faultless
+mod OneVerdict
+mod SomeVerdict
+mod ThereObjects
+mod Touched
+mod OneRun
+mod StaysPut

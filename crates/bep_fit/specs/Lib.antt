@@ -1,0 +1,5 @@
+pub mod Merge
+pub mod Logs
+pub mod Fit
+pub mod Replayed
+pub mod FitLaws
