@@ -5,11 +5,11 @@
 
 'hash' audits two devices with 3.2 GB in 800 files, beside `sha256sum` of all of them on as many cores. 'join' audits
 three devices with 10,000, 30,000 and 100,000 names by their parts, and says what 1,000,000 would take. 'wrong' audits
-three devices with 100,000 and 300,000 names, each of which is rotten on one of them, and says whether memory stays under
-300 MB. 'export' writes the documents of three devices with 120,000, 240,000 and 480,000 names. 'sum' exports three
-devices with 300,000 names, each of which has one and the same fault, has the documents answered, and sums the answers
-up; it says whether both stay under 300 MB. Without a word all are done. Homes, indexes and parts are made by Syncthing's
-own packages, with no device running.
+three devices by their parts: 100,000 and 300,000 names, each of which is rotten on one of them, and 60,000 names of 1,012
+bytes with rot in 150 blocks each. It says whether memory stays under 300 MB. 'export' writes the documents of three
+devices with 120,000, 240,000 and 480,000 names. 'sum' exports three devices with 300,000 names, each of which has one and
+the same fault, has the documents answered, and sums the answers up. It says whether both stay under 300 MB. Without a
+word all are done. Homes, indexes and parts are made by Syncthing's own packages, with no device running.
 """
 
 import argparse
@@ -33,6 +33,7 @@ EXPORTED = (120_000, 240_000, 480_000)
 FAULTS = ("unscanned", "permissions", "concurrent", "rotten")
 FORMS = ("summary", "--lines", "--json")
 SUMMED = 300_000
+LONG, BYTES_OF_LONG = 60_000, 40_000_000
 MOST_MEMORY = 300
 MOST_SECONDS = 90  # of the audit of the last of SIZES
 MOST_TIMES = 1.3  # of the seconds of sha256sum
@@ -130,12 +131,14 @@ def in_form(form):
 
 
 def measure_wrong(room, asked):
-    """Three devices by their parts, one of which has other bytes in each file; in each form of the answer."""
-    for names in WRONG:
-        parts = sample_parts(room, f"wrong{names}", names, "--each", "rotten")
+    """Three devices by their parts, one of which has other bytes in each file; in each form of the answer. Last, with as much
+    to tell of each name as there may be."""
+    samples = [(f"{names:,} rotten names", sample_parts(room, f"wrong{names}", names, "--each", "rotten")) for names in WRONG]
+    samples.append((f"{LONG:,} long rotten names", sample_parts(room, "long", LONG, "--each", "long", "--bytes", BYTES_OF_LONG)))
+    for what, parts in samples:
         for form in FORMS:
             words = [room / PROGRAM, "check", *parts, "--syncaudit", asked.auditor, *in_form(form)]
-            tell_lean(f"audit of {names:,} rotten names, {form}", best(asked.runs, words, (NOT_IN_STEP,)))
+            tell_lean(f"audit of {what}, {form}", best(asked.runs, words, (NOT_IN_STEP,)))
 
 
 def measure_export(room, asked):

@@ -2,6 +2,7 @@ package main
 
 import (
 	"crypto/sha256"
+	"strings"
 
 	"syncthing-audit/part"
 )
@@ -13,6 +14,7 @@ var faults = map[string]func(line *part.Name, isLast bool) *part.Name{
 	"permissions": onLast(func(line *part.Name) { line.Disk.Permissions = 0o600 }),
 	"concurrent":  onLast(recordItself),
 	"unscanned":   keepUnscanned,
+	"long":        rotInLongNames,
 }
 
 // onLast has a fault on the last device alone.
@@ -31,6 +33,22 @@ func rot(line *part.Name) {
 	was := line.Own.Content.Hash
 	line.Disk.Contents[0].Hash = other
 	line.Disk.Differ = &part.Differ{Count: 1, Ranges: [][2]int64{{0, 0}}, First: part.Pair{Recorded: &was, Found: &other}}
+}
+
+// rotInLongNames gives a file nearly the longest name that there is. On the last device it has other bytes in each second
+// block, of more blocks than are listed one by one.
+func rotInLongNames(line *part.Name, isLast bool) *part.Name {
+	line.Name += part.Bytes(strings.Repeat("x", 1000))
+	if !isLast {
+		return line
+	}
+	rot(line)
+	differ := line.Disk.Differ
+	differ.Count, differ.Ranges = 150, nil
+	for place := int64(0); place < part.MostRanges; place++ {
+		differ.Ranges = append(differ.Ranges, [2]int64{2 * place, 2 * place})
+	}
+	return line
 }
 
 // recordItself has the device record a file by itself, so under a version that is concurrent to the others'.

@@ -25,7 +25,7 @@ func main() {
 	flag.IntVar(&made.files, "files", 800, "how many files")
 	flag.Int64Var(&made.bytes, "bytes", 4<<20, "the bytes of each file")
 	flag.BoolVar(&made.parts, "parts", false, "parts alone: no homes, no files")
-	flag.StringVar(&made.each, "each", "", "of parts: what each name is on the last device: rotten, permissions, concurrent, unscanned")
+	flag.StringVar(&made.each, "each", "", "of parts: what each name is on the last device: rotten, permissions, concurrent, unscanned, long")
 	flag.Parse()
 	if flag.NArg() != 1 || made.each != "" && (!made.parts || faults[made.each] == nil) {
 		fmt.Fprintln(os.Stderr, "usage: sample [--devices N] [--files N] [--bytes N] [--parts [--each FAULT]] DIR")
