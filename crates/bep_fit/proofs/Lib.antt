@@ -4,6 +4,7 @@ mod Deciding
 mod Faultless
 mod OneVerdict
 mod SomeVerdict
+mod SmallLogs
 mod ThereObjects
 mod Touched
 mod OneRun

@@ -3,3 +3,4 @@ pub mod Logs
 pub mod Fit
 pub mod Replayed
 pub mod FitLaws
+pub mod Examples

@@ -7,13 +7,14 @@
 //! ```
 #![tactic(auto)]
 
+pub mod examples;
 mod merge;
 mod object;
 mod one_run;
 mod stamped;
 mod verdict;
 
-pub use merge::faultless_logs_merge;
+pub use merge::{faultless_logs_agree, faultless_logs_merge};
 pub use object::Object;
 pub use one_run::{fitting_logs_are_one_run, settled_logs_stay_put};
 pub use stamped::Stamped;
