@@ -71,7 +71,7 @@ module _ (logs : List ObjectLog) (faultless : AreFaultless logs) where
 
 -- ---- the other way
 
-rises_not_fall : (list : List Stamped) → Rises ticket_of list → (ticket : ℕ) → ¬ Falls ticket list
+pub rises_not_fall : (list : List Stamped) → Rises ticket_of list → (ticket : ℕ) → ¬ Falls ticket list
 rises_not_fall [] rises ticket falls = falls
 rises_not_fall (one ∷ []) rises ticket falls = falls
 rises_not_fall (one ∷ next ∷ more) rises ticket (inl here) =

@@ -9,3 +9,6 @@ mod ThereObjects
 mod Touched
 mod OneRun
 mod StaysPut
+mod WalkFacts
+mod WalkSteps
+mod WalkVerdict
