@@ -1,12 +1,15 @@
 #!/usr/bin/env python3
-"""How fast real folders are audited: hashing beside sha256sum, the join of many names, and folders in which all is wrong.
+"""How fast real folders are audited, and with how much memory.
 
-    bench/devices.py [--auditor FILE] [--runs N] [--room DIR] [hash | join | wrong]
+    bench/devices.py [--auditor FILE] [--runs N] [--room DIR] [hash] [join] [wrong] [export] [sum]
 
 'hash' audits two devices with 3.2 GB in 800 files, beside `sha256sum` of all of them on as many cores. 'join' audits
 three devices with 10,000, 30,000 and 100,000 names by their parts, and says what 1,000,000 would take. 'wrong' audits
 three devices with 100,000 and 300,000 names, each of which is rotten on one of them, and says whether memory stays under
-300 MB. Without a word all are done. Homes, indexes and parts are made by Syncthing's own packages, with no device running.
+300 MB. 'export' writes the documents of three devices with 120,000, 240,000 and 480,000 names. 'sum' exports three
+devices with 300,000 names, each of which has one and the same fault, has the documents answered, and sums the answers
+up; it says whether both stay under 300 MB. Without a word all are done. Homes, indexes and parts are made by Syncthing's
+own packages, with no device running.
 """
 
 import argparse
@@ -16,16 +19,23 @@ import subprocess
 import sys
 import tempfile
 import time
+from concurrent.futures import ThreadPoolExecutor
 from pathlib import Path
 
 TOP = Path(__file__).resolve().parent.parent
 PROGRAM = "syncthing-audit"
-BUILT = TOP / "crates/syncaudit/out/syncaudit"
+RELEASE = TOP / "release/syncaudit"
 DEVICES, FILES, BYTES = 2, 400, 4_000_000
 SIZES = (10_000, 30_000, 100_000)
 ESTIMATED = 1_000_000
 WRONG = (100_000, 300_000)
+EXPORTED = (120_000, 240_000, 480_000)
+FAULTS = ("unscanned", "permissions", "concurrent", "rotten")
+FORMS = ("summary", "--lines", "--json")
+SUMMED = 300_000
 MOST_MEMORY = 300
+MOST_SECONDS = 90  # of the audit of the last of SIZES
+MOST_TIMES = 1.3  # of the seconds of sha256sum
 NOT_IN_STEP = 1
 
 
@@ -56,9 +66,27 @@ def sample(room, *words):
     subprocess.run([room / "sample", *map(str, words)], check=True, stdout=subprocess.DEVNULL, stderr=subprocess.DEVNULL)
 
 
+def sample_parts(room, name, files, *words):
+    """Makes the parts of three devices, and gives their files."""
+    sample(room, "--parts", "--devices", 3, "--files", files, "--bytes", 300_000, *words, room / name)
+    return sorted((room / name).glob("*.part"))
+
+
 def tell(what, figures):
     """Prints what was measured."""
     print(f"{what:44} {figures[0]:8.2f} s {figures[1]:8.2f} s {figures[2]:6.0f} MB", flush=True)
+
+
+def tell_lean(what, figures):
+    """Prints what was measured, and ends with a failure where it took too much memory."""
+    tell(what, figures)
+    if figures[2] > MOST_MEMORY:
+        sys.exit(f"this is over {MOST_MEMORY} MB")
+
+
+def tell_goal(what, value, most):
+    """Prints a figure beside what is asked of it."""
+    print(f"{what}: {value:.2f}, asked are at most {most}: {'held' if value <= most else 'NOT HELD'}", flush=True)
 
 
 def measure_hashing(room, asked):
@@ -72,57 +100,99 @@ def measure_hashing(room, asked):
     tell(f"sha256sum of {DEVICES * FILES * BYTES / 1e9:.1f} GB, {os.cpu_count()} at once", plain)
     audit = best(asked.runs, [room / PROGRAM, "check", *homes, "--syncaudit", asked.auditor])
     tell(f"audit of {DEVICES} devices with them", audit)
-    print(f"times: {audit[0] / plain[0]:.2f}")
+    tell_goal("times the seconds of sha256sum", audit[0] / plain[0], MOST_TIMES)
     shutil.rmtree(folder)
+
+
+def on_line(values, size):
+    """What a straight line through the first and the last of these values, one for each of SIZES, has at another size."""
+    slope = (values[-1] - values[0]) / (SIZES[-1] - SIZES[0])
+    return values[0] + slope * (size - SIZES[0])
 
 
 def measure_joining(room, asked):
     """Three devices by their parts, of three sizes."""
-    times = []
+    seconds, processor = [], []
     for names in SIZES:
-        folder = room / str(names)
-        sample(room, "--parts", "--devices", 3, "--files", names, "--bytes", 300_000, folder)
-        parts = sorted(folder.glob("*.part"))
+        parts = sample_parts(room, str(names), names)
         figures = best(asked.runs, [room / PROGRAM, "check", *parts, "--syncaudit", asked.auditor])
         tell(f"join and audit of {names:,} names on 3 devices", figures)
-        times.append(figures[0])
-    slope = (times[2] - times[0]) / (SIZES[2] - SIZES[0])
-    middle = times[0] + slope * (SIZES[1] - SIZES[0])
-    print(f"{ESTIMATED:,} names by these: {times[2] + slope * (ESTIMATED - SIZES[2]):.0f} s "
-          f"(of {SIZES[1]:,} names a straight line has {middle:.2f} s)")
+        seconds.append(figures[0])
+        processor.append(figures[1])
+    tell_goal(f"seconds of {SIZES[-1]:,} names", seconds[-1], MOST_SECONDS)
+    print(f"{ESTIMATED:,} names by these: {on_line(seconds, ESTIMATED):.0f} s, {on_line(processor, ESTIMATED):.0f} processor seconds")
+    print(f"of {SIZES[1]:,} names that line has {on_line(seconds, SIZES[1]):.2f} s, {on_line(processor, SIZES[1]):.2f} processor seconds")
+
+
+def in_form(form):
+    """The flags that ask for a form of the answer."""
+    return [] if form == "summary" else [form]
 
 
 def measure_wrong(room, asked):
     """Three devices by their parts, one of which has other bytes in each file; in each form of the answer."""
     for names in WRONG:
-        folder = room / f"wrong{names}"
-        sample(room, "--parts", "--rotten", "--devices", 3, "--files", names, "--bytes", 300_000, folder)
-        parts = sorted(folder.glob("*.part"))
-        for form in ("summary", "--lines", "--json"):
-            words = [room / PROGRAM, "check", *parts, "--syncaudit", asked.auditor] + [form] * (form != "summary")
-            figures = best(asked.runs, words, (NOT_IN_STEP,))
-            tell(f"audit of {names:,} rotten names, {form}", figures)
-            if figures[2] > MOST_MEMORY:
-                sys.exit(f"this is over {MOST_MEMORY} MB")
+        parts = sample_parts(room, f"wrong{names}", names, "--each", "rotten")
+        for form in FORMS:
+            words = [room / PROGRAM, "check", *parts, "--syncaudit", asked.auditor, *in_form(form)]
+            tell_lean(f"audit of {names:,} rotten names, {form}", best(asked.runs, words, (NOT_IN_STEP,)))
+
+
+def measure_export(room, asked):
+    """The documents of three devices in step, of three sizes: the seconds are to grow as the names do."""
+    for names in EXPORTED:
+        parts = sample_parts(room, f"export{names}", names)
+        figures = []
+        for run in range(asked.runs):
+            into = room / f"documents{names}-{run}"
+            figures.append(measured([room / PROGRAM, "export", *parts, "--into", into]))
+            shutil.rmtree(into)
+        tell_lean(f"export of {names:,} names", min(figures))
+
+
+def answer(document, auditor):
+    """Has an exported document answered, as `sum` wants it."""
+    certified = subprocess.run([auditor, "certify"], input=document.read_bytes(), stdout=subprocess.PIPE, check=True).stdout
+    answers = [subprocess.run([auditor, word], input=certified, stdout=subprocess.PIPE).stdout
+               for word in ("check", "explain", "firm")]
+    document.with_suffix(".reply").write_bytes(b"".join(answers))
+
+
+def measure_sum(room, asked):
+    """Three devices whose names have one and the same fault: their documents, and the sum of the answers in each form."""
+    for fault in FAULTS:
+        parts, into = sample_parts(room, fault, SUMMED, "--each", fault), room / f"sum-{fault}"
+        tell_lean(f"export of {SUMMED:,} names, {fault}", measured([room / PROGRAM, "export", *parts, "--into", into]))
+        with ThreadPoolExecutor(os.cpu_count()) as workers:
+            list(workers.map(lambda one: answer(one, asked.auditor), sorted(into.glob("cut-*.json"))))
+        for form in FORMS:
+            words = [room / PROGRAM, "sum", into, *in_form(form)]
+            tell_lean(f"sum of {SUMMED:,} names, {fault}, {form}", best(asked.runs, words, (0, NOT_IN_STEP)))
+        shutil.rmtree(into)
+
+
+MEASURES = {"hash": measure_hashing, "join": measure_joining, "wrong": measure_wrong, "export": measure_export,
+            "sum": measure_sum}
 
 
 def main():
     parser = argparse.ArgumentParser(description=__doc__.splitlines()[0])
-    parser.add_argument("what", nargs="?", choices=("hash", "join", "wrong"))
-    parser.add_argument("--auditor", default=os.environ.get("SYNCAUDIT", BUILT))
+    parser.add_argument("what", nargs="*", metavar="WHAT", help=f"what is measured, of {', '.join(MEASURES)}; all without it")
+    parser.add_argument("--auditor", default=os.environ.get("SYNCAUDIT", RELEASE))
     parser.add_argument("--runs", type=int, default=3)
     parser.add_argument("--room", default=None, help="where samples are made: 'hash' takes 3.3 GB there")
     asked = parser.parse_args()
+    if unknown := set(asked.what) - set(MEASURES):
+        parser.error(f"{', '.join(sorted(unknown))}: none of {', '.join(MEASURES)}")
     if not shutil.which(asked.auditor):
-        sys.exit(f"{asked.auditor} isn't there: ./syncaudit builds it, or --auditor names another")
+        sys.exit(f"{asked.auditor} isn't there: --auditor names another")
     print(f"load {os.getloadavg()[0]:.1f} on {os.cpu_count()} processors when this begins")
     print(f"{'':44} {'seconds':>10} {'processor':>10} {'memory':>9}")
     with tempfile.TemporaryDirectory(prefix="syncthing-audit-bench-", dir=asked.room) as made:
         room = Path(made)
         build(room)
-        for word, measure in (("hash", measure_hashing), ("join", measure_joining), ("wrong", measure_wrong)):
-            if asked.what in (None, word):
-                measure(room, asked)
+        for word in asked.what or MEASURES:
+            MEASURES[word](room, asked)
 
 
 if __name__ == "__main__":

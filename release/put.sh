@@ -2,6 +2,7 @@
 # Puts what release/files lists below a prefix, for the scripts that have read lib.sh and have chosen 'program'.
 
 packages=/usr/share/gocode
+packages_of_exporter='golang-go golang-github-syncthing-syncthing-dev'
 
 # has_exporter: the exporter's sources are there, and Go with Syncthing's packages, which builds it.
 has_exporter() {
@@ -24,17 +25,32 @@ put() {
   esac
 }
 
-# put_all PREFIX: puts all that is listed below the prefix, and tells each place.
+# is_for_program PLACE: what stands in this place is there to run the program.
+is_for_program() {
+  case $1 in
+    bin/syncaudit | lib/syncaudit/*) true ;;
+    *) false ;;
+  esac
+}
+
+# is_missing FILE PLACE: what is to stand in this place can't be had here.
+is_missing() {
+  if [ "$1" = exporter ]; then
+    ! has_exporter
+  else
+    [ -z "$program" ] && is_for_program "$2"
+  fi
+}
+
+# put_all PREFIX: puts all that is listed below the prefix, and tells each place. What is missing is told last.
 put_all() {
   local mode file place
   grep '^[0-9]' "$release/files" | while read -r mode file place; do
-    if [ "$file" = exporter ] && ! has_exporter; then
-      echo "without Go and Syncthing's packages there is no $place" >&2
-    elif [ "$file" = syncaudit ] && [ -z "$program" ]; then
-      echo "without the program there is no $place" >&2
-    else
+    if ! is_missing "$file" "$place"; then
       put "$mode" "$file" "$1/$place"
       echo "$1/$place"
     fi
   done
+  [ -n "$program" ] || echo "without the program there is no bin/syncaudit" >&2
+  has_exporter || echo "without Go and Syncthing's packages there is no bin/syncthing-audit: apt-get install $packages_of_exporter" >&2
 }

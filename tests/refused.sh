@@ -110,12 +110,23 @@ refuse_all() {
   refuse WRITE 5 "$@"
 }
 
+# refuse_growth DOCUMENT WORDS..: refuses each growth.
+refuse_growth() {
+  answer "$@"
+  refuse GROWTH 4 "$@"
+}
+
 refuse_all examples/one-equal-file.json check
 refuse_all examples/cut-alone.json certify
 refuse_all examples/scenarios/conflict.json run
 # Without memory nothing is said of an old file in a view, where its deletion is known everywhere else.
-answer examples/old-file-in-a-view.json check
-refuse GROWTH 4 examples/old-file-in-a-view.json check
+for words in check firm certify 'certify --partial' explain 'explain --firm' 'explain --json' 'explain --firm --json'; do
+  # shellcheck disable=SC2086 # words are several
+  refuse_growth examples/old-file-in-a-view.json $words
+done
+refuse_growth examples/local-changes-everywhere.json certify --partial
+refuse_growth examples/scenarios/a-file-is-taken-over.json run
+refuse_growth examples/scenarios/a-file-is-taken-over.json run --document
 cut_off examples/one-equal-file.json check
 REFUSE_WITH=interruption refuse READ 5 examples/one-equal-file.json check
 REFUSE_WITH=interruption refuse WRITE 5 examples/one-equal-file.json check

@@ -16,6 +16,7 @@ from pathlib import Path
 
 from exporting import PROGRAM, auditor, built, in_step, is_over, main, run
 from large_folders import rot
+from syncthing import wait_until
 
 CONTRIB = Path(__file__).resolve().parents[2] / "contrib"
 SERVICE = CONTRIB / "systemd" / "syncthing-audit.service"
@@ -23,10 +24,18 @@ SERVICE = CONTRIB / "systemd" / "syncthing-audit.service"
 SYSTEMCTL = '''#!/bin/sh
 cd "$(dirname "$0")" || exit
 echo "$*" >> asked
-case "$3" in
-  is-active) test -e running ;;
+case "$*" in
+  *is-active*) test -e running ;;
   *) test ! -e stuck ;;
 esac
+'''
+# An audit that was begun, and that takes a while to take away what it made.
+SLOW = '''#!/bin/sh
+cd "$(dirname "$0")" || exit
+trap 'kill $!; sleep 0.5; touch cleaned; exit 143' TERM
+touch begun
+sleep 60 &
+wait
 '''
 SENDMAIL = '''#!/bin/sh
 cat >> "$(dirname "$0")/mails"
@@ -66,12 +75,18 @@ class Nightly(unittest.TestCase):
         """Has the second device's part come."""
         run([self.programs / PROGRAM, "part", "--home", self.homes[1], "-o", self.parts / "other.part"], check=True)
 
+    def service(self, **settings):
+        """The command of the unit, and what systemd would put into its environment, %h being the user's home."""
+        command, = re.findall(r"^ExecStart=(.*)$", SERVICE.read_text(), re.MULTILINE)
+        path, = re.findall(r"^Environment=PATH=(.*)$", SERVICE.read_text(), re.MULTILINE)
+        environment = {"HOME": str(self.user), "PATH": path.replace("%h", str(self.user)), "SYNCAUDIT": auditor(),
+                       "SYNCTHING_HOME": str(self.homes[0]), "MAIL_TO": "me@example.org", "METRICS": str(self.metrics), **settings}
+        return [command.replace("%h", str(self.user))], environment
+
     def run_service(self, **settings):
         """Runs the command of the unit, as systemd would; gives its status and what it prints."""
-        command, = re.findall(r"^ExecStart=(.*)$", SERVICE.read_text(), re.MULTILINE)
-        environment = {"HOME": str(self.user), "PATH": f"{self.tools}:{os.environ['PATH']}", "SYNCAUDIT": auditor(),
-                       "SYNCTHING_HOME": str(self.homes[0]), "MAIL_TO": "me@example.org", "METRICS": str(self.metrics), **settings}
-        ran = run([command.replace("%h", str(self.user))], env=environment)
+        command, environment = self.service(**settings)
+        ran = run(command, env=environment)
         return ran.returncode, ran.stdout
 
     def told(self, name):
@@ -122,6 +137,39 @@ class Nightly(unittest.TestCase):
         self.assertEqual(status, 2)
         self.assertIn("is this a Syncthing home?", self.told("mails"))
         self.assertEqual(self.told("asked").splitlines()[-1].split()[-2:], ["start", "syncthing.service"])
+
+    def test_an_audit_that_is_not_there(self):
+        (self.tools / PROGRAM).unlink()
+        status, text = self.run_service()
+        self.assertEqual((status, "syncthing-audit can't be run: No such file or directory" in text), (127, True), text)
+        self.assertIn("syncthing-audit can't be run", self.told("mails"))
+        self.assertIn("syncthing_audit_status 127", self.metrics.read_text().splitlines())
+        self.assertEqual(self.told("asked").splitlines()[-1].split()[-2:], ["start", "syncthing.service"])
+
+    def test_metrics_that_cannot_be_written(self):
+        self.part_of_the_other()
+        status, text = self.run_service(METRICS="/nowhere/metrics.prom")
+        self.assertEqual(status, 2)
+        self.assertTrue(text.startswith("the metrics can't be written: "), text)
+        self.assertIn(f"docs: {in_step()}", self.told("mails"))
+
+    def test_a_run_that_is_ended(self):
+        """syncthing-audit has the time to take away what it made, and Syncthing is started again."""
+        (self.tools / PROGRAM).unlink()
+        (self.tools / PROGRAM).write_text(SLOW)
+        (self.tools / PROGRAM).chmod(0o755)
+        command, environment = self.service()
+        process = subprocess.Popen(command, env=environment, stdout=subprocess.DEVNULL)
+        wait_until("the audit has begun", (self.tools / "begun").exists)
+        process.terminate()
+        self.assertEqual(process.wait(60), 143)
+        self.assertTrue((self.tools / "cleaned").exists())
+        self.assertEqual(self.told("asked").splitlines()[-1].split()[-2:], ["start", "syncthing.service"])
+
+    def test_another_systemctl(self):
+        self.part_of_the_other()
+        self.assertEqual(self.run_service(SYSTEMCTL="systemctl --of the-system", SYNCTHING_UNIT="syncthing@me.service")[0], 0)
+        self.assertEqual(self.told("asked").splitlines()[-1], "--of the-system --quiet start syncthing@me.service")
 
     def test_syncthing_that_did_not_run_is_not_started(self):
         (self.tools / "running").unlink()

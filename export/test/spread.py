@@ -94,7 +94,7 @@ class Spread(unittest.TestCase):
         documents = self.room / "documents"
         if configuration:
             self.assertGreater(self.log.read_text().count("Accepted publickey"), 2)
-        self.assertEqual({path.suffix for path in documents.iterdir()}, {".json", ".reply"})
+        self.assertEqual({path.suffix for path in documents.iterdir()}, {".json", ".jsonl", ".reply"})
         self.assertGreater(len(list(documents.glob("cut-*.reply"))), 1)
         left = [path for path in (self.room, Path.home()) for path in path.glob(".parallel/tmp/*-cut-*")]
         self.assertEqual(left, [])

@@ -21,7 +21,7 @@ expect "no example in the help and the man page: $(examples_named)" [ "$(example
 status=0
 "$place/install" "$work/prefix" > "$work/output" 2> "$work/error" || status=$?
 expect "install has status $status" [ "$status" = 0 ]
-files=(bin/syncaudit share/man/man1/syncaudit.1 share/man/man1/syncthing-audit.1 share/bash-completion/completions/syncaudit
+files=(bin/syncaudit lib/syncaudit/syncaudit lib/syncaudit/waiting.sh share/man/man1/syncaudit.1 share/man/man1/syncthing-audit.1 share/bash-completion/completions/syncaudit
   share/zsh/site-functions/_syncaudit share/fish/vendor_completions.d/syncaudit.fish
   share/bash-completion/completions/syncthing-audit share/zsh/site-functions/_syncthing-audit
   share/fish/vendor_completions.d/syncthing-audit.fish
@@ -33,7 +33,39 @@ for file in "${files[@]}"; do
   expect "install puts no $file below its prefix" [ -f "$work/prefix/$file" ]
   expect "install doesn't say that it puts $file" says "$work/prefix/$file" "$work/output"
 done
-expect "what install puts isn't the release" [ "$("$work/prefix/bin/syncaudit" it)" = 'release: it' ]
+
+# The installed command is the program, however it is called.
+expect "what install puts isn't the release" cmp -s "$work/prefix/lib/syncaudit/syncaudit" "$place/release/syncaudit"
+ln -s "$work/prefix/bin/syncaudit" "$work/linked"
+for called in "$work/prefix/bin/syncaudit" "$work/linked"; do
+  status=0
+  "$called" it 'a b' > "$work/output" 2> "$work/error" || status=$?
+  expect "$called doesn't run the release: $(cat "$work/output" "$work/error")" answers 'release: it a b'
+  expect "$called has status $status" [ "$status" = 1 ]
+done
+expect "$called says something by itself" is_silent
+expect_waiting "$work/prefix/bin/syncaudit"
+mkdir -p "$work/alone/bin"
+cp "$work/prefix/bin/syncaudit" "$work/alone/bin"
+status=0
+"$work/alone/bin/syncaudit" check > "$work/output" 2> "$work/error" || status=$?
+expect "the installed command without its program has status $status" [ "$status" = 127 ]
+expect "it doesn't say what is missing: $(cat "$work/error")" tells "the program isn't in $work/alone/lib/syncaudit"
+
+# ---- without Go, and off PATH
+
+rm -f "$work/tools/go"
+tools install mkdir
+# install_by PATH: installs where these directories are on PATH.
+install_by() {
+  PATH=$1 "$place/install" "$work/goless" > "$work/output" 2> "$work/error" || true
+}
+install_by "$work/tools"
+expect "install without Go puts an exporter in place" [ ! -e "$work/goless/bin/syncthing-audit" ]
+expect "install without Go doesn't say what to do: $(cat "$work/error")" says 'apt-get install golang-go' "$work/error"
+expect "install doesn't say that its programs aren't on PATH: $(cat "$work/error")" says "$work/goless/bin isn't on PATH" "$work/error"
+install_by "$work/tools:$work/goless/bin"
+expect "install says of a place on PATH that it isn't: $(cat "$work/error")" [ "$(grep -c PATH "$work/error")" = 0 ]
 
 # ---- packages
 
@@ -48,7 +80,7 @@ for file in "${files[@]}" README.md; do
 done
 if command -v dpkg-deb > /dev/null 2>&1; then
   dpkg-deb -R "$place/out/syncaudit_1.2.3_amd64.deb" "$work/deb"
-  for file in bin/syncaudit share/man/man1/syncaudit.1.gz share/zsh/vendor-completions/_syncaudit \
+  for file in bin/syncaudit lib/syncaudit/syncaudit lib/syncaudit/waiting.sh share/man/man1/syncaudit.1.gz share/zsh/vendor-completions/_syncaudit \
     share/zsh/vendor-completions/_syncthing-audit share/doc/syncaudit/copyright; do
     expect "the Debian package has no $file" [ -f "$work/deb/usr/$file" ]
   done
@@ -83,5 +115,6 @@ if [ -d /usr/share/gocode/src/github.com/syncthing/syncthing/lib/db ]; then
   expect "install without the program doesn't tell so by its status: $status" [ "$status" = 127 ]
   expect "install without the program puts no syncthing-audit in place" [ "$(cat "$work/bare/bin/syncthing-audit")" = exporter ]
   expect "install puts a program in place that isn't there" [ ! -e "$work/bare/bin/syncaudit" ]
+  expect "install puts what runs the program in place without it" [ ! -e "$work/bare/lib" ]
   expect "install doesn't say what is missing: $(cat "$work/error")" says 'without the program there is no bin/syncaudit' "$work/error"
 fi

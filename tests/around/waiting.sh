@@ -24,25 +24,36 @@ else:
     ran.wait()
 END
 
-# at_terminal WHERE WORDS..: what the script says to standard error.
+# at_terminal PROGRAM WHERE WORDS..: what this program says to standard error.
 at_terminal() {
-  local where=$1
-  shift
-  python3 "$work/at_terminal.py" "$where" "$work/tools" "$place/syncaudit" "$@"
+  local asked=$1 where=$2
+  shift 2
+  python3 "$work/at_terminal.py" "$where" "$work/tools" "$asked" "$@"
 }
 
-if command -v python3 > /dev/null 2>&1; then
-  for words in check certify explain 'explain --json' run 'run --document'; do
+# expect_waiting PROGRAM: this program says at a terminal that it waits, wherever it does, and there alone.
+expect_waiting() {
+  local asked=$1 words
+  command -v python3 > /dev/null 2>&1 || return 0
+  for words in check firm certify 'certify --partial' explain 'explain --json' 'explain --firm' 'explain --json --firm' \
+    'explain --firm --json' run 'run --document'; do
     # shellcheck disable=SC2086 # the words are several
-    expect "'syncaudit $words' doesn't say that it waits: $(at_terminal terminal $words)" \
-      [ "$(at_terminal terminal $words)" = "syncaudit: waiting for a document on standard input; 'syncaudit $words < FILE' reads one" ]
+    expect "'$asked $words' doesn't say that it waits: $(at_terminal "$asked" terminal $words)" \
+      [ "$(at_terminal "$asked" terminal $words)" = "syncaudit: waiting for a document on standard input; 'syncaudit $words < FILE' reads one" ]
     # shellcheck disable=SC2086
-    expect "'syncaudit $words' says in a pipe that it waits" [ -z "$(at_terminal pipe $words)" ]
+    expect "'$asked $words' says in a pipe that it waits" [ -z "$(at_terminal "$asked" pipe $words)" ]
   done
-  for words in '' --help 'check --help' 'help check' 'check now' jump; do
+  for words in '' --help 'check --help' 'help check' 'check now' 'firm --firm' jump; do
     # shellcheck disable=SC2086
-    expect "'syncaudit $words' says that it waits, and doesn't: $(at_terminal terminal $words)" [ -z "$(at_terminal terminal $words)" ]
+    expect "'$asked $words' says that it waits, and doesn't: $(at_terminal "$asked" terminal $words)" \
+      [ -z "$(at_terminal "$asked" terminal $words)" ]
   done
-  script check
-  expect "the script says that it waits where a document comes: $(cat "$work/error")" is_silent
-fi
+}
+
+expect_waiting "$place/syncaudit"
+script check
+expect "the script says that it waits where a document comes: $(cat "$work/error")" is_silent
+# Each subcommand of the program is one of those above.
+for command in $(helped); do
+  expect "release/waiting.sh doesn't know 'syncaudit $command'" grep -q "\\b$command |" release/waiting.sh
+done

@@ -18,6 +18,21 @@ expect 'names in order' 'settled' "$(in_order a.d/b b)"
 expect 'names in another order' 'not settled: CertificateOrder docs a.d/b' "$(in_order b a.d/b)"
 expect 'a name twice' 'not settled: CertificateOrder docs a.d/b' "$(in_order a.d/b a.d/b)"
 
+# ---- rows that say what isn't so
+
+# row_told FOLDER DEVICE: what is told of the example of one equal file where its row, or one more of another folder, says so.
+row_told() {
+  python3 -c '
+import json, sys
+document = json.load(open("examples/one-equal-file.json"))
+row = document["certificate"][0] | {"folder": sys.argv[1], "device": int(sys.argv[2])}
+document["certificate"] = [row] if sys.argv[1] == "docs" else document["certificate"] + [row]
+print(json.dumps(document))' "$@" | first_line check
+}
+
+expect 'a row of another device with an equal record' 'not settled: NotWinner docs hello' "$(row_told docs 2)"
+expect 'a further row of no folder' 'not settled: NameUnknown x hello' "$(row_told x 1)"
+
 # ---- names as they are printed
 
 # printed NAME: how a report prints the name of a directory that no device recorded, which JSON writes so.

@@ -139,4 +139,36 @@ def local_changes(program):
     program.expect("the file again", [record(1, 1000, 4, [[1, 1]])], end.own(2))
 
 
-ROWS = (begun, sessions, early_announcements, indexes, blocks, answers, two_changes, scans, local_changes)
+def refused_after_restart(device, place):
+    """The steps that are refused where this device starts anew after the first `place` steps by which a file is taken over,
+    each under its number. What goes over the link is refused once the link is lost. Device 2 knows of the file from step 9
+    on, and keeps what it knows; it pulls the file from step 10 on, and forgets that; with step 13 it has the file's block."""
+    steps = {15: "142 NotNeeded"}
+    if 3 <= place <= 13:
+        steps |= {step: "151 LinkDown" for step in (4, 5, 6, 7, 8, 9, 11, 12, 13) if step > place}
+        if place <= 8:
+            steps |= {10: "142 NotNeeded", 14: "142 NotNeeded"}
+        elif place >= 10 and device == 2:
+            steps[14] = "142 NotNeeded"
+        elif place <= 12:
+            steps |= {14: "143 BlocksMissing", 15: "143 BlocksMissing"}
+    return [f"{step + (step > place)}: {why}" for step, why in sorted(steps.items())]
+
+
+def restarts(program):
+    """A device that starts anew between any two steps by which a file is taken over: device 2 has no file or the whole one,
+    and takes it over by the same steps then."""
+    steps = put("hello", 1000, text="hello") + meet() + tell() + take("hello") + finish("hello")
+    again = [["lose", 1, 2], *meet(), *announce(), ["deliver", 2, 1], *take("hello")]
+    for device in (1, 2):
+        for place in range(len(steps) + 1):
+            what, made = f"device {device} anew after {place} steps", steps[:place] + [["restart", device]] + steps[place:]
+            end, has_file = program.ended(made), place <= 2 or place >= 14 or (device, place) == (1, 13)
+            program.expect(what, (refused_after_restart(device, place), [("hello", "68656c6c6f")] if has_file else []),
+                           (end.refused, end.store(2)))
+            end = program.ended(made + again)
+            program.expect(f"{what}, and again", ([("hello", "68656c6c6f")], [record(1, 1000, 1, [[1, 1]])], "settled"),
+                           (end.store(2), end.own(2), program.first_line(["check"], end.text)))
+
+
+ROWS = (begun, sessions, early_announcements, indexes, blocks, answers, two_changes, scans, local_changes, restarts)

@@ -99,6 +99,12 @@ read | a 1, b 2, c 10
 188 SequenceBad docs 2 a | a 0, b 2, c 3
 END
 
+# Two messages may carry equal sequences.
+expect 'one record in two messages' 'read' \
+  "$(answer <<< "$begin$folder$device$others{\"a\":1,\"b\":2,\"up\":true,\"epoch\":1,\"to_b\":[
+    {\"folder\":\"docs\",\"full\":true,\"records\":[$(records 'a 2')]},
+    {\"folder\":\"docs\",\"full\":false,\"records\":[$(records 'a 2')]}]}$end_of_links")"
+
 # ---- the smallest number is told, and of one number the first place
 
 # on_a_down_link VIEWS RECORDS LINKS: what is told of these views of device 1, these records on their way to it on a link that

@@ -9,7 +9,6 @@ import (
 	"syncthing-audit/document"
 	"syncthing-audit/finding"
 	"syncthing-audit/join"
-	"syncthing-audit/report"
 )
 
 // runCheck joins devices and has syncaudit answer.
@@ -40,15 +39,9 @@ func runCheck(words []string, output, log io.Writer) (int, error) {
 	if asked.lines {
 		tellDevices(log, opened.devices)
 	}
-	endProgress := opened.startProgress(log, asked)
-	answer, err := answerOf(opened, asked, program)
-	endProgress()
+	answer, err := opened.audited(asked, log, func() (*finding.Answer, error) { return answerOf(opened, asked, program) })
 	if err != nil {
 		return 0, err
-	}
-	if len(answer.Refusals) > 0 {
-		report.Refusals(log, answer)
-		return 0, errTold
 	}
 	return tell(output, log, asked, answer)
 }
@@ -64,8 +57,7 @@ func answerOf(opened *inputs, asked options, program ask.Program) (*finding.Answ
 		replies.Take(one, reply)
 		opened.work.answered.Add(1)
 	})
-	options := audit.Options{LeaveOut: asked.leaveOut, WithBytes: asked.bytes, Refused: opened.skip, Joined: &opened.work.joined}
-	answer, err := audit.Collect(plan, options, func(one *document.Document) error {
+	answer, err := audit.Collect(plan, opened.auditOptions(asked), func(one *document.Document) error {
 		opened.work.asked.Add(1)
 		return pool.Ask(one)
 	})

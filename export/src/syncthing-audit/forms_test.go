@@ -256,8 +256,8 @@ func firsts(failures []finding.Failure) map[string]finding.Failure {
 	return made
 }
 
-// Stand-ins and bytes give the same verdict, on each name by itself and on all together; and all that fails is the same
-// but for a StoreUnclean where an earlier reason fails, too.
+// Stand-ins and bytes give the same verdict, on each name by itself and on all together. All that fails is the same, but
+// for a StoreUnclean where an earlier reason fails, too.
 func TestBothFormsSayTheSame(t *testing.T) {
 	seen := map[string]bool{}
 	for seed := int64(1); seed <= 2; seed++ {

@@ -6,10 +6,13 @@ import (
 	"sort"
 
 	"golang.org/x/exp/slices"
+	"syncthing-audit/audit"
 	"syncthing-audit/device"
 	"syncthing-audit/disk"
+	"syncthing-audit/finding"
 	"syncthing-audit/gather"
 	"syncthing-audit/join"
+	"syncthing-audit/report"
 )
 
 // inputs are the homes and parts that are read, to be closed.
@@ -27,6 +30,11 @@ func (i *inputs) skip() {
 	}
 }
 
+// auditOptions say how what was opened is audited.
+func (i *inputs) auditOptions(asked options) audit.Options {
+	return audit.Options{LeaveOut: asked.leaveOut, WithBytes: asked.bytes, Refused: i.skip, Joined: &i.work.joined}
+}
+
 // startProgress begins to tell how far the work is; what it gives ends that.
 func (i *inputs) startProgress(log io.Writer, asked options) func() {
 	if i.pool != nil {
@@ -36,6 +44,18 @@ func (i *inputs) startProgress(log io.Writer, asked options) func() {
 		i.work.toHash = 0
 	}
 	return startProgress(log, &i.work)
+}
+
+// audited has what was opened audited, and tells the log how far that is and what is refused.
+func (i *inputs) audited(asked options, log io.Writer, audit func() (*finding.Answer, error)) (*finding.Answer, error) {
+	endProgress := i.startProgress(log, asked)
+	answer, err := audit()
+	endProgress()
+	if err == nil && len(answer.Refusals) > 0 {
+		report.Refusals(log, answer)
+		err = errTold
+	}
+	return answer, err
 }
 
 func (i *inputs) close() {

@@ -50,30 +50,25 @@ func beginPart(asked options, write writing, output, log io.Writer) error {
 			return err
 		}
 	}
-	home, err := device.OpenLive(asked.homes[0])
+	from, err := openSource(device.OpenLive, asked)
 	if err != nil {
 		return err
 	}
-	defer home.Close()
-	opened, read, err := readHome(home, asked)
-	if err != nil {
-		return err
-	}
-	defer opened.close()
-	glance, over, err := firstLook(home, read)
+	defer from.close()
+	glance, over, err := firstLook(from.home, from.read)
 	if err != nil {
 		return err
 	}
 	defer glance.Close()
-	endProgress := opened.startProgress(log, asked)
-	err = writeWhole(write, func(to io.Writer) error { return writeLines(to, read, glance.Compare) })
+	endProgress := from.startProgress(log, asked)
+	err = writeWhole(write, func(to io.Writer) error { return writeLines(to, from.read, glance.Compare) })
 	endProgress()
 	if err != nil {
 		return err
 	}
-	tellCopied(log, home)
+	tellCopied(log, from.home)
 	fmt.Fprintf(log, lineOfAge, time.Since(over).Seconds())
-	token := looks.Token(read.ID, read.Look.ID)
+	token := looks.Token(from.read.ID, from.read.Look.ID)
 	if standardOutput[asked.output] {
 		output = log
 	}
@@ -117,26 +112,21 @@ func endPart(asked options, write writing, log io.Writer) error {
 		return err
 	}
 	began := time.Now().UTC()
-	home, err := device.OpenLive(asked.homes[0])
+	from, err := openSource(device.OpenLive, asked)
 	if err != nil {
 		return err
 	}
-	defer home.Close()
-	opened, read, err := readHome(home, asked)
-	if err != nil {
+	defer from.close()
+	if from.read.Look, err = lookOf(from.home); err != nil {
 		return err
 	}
-	defer opened.close()
-	if read.Look, err = lookOf(home); err != nil {
+	from.read.Look.After, from.read.Look.At = tokens, began
+	if err := checkTokens(from.read, asked); err != nil {
 		return err
 	}
-	read.Look.After, read.Look.At = tokens, began
-	if err := checkTokens(read, asked); err != nil {
-		return err
-	}
-	tellCopied(log, home)
+	tellCopied(log, from.home)
 	return write(func(to io.Writer) error {
-		return writeLines(to, read, func(sink part.Sink) part.Sink {
+		return writeLines(to, from.read, func(sink part.Sink) part.Sink {
 			return func(line part.Line) error {
 				if line.Name != nil {
 					line.Name = gather.WithoutChanging(line.Name)

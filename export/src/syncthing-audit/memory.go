@@ -5,8 +5,8 @@ import (
 	"runtime/debug"
 )
 
-// mostMemory is from how much memory on the program looks for what it needs no more before it takes further memory. What it
-// needs at one time is less, however many names there are.
+// mostMemory is a bound for the garbage collector. Near it the program looks for memory that it needs no more before it
+// takes further memory. What it needs at one time is less, however many names there are.
 const mostMemory = 200 << 20
 
 // limitMemory sets that, where the environment doesn't.

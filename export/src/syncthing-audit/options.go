@@ -64,7 +64,7 @@ Says whether Syncthing devices are in step, and where not which device is wrong.
   --heed-input         of --begin: end without a part once standard input ends; 'run' has it so on other machines
   --rescan             ask Syncthing for a scan before the first look, by its REST API, and wait for it
   --still SECONDS      of run: how long second looks wait at least, once first ones are over (10)
-  --remote-program P   of run: how this program is called on the other machines (syncthing-audit)
+  --remote-program P   of run: how this program is called on the other machines (syncthing-audit, on PATH or in ~/.local/bin)
   --dry-run            of run: tell the commands
   -o FILE              where the part goes; standard output if it is - or isn't given
   --leave-out KINDS    leave out what can't be audited, by kinds with commas between, and say so:

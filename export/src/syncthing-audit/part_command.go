@@ -56,33 +56,38 @@ type writing func(func(io.Writer) error) error
 
 // onePart writes the part of a device that is stopped.
 func onePart(asked options, write writing, log io.Writer) error {
-	home, err := device.Open(asked.homes[0])
+	from, err := openSource(device.Open, asked)
 	if err != nil {
 		return err
 	}
-	defer home.Close()
-	opened, read, err := readHome(home, asked)
-	if err != nil {
-		return err
-	}
-	defer opened.close()
-	defer opened.startProgress(log, asked)()
-	return write(func(to io.Writer) error { return writePart(to, read) })
+	defer from.close()
+	defer from.startProgress(log, asked)()
+	return write(func(to io.Writer) error { return writePart(to, from.read) })
 }
 
-// readHome opens the folders of a home that are asked for, or all.
-func readHome(home *device.Home, asked options) (*inputs, *gather.Device, error) {
-	if err := checkFolders(home, asked.folders); err != nil {
-		return nil, nil, err
-	}
-	opened := &inputs{pool: disk.NewPool(asked.jobs)}
-	opened.closers = append(opened.closers, opened.pool.Close)
-	read, err := opened.deviceOf(home, asked)
+// source is the home of which a part is made.
+type source struct {
+	inputs
+	home *device.Home
+	read *gather.Device
+}
+
+// openSource opens the home, and those of its folders that are asked for, or all.
+func openSource(open func(string) (*device.Home, error), asked options) (*source, error) {
+	home, err := open(asked.homes[0])
 	if err != nil {
-		opened.close()
-		return nil, nil, err
+		return nil, err
 	}
-	return opened, read, nil
+	pool := disk.NewPool(asked.jobs)
+	made := &source{inputs: inputs{pool: pool, closers: []func(){home.Close, pool.Close}}, home: home}
+	if err = checkFolders(home, asked.folders); err == nil {
+		made.read, err = made.deviceOf(home, asked)
+	}
+	if err != nil {
+		made.close()
+		return nil, err
+	}
+	return made, nil
 }
 
 // checkFolders says whether a home has no folder, or none with an id that is asked for.

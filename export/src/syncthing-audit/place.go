@@ -14,6 +14,7 @@ import (
 	"syscall"
 	"time"
 
+	"syncthing-audit/ask"
 	"syncthing-audit/part"
 	"syncthing-audit/shell"
 )
@@ -68,6 +69,9 @@ func (p *place) checkHere() error {
 	return fmt.Errorf("refused: there is no directory %s here; a machine has a colon behind its name: %s", shell.Quoted(p.given), shell.Quoted(p.given+":"))
 }
 
+// called gives the place's name for messages.
+func (p *place) called() string { return strings.TrimSuffix(p.given, ":") }
+
 // label gives a short name for files.
 func (p *place) label() string {
 	if p.host != "" {
@@ -114,14 +118,26 @@ func (p *place) about(asked options) []string {
 	return append(words, "-o", "-")
 }
 
-// words gives a command behind other words: here this program, elsewhere the one that ssh is to run, as one word for its shell.
+// words gives a command, behind other words. Here it is this program. Elsewhere ssh runs it, as one word for the shell
+// there.
 func (p *place) words(before, words []string, asked options) []string {
 	if p.host == "" {
 		return append(append(before[:len(before):len(before)], p.self), words...)
 	}
-	command := quotedWords(append(append(before[:len(before):len(before)], asked.remote), words...))
+	remote, path := asked.remote, ""
+	if remote == "" {
+		remote, path = usualProgram, pathOfUsers
+	}
+	command := path + quotedWords(append(append(before[:len(before):len(before)], remote), words...))
 	return append(p.ssh[:len(p.ssh):len(p.ssh)], command)
 }
+
+// usualProgram is how this program is called on other machines, if --remote-program doesn't say it. It may stand where
+// './install ~/.local' puts it. The PATH that ssh gives lacks that, so it comes behind.
+const (
+	usualProgram = "syncthing-audit"
+	pathOfUsers  = `PATH="$PATH:$HOME/.local/bin" `
+)
 
 // run runs a command with what it reads, has what it writes go into a file, and gives what it says on standard error.
 func (p *place) run(words []string, input io.Reader, path string) (string, error) {
@@ -139,12 +155,20 @@ func (p *place) run(words []string, input io.Reader, path string) (string, error
 	err = command.Run()
 	var ended *exec.ExitError
 	if errors.As(err, &ended) {
-		return "", fmt.Errorf("%s: its command ended with %v: %s", p.given, ended, strings.TrimSpace(told.String()))
+		return "", fmt.Errorf("%s: its command ended with %v: %s%s", p.called(), ended, strings.TrimSpace(told.String()), p.whereIs(ended))
 	}
 	if err != nil {
-		return "", fmt.Errorf("%s: %s can't be run: %w", p.given, shell.Quoted(words[0]), err)
+		return "", fmt.Errorf("%s: %s can't be run: %w", p.called(), shell.Quoted(words[0]), err)
 	}
 	return told.String(), nil
+}
+
+// whereIs says what to do where a shell on another machine didn't find a command.
+func (p *place) whereIs(ended *exec.ExitError) string {
+	if p.host == "" || ended.ExitCode() != ask.StatusCannotRun {
+		return ""
+	}
+	return ". Is syncthing-audit installed there? --remote-program says how it is called"
 }
 
 // hint adds to an error what may be its cause: what a shell prints as it starts goes before the part.

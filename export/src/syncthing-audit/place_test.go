@@ -9,6 +9,7 @@ import (
 
 // A place is a machine where a colon stands before any slash, and its command is one word for the shell there.
 func TestPlaces(t *testing.T) {
+	const usual = `PATH="$PATH:$HOME/.local/bin" nice -n 19 syncthing-audit part --begin --folder docs -o -`
 	cases := []struct{ word, host, home, command string }{
 		{"laptop:", "laptop", "", "ssh laptop 'audit part --end --tokens - --leave-out absent --folder docs -o -'"},
 		{"ann@laptop:~/a b", "ann@laptop", "a b", "ssh ann@laptop 'audit part --end --tokens - --leave-out absent --home '\\''a b'\\'' --folder docs -o -'"},
@@ -28,6 +29,10 @@ func TestPlaces(t *testing.T) {
 		}
 		if begin := quotedWords(places[0].begin(asked)); !strings.Contains(begin, "nice -n 19 ") || !strings.Contains(begin, " part --begin ") {
 			t.Errorf("%s begins with %s", one.word, begin)
+		}
+		asked.remote, asked.dryRun = "", true
+		if begin := places[0].begin(asked); places[0].home == "" && begin[len(begin)-1] != usual {
+			t.Errorf("%s begins with %s, where nothing says how the program is called", one.word, begin)
 		}
 	}
 }

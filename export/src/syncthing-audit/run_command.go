@@ -16,11 +16,10 @@ import (
 	"syncthing-audit/finding"
 	"syncthing-audit/leftover"
 	"syncthing-audit/looks"
-	"syncthing-audit/report"
 )
 
-// secondsOfStillness is how long second looks wait once all first ones are over, where --still doesn't say it: what is on
-// its way between devices mostly arrives in that time.
+// secondsOfStillness is how long second looks wait once all first ones are over, if --still doesn't say it. Mostly, what is
+// on its way between devices arrives in that time.
 const secondsOfStillness = 10
 
 // secondsOfPatience is how long a machine may be silent before it is told that it is awaited.
@@ -32,7 +31,7 @@ func runRun(words []string, output, log io.Writer) (int, error) {
 		flags.Var(kinds(read.leaveOut), "leave-out", "")
 		answerFlags(flags, read)
 		flags.StringVar(&read.program, "syncaudit", defaultProgram(), "")
-		flags.StringVar(&read.remote, "remote-program", "syncthing-audit", "")
+		flags.StringVar(&read.remote, "remote-program", "", "")
 		flags.Float64Var(&read.still, "still", secondsOfStillness, "")
 		flags.BoolVar(&read.rescan, "rescan", false, "")
 		flags.BoolVar(&read.dryRun, "dry-run", false, "")
@@ -108,10 +107,10 @@ func (r *running) look() error {
 	for at := range r.places {
 		head, err := headOf(r.file(at, "begin"))
 		if err != nil {
-			return fmt.Errorf("%s: %w", r.places[at].given, r.places[at].hint(err))
+			return fmt.Errorf("%s: %w", r.places[at].called(), r.places[at].hint(err))
 		}
 		if head.Look == nil {
-			return fmt.Errorf("%s: its part isn't of a first look: is the program of this version there?", r.places[at].given)
+			return fmt.Errorf("%s: its part isn't of a first look: is the program of this version there?", r.places[at].called())
 		}
 		fmt.Fprintln(&tokens, looks.Token(head.Device, head.Look.ID))
 	}
@@ -205,7 +204,7 @@ func (r *running) tell(at int, told string) {
 	defer r.mutex.Unlock()
 	for _, line := range strings.Split(told, "\n") {
 		if said := strings.TrimPrefix(line, "syncthing-audit: "); said != line {
-			fmt.Fprintf(r.log, "syncthing-audit: %s %s\n", r.places[at].given, said)
+			fmt.Fprintf(r.log, "syncthing-audit: %s: %s\n", r.places[at].called(), said)
 		}
 	}
 }
@@ -246,25 +245,19 @@ func (r *running) answer(program ask.Program, output io.Writer) (int, error) {
 	if read.lines {
 		tellDevices(r.log, opened.devices)
 	}
-	endProgress := opened.startProgress(r.log, read)
-	answer, err := answerOf(opened, read, program)
-	endProgress()
+	answer, err := opened.audited(read, r.log, func() (*finding.Answer, error) { return answerOf(opened, read, program) })
 	if err != nil {
 		return 0, r.renamed(err, names)
-	}
-	if len(answer.Refusals) > 0 {
-		report.Refusals(r.log, answer)
-		return 0, errTold
 	}
 	r.time(answer)
 	return tell(output, r.log, read, answer)
 }
 
-// renamed gives an error with places in place of this run's own files. One that says a status stays as it is.
+// renamed gives an error with places in place of this run's own files. One that says a status or was told stays as it is.
 func (r *running) renamed(err error, names map[string]string) error {
 	var failed *ask.Failed
 	text := err.Error()
-	if errors.As(err, &failed) {
+	if errors.As(err, &failed) || errors.Is(err, errTold) {
 		return err
 	}
 	for path, name := range names {

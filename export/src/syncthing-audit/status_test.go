@@ -72,16 +72,9 @@ type full struct{}
 
 func (full) Write([]byte) (int, error) { return 0, errors.New("no space left on device") }
 
-// What can't be written is a fault, whatever it is, and never done.
-func TestWhatCannotBeWritten(t *testing.T) {
-	room := t.TempDir()
-	t.Setenv("SYNCAUDIT", "/bin/true")
-	if status := run([]string{"export", "--into", room, aPart(t)}, io.Discard, io.Discard); status != statusDone {
-		t.Fatalf("the export has status %d", status)
-	}
-	if err := os.WriteFile(filepath.Join(room, "cut-0001.reply"), []byte("settled\nfolder docs: 1 names, 0 deleted, 1 devices\n"), 0o600); err != nil {
-		t.Fatal(err)
-	}
+// An answer that can't be written is a fault, and never done.
+func TestAnAnswerThatCannotBeWritten(t *testing.T) {
+	room := exportedPart(t)
 	for _, form := range []string{"", "--lines", "--json"} {
 		words := strings.Fields("sum " + room + " " + form)
 		if status := run(words, io.Discard, io.Discard); status != statusPartial {
@@ -92,29 +85,25 @@ func TestWhatCannotBeWritten(t *testing.T) {
 			t.Errorf("%s has status %d, and tells %q", words, status, log.String())
 		}
 	}
+}
+
+// What else can't be written is a fault, too.
+func TestWhatCannotBeWritten(t *testing.T) {
 	for _, words := range [][]string{{"--help"}, {"check", "--help"}, {"--version"}, {"export", aPart(t)}} {
 		if status := run(words, full{}, io.Discard); status != statusFault {
 			t.Errorf("%s has status %d", words, status)
 		}
 	}
-	to, err := targetOf("/dev/full")
-	if err == nil {
-		err = to.write(func(to io.Writer) error {
-			_, err := io.WriteString(to, "new")
-			return err
-		})
-	}
-	if status := statusOf(err, io.Discard, io.Discard); status != statusFault {
-		t.Errorf("a part on a full device has status %d: %v", status, err)
-	}
-	write, err := whereTo("-", full{})
-	if err == nil {
-		err = write(func(to io.Writer) error {
-			_, err := io.WriteString(to, "new")
-			return err
-		})
-	}
-	if status := statusOf(err, io.Discard, io.Discard); status != statusFault {
-		t.Errorf("a part on standard output has status %d: %v", status, err)
+	for _, path := range []string{"/dev/full", "-"} {
+		write, err := whereTo(path, full{})
+		if err == nil {
+			err = write(func(to io.Writer) error {
+				_, err := io.WriteString(to, "new")
+				return err
+			})
+		}
+		if status := statusOf(err, io.Discard, io.Discard); status != statusFault {
+			t.Errorf("a part that goes to %s has status %d: %v", path, status, err)
+		}
 	}
 }

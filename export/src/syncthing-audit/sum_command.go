@@ -1,7 +1,6 @@
 package main
 
 import (
-	"encoding/json"
 	"flag"
 	"fmt"
 	"io"
@@ -14,27 +13,6 @@ import (
 	"syncthing-audit/document"
 	"syncthing-audit/finding"
 )
-
-// restName is the file beside exported documents with what no document says.
-const restName = "rest.json"
-
-// exported is what an export into a directory leaves there beside the documents.
-type exported struct {
-	Answer    *finding.Answer
-	Documents []exportedDocument
-}
-
-// exportedDocument is one of the documents.
-type exportedDocument struct{ File, Folder string }
-
-// save writes what no document says.
-func (e *exported) save(directory string) error {
-	text, err := json.Marshal(e)
-	if err != nil {
-		return err
-	}
-	return writeNew(filepath.Join(directory, restName), append(text, '\n'))
-}
 
 // runSum joins the answers to exported documents.
 func runSum(words []string, output, log io.Writer) (int, error) {
@@ -59,26 +37,31 @@ func runSum(words []string, output, log io.Writer) (int, error) {
 
 // sumOf reads the answers that stand beside exported documents.
 func sumOf(directory string) (*finding.Answer, error) {
-	text, err := os.ReadFile(filepath.Join(directory, restName))
+	read, err := readExported(directory)
 	if err != nil {
 		return nil, err
 	}
-	var read exported
-	if err := json.Unmarshal(text, &read); err != nil || read.Answer == nil {
-		return nil, fmt.Errorf("refused: %s isn't what 'export' writes: %v", filepath.Join(directory, restName), err)
-	}
 	replies := audit.NewReplies()
 	for _, one := range read.Documents {
-		path := filepath.Join(directory, strings.TrimSuffix(filepath.Base(one.File), ".json")+".reply")
-		text, err := os.ReadFile(path)
+		reply, err := replyTo(directory, one)
 		if err != nil {
-			return nil, fmt.Errorf("refused: a document has no answer yet: %w", err)
-		}
-		reply, err := ask.ReadReply(one.Folder, string(text))
-		if err != nil {
-			return nil, fmt.Errorf("refused: %s: %w", path, err)
+			return nil, err
 		}
 		replies.Take(&document.Document{Folder: one.Folder}, reply)
 	}
 	return read.Answer, replies.AddTo(read.Answer)
+}
+
+// replyTo reads the answer to an exported document.
+func replyTo(directory string, one exportedDocument) (*ask.Reply, error) {
+	path := filepath.Join(directory, strings.TrimSuffix(filepath.Base(one.File), ".json")+".reply")
+	text, err := os.ReadFile(path)
+	if err != nil {
+		return nil, fmt.Errorf("refused: a document has no answer yet: %w", err)
+	}
+	reply, err := ask.ReadReply(one.Folder, string(text))
+	if err != nil {
+		return nil, fmt.Errorf("refused: %s: %w", path, err)
+	}
+	return reply, nil
 }

@@ -58,9 +58,9 @@ func (p Program) Find() error {
 	return nil
 }
 
-// Ask has the program certify a document, each of whose names has a winner, and say whether it is firm. What is firm is
-// settled, too, and what isn't firm for a reason of 'check' isn't; else it is asked whether it is settled. Where it isn't,
-// all that fails is explained.
+// Ask has the program certify a document, each of whose names has a winner, and asks whether it is firm. What is firm is
+// settled, too. What isn't firm for a reason of 'check' isn't settled. Otherwise the program is asked whether it is
+// settled. If it isn't, all that fails is explained.
 func (p Program) Ask(folder string, document []byte) (*Reply, error) {
 	status, certified, err := p.run("certify", document)
 	if err != nil {

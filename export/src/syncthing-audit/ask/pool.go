@@ -27,7 +27,7 @@ type answered struct {
 	reply    *Reply
 }
 
-// ahead is how many documents there are for each worker at most, while an earlier one's reply is waited for.
+// ahead is how many documents there are at most for each worker, while the reply to an earlier one is awaited.
 const ahead = 3
 
 // NewPool starts so many workers; each reply is given to take, one at a time, in the order of the documents' places.

@@ -10,8 +10,8 @@ import (
 // answers are what the program wrote of one document for each of its commands; nothing for what it wasn't asked.
 type answers struct{ check, explanation, firm string }
 
-// ReadReply reads what 'check' writes of a document of one folder; behind it what 'explain' writes, which may be missing
-// of a document that is settled; and behind that what 'firm' writes, which is missing where that wasn't asked.
+// ReadReply reads what 'check' writes of a document of one folder. Behind it stands what 'explain' writes; of a settled
+// document it may be missing. Behind that stands what 'firm' writes; it is missing where 'firm' wasn't asked.
 func ReadReply(folder, text string) (*Reply, error) {
 	lines := strings.SplitAfter(text, "\n")
 	if len(lines) < 3 {

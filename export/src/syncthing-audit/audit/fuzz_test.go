@@ -123,13 +123,13 @@ func FuzzParts(f *testing.F) {
 	})
 }
 
-func TestPartsThatAreRefused(t *testing.T) {
-	text, other := string(aPart(t, 1)), aPart(t, 2)
-	if err := audited(t, []byte(text), other); err != nil {
-		t.Fatal(err)
-	}
+// broken is a part that has something wrong.
+type broken struct{ why, text string }
+
+// brokenOf gives parts that were made of a good one.
+func brokenOf(text string) []broken {
 	lines := strings.SplitAfter(text, "\n")
-	cases := []struct{ why, text string }{
+	return []broken{
 		{"nothing", ""},
 		{"a head alone", lines[0]},
 		{"no end", strings.Join(lines[:len(lines)-2], "")},
@@ -156,7 +156,14 @@ func TestPartsThatAreRefused(t *testing.T) {
 		{"an index that changed meanwhile", strings.Replace(text, `"max":9,"last":true`, `"max":10,"last":true`, 1)},
 		{"of an earlier moment than the other", strings.Replace(text, `"index_id":"1","max":9`, `"index_id":"1","max":8`, 1)},
 	}
-	for _, one := range cases {
+}
+
+func TestPartsThatAreRefused(t *testing.T) {
+	text, other := string(aPart(t, 1)), aPart(t, 2)
+	if err := audited(t, []byte(text), other); err != nil {
+		t.Fatal(err)
+	}
+	for _, one := range brokenOf(text) {
 		if one.text == text {
 			t.Errorf("%s: nothing was changed", one.why)
 		}

@@ -7,8 +7,8 @@ import (
 	"syncthing-audit/part"
 )
 
-// addLoose adds a name that keeps its folder from being firm, if that is all that is wrong with its records: whether the
-// folder is settled and firm syncaudit says; which names keep it from that, and how many, is told here.
+// addLoose adds a name that keeps its folder from being firm, if nothing else is wrong with its records. syncaudit says
+// whether the folder is settled and firm. Which names keep it from that, and how many they are, is found here.
 func (n *names) addLoose(row *join.Row) {
 	winner := winnerOf(row)
 	if winner == nil || !areAlike(row, winner) {

@@ -46,14 +46,20 @@ func TestWhoWins(t *testing.T) {
 	}
 }
 
-// What keeps a folder from being firm is told by the device; an invalid record in a view doesn't count, nor does what is older.
-func TestWhatIsLoose(t *testing.T) {
+// folderOfTwo gives a folder that two devices share.
+func folderOfTwo() *join.Folder {
 	heads := []*part.Head{{Device: "one"}, {Device: "two"}}
-	folder := &join.Folder{ID: "docs"}
+	made := &join.Folder{ID: "docs"}
 	for place, head := range heads {
 		about := &part.Folder{ID: "docs", Views: []part.View{{Device: heads[1-place].Device}}}
-		folder.Members = append(folder.Members, join.Member{Device: &join.Device{Head: head, Number: uint64(place + 1)}, About: about})
+		made.Members = append(made.Members, join.Member{Device: &join.Device{Head: head, Number: uint64(place + 1)}, About: about})
 	}
+	return made
+}
+
+// What keeps a folder from being firm is told by the device; an invalid record in a view doesn't count, nor does what is older.
+func TestWhatIsLoose(t *testing.T) {
+	folder := folderOfTwo()
 	seen := func(invalid bool, version ...[2]uint64) []part.Seen {
 		return []part.Seen{{Record: &part.Record{Version: version, Invalid: invalid}}}
 	}

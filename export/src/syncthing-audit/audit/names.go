@@ -63,7 +63,7 @@ func (n *names) audit(row *join.Row) error {
 	return n.give(full)
 }
 
-// keep keeps what the devices have of a name that something is told of, once, as far as there is room.
+// keep keeps what the devices have of a name of which something is told, once, as far as there is room.
 func (n *names) keep(row *join.Row) {
 	if n.found.Rows[row.Name] != nil {
 		return
@@ -155,8 +155,8 @@ func reasonsOf(row *join.Row) []finding.Reason {
 	return reasons
 }
 
-// isOutside says whether a name is ignored by each member that has it on its disk, and no index names it: Syncthing
-// doesn't take it for the folder's.
+// isOutside says whether a name is ignored by each member that has it on its disk, and no index names it. Syncthing doesn't
+// take such a name for the folder's.
 func isOutside(row *join.Row) bool {
 	for _, one := range row.At {
 		if one == nil {

@@ -27,7 +27,8 @@ func (n *names) addPermissions(row *join.Row) {
 	}
 }
 
-// bitsOf gives the permissions of an entry that has some, and those on the disk, of what is of the entry's kind.
+// bitsOf gives the permissions of an entry that has some. It gives those on the disk, too, if what stands there is of the
+// entry's kind.
 func bitsOf(one *part.Name) finding.Bits {
 	var made finding.Bits
 	if one.Own == nil || one.Own.Permissions == nil {

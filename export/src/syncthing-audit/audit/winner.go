@@ -6,8 +6,8 @@ import (
 	"syncthing-audit/part"
 )
 
-// hasWinner says whether one of the devices' own records may be taken by others: one of them wins then. Which one it is
-// syncaudit says; a name without any is told here, since no certificate has a row for it.
+// hasWinner says whether others may take one of the devices' own records. One of them wins then, and syncaudit says which.
+// A name without a winner is told here, since no certificate has a row for it.
 func hasWinner(row *join.Row) bool {
 	for _, one := range row.At {
 		if one != nil && one.Own != nil && !one.Own.Invalid {

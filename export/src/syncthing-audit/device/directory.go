@@ -8,8 +8,8 @@ import (
 	"syscall"
 )
 
-// directoryOf gives a text that is the same for one directory of one machine alone, a tilde and symlinks followed, and
-// says nothing else of it.
+// directoryOf gives a text that is the same for one directory of one machine alone. It follows a tilde and symlinks. It
+// says nothing else of the directory.
 func directoryOf(path string) (string, error) {
 	info, err := os.Stat(path)
 	if err != nil {

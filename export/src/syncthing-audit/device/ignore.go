@@ -8,8 +8,8 @@ import (
 	"github.com/syncthing/syncthing/lib/ignore"
 )
 
-// Patterns gives the folder's patterns of names to ignore. A file of patterns that is there and can't be read, or that
-// includes one which can't, is an error: what would be ignored isn't known then. Without one nothing is ignored.
+// Patterns gives the folder's patterns of names to ignore. Without a file of patterns nothing is ignored. A file that is
+// there and can't be read, or that includes one which can't, is an error: nobody knows then what would be ignored.
 func (i *Index) Patterns() (*ignore.Matcher, error) {
 	disk := i.Config.Filesystem()
 	patterns := ignore.New(disk)

@@ -142,8 +142,8 @@ func (i *Index) entries(of protocol.DeviceID, prefix string, greatest int64, rea
 	return nil
 }
 
-// kindOfOddSequence says why an entry is left out whose sequence is above the greatest one: of a running device the copy may
-// be of a moment within an update.
+// kindOfOddSequence gives the kind of an entry whose sequence is above the greatest one. It is left out. The copy of a
+// running device's index may be of a moment within an update.
 func (i *Index) kindOfOddSequence() string {
 	if i.home.isLive {
 		return part.Changing

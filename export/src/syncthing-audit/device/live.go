@@ -29,7 +29,7 @@ func (h *Home) Identity() (string, error) { return directoryOf(filepath.Join(h.D
 // bytesOfFolder is how long the number of a folder is in keys; the key that has its id has room for more.
 const bytesOfFolder = 4
 
-// never has a copy not be checked anew by Syncthing's package, which may change its index ids.
+// never says that Syncthing's package never checks a copy anew. Such a check may change the index's ids.
 const never = time.Duration(math.MaxInt64)
 
 // openLiveIndex copies the index to a temporary folder and opens the copy.

@@ -103,8 +103,8 @@ func (c *liveCopy) round() error {
 	return c.write("CURRENT", []byte(filepath.Base(current)+"\n"))
 }
 
-// readRecords reads a log or a manifest. One that ends within a record is read again: either the record was being written,
-// or a length in it is damaged, and then what stands behind it must not be lost in silence.
+// readRecords reads a log or a manifest. One that ends within a record is read again. Either the record was being written,
+// or a length in it is damaged. In the latter case what stands behind it must not be lost in silence.
 func readRecords(path string) ([]byte, error) {
 	text, err := os.ReadFile(path)
 	if err != nil {

@@ -15,8 +15,8 @@ import (
 // homeOfDevice is the variable with the home of a device that runs and is writing to its index. It is stopped in the end.
 const homeOfDevice = "LIVE_TEST_HOME"
 
-// wholeOf gives each name's own entry in an index.
-func wholeOf(t *testing.T, database string) (map[string]protocol.FileInfo, int64) {
+// wholeOf gives the entry that an index has of a device for each name, and the greatest sequence.
+func wholeOf(t *testing.T, database string, of protocol.DeviceID) (map[string]protocol.FileInfo, int64) {
 	set, opened, err := openSet(database)
 	if err != nil {
 		t.Fatal(err)
@@ -28,7 +28,7 @@ func wholeOf(t *testing.T, database string) (map[string]protocol.FileInfo, int64
 	}
 	defer snapshot.Release()
 	made, greatest := map[string]protocol.FileInfo{}, int64(0)
-	snapshot.WithHave(protocol.LocalDeviceID, func(item protocol.FileIntf) bool {
+	snapshot.WithHave(of, func(item protocol.FileIntf) bool {
 		entry := item.(protocol.FileInfo)
 		made[entry.Name] = entry
 		if entry.Sequence > greatest {
@@ -104,7 +104,7 @@ func TestCopiesOfADevice(t *testing.T) {
 	if err := copyFiles(database, end); err != nil {
 		t.Fatal(err)
 	}
-	last, greatest := wholeOf(t, end)
+	last, greatest := wholeOf(t, end, protocol.LocalDeviceID)
 	id := indexIDOf(t, end)
 	first := int64(0)
 	for place, path := range paths {
@@ -112,7 +112,7 @@ func TestCopiesOfADevice(t *testing.T) {
 		if indexIDOf(t, path) != id {
 			t.Errorf("%s is of another index", what)
 		}
-		found, upTo := wholeOf(t, path)
+		found, upTo := wholeOf(t, path, protocol.LocalDeviceID)
 		checkAgainst(t, what, found, upTo, last)
 		if place == 0 {
 			first = upTo

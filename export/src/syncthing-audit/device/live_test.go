@@ -151,28 +151,14 @@ func startWriter(t *testing.T, room string) func() {
 
 // entriesOf gives the sequence of each name that an index has of a device, and the greatest one.
 func entriesOf(t *testing.T, database string, of protocol.DeviceID) (map[string]int64, int64) {
-	set, opened, err := openSet(database)
-	if err != nil {
-		t.Fatal(err)
-	}
-	defer opened.Close()
-	snapshot, err := set.Snapshot()
-	if err != nil {
-		t.Fatal(err)
-	}
-	defer snapshot.Release()
-	made, greatest := map[string]int64{}, int64(0)
-	snapshot.WithHave(of, func(item protocol.FileIntf) bool {
-		entry := item.(protocol.FileInfo)
+	entries, greatest := wholeOf(t, database, of)
+	made := map[string]int64{}
+	for name, entry := range entries {
 		if said := int64(entry.Version.Counters[0].Value); said != entry.Sequence || len(entry.Blocks) != 8 {
-			t.Errorf("%s has sequence %d and version %d with %d blocks", entry.Name, entry.Sequence, said, len(entry.Blocks))
+			t.Errorf("%s has sequence %d and version %d with %d blocks", name, entry.Sequence, said, len(entry.Blocks))
 		}
-		made[entry.Name] = entry.Sequence
-		if entry.Sequence > greatest {
-			greatest = entry.Sequence
-		}
-		return true
-	})
+		made[name] = entry.Sequence
+	}
 	return made, greatest
 }
 

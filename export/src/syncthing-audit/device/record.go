@@ -20,8 +20,8 @@ type Entry struct {
 	Out    *part.LeftOut
 }
 
-// ownEntry reads a device's own entry, as it goes over the wire: what is changed locally on a receive-only folder is
-// invalid and without a version.
+// ownEntry reads a device's own entry as it goes over the wire. A local change on a receive-only folder is invalid there,
+// and without a version.
 func ownEntry(entry protocol.FileInfo) Entry {
 	switch {
 	case entry.IsIgnored():

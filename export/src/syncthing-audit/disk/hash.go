@@ -71,7 +71,8 @@ func (p *Pool) Close() {
 // Hashed gives how many bytes were hashed up to now.
 func (p *Pool) Hashed() int64 { return atomic.LoadInt64(&p.hashed) }
 
-// Skip has no bytes read from now on: contents are those of no file then, for callers that look for other things alone.
+// Skip has no bytes read from now on. Contents are those of no file then. It is for callers that look for other things
+// alone.
 func (p *Pool) Skip() { atomic.StoreUint32(&p.skips, 1) }
 
 // Job is a file that is being hashed.

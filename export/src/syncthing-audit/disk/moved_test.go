@@ -106,34 +106,36 @@ func openedIn(t *testing.T, room string) int {
 	return count
 }
 
+// placesThatAreTaken are what may stand at the path of a file by the time it is hashed.
+var placesThatAreTaken = []struct {
+	why  string
+	make func(path, copy string) error
+}{
+	{"nothing", func(path, _ string) error { return os.Remove(path) }},
+	{"the copy", func(path, copy string) error { return os.Rename(copy, path) }},
+	{"a symlink to the copy", func(path, copy string) error {
+		os.Remove(path)
+		return os.Symlink(copy, path)
+	}},
+	{"a pipe", func(path, _ string) error {
+		os.Remove(path)
+		return syscall.Mkfifo(path, 0o600)
+	}},
+	{"other bytes with the time put back", func(path, _ string) error {
+		about, err := os.Stat(path)
+		if err == nil {
+			err = os.WriteFile(path, make([]byte, 100), 0o600)
+		}
+		if err == nil {
+			err = os.Chtimes(path, about.ModTime(), about.ModTime())
+		}
+		return err
+	}},
+}
+
 // What comes to the path before it is opened or behind the last piece isn't the file that was found; a pipe doesn't block.
 func TestWhatTakesTheFilesPlace(t *testing.T) {
-	cases := []struct {
-		why  string
-		make func(path, copy string) error
-	}{
-		{"nothing", func(path, _ string) error { return os.Remove(path) }},
-		{"the copy", func(path, copy string) error { return os.Rename(copy, path) }},
-		{"a symlink to the copy", func(path, copy string) error {
-			os.Remove(path)
-			return os.Symlink(copy, path)
-		}},
-		{"a pipe", func(path, _ string) error {
-			os.Remove(path)
-			return syscall.Mkfifo(path, 0o600)
-		}},
-		{"other bytes with the time put back", func(path, _ string) error {
-			about, err := os.Stat(path)
-			if err == nil {
-				err = os.WriteFile(path, make([]byte, 100), 0o600)
-			}
-			if err == nil {
-				err = os.Chtimes(path, about.ModTime(), about.ModTime())
-			}
-			return err
-		}},
-	}
-	for _, one := range cases {
+	for _, one := range placesThatAreTaken {
 		for _, isBehind := range []bool{false, true} {
 			pool := NewPool(1)
 			room, file := twoRooms(t, 100)

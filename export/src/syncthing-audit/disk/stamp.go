@@ -6,9 +6,9 @@ import (
 	"syscall"
 )
 
-// Stamp gives a text that is another one for each file that comes to a path, and after each write to it, also where its
-// time is put back. Of a directory it is another one for each directory, whatever comes into it. It is empty where nothing is
-// there.
+// Stamp gives a text that is another one for each file that comes to a path, and after each write to it, also if the file's
+// time is put back. For directories it is another one for each directory, whatever comes into it. It is empty where nothing
+// is there.
 func Stamp(path string) string {
 	about, err := os.Lstat(path)
 	if err != nil {

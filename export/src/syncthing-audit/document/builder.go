@@ -36,8 +36,8 @@ func (d *Document) About() string {
 	return fmt.Sprintf("folder %s, names %s to %s", d.Folder, shell.Path(d.First), shell.Path(d.Last))
 }
 
-// Builder fills documents with rows, each as far as it has room. Settled speaks of each name by itself, and all that is
-// said of a name stands in one document, so all of them together say what one would.
+// Builder fills documents with rows, each as far as it has room. Settled speaks of each name by itself, and one document
+// has all that is said of a name. So all documents together say what one would.
 type Builder struct {
 	folder  *join.Folder
 	writer  writer
@@ -117,8 +117,8 @@ func (b *Builder) Add(row *join.Row) (*Document, *part.LeftOut) {
 	return full, nil
 }
 
-// encode gives a row as JSON for each member, with a bound for what it takes of a certified document, in which bytes
-// stand as hexadecimal digits.
+// encode gives a row as JSON for each member, and a bound for its length in a certified document. Bytes stand as
+// hexadecimal digits there.
 func (b *Builder) encode(row *join.Row) ([]items, int) {
 	made := make([]items, len(row.At))
 	size, greatest := 0, 0

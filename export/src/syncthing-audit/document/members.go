@@ -43,7 +43,7 @@ func (w *writer) standInOf(content *part.Content) *standIn {
 
 func (w *writer) text(text string) { w.written = append(w.written, text...) }
 
-// number writes a member that is a number, and is left out where it is 0 unless it must be there.
+// number writes a member that is a number. A number 0 is left out, unless the member must be there.
 func (w *writer) number(member string, value int64, isNeeded bool) {
 	if value == 0 && !isNeeded {
 		return
@@ -123,7 +123,7 @@ func (w *writer) blocks(hashes [][32]byte) {
 	w.text("]")
 }
 
-// node gives what stands on a member's disk, and how many bytes a file of it has in the document as text.
+// node gives what stands on a member's disk. It also gives how many bytes of text a file of it has in the document.
 func (w *writer) node(row []*part.Name, at int) ([]byte, int) {
 	disk := row[at].Disk
 	w.text(`{"name":` + w.name)

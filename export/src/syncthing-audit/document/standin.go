@@ -8,8 +8,9 @@ import (
 	"syncthing-audit/part"
 )
 
-// StandIn gives the text that stands in a document for a file's bytes: under 128 bytes, and equal exactly where the lists
-// of block hashes are, unless SHA-256 collides. Of one block alone the block size makes no difference to the list.
+// StandIn gives the text that stands in a document for a file's bytes. It has under 128 bytes. Two are equal exactly
+// where the lists of block hashes are, unless SHA-256 collides. For a file of one block the block size makes no
+// difference.
 func StandIn(content *part.Content) string {
 	cut := fmt.Sprintf("in blocks of %d", content.BlockSize)
 	if content.Size <= content.BlockSize {
@@ -29,8 +30,8 @@ func newStandIn(content *part.Content) standIn {
 	return standIn{text, sha256.Sum256([]byte(text))}
 }
 
-// contentOnDisk gives the content of a file on the disk. A file that is cut in several ways has the content that the
-// device's own record says, or else that of another device's record, where one of the ways gives it.
+// contentOnDisk gives the content of a file on the disk. A file may be cut in several ways. Then it has the content of
+// the device's own record, if one of the ways gives that, or else of another device's record.
 func contentOnDisk(row []*part.Name, at int) *part.Content {
 	contents := row[at].Disk.Contents
 	own := row[at].Own

@@ -4,6 +4,7 @@ package finding
 import (
 	"time"
 
+	"golang.org/x/exp/slices"
 	"syncthing-audit/join"
 	"syncthing-audit/spill"
 )
@@ -26,7 +27,7 @@ type Device struct {
 	From   string    // the home or file that it was read from
 }
 
-// Folder is what was found in a folder.
+// Folder is what was found in a folder. As JSON it lacks the long lists, which WriteLists writes.
 type Folder struct {
 	ID, Label   string
 	Members     []join.Member // their numbers rising; the rows' places are theirs
@@ -35,10 +36,10 @@ type Folder struct {
 	Bytes       int64         // that were hashed on all devices together
 	Documents   int
 	Failures    Failures                `json:"-"` // what documents tell
-	Unwon       spill.List[Unwon]       // names without a winner, rising; each is a failure, too
-	Permissions spill.List[Permissions] // rising
+	Unwon       spill.List[Unwon]       `json:"-"` // names without a winner, rising; each is a failure, too
+	Permissions spill.List[Permissions] `json:"-"` // rising
 	Firmness    Firmness                `json:"-"` // what documents tell, where none tells a failure
-	Loose       spill.List[Loose]       // rising: what keeps a settled folder from being firm
+	Loose       spill.List[Loose]       `json:"-"` // rising: what keeps a settled folder from being firm
 	Conflicts   []Conflict              // copies that a device still has, whether they are in step or not: the first MostListed
 	LeftOut     []*LeftOut              // names that were left out on request: the first MostListed
 	Unlisted    Unlisted
@@ -136,19 +137,15 @@ var Reasons = []string{"CertificateOrder", "NameMissing", "NameUnknown", "NotWin
 	"LocalOnly", "StoreDiffers", "StoreUnclean", "ViewAhead", "FlightAhead", "PullAhead"}
 
 // Place gives the place of a reason in that order, or -1.
-func Place(reason string) int {
-	for place, one := range Reasons {
-		if one == reason {
-			return place
-		}
-	}
-	return -1
-}
+func Place(reason string) int { return slices.Index(Reasons, reason) }
 
 // IsBefore says whether a document tells one failure before another one.
-func IsBefore(one, other *Failure) bool {
+func IsBefore(one, other *Failure) bool { return isBefore(one, other, Reasons) }
+
+// isBefore says the same of failures whose reasons stand in this order.
+func isBefore(one, other *Failure, order []string) bool {
 	if one.Reason != other.Reason {
-		return Place(one.Reason) < Place(other.Reason)
+		return slices.Index(order, one.Reason) < slices.Index(order, other.Reason)
 	}
 	if one.Name != other.Name {
 		return one.Name < other.Name

@@ -1,11 +1,15 @@
 package finding
 
-import "fmt"
+import (
+	"fmt"
+
+	"golang.org/x/exp/slices"
+)
 
 // FirmReasons are why a folder that is settled isn't firm, in the order in which they are told.
 var FirmReasons = []string{VersionDiffers, ViewNotBelow, FlightNotBelow, PullNotBelow}
 
-// These reasons. The last two are of records on their way and of pulls, of which nobody knows who reads a device's index.
+// These reasons. The last two are of records on their way and of pulls. Nobody who reads a device's index knows of those.
 const (
 	VersionDiffers = "VersionDiffers"
 	ViewNotBelow   = "ViewNotBelow"
@@ -42,35 +46,15 @@ type LooseAt struct {
 	IsOlder bool // of VersionDiffers: its own version is older than the winner's, and not concurrent
 }
 
-// firmPlace gives the place of a reason among FirmReasons, or -1.
-func firmPlace(reason string) int {
-	for place, one := range FirmReasons {
-		if one == reason {
-			return place
-		}
-	}
-	return -1
-}
-
 // IsFirmReason says whether a reason is one of FirmReasons.
-func IsFirmReason(reason string) bool { return firmPlace(reason) >= 0 }
+func IsFirmReason(reason string) bool { return slices.Contains(FirmReasons, reason) }
 
 // Take takes what syncaudit says of a further document: the first fault of both is kept.
 func (f *Firmness) Take(next Firmness) {
 	f.Asked = f.Asked && next.Asked
-	if f.First == nil || next.First != nil && isLooseBefore(next.First, f.First) {
+	if f.First == nil || next.First != nil && isBefore(next.First, f.First, FirmReasons) {
 		f.First = next.First
 	}
-}
-
-func isLooseBefore(one, other *Failure) bool {
-	if one.Reason != other.Reason {
-		return firmPlace(one.Reason) < firmPlace(other.Reason)
-	}
-	if one.Name != other.Name {
-		return one.Name < other.Name
-	}
-	return one.Device < other.Device
 }
 
 // HowFirm says how it stands with a folder.

@@ -5,8 +5,9 @@ import (
 	"syncthing-audit/part"
 )
 
-// MostKept is of how many names, each counted once for every device that shares its folder, details are kept: of 10,000
-// names of three devices. Where more fail, as on a device that is behind as a whole, the others are told without.
+// MostKept limits of how many names details are kept. Each name counts once for every device that shares its folder, so
+// there is room for 10,000 names of three devices. If more fail, as on a device that is behind as a whole, the others are
+// told without details.
 const MostKept = 30000
 
 // Room is what is left of that.

@@ -1,5 +1,5 @@
-// Package gather reads what a device has of its folders, name by name: its index, its views and its disk, with the files
-// hashed on the way.
+// Package gather reads what a device has of its folders, name by name: its index, its views and its disk. Files are hashed
+// on the way.
 package gather
 
 import (

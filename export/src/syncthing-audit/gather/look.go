@@ -20,8 +20,8 @@ func (d *Device) walker(folder Folder) *disk.Walker {
 	return &disk.Walker{Disk: folder.Disk(), Prefix: d.Prefix, Stamps: d.Look != nil}
 }
 
-// Glance is what stood on a device's disk at one look, before its files are hashed: each name with its mark, in a file of
-// its own for each folder.
+// Glance is what stood on a device's disk at one look, before its files are hashed. It has each name with its mark, in a
+// file of its own for each folder.
 type Glance struct {
 	folders []*os.File // by their places
 }
@@ -96,8 +96,8 @@ type comparing struct {
 	sink   part.Sink
 }
 
-// Compare gives a sink for the lines of the device: a name whose disk isn't what it was at the glance is given on as one
-// that moved.
+// Compare gives a sink for the lines of the device. It gives a name on as one that moved, if its disk isn't what it was at
+// the glance.
 func (g *Glance) Compare(sink part.Sink) part.Sink {
 	return (&comparing{glance: g, sink: sink}).take
 }
@@ -176,7 +176,7 @@ func (c *comparing) name(line part.Line) error {
 	return c.sink(line)
 }
 
-// WithoutChanging gives a name that was changing while it was read, or waits for a scan, as one that moved.
+// WithoutChanging gives a name that was changing while it was read, or that waits for a scan, as one that moved.
 func WithoutChanging(one *part.Name) *part.Name {
 	if one.IsIgnored() {
 		return one

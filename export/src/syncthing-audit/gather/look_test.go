@@ -27,19 +27,24 @@ func (d directory) View(part.View, string, func(device.Entry) bool) error { retu
 func (d directory) Max() int64                                            { return 0 }
 func (d directory) Check() error                                          { return nil }
 
-// movedSinceGlance gives the names that a directory has after a change behind the glance, those that moved in brackets.
-func movedSinceGlance(t *testing.T, change func(path func(string) string) error) string {
-	t.Setenv("TMPDIR", t.TempDir())
+// aDirectory makes a directory with some names.
+func aDirectory(t *testing.T) string {
 	room := t.TempDir()
-	path := func(name string) string { return filepath.Join(room, name) }
 	for _, name := range []string{"b", "d", "a.log"} {
-		if err := os.WriteFile(path(name), []byte(name), 0o600); err != nil {
+		if err := os.WriteFile(filepath.Join(room, name), []byte(name), 0o600); err != nil {
 			t.Fatal(err)
 		}
 	}
-	if err := os.Mkdir(path("e"), 0o755); err != nil {
+	if err := os.Mkdir(filepath.Join(room, "e"), 0o755); err != nil {
 		t.Fatal(err)
 	}
+	return room
+}
+
+// movedSinceGlance gives the names that a directory has after a change behind the glance, those that moved in brackets.
+func movedSinceGlance(t *testing.T, change func(path func(string) string) error) string {
+	t.Setenv("TMPDIR", t.TempDir())
+	room := aDirectory(t)
 	pool := disk.NewPool(1)
 	defer pool.Close()
 	read := &Device{Folders: []Folder{directory{room}}, Pool: pool, Look: &part.Look{ID: "id"}}
@@ -48,7 +53,7 @@ func movedSinceGlance(t *testing.T, change func(path func(string) string) error)
 		t.Fatal(err)
 	}
 	defer glance.Close()
-	if err := change(path); err != nil {
+	if err := change(func(name string) string { return filepath.Join(room, name) }); err != nil {
 		t.Fatal(err)
 	}
 	var told []string
@@ -70,66 +75,68 @@ func movedSinceGlance(t *testing.T, change func(path func(string) string) error)
 	return strings.Join(told, " ")
 }
 
+// changesSinceAGlance are what may change of a name once a device was glanced at, and what is told of that.
+var changesSinceAGlance = []struct {
+	why    string
+	change func(path func(string) string) error
+	told   string
+}{
+	{"nothing", func(func(string) string) error { return nil }, "a.log b d e"},
+	{"a new file", func(path func(string) string) error { return os.WriteFile(path("a"), nil, 0o600) }, "(a) a.log b d e"},
+	{"the first one is gone", func(path func(string) string) error { return os.Remove(path("b")) }, "a.log (b) d e"},
+	{"the last one is gone", func(path func(string) string) error { return os.Remove(path("d")) }, "a.log b (d) e"},
+	{"longer", func(path func(string) string) error { return os.WriteFile(path("b"), []byte("longer"), 0o600) }, "a.log (b) d e"},
+	{"with its time put back", func(path func(string) string) error {
+		about, err := os.Stat(path("b"))
+		if err == nil {
+			err = os.WriteFile(path("b"), []byte("x"), 0o600)
+		}
+		if err == nil {
+			err = os.Chtimes(path("b"), about.ModTime(), about.ModTime())
+		}
+		return err
+	}, "a.log (b) d e"},
+	{"another file of the same bytes and time", func(path func(string) string) error {
+		about, err := os.Stat(path("b"))
+		if err == nil {
+			err = os.WriteFile(path(".syncthing.b.tmp"), []byte("b"), 0o600)
+		}
+		if err == nil {
+			err = os.Chtimes(path(".syncthing.b.tmp"), about.ModTime(), about.ModTime())
+		}
+		if err == nil {
+			err = os.Rename(path(".syncthing.b.tmp"), path("b"))
+		}
+		return err
+	}, "a.log (b) d e"},
+	{"other permissions", func(path func(string) string) error { return os.Chmod(path("d"), 0o640) }, "a.log b (d) e"},
+	{"a directory in its place", func(path func(string) string) error {
+		if err := os.Remove(path("d")); err != nil {
+			return err
+		}
+		return os.Mkdir(path("d"), 0o755)
+	}, "a.log b (d) e"},
+	{"what is ignored changes", func(path func(string) string) error { return os.WriteFile(path("a.log"), []byte("more"), 0o600) }, "a.log b d e"},
+	{"what is ignored goes and comes", func(path func(string) string) error {
+		if err := os.Remove(path("a.log")); err != nil {
+			return err
+		}
+		return os.WriteFile(path("c.log"), nil, 0o600)
+	}, "b c.log d e"},
+	{"another directory of the same name", func(path func(string) string) error {
+		if err := os.Rename(path("e"), path("e.log")); err != nil {
+			return err
+		}
+		return os.Mkdir(path("e"), 0o755)
+	}, "a.log b d (e) e.log"},
+	{"what stands in a directory", func(path func(string) string) error { return os.WriteFile(path("e/f.log"), nil, 0o600) },
+		"a.log b d e e/f.log"},
+	{"an odd name", func(path func(string) string) error { return os.WriteFile(path("a\xff\n\""), nil, 0o600) }, "a.log a\xff\n\" b d e"},
+}
+
 // What changes between the glance and the hashing moved; what .stignore keeps out may change.
 func TestGlance(t *testing.T) {
-	cases := []struct {
-		why    string
-		change func(path func(string) string) error
-		told   string
-	}{
-		{"nothing", func(func(string) string) error { return nil }, "a.log b d e"},
-		{"a new file", func(path func(string) string) error { return os.WriteFile(path("a"), nil, 0o600) }, "(a) a.log b d e"},
-		{"the first one is gone", func(path func(string) string) error { return os.Remove(path("b")) }, "a.log (b) d e"},
-		{"the last one is gone", func(path func(string) string) error { return os.Remove(path("d")) }, "a.log b (d) e"},
-		{"longer", func(path func(string) string) error { return os.WriteFile(path("b"), []byte("longer"), 0o600) }, "a.log (b) d e"},
-		{"with its time put back", func(path func(string) string) error {
-			about, err := os.Stat(path("b"))
-			if err == nil {
-				err = os.WriteFile(path("b"), []byte("x"), 0o600)
-			}
-			if err == nil {
-				err = os.Chtimes(path("b"), about.ModTime(), about.ModTime())
-			}
-			return err
-		}, "a.log (b) d e"},
-		{"another file of the same bytes and time", func(path func(string) string) error {
-			about, err := os.Stat(path("b"))
-			if err == nil {
-				err = os.WriteFile(path(".syncthing.b.tmp"), []byte("b"), 0o600)
-			}
-			if err == nil {
-				err = os.Chtimes(path(".syncthing.b.tmp"), about.ModTime(), about.ModTime())
-			}
-			if err == nil {
-				err = os.Rename(path(".syncthing.b.tmp"), path("b"))
-			}
-			return err
-		}, "a.log (b) d e"},
-		{"other permissions", func(path func(string) string) error { return os.Chmod(path("d"), 0o640) }, "a.log b (d) e"},
-		{"a directory in its place", func(path func(string) string) error {
-			if err := os.Remove(path("d")); err != nil {
-				return err
-			}
-			return os.Mkdir(path("d"), 0o755)
-		}, "a.log b (d) e"},
-		{"what is ignored changes", func(path func(string) string) error { return os.WriteFile(path("a.log"), []byte("more"), 0o600) }, "a.log b d e"},
-		{"what is ignored goes and comes", func(path func(string) string) error {
-			if err := os.Remove(path("a.log")); err != nil {
-				return err
-			}
-			return os.WriteFile(path("c.log"), nil, 0o600)
-		}, "b c.log d e"},
-		{"another directory of the same name", func(path func(string) string) error {
-			if err := os.Rename(path("e"), path("e.log")); err != nil {
-				return err
-			}
-			return os.Mkdir(path("e"), 0o755)
-		}, "a.log b d (e) e.log"},
-		{"what stands in a directory", func(path func(string) string) error { return os.WriteFile(path("e/f.log"), nil, 0o600) },
-			"a.log b d e e/f.log"},
-		{"an odd name", func(path func(string) string) error { return os.WriteFile(path("a\xff\n\""), nil, 0o600) }, "a.log a\xff\n\" b d e"},
-	}
-	for _, one := range cases {
+	for _, one := range changesSinceAGlance {
 		if told := movedSinceGlance(t, one.change); told != one.told {
 			t.Errorf("%s: %q, not %q", one.why, told, one.told)
 		}

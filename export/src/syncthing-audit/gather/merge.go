@@ -103,7 +103,7 @@ func (m *merge) least() (string, bool) {
 	return name, is
 }
 
-// put puts all that is said of a name into the queue, and has its file hashed; it says whether that is wanted still.
+// put puts all that is said of a name into the queue, and has its file hashed. It says whether more names are wanted.
 func (m *merge) put(name string) bool {
 	line := &part.Name{Name: part.Bytes(name)}
 	var recorded [][32]byte
@@ -174,7 +174,7 @@ func sizeOf(line *part.Name) int64 {
 	return 0
 }
 
-// send puts a name into the queue, its file, which had this stamp when it was found, being hashed.
+// send puts a name into the queue, and has its file hashed. The file had this stamp when it was found.
 func (m *merge) send(line *part.Name, recorded [][32]byte, stamp string) bool {
 	node := line.Disk
 	if node != nil && m.device.Bytes && node.Size > limits.MostFileBytes && len(line.Out) == 0 {
@@ -204,8 +204,8 @@ func (m *merge) send(line *part.Name, recorded [][32]byte, stamp string) bool {
 	return true
 }
 
-// blockSizes gives how a file on the disk is cut: first as the own record cuts it, or without one as its size asks for;
-// then as the views' records of its size do, where that makes other blocks.
+// blockSizes gives in which ways a file on the disk is cut. The first one is that of the own record or, without a record,
+// the one for its size. The records in views that have its size may add others.
 func blockSizes(line *part.Name) []int64 {
 	size := line.Disk.Size
 	first := int64(protocol.BlockSize(size))

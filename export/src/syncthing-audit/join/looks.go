@@ -25,7 +25,7 @@ func checkLooks(devices []*Device) error {
 	return nil
 }
 
-// checkOrder refuses a second look that began before the first look of another device was over: it can't name it then.
+// checkOrder refuses a second look that began before another device's first look was over. It can't name that look then.
 func (p *Plan) checkOrder(folder *Folder) {
 	for _, one := range folder.Members {
 		for _, other := range folder.Members {
@@ -72,8 +72,9 @@ func (r *Row) IsMoving() bool {
 	return false
 }
 
-// IsUnheard says whether a member hadn't heard of another one's own record of a name at its second look. It has where its
-// view has the record, and goes as far as it: links are in order, so nothing else of the name is on its way then.
+// IsUnheard says whether a member hadn't heard of another one's own record of a name at its second look. It has heard of it
+// if its view has the record and goes as far as the record's sequence. Links are in order, so nothing else of the name is
+// on its way then.
 func (f *Folder) IsUnheard(row *Row, knower, of int) bool {
 	at := row.At[of]
 	if knower == of || at == nil || at.Own == nil || !sharesWith(f.Members[of].About, f.Members[knower].Head.Device) {

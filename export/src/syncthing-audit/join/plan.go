@@ -152,8 +152,8 @@ func (p *Plan) checkWhole(folder *Folder) {
 	}
 }
 
-// checkSharing refuses a device without a part, and a folder that one device shares with another which doesn't share it
-// with the first; it says whether there is none such.
+// checkSharing refuses a device without a part. It also refuses a folder that one device shares with another, if the other
+// is here and doesn't share it back. It says whether there is no such folder.
 func (p *Plan) checkSharing(folder *Folder) bool {
 	absent := map[string]bool{}
 	isShared := true
@@ -224,11 +224,11 @@ func whyEarlier(head *part.Head) string {
 }
 
 // checkDirectories refuses two devices that have one and the same directory, be it for one folder or for two. The
-// config.xml of a copied home names a path of the other machine, and what stands there on this one may well be a folder
-// of this one's device: its bytes would be read as those of both, and two devices that differ be called settled.
+// config.xml of a copied home names a path of the other machine. On this machine a folder of its own device may well stand
+// there. Its bytes would be read as those of both devices. Two devices that differ would then be called settled.
 //
-// A directory inside another device's is no such mistake: a copy may be kept inside a folder, and no name of a folder
-// then stands for one file at both. Nor are two folders of one device in one directory, which Syncthing allows.
+// A directory inside another device's is no such mistake: a copy may be kept inside a folder, and no name of a folder then
+// stands for one file at both. Nor are two folders of one device in one directory, which Syncthing allows.
 func checkDirectories(folders []*Folder) error {
 	type owner struct {
 		Member

@@ -1,5 +1,5 @@
-// Package leftover makes files and directories, and runs programs, that a run needs for itself alone, and takes them away,
-// also where a signal ends the run.
+// Package leftover makes files and directories that a run needs for itself alone, and runs programs for it. It takes them
+// away, also where a signal ends the run.
 package leftover
 
 import (

@@ -7,8 +7,8 @@ import (
 	"unicode/utf8"
 )
 
-// CheckName says why the document has no such name: a name is 1 to 1024 bytes of UTF-8 without NUL, whose parts
-// between slashes aren't empty, '.' or '..'.
+// CheckName says why the document has no such name. A name is 1 to 1024 bytes of UTF-8 without NUL. Its parts between
+// slashes aren't empty, '.' or '..'.
 func CheckName(name string) error {
 	switch {
 	case !utf8.ValidString(name):

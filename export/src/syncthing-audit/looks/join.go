@@ -68,8 +68,8 @@ func Join(first, second part.Stream) (*Stream, error) {
 	return made, nil
 }
 
-// joinFolder joins what the heads of two looks say of a folder: its own greatest sequence is that of the second look, those
-// of its views are of both.
+// joinFolder joins what the heads of two looks say of a folder. Its own greatest sequence is that of the second look. The
+// greatest sequences of its views are of both.
 func joinFolder(one, other *part.Folder) (*part.Folder, error) {
 	switch {
 	case one.ID != other.ID:
@@ -138,7 +138,7 @@ func (s *Stream) take(line part.Line) part.Line {
 	return line
 }
 
-// name gives the lesser of two names, or what both say of one; one of them may be at its end.
+// name gives the lesser of two names, or joins what both looks say of one name. One of them may be at its end.
 func (s *Stream) name(one, other *part.Name) part.Line {
 	switch {
 	case other == nil || one != nil && one.Name < other.Name:

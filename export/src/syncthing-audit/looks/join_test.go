@@ -93,48 +93,50 @@ func joined(t *testing.T, first, second *lines) []*part.Name {
 	}
 }
 
+// pairsOfLooks are what two looks see of a name, and what is told of that.
+var pairsOfLooks = []struct {
+	why            string
+	first, second  func(*part.Name)
+	moved          string
+	isOnce, atLast bool // whether one look has it alone, and which one
+}{
+	{why: "nothing changed", first: unchanged, second: unchanged},
+	{why: "another sequence", first: unchanged, second: func(n *part.Name) { n.Own.Sequence++ }, moved: "record"},
+	{why: "another version", first: unchanged, second: func(n *part.Name) { n.Own.Version = [][2]uint64{{1, 3}} }, moved: "record"},
+	{why: "no record any more", first: unchanged, second: func(n *part.Name) { n.Own = nil }, moved: "record"},
+	{why: "a view with another sequence", first: unchanged, second: func(n *part.Name) { n.Views[0].Record.Sequence++ }, moved: "views"},
+	{why: "no view any more", first: unchanged, second: func(n *part.Name) { n.Views = nil }, moved: "views"},
+	{why: "another size", first: unchanged, second: func(n *part.Name) { n.Disk.Size++ }, moved: "disk"},
+	{why: "another time", first: unchanged, second: func(n *part.Name) { n.Disk.ModifiedNs++ }, moved: "disk"},
+	{why: "written with its time put back", first: unchanged, second: func(n *part.Name) { n.Disk.Stamp = "2" }, moved: "disk"},
+	{why: "other permissions", first: unchanged, second: func(n *part.Name) { n.Disk.Permissions++ }, moved: "disk"},
+	{why: "gone from the disk", first: unchanged, second: func(n *part.Name) { n.Disk = nil }, moved: "disk"},
+	{why: "it changed while it was hashed", first: func(n *part.Name) { n.Moved = []string{"disk"} }, second: unchanged, moved: "disk"},
+	{why: "the index was in the middle of an update", first: unchanged, second: func(n *part.Name) { n.Moved = []string{"views"} }, moved: "views"},
+	{why: "received meanwhile", first: unchanged, second: func(n *part.Name) { n.Receiving = "2" }, moved: "receiving"},
+	{why: "received on", first: func(n *part.Name) { n.Receiving = "1" }, second: func(n *part.Name) { n.Receiving = "2" }, moved: "receiving"},
+	{why: "a temporary file that nobody writes", first: func(n *part.Name) { n.Receiving = "1" }, second: func(n *part.Name) { n.Receiving = "1" }},
+	{why: "all at once", first: unchanged, second: func(n *part.Name) { n.Own.Sequence++; n.Views = nil; n.Disk = nil }, moved: "record views disk"},
+	{why: "another time than recorded", first: func(n *part.Name) { n.Disk.ModifiedS++ }, second: func(n *part.Name) { n.Disk.ModifiedS++ }, moved: "unscanned"},
+	{why: "missing", first: func(n *part.Name) { n.Disk = nil }, second: func(n *part.Name) { n.Disk = nil }, moved: "unscanned"},
+	{why: "back", first: func(n *part.Name) { n.Own.Deleted = true }, second: func(n *part.Name) { n.Own.Deleted = true }, moved: "unscanned"},
+	{why: "deleted", first: deleted, second: deleted},
+	{why: "a directory in which files came", first: directory, second: func(n *part.Name) { directory(n); n.Disk.ModifiedS = 99 }},
+	{why: "at the first look alone", first: unchanged, isOnce: true, moved: "record views disk"},
+	{why: "at the second look alone", first: unchanged, isOnce: true, atLast: true, moved: "record views disk"},
+	{why: "a file for a moment", first: func(n *part.Name) { n.Own, n.Views = nil, nil }, isOnce: true, moved: "disk"},
+	{why: "what can't be read", first: unreadable, second: unchanged},
+	{why: "what can't be read and changed", first: unreadable, second: func(n *part.Name) { n.Disk.Stamp = "2" }, moved: "disk"},
+	{why: "an odd entry", first: odd, second: odd},
+	{why: "an entry that is odd for another reason", first: odd, second: func(n *part.Name) { odd(n); n.Out[0].Why = "another" }, moved: "disk"},
+	{why: "an entry that became odd", first: unchanged, second: odd, moved: "record views disk"},
+	{why: "ignored at both, whatever its file does", first: ignored, second: func(n *part.Name) { ignored(n); n.Disk.Stamp = "2" }},
+	{why: "ignored for a moment", first: ignored, isOnce: true},
+}
+
 // A name is still where nothing of it changed. Whatever changed, it is said.
 func TestStillNames(t *testing.T) {
-	cases := []struct {
-		why            string
-		first, second  func(*part.Name)
-		moved          string
-		isOnce, atLast bool // whether one look has it alone, and which one
-	}{
-		{why: "nothing changed", first: unchanged, second: unchanged},
-		{why: "another sequence", first: unchanged, second: func(n *part.Name) { n.Own.Sequence++ }, moved: "record"},
-		{why: "another version", first: unchanged, second: func(n *part.Name) { n.Own.Version = [][2]uint64{{1, 3}} }, moved: "record"},
-		{why: "no record any more", first: unchanged, second: func(n *part.Name) { n.Own = nil }, moved: "record"},
-		{why: "a view with another sequence", first: unchanged, second: func(n *part.Name) { n.Views[0].Record.Sequence++ }, moved: "views"},
-		{why: "no view any more", first: unchanged, second: func(n *part.Name) { n.Views = nil }, moved: "views"},
-		{why: "another size", first: unchanged, second: func(n *part.Name) { n.Disk.Size++ }, moved: "disk"},
-		{why: "another time", first: unchanged, second: func(n *part.Name) { n.Disk.ModifiedNs++ }, moved: "disk"},
-		{why: "written with its time put back", first: unchanged, second: func(n *part.Name) { n.Disk.Stamp = "2" }, moved: "disk"},
-		{why: "other permissions", first: unchanged, second: func(n *part.Name) { n.Disk.Permissions++ }, moved: "disk"},
-		{why: "gone from the disk", first: unchanged, second: func(n *part.Name) { n.Disk = nil }, moved: "disk"},
-		{why: "it changed while it was hashed", first: func(n *part.Name) { n.Moved = []string{"disk"} }, second: unchanged, moved: "disk"},
-		{why: "the index was in the middle of an update", first: unchanged, second: func(n *part.Name) { n.Moved = []string{"views"} }, moved: "views"},
-		{why: "received meanwhile", first: unchanged, second: func(n *part.Name) { n.Receiving = "2" }, moved: "receiving"},
-		{why: "received on", first: func(n *part.Name) { n.Receiving = "1" }, second: func(n *part.Name) { n.Receiving = "2" }, moved: "receiving"},
-		{why: "a temporary file that nobody writes", first: func(n *part.Name) { n.Receiving = "1" }, second: func(n *part.Name) { n.Receiving = "1" }},
-		{why: "all at once", first: unchanged, second: func(n *part.Name) { n.Own.Sequence++; n.Views = nil; n.Disk = nil }, moved: "record views disk"},
-		{why: "another time than recorded", first: func(n *part.Name) { n.Disk.ModifiedS++ }, second: func(n *part.Name) { n.Disk.ModifiedS++ }, moved: "unscanned"},
-		{why: "missing", first: func(n *part.Name) { n.Disk = nil }, second: func(n *part.Name) { n.Disk = nil }, moved: "unscanned"},
-		{why: "back", first: func(n *part.Name) { n.Own.Deleted = true }, second: func(n *part.Name) { n.Own.Deleted = true }, moved: "unscanned"},
-		{why: "deleted", first: deleted, second: deleted},
-		{why: "a directory in which files came", first: directory, second: func(n *part.Name) { directory(n); n.Disk.ModifiedS = 99 }},
-		{why: "at the first look alone", first: unchanged, isOnce: true, moved: "record views disk"},
-		{why: "at the second look alone", first: unchanged, isOnce: true, atLast: true, moved: "record views disk"},
-		{why: "a file for a moment", first: func(n *part.Name) { n.Own, n.Views = nil, nil }, isOnce: true, moved: "disk"},
-		{why: "what can't be read", first: unreadable, second: unchanged},
-		{why: "what can't be read and changed", first: unreadable, second: func(n *part.Name) { n.Disk.Stamp = "2" }, moved: "disk"},
-		{why: "an odd entry", first: odd, second: odd},
-		{why: "an entry that is odd for another reason", first: odd, second: func(n *part.Name) { odd(n); n.Out[0].Why = "another" }, moved: "disk"},
-		{why: "an entry that became odd", first: unchanged, second: odd, moved: "record views disk"},
-		{why: "ignored at both, whatever its file does", first: ignored, second: func(n *part.Name) { ignored(n); n.Disk.Stamp = "2" }},
-		{why: "ignored for a moment", first: ignored, isOnce: true},
-	}
-	for _, one := range cases {
+	for _, one := range pairsOfLooks {
 		first, second := firstLook(aFile(one.first)), secondLook()
 		switch {
 		case one.atLast:

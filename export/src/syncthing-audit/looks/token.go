@@ -1,5 +1,5 @@
-// Package looks joins the two looks at a device that may run, and has the tokens that say which looks were over when others
-// began.
+// Package looks joins the two looks at a device that may run. It has the tokens, which say which looks were over when
+// others began.
 package looks
 
 import (

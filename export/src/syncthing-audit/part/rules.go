@@ -228,8 +228,8 @@ func checkNode(one *Node, isOut, hasBytes bool) error {
 	return nil
 }
 
-// checkDiffer says why a name's blocks that differ are none: those of its file and of its own record are meant, and the list
-// of them has all, or is as long as a list may be.
+// checkDiffer says what is wrong with the blocks of a name that differ. They are blocks of its file or of its own record.
+// The list has all of them, or is as long as a list may be.
 func checkDiffer(one *Name) error {
 	if one.Own == nil || one.Own.Content == nil || len(one.Disk.Contents) == 0 {
 		return errors.New("its blocks differ, and there is no file with a record")

@@ -5,7 +5,7 @@ import (
 	"reflect"
 )
 
-// shortened gives a name whose views say only the sequence where the rest is the own record's.
+// shortened gives a name for writing. A view says only the sequence there, if the rest is the own record's.
 func shortened(one *Name) *Name {
 	if one.Own == nil || len(one.Views) == 0 {
 		return one

@@ -1,6 +1,6 @@
-// Package part has what one device tells of its folders: what its index says, what it knows of others' indexes, and
-// what stands on its disk, with hashes in place of bytes. A part is a stream: a head, then for each folder its names,
-// rising byte by byte. It holds no private key and no file's bytes.
+// Package part has what one device tells of its folders: what its index says, what it knows of others' indexes, and what
+// stands on its disk. Hashes stand in place of bytes. A part is a stream: a head, then for each folder its names, rising
+// byte by byte. It holds no private key and no file's bytes.
 package part
 
 import (
@@ -107,8 +107,8 @@ type Name struct {
 	Moved     []string `json:"moved,omitempty"`     // what changed while the device was looked at; the rest isn't told then
 }
 
-// Seen is a record in a view. Most are the own one with another sequence, and are written so; in memory the record is
-// always there.
+// Seen is a record in a view. Most records are the own one with another sequence. In a part they are written so. In memory
+// the record is always there.
 type Seen struct {
 	View   int     `json:"view"`           // the place among the folder's views
 	Same   int64   `json:"same,omitempty"` // the sequence of a record that is the own one but for it
@@ -148,7 +148,7 @@ type Node struct {
 }
 
 // Content is a file's list of block hashes: how long the file is, how it is cut, and the SHA-256 of the hashes one after
-// another. Of a file of one block the block size isn't part of the content.
+// another. If a file has one block, its block size isn't part of the content.
 type Content struct {
 	Size      int64 `json:"size"`
 	BlockSize int64 `json:"block_size"`

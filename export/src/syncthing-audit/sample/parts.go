@@ -55,17 +55,21 @@ func (p *plan) writePart(file *os.File, ids []string, place int) error {
 	if err := to.Take(part.Line{Begin: &part.Begin{Folder: folderID}}); err != nil {
 		return err
 	}
-	by := part.Number(ids[0])
+	by, names := part.Number(ids[0]), int64(0)
 	for number := 0; number < p.files; number++ {
 		line := nameLine(number, p.bytes, by, len(folder.Views))
-		if p.rotten && place == len(ids)-1 {
-			rot(line)
+		if fault := faults[p.each]; fault != nil {
+			line = fault(line, place == len(ids)-1)
+		}
+		if line == nil {
+			continue
 		}
 		if err := to.Take(part.Line{Name: line}); err != nil {
 			return err
 		}
+		names++
 	}
-	end := &part.End{Folder: folderID, Names: most, Bytes: most * p.bytes, Max: most, Last: true}
+	end := &part.End{Folder: folderID, Names: names, Bytes: names * p.bytes, Max: most, Last: true}
 	if err := to.Take(part.Line{End: end}); err != nil {
 		return err
 	}
@@ -84,12 +88,4 @@ func nameLine(number int, size int64, by uint64, views int) *part.Name {
 		made.Views = append(made.Views, part.Seen{View: view, Record: &record})
 	}
 	return made
-}
-
-// rot gives a file other bytes in its first block.
-func rot(line *part.Name) {
-	other := part.Hash(sha256.Sum256([]byte(line.Name + " is rotten")))
-	was := line.Own.Content.Hash
-	line.Disk.Contents[0].Hash = other
-	line.Disk.Differ = &part.Differ{Count: 1, Ranges: [][2]int64{{0, 0}}, First: part.Pair{Recorded: &was, Found: &other}}
 }

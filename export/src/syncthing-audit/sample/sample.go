@@ -16,7 +16,7 @@ type plan struct {
 	files   int
 	bytes   int64 // of each file
 	parts   bool
-	rotten  bool // of parts: each file has other bytes on the last device
+	each    string // of parts: what is wrong with each name on the last device, by the words of faults
 }
 
 func main() {
@@ -25,10 +25,10 @@ func main() {
 	flag.IntVar(&made.files, "files", 800, "how many files")
 	flag.Int64Var(&made.bytes, "bytes", 4<<20, "the bytes of each file")
 	flag.BoolVar(&made.parts, "parts", false, "parts alone: no homes, no files")
-	flag.BoolVar(&made.rotten, "rotten", false, "of parts: each file has other bytes on the last device")
+	flag.StringVar(&made.each, "each", "", "of parts: what each name is on the last device: rotten, permissions, concurrent, unscanned")
 	flag.Parse()
-	if flag.NArg() != 1 || made.rotten && !made.parts {
-		fmt.Fprintln(os.Stderr, "usage: sample [--devices N] [--files N] [--bytes N] [--parts [--rotten]] DIR")
+	if flag.NArg() != 1 || made.each != "" && (!made.parts || faults[made.each] == nil) {
+		fmt.Fprintln(os.Stderr, "usage: sample [--devices N] [--files N] [--bytes N] [--parts [--each FAULT]] DIR")
 		os.Exit(3)
 	}
 	made.room = flag.Arg(0)

@@ -112,25 +112,3 @@ func (l *List[T]) Each(take func(*T)) {
 		take(next.Peek())
 	}
 }
-
-// MarshalJSON gives the list as JSON has it.
-func (l *List[T]) MarshalJSON() ([]byte, error) {
-	all := make([]*T, 0, len(l.first))
-	l.Each(func(one *T) { all = append(all, one) })
-	if l.err != nil {
-		return nil, l.err
-	}
-	return json.Marshal(all)
-}
-
-// UnmarshalJSON reads a list into an empty one.
-func (l *List[T]) UnmarshalJSON(text []byte) error {
-	var all []T
-	if err := json.Unmarshal(text, &all); err != nil {
-		return err
-	}
-	for _, one := range all {
-		l.Add(one)
-	}
-	return l.err
-}

@@ -1,9 +1,7 @@
 package spill
 
 import (
-	"encoding/json"
 	"os"
-	"reflect"
 	"strings"
 	"testing"
 )
@@ -30,8 +28,8 @@ func allOf(list *List[thing]) []thing {
 	return made
 }
 
-// A list gives what was put into it, in its order and as often as it is asked, whether memory has all of it or not; and
-// nothing of it stands in the temporary directory.
+// A list gives what was put into it, in its order, as often as it is asked, whether or not memory has room for all of
+// it. Nothing of it stands in the temporary directory.
 func TestListsOfAnyLength(t *testing.T) {
 	room := t.TempDir()
 	t.Setenv("TMPDIR", room)
@@ -82,20 +80,6 @@ func TestReadingsBeside(t *testing.T) {
 	}
 }
 
-func TestJSON(t *testing.T) {
-	t.Setenv("TMPDIR", t.TempDir())
-	for _, count := range []int{0, 3, MostInMemory + 7} {
-		text, err := json.Marshal(filled(count))
-		read := &List[thing]{}
-		if err == nil {
-			err = json.Unmarshal(text, read)
-		}
-		if err != nil || !reflect.DeepEqual(allOf(read), allOf(filled(count))) {
-			t.Errorf("%d: %v", count, err)
-		}
-	}
-}
-
 // Where there is no room, the list says so, and never that it is whole.
 func TestWithoutARoom(t *testing.T) {
 	t.Setenv("TMPDIR", "/nowhere")
@@ -109,8 +93,5 @@ func TestWithoutARoom(t *testing.T) {
 	}
 	if all := allOf(list); len(all) != 0 {
 		t.Errorf("%d things of a list that isn't whole", len(all))
-	}
-	if _, err := json.Marshal(list); err == nil {
-		t.Error("a list that isn't whole is written")
 	}
 }

@@ -64,8 +64,8 @@ func TestBlocksThatDiffer(t *testing.T) {
 	}
 }
 
-// A file with rot in many blocks has its count told whole, and how many blocks the list lacks; one that grew has as many
-// blocks as stand on the disk.
+// All blocks with rot are counted, also those that the list lacks. A file that grew has as many blocks as stand on the
+// disk.
 func TestCountsOfBlocks(t *testing.T) {
 	const size = 131072
 	at := func(recorded, found int64, differ part.Differ) *part.Name {

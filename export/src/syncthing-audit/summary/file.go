@@ -160,8 +160,8 @@ func (r *reader) at(member int) *part.Name {
 	return r.row.At[member]
 }
 
-// findWinner finds what is due: what each device records of which no reason says otherwise. The devices that have it on
-// their disks, too, are those that have the recorded bytes.
+// findWinner finds what is due. Each device that no reason speaks against has it in its record. If such a device has it on
+// its disk, too, it has the recorded bytes.
 func (r *reader) findWinner() {
 	for member, one := range r.folder.Members {
 		if r.has(member, "RecordMissing", "RecordDiffers", "LocalOnly") {

@@ -45,8 +45,8 @@ func keyOf(file *File) string {
 	return key + " of " + strings.Join(file.Have, " ")
 }
 
-// shorten makes the faults of a name whose details weren't kept such that it can be told with others: there is no end to
-// how many of these there are.
+// shorten keeps of each fault only its device, kind and reasons. It is for a name whose details weren't kept: so it can be
+// told together with others. There may be any number of such names.
 func (f *File) shorten() {
 	for place := range f.Faults {
 		one := &f.Faults[place]
@@ -58,7 +58,7 @@ func (f *File) shorten() {
 // mostKinds is how many kinds of alike names are told apart, where details of the names weren't kept.
 const mostKinds = 1000
 
-// folding takes the names of a folder, rising, and tells those with the same fault as one, where there are many.
+// folding takes the names of a folder, rising. It tells many names with the same fault as one.
 type folding struct {
 	named labels
 	wrong int64 // names with faults

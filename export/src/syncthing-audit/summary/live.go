@@ -62,13 +62,12 @@ func liveOf(from *finding.Folder) *Live {
 	return made
 }
 
-// still says for how long how many names were still, and how many weren't.
-func (p *printer) still(one *Folder) string {
-	spent := ""
-	if one.Live.Seconds != nil {
-		spent = fmt.Sprintf(" for %s s", thousands(int64(*one.Live.Seconds)))
+// still says for how long the names were still.
+func still(one *Folder) string {
+	if one.Live.Seconds == nil {
+		return "still: "
 	}
-	return fmt.Sprintf("still%s: %s; in motion: %s", spent, counted(one.Names, "name", "names"), thousands(one.Live.Moving))
+	return fmt.Sprintf("still for %s s: ", thousands(int64(*one.Live.Seconds)))
 }
 
 // mostMoving is how many names in motion are told.

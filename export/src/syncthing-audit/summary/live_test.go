@@ -41,48 +41,50 @@ func TestAdviceForWhatWaitsForAScan(t *testing.T) {
 	}
 }
 
-// What was still, for how long, and what was in motion: it is never called in step.
-func TestTextOfRunningDevices(t *testing.T) {
-	cases := []struct {
-		why  string
-		live finding.Live
-		text string
-	}{
-		{"all still", finding.Live{Timed: true, Seconds: 312.9},
-			`docs (Documents): in step and firm; still for 312 s: 1,204 names; in motion: 0 (4 deleted, 335.2 MB hashed on laptop, server)
+// textsOfRunningDevices are what a person reads of devices that ran.
+var textsOfRunningDevices = []struct {
+	why  string
+	live finding.Live
+	text string
+}{
+	{"all still", finding.Live{Timed: true, Seconds: 312.9},
+		`docs (Documents): in step and firm; still for 312 s: 1,204 names (4 deleted), 335.2 MB hashed on laptop, server; in motion: 0
 
 ` + strings.TrimPrefix(lastLine, "\n")},
-		{"two in motion", finding.Live{Timed: true, Seconds: 1312, Moving: 2, Names: []finding.Moving{
-			{Name: "a b", At: []finding.Moved{{Member: 0, Why: []string{part.MovedRecord, part.MovedDisk}}, {Member: 1, Why: []string{part.MovedViews}}}},
-			{Name: "c", At: []finding.Moved{{Member: 1, Why: []string{part.MovedReceiving}}}}}},
-			`docs (Documents): in step and firm as far as audited; still for 1,312 s: 1,204 names; in motion: 2 (4 deleted, 335.2 MB hashed on laptop, server)
+	{"two in motion", finding.Live{Timed: true, Seconds: 1312, Moving: 2, Names: []finding.Moving{
+		{Name: "a b", At: []finding.Moved{{Member: 0, Why: []string{part.MovedRecord, part.MovedDisk}}, {Member: 1, Why: []string{part.MovedViews}}}},
+		{Name: "c", At: []finding.Moved{{Member: 1, Why: []string{part.MovedReceiving}}}}}},
+		`docs (Documents): in step and firm as far as audited; still for 1,312 s: 1,204 names (4 deleted), 335.2 MB hashed on laptop, server; in motion: 2
 
 in motion in docs: 2 names, not audited: audit again
   'a b': laptop: its record changed, what stands on the disk changed; server: what it knows of others' records changed
   c: server: it is being received
 ` + strings.TrimPrefix(lastLine, "\n")},
-		{"one waits for a scan", finding.Live{Timed: true, Moving: 1, Names: []finding.Moving{
-			{Name: "c", At: []finding.Moved{{Member: 1, Why: []string{part.MovedUnscanned}}}}}},
-			`docs (Documents): in step and firm as far as audited; still for 0 s: 1,204 names; in motion: 1 (4 deleted, 335.2 MB hashed on laptop, server)
+	{"one waits for a scan", finding.Live{Timed: true, Moving: 1, Names: []finding.Moving{
+		{Name: "c", At: []finding.Moved{{Member: 1, Why: []string{part.MovedUnscanned}}}}}},
+		`docs (Documents): in step and firm as far as audited; still for 0 s: 1,204 names (4 deleted), 335.2 MB hashed on laptop, server; in motion: 1
 
 in motion in docs: 1 name, not audited: audit again after a scan by Syncthing, as with --rescan
   c: server: the disk isn't as recorded: it waits for a scan by Syncthing
 ` + strings.TrimPrefix(lastLine, "\n")},
-		{"more than are told", finding.Live{Timed: true, Moving: 12, Names: inMotion(11)},
-			`docs (Documents): in step and firm as far as audited; still for 0 s: 1,204 names; in motion: 12 (4 deleted, 335.2 MB hashed on laptop, server)
+	{"more than are told", finding.Live{Timed: true, Moving: 12, Names: inMotion(11)},
+		`docs (Documents): in step and firm as far as audited; still for 0 s: 1,204 names (4 deleted), 335.2 MB hashed on laptop, server; in motion: 12
 
 in motion in docs: 12 names, not audited: audit again
 ` + firstTen + `  and 2 more (--json has 11)
 ` + strings.TrimPrefix(lastLine, "\n")},
-		{"clocks that differ, and what wasn't heard of", finding.Live{Unheard: []finding.Unheard{{Member: 1, Of: 0, Names: 3}}},
-			`docs (Documents): in step and firm as far as audited; still: 1,204 names; in motion: 0 (4 deleted, 335.2 MB hashed on laptop, server)
+	{"clocks that differ, and what wasn't heard of", finding.Live{Unheard: []finding.Unheard{{Member: 1, Of: 0, Names: 3}}},
+		`docs (Documents): in step and firm as far as audited; still: 1,204 names (4 deleted), 335.2 MB hashed on laptop, server; in motion: 0
 
 for how long docs was still isn't known: the devices' clocks differ by more than that
 not heard of in docs: what laptop recorded last of 3 still names hasn't reached server: it is on its way, or the two aren't connected
 ` + strings.TrimPrefix(lastLine, "\n")},
-	}
+}
+
+// What was still, for how long, and what was in motion: it is never called in step.
+func TestTextOfRunningDevices(t *testing.T) {
 	var documents strings.Builder
-	for _, one := range cases {
+	for _, one := range textsOfRunningDevices {
 		var written strings.Builder
 		live := one.live
 		answer := answerOf(2, func(folder *finding.Folder) { folder.Live = &live })

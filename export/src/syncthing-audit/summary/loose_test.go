@@ -41,7 +41,7 @@ func TestWhatAPersonReadsOfFirmness(t *testing.T) {
 			}
 			folder.Firmness.First = &finding.Failure{Reason: finding.VersionDiffers, Name: "0000", Device: 1}
 			folder.Live = &finding.Live{Moving: 1}
-		}, "docs (Documents): in step as far as audited, not firm; still: 1,204 names; in motion: 1 (4 deleted, 335.2 MB hashed on laptop, phone, server)\n" + `
+		}, "docs (Documents): in step as far as audited, not firm; still: 1,204 names (4 deleted), 335.2 MB hashed on laptop, phone, server; in motion: 1\n" + `
 1,244 names keep docs from being firm
 ` + linesOf(mostLoose, "  %04d: laptop has it under a concurrent version\n") + "  and 1,234 more (--lines has all)\n" + meaning},
 		{"it wasn't asked", func(folder *finding.Folder) { folder.Firmness = finding.Firmness{} }, "docs (Documents): in step; " + lineOfDevices +

@@ -1,5 +1,5 @@
-// Package summary has what an audit found as a person asks for it: one entry a file, with what is wrong on which device,
-// who has the recorded bytes, and what to do. Its JSON is docs/audit.schema.json.
+// Package summary has what an audit found as a person asks for it. There is one entry a file. It says what is wrong on
+// which device, who has the recorded bytes, and what to do. Its JSON is docs/audit.schema.json.
 package summary
 
 import (
@@ -221,7 +221,7 @@ func namesOf(folder *finding.Folder, one *finding.LeftOut) Names {
 	return made
 }
 
-// prefixesOf gives how the names begin that were read of each device, where not all were.
+// prefixesOf gives, for each device of which not all names were read, how those begin that were.
 func prefixesOf(answer *finding.Answer) map[string]Text {
 	made := map[string]Text{}
 	for _, folder := range answer.Folders {

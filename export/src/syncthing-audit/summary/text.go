@@ -67,13 +67,12 @@ func (p *printer) folder(one *Folder) {
 	for _, member := range one.Devices {
 		devices = append(devices, member.Device)
 	}
+	names, moving := counted(one.Names, "name", "names"), ""
 	if one.Live != nil {
-		p.line("%s%s: %s; %s (%s deleted, %s hashed on %s)", one.ID, label, verdict, p.still(one), thousands(one.Deleted), size(one.Bytes),
-			p.named.all(devices))
-		return
+		names, moving = still(one)+names, "; in motion: "+thousands(one.Live.Moving)
 	}
-	p.line("%s%s: %s; %s (%s deleted), %s hashed on %s", one.ID, label, verdict, counted(one.Names, "name", "names"), thousands(one.Deleted),
-		size(one.Bytes), p.named.all(devices))
+	p.line("%s%s: %s; %s (%s deleted), %s hashed on %s%s", one.ID, label, verdict, names, thousands(one.Deleted), size(one.Bytes),
+		p.named.all(devices), moving)
 }
 
 // group prints names with the same fault as one entry.
@@ -195,7 +194,7 @@ func (p *printer) wordsOf(one *Fault) string {
 	return wordsOf[one.Cause]
 }
 
-// since says when a file was modified, or of when a deletion is, as far as that is known.
+// since says when a file was modified, as far as that is known. For a deletion it says of when the deletion is.
 func (p *printer) since(one *Fault) string {
 	switch {
 	case one.Cause == OtherBytes && one.Recorded != nil:

@@ -95,18 +95,18 @@ const (
 	lastLine     = "\nnot compared: owners, extended attributes, old versions\n"
 )
 
-func TestWhatAPersonReads(t *testing.T) {
-	cases := []struct {
-		why     string
-		devices int
-		fill    func(*finding.Folder)
-		text    string
-	}{
-		{"all in step", 2, func(*finding.Folder) {},
-			"docs (Documents): in step and firm; 1,204 names (4 deleted), 335.2 MB hashed on laptop, server\n" + lastLine},
-		{"a file of other bytes", 2, func(folder *finding.Folder) {
-			fails(folder, "my budget.txt", []*part.Name{file(1, 1), with(file(1, 1), rotten)}, "StoreDiffers 2")
-		}, lineOfFolder + `
+// textsForAPerson are what a person reads of what was found.
+var textsForAPerson = []struct {
+	why     string
+	devices int
+	fill    func(*finding.Folder)
+	text    string
+}{
+	{"all in step", 2, func(*finding.Folder) {},
+		"docs (Documents): in step and firm; 1,204 names (4 deleted), 335.2 MB hashed on laptop, server\n" + lastLine},
+	{"a file of other bytes", 2, func(folder *finding.Folder) {
+		fails(folder, "my budget.txt", []*part.Name{file(1, 1), with(file(1, 1), rotten)}, "StoreDiffers 2")
+	}, lineOfFolder + `
 'my budget.txt'  (in docs, 300.0 kB)
   server: other bytes on the disk; size and time are as recorded, so no scan sees it (modified 2020-09-13 12:26:40 UTC)
     block 2 differs (1 of 3 blocks of 128 KiB; the first is block 0)
@@ -116,9 +116,9 @@ func TestWhatAPersonReads(t *testing.T) {
          --times --ignore-times) while Syncthing is stopped there. If instead the bytes on server
          are the right ones, 'touch' the file there and let Syncthing scan: it sends them to all.
 ` + lastLine},
-		{"the same other bytes on two devices, under a name like an option", 3, func(folder *finding.Folder) {
-			fails(folder, "-rf", []*part.Name{file(1, 1), with(file(1, 1), rotten), with(file(1, 1), rotten)}, "StoreDiffers 2", "StoreDiffers 3")
-		}, `docs (Documents): NOT in step, 1 name is wrong; 1,204 names (4 deleted), 335.2 MB hashed on laptop, phone, server
+	{"the same other bytes on two devices, under a name like an option", 3, func(folder *finding.Folder) {
+		fails(folder, "-rf", []*part.Name{file(1, 1), with(file(1, 1), rotten), with(file(1, 1), rotten)}, "StoreDiffers 2", "StoreDiffers 3")
+	}, `docs (Documents): NOT in step, 1 name is wrong; 1,204 names (4 deleted), 335.2 MB hashed on laptop, phone, server
 
 ./-rf  (in docs, 300.0 kB)
   phone: other bytes on the disk; size and time are as recorded, so no scan sees it (modified 2020-09-13 12:26:40 UTC)
@@ -136,9 +136,9 @@ func TestWhatAPersonReads(t *testing.T) {
   to do: if instead the bytes on phone, server are the right ones, which are the same, 'touch' the
          file on phone alone and let Syncthing scan: it sends them to all.
 ` + lastLine},
-		{"a missing file", 2, func(folder *finding.Folder) {
-			fails(folder, "a", []*part.Name{file(1, 1), with(file(1, 1), func(one *part.Name) { one.Disk = nil })}, "StoreDiffers 2")
-		}, lineOfFolder + `
+	{"a missing file", 2, func(folder *finding.Folder) {
+		fails(folder, "a", []*part.Name{file(1, 1), with(file(1, 1), func(one *part.Name) { one.Disk = nil })}, "StoreDiffers 2")
+	}, lineOfFolder + `
 a  (in docs, 300.0 kB)
   server: missing on the disk
   as recorded on: laptop
@@ -147,10 +147,10 @@ a  (in docs, 300.0 kB)
          to server with its time (cp -p, or rsync --times --ignore-times) while Syncthing is stopped
          there.
 ` + lastLine},
-		{"a device that is behind, and what others still see of it", 3, func(folder *finding.Folder) {
-			old := with(file(1, 2), func(one *part.Name) { one.Own.ModifiedS = started - 60; one.Disk.ModifiedS = started - 60 })
-			fails(folder, "a", []*part.Name{file(2, 1), old, file(2, 1)}, "RecordDiffers 2", "StoreDiffers 2", "ViewAhead 2", "ViewAhead 3")
-		}, `docs (Documents): NOT in step, 1 name is wrong; 1,204 names (4 deleted), 335.2 MB hashed on laptop, phone, server
+	{"a device that is behind, and what others still see of it", 3, func(folder *finding.Folder) {
+		old := with(file(1, 2), func(one *part.Name) { one.Own.ModifiedS = started - 60; one.Disk.ModifiedS = started - 60 })
+		fails(folder, "a", []*part.Name{file(2, 1), old, file(2, 1)}, "RecordDiffers 2", "StoreDiffers 2", "ViewAhead 2", "ViewAhead 3")
+	}, `docs (Documents): NOT in step, 1 name is wrong; 1,204 names (4 deleted), 335.2 MB hashed on laptop, phone, server
 
 a  (in docs, 300.0 kB)
   server: behind: hasn't taken what is newest (modified 2020-09-13 12:26:40 UTC)
@@ -160,15 +160,15 @@ a  (in docs, 300.0 kB)
          among the 'Out of Sync Items', see whether the device is paused, connected, or out of
          space.
 ` + lastLine},
-		{"a device that is behind as a whole", 2, func(folder *finding.Folder) {
-			for next := 0; next < 7; next++ {
-				row := []*part.Name{file(1, 1), nil}
-				if next == 6 {
-					row = nil
-				}
-				fails(folder, fmt.Sprint("photo ", next), row, "RecordMissing 2", "StoreDiffers 2")
+	{"a device that is behind as a whole", 2, func(folder *finding.Folder) {
+		for next := 0; next < 7; next++ {
+			row := []*part.Name{file(1, 1), nil}
+			if next == 6 {
+				row = nil
 			}
-		}, `docs (Documents): NOT in step, 7 names are wrong; 1,204 names (4 deleted), 335.2 MB hashed on laptop, server
+			fails(folder, fmt.Sprint("photo ", next), row, "RecordMissing 2", "StoreDiffers 2")
+		}
+	}, `docs (Documents): NOT in step, 7 names are wrong; 1,204 names (4 deleted), 335.2 MB hashed on laptop, server
 
 7 names in docs: 1.8 MB, without 1 name whose details weren't kept
   server: behind: hasn't taken what is newest
@@ -178,26 +178,26 @@ a  (in docs, 300.0 kB)
          among the 'Out of Sync Items', see whether the device is paused, connected, or out of
          space.
 ` + lastLine},
-		{"a file that was added on a receive-only device", 2, func(folder *finding.Folder) {
-			folder.Members[1].About.Kind = "receive-only"
-			unwon(folder, "added", 1, finding.LocalChange, file(1, 1))
-		}, lineOfFolder + `
+	{"a file that was added on a receive-only device", 2, func(folder *finding.Folder) {
+		folder.Members[1].About.Kind = "receive-only"
+		unwon(folder, "added", 1, finding.LocalChange, file(1, 1))
+	}, lineOfFolder + `
 added  (in docs, 300.0 kB)
   server: added on this receive-only device; no other has it (modified 2020-09-13 12:26:40 UTC)
   to do: 'Revert Local Changes' on server deletes it: copy it elsewhere first if it is to stay. To
          have it everywhere, make the folder 'Send & Receive' there.
 ` + lastLine},
-		{"a file that no scan has seen", 2, func(folder *finding.Folder) {
-			unwon(folder, "new", 0, finding.Unscanned, with(file(1, 1), func(one *part.Name) { one.Own = nil; one.Disk.ModifiedS = later }))
-		}, lineOfFolder + `
+	{"a file that no scan has seen", 2, func(folder *finding.Folder) {
+		unwon(folder, "new", 0, finding.Unscanned, with(file(1, 1), func(one *part.Name) { one.Own = nil; one.Disk.ModifiedS = later }))
+	}, lineOfFolder + `
 new  (in docs, 300.0 kB)
   laptop: on the disk, and no scan has seen it (modified 2020-09-13 12:27:40 UTC)
   to do: start Syncthing on laptop and 'Rescan': it then goes to all.
 ` + lastLine},
-		{"other bytes with another mode", 2, func(folder *finding.Folder) {
-			fails(folder, "a", []*part.Name{file(1, 1), with(file(1, 1), rotten)}, "StoreDiffers 2")
-			folder.Permissions.Add(finding.Permissions{Name: "a", At: []finding.Bits{{Has: true, Index: 0o644}, {Has: true, Index: 0o644, OnDisk: true, Disk: 0o600}}})
-		}, lineOfFolder + `
+	{"other bytes with another mode", 2, func(folder *finding.Folder) {
+		fails(folder, "a", []*part.Name{file(1, 1), with(file(1, 1), rotten)}, "StoreDiffers 2")
+		folder.Permissions.Add(finding.Permissions{Name: "a", At: []finding.Bits{{Has: true, Index: 0o644}, {Has: true, Index: 0o644, OnDisk: true, Disk: 0o600}}})
+	}, lineOfFolder + `
 a  (in docs, 300.0 kB)
   server: other bytes on the disk; size and time are as recorded, the mode isn't, so the next scan sees it (modified 2020-09-13 12:26:40 UTC)
     block 2 differs (1 of 3 blocks of 128 KiB; the first is block 0)
@@ -211,20 +211,20 @@ a  (in docs, 300.0 kB)
   to do: on server, 'chmod 0644' it if that is the right mode, before Syncthing scans there: the
          scan may send 0600 to all; or choose 'Ignore Permissions' for the folder.
 ` + lastLine},
-		{"permissions that differ", 2, func(folder *finding.Folder) {
-			folder.Permissions.Add(finding.Permissions{Name: "a", At: []finding.Bits{{Has: true, Index: 0o644, OnDisk: true, Disk: 0o600}, {Has: true, Index: 0o644}}})
-		}, `docs (Documents): in step and firm; 1,204 names (4 deleted), 335.2 MB hashed on laptop, server
+	{"permissions that differ", 2, func(folder *finding.Folder) {
+		folder.Permissions.Add(finding.Permissions{Name: "a", At: []finding.Bits{{Has: true, Index: 0o644, OnDisk: true, Disk: 0o600}, {Has: true, Index: 0o644}}})
+	}, `docs (Documents): in step and firm; 1,204 names (4 deleted), 335.2 MB hashed on laptop, server
 
 a  (in docs)
   permissions differ (they don't count for the verdict): laptop 0644 recorded, 0600 on the disk; server 0644
   to do: on laptop, 'chmod 0644' it if that is the right mode, before Syncthing scans there: the
          scan may send 0600 to all; or choose 'Ignore Permissions' for the folder.
 ` + lastLine},
-		{"permissions that differ everywhere", 2, func(folder *finding.Folder) {
-			for _, name := range []string{"1", "2", "3", "4", "5", "6"} {
-				folder.Permissions.Add(finding.Permissions{Name: name, At: []finding.Bits{{Has: true, Index: 0o644}, {Has: true, Index: 0o600}}})
-			}
-		}, `docs (Documents): in step and firm; 1,204 names (4 deleted), 335.2 MB hashed on laptop, server
+	{"permissions that differ everywhere", 2, func(folder *finding.Folder) {
+		for _, name := range []string{"1", "2", "3", "4", "5", "6"} {
+			folder.Permissions.Add(finding.Permissions{Name: name, At: []finding.Bits{{Has: true, Index: 0o644}, {Has: true, Index: 0o600}}})
+		}
+	}, `docs (Documents): in step and firm; 1,204 names (4 deleted), 335.2 MB hashed on laptop, server
 
 6 names in docs: 0 bytes, without 6 names whose details weren't kept
   permissions differ (they don't count for the verdict): laptop 0644; server 0600
@@ -232,12 +232,12 @@ a  (in docs)
   to do: 'chmod' it to the same mode on laptop, server: the next scan of one where it is changed may
          send its mode to all; or choose 'Ignore Permissions' for the folder.
 ` + lastLine},
-		{"what was left out, and what wasn't asked for", 2, func(folder *finding.Folder) {
-			folder.LeftOut = []*finding.LeftOut{{Name: "odd\xff", Names: 1, Bytes: 3000000, Why: []finding.Reason{{Member: 0, Kind: part.OddName, Why: "its name isn't UTF-8"}}}}
-			folder.Outside = finding.Count{Names: 4, Bytes: 7}
-			folder.Members[1].Head.Folders = append(folder.Members[1].Head.Folders, part.Folder{ID: "music"})
-			folder.Members[0].Head.Prefix = "a b"
-		}, `docs (Documents): in step and firm as far as audited; 1,204 names (4 deleted), 335.2 MB hashed on laptop, server
+	{"what was left out, and what wasn't asked for", 2, func(folder *finding.Folder) {
+		folder.LeftOut = []*finding.LeftOut{{Name: "odd\xff", Names: 1, Bytes: 3000000, Why: []finding.Reason{{Member: 0, Kind: part.OddName, Why: "its name isn't UTF-8"}}}}
+		folder.Outside = finding.Count{Names: 4, Bytes: 7}
+		folder.Members[1].Head.Folders = append(folder.Members[1].Head.Folders, part.Folder{ID: "music"})
+		folder.Members[0].Head.Prefix = "a b"
+	}, `docs (Documents): in step and firm as far as audited; 1,204 names (4 deleted), 335.2 MB hashed on laptop, server
 
 left out of docs: 1 name, 3.0 MB
   $'odd\377', 3.0 MB: laptop: its name isn't UTF-8
@@ -246,32 +246,32 @@ not asked for: 1 folder: music (server)
 not asked for: names on laptop that don't begin with 'a b'
 not compared: owners, extended attributes, old versions
 `},
-		{"a conflict copy that lies about", 2, func(folder *finding.Folder) {
-			folder.Conflicts = []finding.Conflict{{Name: "a.sync-conflict-20261126-170000-ABCDEF2.txt", Bytes: 1500000}}
-		}, `docs (Documents): in step and firm; 1,204 names (4 deleted), 335.2 MB hashed on laptop, server
+	{"a conflict copy that lies about", 2, func(folder *finding.Folder) {
+		folder.Conflicts = []finding.Conflict{{Name: "a.sync-conflict-20261126-170000-ABCDEF2.txt", Bytes: 1500000}}
+	}, `docs (Documents): in step and firm; 1,204 names (4 deleted), 335.2 MB hashed on laptop, server
 
 1 conflict copy in docs, 1.5 MB: compare each with its file, and keep what you want of both
   a.sync-conflict-20261126-170000-ABCDEF2.txt
 not compared: owners, extended attributes, old versions
 `},
-		{"many conflict copies", 2, func(folder *finding.Folder) {
-			for next := 0; next <= mostCopies+6; next++ {
-				folder.Conflicts = append(folder.Conflicts, finding.Conflict{Name: "a", Bytes: 1})
-			}
-		}, `docs (Documents): in step and firm; 1,204 names (4 deleted), 335.2 MB hashed on laptop, server
+	{"many conflict copies", 2, func(folder *finding.Folder) {
+		for next := 0; next <= mostCopies+6; next++ {
+			folder.Conflicts = append(folder.Conflicts, finding.Conflict{Name: "a", Bytes: 1})
+		}
+	}, `docs (Documents): in step and firm; 1,204 names (4 deleted), 335.2 MB hashed on laptop, server
 
 17 conflict copies in docs, 17 bytes: compare each with its file, and keep what you want of both
 ` + strings.Repeat("  a\n", mostCopies) + `  and 7 more (--json has all)
 not compared: owners, extended attributes, old versions
 `},
-		{"more than is listed", 2, func(folder *finding.Folder) {
-			folder.LeftOut = []*finding.LeftOut{{Name: "a", Names: 1, Bytes: 1000, Why: []finding.Reason{{Member: 0, Kind: part.Unreadable, Why: "it can't be read"}}}}
-			folder.Unlisted.LeftOut = finding.Count{Names: 1234, Bytes: 3000000}
-			for next := 0; next <= mostCopies; next++ {
-				folder.Conflicts = append(folder.Conflicts, finding.Conflict{Name: "a", Bytes: 1})
-			}
-			folder.Unlisted.Conflicts = finding.Count{Names: 5, Bytes: 1000}
-		}, `docs (Documents): in step and firm as far as audited; 1,204 names (4 deleted), 335.2 MB hashed on laptop, server
+	{"more than is listed", 2, func(folder *finding.Folder) {
+		folder.LeftOut = []*finding.LeftOut{{Name: "a", Names: 1, Bytes: 1000, Why: []finding.Reason{{Member: 0, Kind: part.Unreadable, Why: "it can't be read"}}}}
+		folder.Unlisted.LeftOut = finding.Count{Names: 1234, Bytes: 3000000}
+		for next := 0; next <= mostCopies; next++ {
+			folder.Conflicts = append(folder.Conflicts, finding.Conflict{Name: "a", Bytes: 1})
+		}
+		folder.Unlisted.Conflicts = finding.Count{Names: 5, Bytes: 1000}
+	}, `docs (Documents): in step and firm as far as audited; 1,204 names (4 deleted), 335.2 MB hashed on laptop, server
 
 16 conflict copies in docs, 1.0 kB: compare each with its file, and keep what you want of both
 ` + strings.Repeat("  a\n", mostCopies) + `  and 6 more (--json has the first 11)
@@ -280,14 +280,16 @@ left out of docs: 1,235 names, 3.0 MB
   and 1,234 names more, 3.0 MB
 not compared: owners, extended attributes, old versions
 `},
-		{"one device alone", 1, func(*finding.Folder) {},
-			`docs (Documents): in step and firm as far as audited; 1,204 names (4 deleted), 335.2 MB hashed on laptop
+	{"one device alone", 1, func(*finding.Folder) {},
+		`docs (Documents): in step and firm as far as audited; 1,204 names (4 deleted), 335.2 MB hashed on laptop
 
 alone: docs is audited on one device, so there is nothing to compare it with
 not compared: owners, extended attributes, old versions
 `},
-	}
-	for _, one := range cases {
+}
+
+func TestWhatAPersonReads(t *testing.T) {
+	for _, one := range textsForAPerson {
 		var written strings.Builder
 		Of(answerOf(one.devices, one.fill)).Print(&written, time.UTC)
 		if written.String() != one.text {

@@ -1,0 +1,14 @@
+mod Rising
+mod Merged
+mod Deciding
+mod Faultless
+mod OneVerdict
+mod SomeVerdict
+mod SmallLogs
+mod ThereObjects
+mod Touched
+mod OneRun
+mod StaysPut
+mod WalkFacts
+mod WalkSteps
+mod WalkVerdict

@@ -1,0 +1,67 @@
+package main
+
+import (
+	"bufio"
+	"encoding/json"
+	"errors"
+	"fmt"
+	"io"
+	"os"
+	"path/filepath"
+
+	"syncthing-audit/finding"
+)
+
+// restName is the file beside exported documents. It has what no document says, in lines of JSON. The first line is an
+// exported. Behind it stand the long lists of its answer.
+const restName = "rest.jsonl"
+
+// exported is what an export into a directory leaves there beside the documents.
+type exported struct {
+	Answer    *finding.Answer
+	Documents []exportedDocument
+}
+
+// exportedDocument is one of the documents.
+type exportedDocument struct{ File, Folder string }
+
+// save writes what no document says.
+func (e *exported) save(directory string) error {
+	return writeNew(filepath.Join(directory, restName), func(file io.Writer) error {
+		to := bufio.NewWriter(file)
+		lines := json.NewEncoder(to)
+		if err := lines.Encode(e); err != nil {
+			return err
+		}
+		if err := e.Answer.WriteLists(lines); err != nil {
+			return err
+		}
+		return to.Flush()
+	})
+}
+
+// readExported reads what an export left in a directory.
+func readExported(directory string) (*exported, error) {
+	path := filepath.Join(directory, restName)
+	file, err := os.Open(path)
+	if err != nil {
+		return nil, fmt.Errorf("refused: 'export --into' fills a directory for 'sum': %w", err)
+	}
+	defer file.Close()
+	read := &exported{}
+	if err := read.readFrom(json.NewDecoder(bufio.NewReader(file))); err != nil {
+		return nil, fmt.Errorf("refused: %s isn't what 'export' writes: %w", path, err)
+	}
+	return read, nil
+}
+
+// readFrom reads the lines that save writes.
+func (e *exported) readFrom(lines *json.Decoder) error {
+	if err := lines.Decode(e); err != nil {
+		return err
+	}
+	if e.Answer == nil {
+		return errors.New("it has no answer")
+	}
+	return e.Answer.ReadLists(lines)
+}

@@ -1,0 +1,57 @@
+package main
+
+import (
+	"io"
+	"os"
+	"path/filepath"
+	"strings"
+	"testing"
+)
+
+// exportedPart exports a part, has its one document answered as settled, and gives the directory.
+func exportedPart(t *testing.T) string {
+	room := t.TempDir()
+	if status := run([]string{"export", "--into", room, aPart(t)}, io.Discard, io.Discard); status != statusDone {
+		t.Fatalf("the export has status %d", status)
+	}
+	reply := []byte("settled\nfolder docs: 1 names, 0 deleted, 1 devices\n")
+	if err := os.WriteFile(filepath.Join(room, "cut-0001.reply"), reply, 0o600); err != nil {
+		t.Fatal(err)
+	}
+	return room
+}
+
+// What an export left beside its documents is summed up whole, or refused with a reason.
+func TestWhatAnExportLeft(t *testing.T) {
+	for _, one := range []struct {
+		why    string
+		change func(text string) string
+		status int
+		told   string
+	}{
+		{"as it was", func(text string) string { return text }, statusPartial, "what an answer means"},
+		{"nothing", func(string) string { return "" }, statusRefused, "isn't what 'export' writes: EOF"},
+		{"no answer", func(string) string { return "{}\n" }, statusRefused, "isn't what 'export' writes: it has no answer"},
+		{"no JSON", func(text string) string { return text[1:] }, statusRefused, "isn't what 'export' writes: "},
+		{"the first line alone", func(text string) string { return strings.SplitAfter(text, "\n")[0] }, statusRefused, "unexpected EOF"},
+	} {
+		room := exportedPart(t)
+		path := filepath.Join(room, restName)
+		text, err := os.ReadFile(path)
+		if err == nil {
+			err = os.WriteFile(path, []byte(one.change(string(text))), 0o600)
+		}
+		if err != nil {
+			t.Fatal(err)
+		}
+		var log strings.Builder
+		if status := run([]string{"sum", room}, io.Discard, &log); status != one.status || !strings.Contains(log.String(), one.told) {
+			t.Errorf("%s: status %d, and %q", one.why, status, log.String())
+		}
+	}
+	var log strings.Builder
+	status := run([]string{"sum", t.TempDir()}, io.Discard, &log)
+	if status != statusRefused || !strings.Contains(log.String(), "refused: 'export --into' fills a directory for 'sum': open ") {
+		t.Errorf("a directory without an export: status %d, and %q", status, log.String())
+	}
+}

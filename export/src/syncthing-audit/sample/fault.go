@@ -1,0 +1,51 @@
+package main
+
+import (
+	"crypto/sha256"
+
+	"syncthing-audit/part"
+)
+
+// faults are what may be wrong with each name on the last of the devices, by the words of --each. Each function is given
+// what a device in step has of a name. It gives what the device has instead, or nothing.
+var faults = map[string]func(line *part.Name, isLast bool) *part.Name{
+	"rotten":      onLast(rot),
+	"permissions": onLast(func(line *part.Name) { line.Disk.Permissions = 0o600 }),
+	"concurrent":  onLast(recordItself),
+	"unscanned":   keepUnscanned,
+}
+
+// onLast has a fault on the last device alone.
+func onLast(fault func(*part.Name)) func(*part.Name, bool) *part.Name {
+	return func(line *part.Name, isLast bool) *part.Name {
+		if isLast {
+			fault(line)
+		}
+		return line
+	}
+}
+
+// rot gives a file other bytes in its first block.
+func rot(line *part.Name) {
+	other := part.Hash(sha256.Sum256([]byte(line.Name + " is rotten")))
+	was := line.Own.Content.Hash
+	line.Disk.Contents[0].Hash = other
+	line.Disk.Differ = &part.Differ{Count: 1, Ranges: [][2]int64{{0, 0}}, First: part.Pair{Recorded: &was, Found: &other}}
+}
+
+// recordItself has the device record a file by itself, so under a version that is concurrent to the others'.
+func recordItself(line *part.Name) {
+	own := *line.Own
+	own.ModifiedBy++
+	own.Version = [][2]uint64{{own.ModifiedBy, 1700000000}}
+	line.Own = &own
+}
+
+// keepUnscanned leaves the file on the last device's disk alone.
+func keepUnscanned(line *part.Name, isLast bool) *part.Name {
+	if !isLast {
+		return nil
+	}
+	line.Own, line.Views = nil, nil
+	return line
+}

@@ -1,0 +1,124 @@
+#!/usr/bin/env python3
+"""fuzz.py PROGRAM [--seconds N] [--seed N]: has the built program read documents that were changed at random
+(fuzzing/drawing.py), by each of its commands, for 40 seconds if not said otherwise. None may end by a signal, take over 5
+seconds, end with a status that isn't its own, or contradict another. The seed is the number of commits if none is given, so
+each run reads other documents, and the same commit the same ones. What fails is kept in a file that is named. The last line
+is 'N passed, M failed', one for each command and for each two that are compared."""
+
+import os
+import subprocess
+import sys
+import tempfile
+import time
+from collections import Counter
+from concurrent.futures import ThreadPoolExecutor
+from itertools import islice
+from pathlib import Path
+
+from counting import Count
+from edits import commits
+
+SECONDS, LONGEST, AT_ONCE = 40, 5, 2
+# The statuses of each command where memory is there and nothing stands in the way of reading and writing.
+CHECKS = {"check": {0, 1, 2}, "firm": {0, 1, 2}, "explain": {0, 1, 2}, "explain --json": {0, 1, 2},
+          "explain --firm": {0, 1, 2}, "explain --firm --json": {0, 1, 2}, "certify": {0, 1, 2},
+          "certify --partial": {0, 2, 6}}
+RUNS = {"run": {0, 1, 2}, "run --document": {0, 1, 2}}
+ALL = CHECKS | RUNS
+
+
+def run(program, command, document):
+    """What the command writes of the document, and its status, or why it has none."""
+    try:
+        ran = subprocess.run([program, *command.split()], input=document, stdout=subprocess.PIPE,
+                             stderr=subprocess.DEVNULL, timeout=LONGEST)
+    except subprocess.TimeoutExpired:
+        return b"", f"takes over {LONGEST} seconds"
+    return ran.stdout, ran.returncode
+
+
+def fault(command, status):
+    """Why it may not end so, if it may not."""
+    if isinstance(status, str):
+        return f"it {status}"
+    if status < 0:
+        return f"it ends by signal {-status}"
+    return "" if status in ALL[command] else f"it ends with status {status}"
+
+
+def contradictions(program, told):
+    """The pairs of commands of which the one contradicts the other, each with whether it does."""
+    status = {command: one[1] for command, one in told.items()}
+    if "check" in told:
+        yield "check and explain", status["check"] != status["explain"]
+        yield "explain and explain --json", status["explain"] != status["explain --json"]
+        yield "firm and explain --firm", status["firm"] != status["explain --firm"]
+        yield "firm and check", status["firm"] == 0 != status["check"] or (status["firm"] == 2) != (status["check"] == 2)
+        if status["certify"] == 0:
+            yield "certify and check", run(program, "check", told["certify"][0])[1] not in (0, 1)
+        yield "certify and certify --partial", (status["certify"] == 0) != (status["certify --partial"] == 0)
+    if "run" in told:
+        yield "run and run --document", (status["run"] == 2) != (status["run --document"] == 2)
+        if status["run --document"] == 0:
+            yield "run and check", run(program, "check", told["run --document"][0])[1] != status["run"]
+
+
+def faults(program, document, commands):
+    """What is at fault in how the program answers the document, by command or pair of commands; '' where nothing is."""
+    told = {command: run(program, command, document) for command in commands}
+    found = {command: fault(command, status) for command, (_, status) in told.items()}
+    for pair, is_so in contradictions(program, told):
+        found[pair] = "they contradict each other" if is_so else ""
+    return found
+
+
+def drawn(seed, until):
+    """Documents with the commands that read them, until that time."""
+    from fuzzing.drawing import Drawing
+    drawing = Drawing(seed)
+    while time.monotonic() < until:
+        document, is_scenario = drawing.document()
+        yield document, ALL if drawing.made.happens(0.05) else RUNS if is_scenario else CHECKS
+
+
+def kept(document):
+    """The name of a file that has the document."""
+    with tempfile.NamedTemporaryFile(prefix="fuzz-", suffix=".json", delete=False) as file:
+        file.write(document)
+    return file.name
+
+
+def said(words, option, otherwise):
+    """The number behind an option, or what it is otherwise."""
+    return float(words[words.index(option) + 1]) if option in words else otherwise
+
+
+def main(given, *words):
+    program, count, read = Path(given).resolve(), Count("fuzz"), Counter()
+    if not os.access(program, os.X_OK):
+        count.fails(f"there is no program {given}")
+        return count.told()
+    if sys.version_info < (3, 11):
+        print("fuzz: SKIPPED: the second reading, which draws documents, needs python3 of version 3.11 or later")
+        print("0 passed, 0 failed, 1 skipped")
+        return 0
+    seed, until = int(said(words, "--seed", commits())), time.monotonic() + said(words, "--seconds", SECONDS)
+    documents, bad = drawn(seed, until), set()
+    with ThreadPoolExecutor(AT_ONCE) as pool:
+        while some := list(islice(documents, 50)):
+            for (document, _), found in zip(some, pool.map(lambda one: faults(program, *one), some)):
+                read["documents"] += 1
+                for what, why in found.items():
+                    read[what] += 1
+                    if why and what not in bad:
+                        bad.add(what)
+                        count.fails(f"{what}: {why}, of the document {kept(document)} (seed {seed})")
+    for what in read.keys() - bad - {"documents"}:
+        count.says(what, "")
+    print(f"fuzz: {read['documents']} documents by seed {seed}; " + ", ".join(
+        f"{what} {number}" for what, number in read.items() if what != "documents"))
+    return count.told()
+
+
+if __name__ == "__main__":
+    sys.exit(main(*sys.argv[1:]))
