@@ -21,4 +21,4 @@ mod Restarted
 mod ListDone
 mod Scanned
 mod Reaching
-mod BegunSound
+mod BegunFresh

@@ -1,13 +1,5 @@
 -- Clusters that steps lead to (this project's profile).
-use Rattle.std.specs.Prelude.{◌≡◌, List, Some, Contains}
-use Rattle.std.specs.FinMap.{get}
-use Rattle.std.specs.Map.{values_of}
-use Rattle.bep_map.specs.NameMap.{ByName}
-use Rattle.bep_record.specs.declared.node.NodeParts.{NodeParts}
-use Rattle.bep_record.specs.Node.{IsNode}
-use Rattle.bep_config.specs.declared.sharing.Sharing.{Sharing}
-use Rattle.bep_config.specs.Config.{Configuration}
-use Rattle.bep_model.specs.Tables.{FileName}
+use Rattle.std.specs.Prelude.{List}
 use Rattle.bep_machine.specs.Cluster.{Cluster}
 use Rattle.bep_machine.specs.Gapless.{IsApart, IsGapless}
 use Rattle.bep_machine.specs.Laws.{AreSound}
@@ -26,9 +18,3 @@ pub record IsReached (cluster : Cluster) : Type 0 where
 -- such a cluster is sound, and what its devices know of each other has no gap
 abbrev pub ReachedIsGapless : Type 0
 ReachedIsGapless = (cluster : Cluster) → IsReached cluster → IsSound cluster × IsGapless cluster
-
--- what each store of the configuration holds are nodes
-abbrev pub HoldNodes : {S : Type 0} → (S → ByName NodeParts) → Configuration S → Type 0
-HoldNodes {S} contents config =
-    (sharing : Sharing S) (name : FileName) (node : NodeParts) → Contains (values_of config.shares) sharing →
-    get (contents sharing.store) name ≡ Some node → IsNode node

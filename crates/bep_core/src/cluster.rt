@@ -7,7 +7,7 @@ ghost use Rattle.bep_config.specs.Config.{by_ends};
 ghost use Rattle.bep_machine.specs.Sound.{IsSound};
 ghost use Rattle.bep_core.specs.Begin.{begun};
 ghost use Rattle.bep_network.specs.Network.{IsNetwork, cluster_of, numbers_of, ends_of, member_at, between_at};
-ghost use Rattle.bep_core.specs.Reached.{HoldNodes, IsReached};
+ghost use Rattle.bep_core.specs.Reached.{IsReached};
 
 use crate::begin::{links_of, peers_of};
 use crate::folders::folders_of;
@@ -69,7 +69,7 @@ impl<S: Store> Cluster<S> {
     /// 0. Only want of memory is an error.
     pub fn new(alloc: Global, config: Config<S>) -> Result<Self, AllocError>
         ensures begun { IfOk result (λ made. made ≡ begun S.contents S.faults config) }
-        ensures reached { HoldNodes S.contents config → IfOk result (λ made. IsReached (cluster_of made)) }
+        ensures reached { IfOk result (λ made. IsReached (cluster_of made)) }
     {
         runs_are_gapless();
         let numbers = numbers_of(alloc, &config)?;
@@ -82,11 +82,13 @@ impl<S: Store> Cluster<S> {
             links,
         } = config.into_parts();
         let folders = folders_of(alloc, numbers.as_slice(), keys.as_slice(), shares)?;
-        Ok(Cluster {
+        let made = Cluster {
             peers: peers_of(alloc, numbers.as_slice(), devices, &links, folders)?,
             links: joining,
             alloc,
-        })
+        };
+        made.cluster_is_sound();
+        Ok(made)
     }
 
     /// The cluster is sound, whatever was called of it: its devices and links are by their types, and they agree on who

@@ -11,6 +11,7 @@ mod FoldersCut
 mod LinksCut
 mod CutFacts
 mod OfClusterFacts
+mod AgreedParts
 mod SaidDevices
 mod SaidRecords
 mod SaidFlights

@@ -11,7 +11,8 @@ use Rattle.bep_machine.specs.Replica.{Replica, node_at, own_at, target_at, viewe
 use Rattle.bep_machine.specs.Said.{at_device, replica_said, tables_of_cluster}
 use Rattle.bep_machine.specs.Sound.{IsSound, IsSoundReplica}
 use Rattle.bep_peer.specs.Member.{Member}
-use Rattle.bep_network.specs.Network.{Network, IsNetwork, cluster_of, is_number, member_at, numbers_of, peer_of}
+use Rattle.bep_network.specs.Agreed.{AreAgreed}
+use Rattle.bep_network.specs.Network.{Network, cluster_of, is_number, member_at, numbers_of, peer_of}
 use Rattle.bep_tables.specs.declared.share.PeerView.{PeerView}
 use Rattle.bep_tables.specs.declared.share.Share.{Share}
 use Rattle.bep_tables.specs.Cut.{share_of, shares_of, tables_of, view_of}
@@ -30,7 +31,7 @@ listed (first ∷ members) device member found = cases (is_number device first) 
   cases true same rest here = subst (Contains (numbers_of (first ∷ members))) (eqb-true first.number device same) (Contains-first first.number (numbers_of members))
   cases false apart rest later = Contains-more first.number (numbers_of members) device (rest later)
 
-module _ (network : Network) (is : IsNetwork network) (sound : IsSound (cluster_of network)) where
+module _ (network : Network) (is : AreAgreed network) (sound : IsSound (cluster_of network)) where
   rise : IsStrictlySortedBy nat_cmp (numbers_of network.members)
   rise = sorted_from_strictly_increasing (numbers_of network.members) is.devices
 

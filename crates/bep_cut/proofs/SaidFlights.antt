@@ -23,7 +23,8 @@ use Rattle.bep_machine.specs.Said as said
 use Rattle.bep_links.specs.Link.{LinkBetween}
 use Rattle.bep_peer.specs.Member.{Member}
 use Rattle.bep_network.specs.Network as networks
-use Rattle.bep_network.specs.Network.{Network, IsNetwork, between_at, cluster_of, config_of, is_between, member_at, numbers_of, peer_of, sharing_of}
+use Rattle.bep_network.specs.Agreed.{AreAgreed}
+use Rattle.bep_network.specs.Network.{Network, between_at, cluster_of, config_of, is_between, member_at, numbers_of, peer_of, sharing_of}
 use Rattle.bep_tables.specs.declared.link.LinkState.{LinkState}
 use Rattle.bep_tables.specs.Cut as tables
 use Rattle.bep_cut.specs.LinkState.{both_have, carried}
@@ -122,7 +123,7 @@ joins (first ∷ links) a b between found = cases (is_between a b first) refl (j
 
 -- ---- what is on its way
 
-module _ (network : Network) (is : IsNetwork network) (rise : IsStrictlySortedBy nat_cmp (numbers_of network.members)) (from to : Device) where
+module _ (network : Network) (is : AreAgreed network) (rise : IsStrictlySortedBy nat_cmp (numbers_of network.members)) (from to : Device) where
   abbrev all : List Seen
   all = map seen network.members
 

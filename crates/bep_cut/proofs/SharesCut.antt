@@ -93,7 +93,7 @@ module _ (law : TablesAreFound) (members : List Member) (links : List LinkBetwee
     }
 
   -- the folder as the device holds it
-  held_at : (member : Member) (folder : Folder) (replica : Replica) → get (tables_of member).replicas folder ≡ Some replica → (held : Held) × (get member.folders folder ≡ Some held) × (held.tables ≡ replica)
+  pub held_at : (member : Member) (folder : Folder) (replica : Replica) → get (tables_of member).replicas folder ≡ Some replica → (held : Held) × (get member.folders folder ≡ Some held) × (held.tables ≡ replica)
   held_at member folder replica found = cases (get member.folders folder) refl where
     cases : (held : Option Held) → get member.folders folder ≡ held → (held : Held) × (get member.folders folder ≡ Some held) × (held.tables ≡ replica)
     cases None is = absurd (let e : None ≡ Some replica = sym (law member folder ∙ ap (option_map (λ (h : Held). h.tables)) is) ∙ found in cc)

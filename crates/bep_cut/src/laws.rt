@@ -15,7 +15,9 @@ pub fn clusters_are_parts()
 /// The cut of a cluster's devices and links says what the cluster does.
 pub fn cut_says_cluster()
     ensures { CutSaysCluster }
-{}
+{
+    sharing_is_having();
+}
 
 /// Devices and links that are one and the same cluster have one cut.
 pub fn same_cluster_same_cut()

@@ -18,6 +18,7 @@ mod links;
 mod names;
 mod records;
 mod share;
+mod sound;
 mod views;
 
 pub use bep_scenario::{Scenario, read_scenario};
@@ -29,3 +30,4 @@ pub use bep_tables::{
 pub use cut::cut_of;
 pub use error::CutError;
 pub use laws::{clusters_are_parts, cut_says_cluster, same_cluster_same_cut};
+pub use sound::parts_are_sound;

@@ -1,15 +1,17 @@
 -- Logs without an event at fault agree, and what their events name is there.
 use Rattle.std.proofs.Common.{◌≡◌, ◌⊎◌, ◌<◌, ℕ, true, List, [], ◌∷◌, Contains, refl, sym, subst, inl, inr, ⊎_elim, arith}
-use Rattle.std.proofs.lemmas.Bool.{cases_lt, true_from_ne_false}
+use Rattle.std.proofs.lemmas.Bool.{both_ways, cases_lt, true_from_ne_false}
 use Rattle.bep_facts.specs.Decided.{same_or_not}
-use Rattle.bep_facts.specs.Members.{Contains-cons_cases, not_in_none}
+use Rattle.bep_facts.specs.Members.{Contains-cons_cases, Contains-first, not_in_none}
 use Rattle.bep_fit.specs.contracts.object.Object as object_row
 use Rattle.bep_fit.specs.contracts.stamped.Stamped as stamped_row
 use Rattle.bep_fit.specs.declared.object.Object.{Object}
 use Rattle.bep_fit.specs.declared.stamped.Stamped.{Stamped}
-use Rattle.bep_fit.specs.Fit.{AreFaultless, Falls, IsContradicted, IsElsewhere, IsMissing}
+use Rattle.bep_fit.specs.Fit.{AreFaultless, DoAgree, Falls, IsContradicted, IsElsewhere, IsMissing}
+use Rattle.bep_fit.specs.FitLaws.{FaultlessLogsAgree}
 use Rattle.bep_fit.specs.Logs.{HasLog, ObjectLog, named, touches}
-use Rattle.bep_fit.specs.Merge.{DoAgree, IsLogged, Rises}
+use Rattle.bep_fit.specs.Merge as lists
+use Rattle.bep_fit.specs.Merge.{IsLogged, Rises}
 use Rattle.bep_fit.proofs.Deciding.{some_or_none, stands_or_not}
 
 abbrev pub ticket_of : Stamped → ℕ
@@ -51,7 +53,7 @@ module _ (logs : List ObjectLog) (faultless : AreFaultless logs) where
       (λ differs. absurd (not_at_fault one logged (inr (inl (found.0, other, found.1, found.2, sym same, λ is. differs (sym is))))))
       (same_or_not (stamped_row.the_row).coded one other)
 
-  pub faultless_agree : DoAgree ticket_of entries_of touches logs
+  pub faultless_agree : lists.DoAgree ticket_of entries_of touches logs
   faultless_agree = record {
     rise = λ log there. rises_from log.events (λ ticket falls. faultless ticket log there (inl falls));
     every = in_every;
@@ -66,3 +68,40 @@ module _ (logs : List ObjectLog) (faultless : AreFaultless logs) where
       (λ has. has)
       (λ lacks. absurd (not_at_fault one logged (inl (inl (object, names, lacks)))))
       (some_or_none (λ (log : ObjectLog). log.object ≡ object) (λ log. same_or_not (object_row.the_row).coded log.object object) logs)
+
+-- ---- the other way
+
+pub rises_not_fall : (list : List Stamped) → Rises ticket_of list → (ticket : ℕ) → ¬ Falls ticket list
+rises_not_fall [] rises ticket falls = falls
+rises_not_fall (one ∷ []) rises ticket falls = falls
+rises_not_fall (one ∷ next ∷ more) rises ticket (inl here) =
+    let above = rises.0 next (Contains-first next more) in omega (arith, above, here.0, here.1)
+rises_not_fall (one ∷ next ∷ more) rises ticket (inr later) = rises_not_fall (next ∷ more) rises.1 ticket later
+
+module _ (logs : List ObjectLog) (agreed : DoAgree logs) where
+  none_missing : (one : Stamped) → IsLogged entries_of logs one → ¬ IsMissing logs one
+  none_missing one logged (inl missing) = missing.2 (agreed.there logged.0 one missing.0 logged.1 logged.2 missing.1)
+  none_missing one logged (inr missing) = missing.3 (agreed.agree.every one missing.0 logged missing.1 missing.2)
+
+  none_contradicted : (one : Stamped) → IsLogged entries_of logs one → ¬ IsContradicted logs one
+  none_contradicted one logged wrong = wrong.5 (agreed.agree.one_ticket wrong.1 one (wrong.0, wrong.2, wrong.3) logged wrong.4)
+
+  none_elsewhere : (one : Stamped) → IsLogged entries_of logs one → ¬ IsElsewhere logs one
+  none_elsewhere one logged wrong =
+      let same : wrong.1 ≡ one = agreed.agree.one_ticket wrong.1 one (wrong.0, wrong.2, wrong.3) logged wrong.4 in
+      let touching : touches one wrong.0 ≡ true = subst (λ (z : Stamped). touches z wrong.0 ≡ true) same (agreed.agree.no_other wrong.1 wrong.0 wrong.2 wrong.3) in
+      both_ways (touches one wrong.0) wrong.5 touching
+
+  pub agreed_is_faultless : AreFaultless logs
+  agreed_is_faultless ticket log there (inl falls) = rises_not_fall log.events (agreed.agree.rise log there) ticket falls
+  agreed_is_faultless ticket log there (inr wrong) =
+      ⊎_elim
+      (none_missing wrong.0 (log, there, wrong.1))
+      (⊎_elim (none_contradicted wrong.0 (log, there, wrong.1)) (none_elsewhere wrong.0 (log, there, wrong.1)))
+      wrong.3
+
+pub faultless_logs_agree_lem : FaultlessLogsAgree
+faultless_logs_agree_lem logs = (
+  λ faultless. record { agree = faultless_agree logs faultless; there = λ log one object there stands names. named_there logs faultless one (log, there, stands) object names },
+  agreed_is_faultless logs,
+)

@@ -4,7 +4,11 @@ mod Deciding
 mod Faultless
 mod OneVerdict
 mod SomeVerdict
+mod SmallLogs
 mod ThereObjects
 mod Touched
 mod OneRun
 mod StaysPut
+mod WalkFacts
+mod WalkSteps
+mod WalkVerdict

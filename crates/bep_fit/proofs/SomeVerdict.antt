@@ -29,7 +29,7 @@ falls_or_not ticket (one ∷ next ∷ more) =
     either_or_not (both_or_not (cases_eq next.ticket ticket) (le_or_not ticket one.ticket)) (falls_or_not ticket (next ∷ more))
 
 module _ (logs : List ObjectLog) where
-  has_log_or_not : (object : Object) → OrNot (HasLog logs object)
+  pub has_log_or_not : (object : Object) → OrNot (HasLog logs object)
   has_log_or_not object = some_or_none (λ (log : ObjectLog). log.object ≡ object) (λ log. same_or_not (object_row.the_row).coded log.object object) logs
 
   missing_or_not : (one : Stamped) → OrNot (IsMissing logs one)
@@ -63,10 +63,10 @@ module _ (logs : List ObjectLog) where
       (λ has. (has.0, has.2, (has.1, has.3, (has.4, has.5))))
       (has_such_or_not (λ log other. (other.ticket ≡ one.ticket) × (touches one log ≡ false)) (λ log other. both_or_not (cases_eq other.ticket one.ticket) (false_or_not (touches one log))))
 
-  abbrev IsWrong : Stamped → Type 0
+  abbrev pub IsWrong : Stamped → Type 0
   IsWrong one = IsMissing logs one ⊎ (IsContradicted logs one ⊎ IsElsewhere logs one)
 
-  wrong_or_not : (one : Stamped) → OrNot (IsWrong one)
+  pub wrong_or_not : (one : Stamped) → OrNot (IsWrong one)
   wrong_or_not one = either_or_not (missing_or_not one) (either_or_not (contradicted_or_not one) (elsewhere_or_not one))
 
   at_fault_or_not : (ticket : ℕ) (log : ObjectLog) → OrNot (IsAtFault logs ticket log)

@@ -45,6 +45,13 @@ AreFaultlessAt logs ticket = (log : ObjectLog) → Contains logs log → ¬ IsAt
 abbrev pub AreFaultless : List ObjectLog → Type 0
 AreFaultless logs = (ticket : ℕ) → AreFaultlessAt logs ticket
 
+-- In each log the tickets rise. An event stands, with its one ticket, in the log of every object that it touches, and in no
+-- other. What it names has a log.
+pub record DoAgree (logs : List ObjectLog) : Type 0 where
+  pub agree : lists.DoAgree (λ (one : Stamped). one.ticket) (λ (log : ObjectLog). log.events) touches logs
+  pub there : (log : ObjectLog) (one : Stamped) (object : Object) → Contains logs log → Contains log.events one →
+      Contains (named one) object → HasLog logs object
+
 -- ---- rounds
 
 abbrev pub first_round : List ObjectLog → ℕ

@@ -1,5 +1,5 @@
 -- Where logs fit, they are of one run; the functions of src/ have these as contracts.
-use Rattle.std.specs.Prelude.{◌≡◌, ℕ, List, length}
+use Rattle.std.specs.Prelude.{◌≡◌, ◌↔◌, ℕ, List, length}
 use Rattle.bep_model.specs.declared.row.Row.{Row}
 use Rattle.bep_model.specs.Settled.{IsSettled}
 use Rattle.bep_model.specs.Stays.{Stays}
@@ -11,7 +11,7 @@ use Rattle.bep_machine.specs.Sound.{IsSound}
 use Rattle.bep_machine.specs.Steps.{Event, IsRun}
 use Rattle.bep_fit.specs.declared.stamped.Stamped.{Stamped}
 use Rattle.bep_fit.specs.declared.verdict.RunVerdict.{RunVerdict}
-use Rattle.bep_fit.specs.Fit.{AreFaultless, Fits, IsMerged, IsRunVerdict}
+use Rattle.bep_fit.specs.Fit.{AreFaultless, DoAgree, Fits, IsMerged, IsRunVerdict}
 use Rattle.bep_fit.specs.Logs.{ObjectLog, events_of, touches}
 use Rattle.bep_fit.specs.Merge as lists
 use Rattle.bep_fit.specs.Replayed.{AreQuietLogs, AreReplayed, AreSoundLogs}
@@ -22,7 +22,11 @@ use Rattle.bep_fit.specs.Replayed.{AreQuietLogs, AreReplayed, AreSoundLogs}
 abbrev pub AreParts : List ObjectLog → List Stamped → Type 0
 AreParts = lists.AreParts (λ (log : ObjectLog). log.events) touches
 
--- logs without an event at fault have a merged list, and each of them is its part of that list
+-- no event is at fault exactly where the logs agree
+abbrev pub FaultlessLogsAgree : Type 0
+FaultlessLogsAgree = (logs : List ObjectLog) → AreFaultless logs ↔ DoAgree logs
+
+-- such logs have a merged list, and each of them is its part of that list
 abbrev pub FaultlessLogsMerge : Type 0
 FaultlessLogsMerge = (logs : List ObjectLog) → AreFaultless logs → (merged : List Stamped) × IsMerged logs merged × AreParts logs merged
 

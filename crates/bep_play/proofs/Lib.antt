@@ -1,4 +1,3 @@
 mod PlayFacts
 mod SettledEnd
-mod Begins
 mod OneEnd

@@ -8,6 +8,7 @@ use Rattle.bep_core.specs.Why.{name_of_refusal}
 use Rattle.bep_core.specs.declared.why.Why.{Why}
 use Rattle.bep_core.specs.declared.why.Why.TheVariants as whys
 use Rattle.bep_cut.specs.Cut.{cut_at}
+use Rattle.bep_cut.specs.Says.{Says}
 use Rattle.bep_document.specs.Reading.{Reading, Read, Refused}
 use Rattle.bep_machine.specs.Answer.{Answer, Done, OutOfMemory, Refused as Refuses, number_of as number_of_refusal}
 use Rattle.bep_machine.specs.Cluster.{Cluster}
@@ -70,12 +71,14 @@ pub record Leads (old : Cluster) (steps : List Step) (new : Cluster) (told : Lis
 abbrev pub beginning_of : Said → Network
 beginning_of scenario = begun (λ store. store) (λ _. 0) scenario.config
 
--- The scenario's steps lead from where it begins, a sound cluster, to these devices and links, which are a cluster's, and
--- this is told of them.
+-- The scenario's steps lead from where it begins, a sound cluster, to these devices and links, which are a sound cluster
+-- too, and this is told of them. Their cut says what that very cluster does.
 pub record EndsAt (scenario : Said) (last : Network) (told : List ℕ) : Type 0 where
   pub begins : IsSound (cluster_of (beginning_of scenario))
   pub leads : Leads (cluster_of (beginning_of scenario)) scenario.steps (cluster_of last) told
   pub network : IsNetwork last
+  pub sound : IsSound (cluster_of last)
+  pub says : Says (cluster_of last) (cut_at last.members last.links)
 
 -- what the answer of a step adds to what is told
 abbrev pub IsTold : ℕ → Result Moved Why → List ℕ → List ℕ → Type 0

@@ -1,13 +1,13 @@
 //! The check document of a scenario's end.
 ghost use Rattle.std.specs.Prelude.{IfOk};
-ghost use Rattle.bep_scenario.specs.Scenario.{BeginsEmpty, said};
+ghost use Rattle.bep_scenario.specs.Scenario.{said};
 ghost use Rattle.bep_play.specs.Played.{IsEndOfBytes, IsPlayedTo};
 
 use crate::ending::document_of_end;
 use crate::play::played;
 use bep_answer::{Answer, Certified, Question, fault_line};
 use bep_hints::{Expected, hint_at};
-use bep_scenario::{Scenario, read_scenario, scenarios_begin_empty};
+use bep_scenario::{Scenario, read_scenario};
 use bep_tables::DocError;
 use std::alloc::{AllocError, Global};
 
@@ -20,7 +20,6 @@ impl Question<Certified> for DocumentOfEnd {
     ghost says = { λ _. IsEndOfBytes };
 
     fn answer(self, alloc: Global, bytes: &[u8]) -> Result<Answer<Certified>, AllocError> {
-        scenarios_begin_empty();
         match read_scenario(alloc, bytes) {
             Ok(scenario) => run(alloc, scenario),
             Err(DocError::Refused(fault)) => {
@@ -34,7 +33,6 @@ impl Question<Certified> for DocumentOfEnd {
 
 // The document of where the scenario's run leads, and the lines of refused steps.
 fn run(alloc: Global, scenario: Scenario) -> Result<Answer<Certified>, AllocError>
-    requires { BeginsEmpty scenario.config }
     ensures { IfOk result (λ told. IsPlayedTo (said scenario) told.0.0 told.0.1.items) }
 {
     let (cluster, told) = played(alloc, scenario)?;

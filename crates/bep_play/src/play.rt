@@ -1,28 +1,30 @@
 //! The steps of a scenario, made one after another.
 ghost use Rattle.std.specs.Prelude.{IfOk, OnOk};
 ghost use Rattle.bep_network.specs.Network.{cluster_of};
-ghost use Rattle.bep_scenario.specs.Scenario.{BeginsEmpty, said};
+ghost use Rattle.bep_scenario.specs.Scenario.{said};
 ghost use Rattle.bep_play.specs.Played.{EndsAt, IsTold, Leads};
 
-use bep_core::{Cluster, Why, reached_is_gapless};
+use bep_core::{Cluster, Why};
+use bep_cut::cut_says_cluster;
 use bep_lines::push_step;
 use bep_machine::{Moved, Step};
 use bep_scenario::Scenario;
 use bep_store::MemStore;
 use std::alloc::{AllocError, Global};
 
-/// Makes the scenario's steps from where it begins, and answers the cluster to which they lead, and the lines of those that
-/// are refused.
+/// Makes the scenario's steps from where it begins, and answers the cluster to which they lead, whose cut says what it does,
+/// and the lines of those that are refused.
 pub(crate) fn played(
     alloc: Global,
     scenario: Scenario,
 ) -> Result<(Cluster<MemStore>, Vec<u8>), AllocError>
-    requires { BeginsEmpty scenario.config }
     ensures { IfOk result (λ end. EndsAt (said scenario) end.0 end.1.items) }
 {
-    reached_is_gapless();
     let mut cluster = Cluster::new(alloc, scenario.config)?;
+    cluster.cluster_is_sound();
     let told = play(alloc, &mut cluster, scenario.steps)?;
+    cluster.cluster_is_sound();
+    cut_says_cluster();
     // `peers` is called for its clause `a_network`
     let _devices = cluster.peers();
     Ok((cluster, told))

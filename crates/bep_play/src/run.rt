@@ -1,13 +1,13 @@
 //! A scenario's run.
 ghost use Rattle.std.specs.Prelude.{IfOk};
-ghost use Rattle.bep_scenario.specs.Scenario.{BeginsEmpty, said};
+ghost use Rattle.bep_scenario.specs.Scenario.{said};
 ghost use Rattle.bep_play.specs.Played.{IsPlayed, IsRunOfBytes};
 
 use crate::ending::report_on_end;
 use crate::play::played;
 use bep_answer::{Answer, Outcome, Question, refusal};
 use bep_hints::{Expected, hint_at};
-use bep_scenario::{Scenario, read_scenario, scenarios_begin_empty};
+use bep_scenario::{Scenario, read_scenario};
 use bep_tables::DocError;
 use std::alloc::{AllocError, Global};
 
@@ -19,7 +19,6 @@ impl Question<Outcome> for ReportOnEnd {
     ghost says = { λ _. IsRunOfBytes };
 
     fn answer(self, alloc: Global, bytes: &[u8]) -> Result<Answer<Outcome>, AllocError> {
-        scenarios_begin_empty();
         match read_scenario(alloc, bytes) {
             Ok(scenario) => Ok((run(alloc, scenario)?, None)),
             Err(DocError::Refused(fault)) => {
@@ -33,7 +32,6 @@ impl Question<Outcome> for ReportOnEnd {
 
 // The outcome of the scenario's run, and the text.
 fn run(alloc: Global, scenario: Scenario) -> Result<(Outcome, Vec<u8>), AllocError>
-    requires { BeginsEmpty scenario.config }
     ensures { IfOk result (λ answer. IsPlayed (said scenario) answer.0 answer.1.items) }
 {
     let (cluster, told) = played(alloc, scenario)?;

@@ -53,7 +53,9 @@ pub enum Ending {
 
 const COMMANDS_HELP: &str =
     "Each command reads a document on standard input, as in 'syncaudit check < FILE'.\n\
-     'syncaudit <COMMAND> --help' tells its exit statuses.";
+     'syncaudit <COMMAND> --help' tells its exit statuses.\n\
+     The pages and examples that help names are in share/doc/syncaudit where this program is installed, and in docs/ \
+     and examples/ of its sources.";
 
 const CHECK_HELP: &str =
     "The document FILE is a cut of the cluster with its certificate: documents.md describes it.\n\n\

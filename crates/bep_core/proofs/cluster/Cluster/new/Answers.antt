@@ -4,8 +4,9 @@ use Rattle.bep_peer.specs.Member.{AreOwn}
 use Rattle.bep_core.proofs.FoldersAt.{begun_own}
 use Rattle.bep_core.proofs.Begun.{is_begun, shared_there}
 use Rattle.bep_core.proofs.BegunJoined.{begun_network}
-use Rattle.bep_core.proofs.BegunSound.{begun_reached}
+use Rattle.bep_core.proofs.BegunFresh.{begun_reached}
 use Rattle.bep_network.specs.Network.{Network, IsNetwork, cluster_of}
+use Rattle.bep_machine.specs.Sound.{IsSound}
 use Rattle.bep_core.specs.Reached.{IsReached}
 use Rattle.bep_core.proofs.cluster.Cluster.new.Goals as goal
 
@@ -19,8 +20,8 @@ pub peers_of-requires-clause-own : goal.peers_of-requires-clause-own
 peers_of-requires-clause-own g c = λ device.
     subst (AreOwn device) (sym (c.in_ok-folders.ensures device)) (begun_own g.S.Store.contents g.S.Store.faults _ _ c.into_parts-folders.result.shares.entries device)
 
-pub invariant_of-result : goal.invariant_of-result
-invariant_of-result g c =
+pub invariant_of-made : goal.invariant_of-made
+invariant_of-made g c =
     let parts = c.into_parts-folders.ensures.value in
     subst IsNetwork
     (sym
@@ -43,6 +44,8 @@ returns-clause-begun g c =
     (ap (λ (config : Configuration g.row.S.Denot). config.shares) parts) (ap (λ (config : Configuration g.row.S.Denot). config.links) parts)
 
 pub returns-clause-reached : goal.returns-clause-reached
-returns-clause-reached g c = λ nodes.
-    subst (λ (network : Network). IsReached (cluster_of network)) (sym (returns-clause-begun g c))
-    (begun_reached g.S.Store.contents g.S.Store.faults c.args.config c.into_parts-folders.ensures.a_config c.in_ok-numbers.ensures.rising c.in_ok-joining.ensures.rising nodes c.runs_are_gapless.ensures.fresh)
+returns-clause-reached g c =
+    let begun = returns-clause-begun g c in
+    subst (λ (network : Network). IsReached (cluster_of network)) (sym begun)
+    (begun_reached g.S.Store.contents g.S.Store.faults c.args.config c.into_parts-folders.ensures.a_config
+    (subst (λ (network : Network). IsSound (cluster_of network)) begun c.cluster_is_sound.ensures) c.runs_are_gapless.ensures.fresh)
