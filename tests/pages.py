@@ -1,8 +1,8 @@
 #!/usr/bin/env python3
 """pages.py: says whether the pages that are written by hand fit one another and the code: each link leads to a file and a
 heading, developing.md has each crate on its map, the functions on its three ways are there, and its counts are theirs;
-trust.md names each law of the reference, and nothing that isn't there; documents.md has the schemas' members and the numbers
-of refusals, and reasons.md the reasons (documented.py). The last line is 'N passed, M failed'."""
+trust.md names each law of the reference, and no name or test that isn't there; documents.md has the schemas' members and the
+numbers of refusals, and reasons.md the reasons (documented.py). The last line is 'N passed, M failed'."""
 
 import re
 import sys
@@ -18,6 +18,13 @@ PAGES = [*sorted(TOP.glob("docs/*.md")), *sorted(TOP.glob("*.md")),
 LINK = re.compile(r"\]\(([^)\s]+)\)")
 CODE = re.compile(r"^```.*?^```|`[^`\n]*`", re.MULTILINE | re.DOTALL)
 STEP = re.compile(r"`([\w/]+\.rt):(\w+)`")
+
+
+def untested(page):
+    """The links of a page to a test in Rust by its name, each with whether the file lacks it."""
+    for name, path in re.findall(r"\[(\w+)\]\((\S+\.rt)\)", page.read_text()):
+        text = (page.parent / path).read_text() if (page.parent / path).exists() else ""
+        yield name, re.search(rf"#\[test\]\s*fn {name}\b", text) is None
 
 
 def anchors(page):
@@ -98,6 +105,8 @@ def main():
     for crate in crates:
         count.says(f"docs/developing.md: {crate}", "" if crate in on_map else "it isn't on the map")
     check_trust(count, crates)
+    for name, lacks in untested(TOP / "docs/trust.md"):
+        count.says(f"docs/trust.md: {name}", "the file has no such test" if lacks else "")
     documented.check(count, TOP)
     found = [way for way in ways(developing) if way[1]]
     count.says("docs/developing.md: ways", "" if len(found) == 3 else f"{len(found)} are read")
