@@ -15,5 +15,6 @@ mod AgreedParts
 mod SaidDevices
 mod SaidRecords
 mod SaidFlights
+mod SaidPoints
 mod SaidFacts
 mod SameCut

@@ -81,7 +81,7 @@ same_ends a b one other = cases (nat_cmp a one) ∙ (λ i. tie_same a one i && t
   cases Equal = refl
   cases Greater = refl
 
-found_link : (all : List Seen) (links : List LinkBetween) (a b : Device) → tables.link_of a b (map (link_at all) links) ≡ option_map (link_at all) (between_at links a b)
+pub found_link : (all : List Seen) (links : List LinkBetween) (a b : Device) → tables.link_of a b (map (link_at all) links) ≡ option_map (link_at all) (between_at links a b)
 found_link all [] a b = refl
 found_link all (between ∷ links) a b = cases (is_between a b between) (found_link all links a b) (same_ends between.ends.0 between.ends.1 a b) where
   cases : (c : Bool) → tables.link_of a b (map (link_at all) links) ≡ option_map (link_at all) (between_at links a b) → is_eq (tables.ends_cmp between.ends (a, b)) ≡ c →

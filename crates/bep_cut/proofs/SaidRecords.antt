@@ -51,7 +51,7 @@ module _ (views : ByDevice Listing) (other : Device) where
     at false = ap (λ b. cond b (Some (shown one view)) (view_of other rest)) (tie_same one other ∙ apart)
 
   -- the cut has no view of a device of which nothing is known
-  unknown_there : known_cut other (get views other) ≡ [] → (others : List Device) → view_of other (views_cut views others) ≡ None
+  pub unknown_there : known_cut other (get views other) ≡ [] → (others : List Device) → view_of other (views_cut views others) ≡ None
   unknown_there none [] = refl
   unknown_there none (one ∷ others) = cases (one == other) refl (unknown_there none others) where
     cases : (b : Bool) → (one == other) ≡ b → view_of other (views_cut views others) ≡ None → view_of other (known_cut one (get views one) ++ views_cut views others) ≡ None
@@ -60,7 +60,7 @@ module _ (views : ByDevice Listing) (other : Device) where
     cases false apart rest = skips one (get views one) (views_cut views others) apart ∙ rest
 
   -- and else the device's, if it is one of the others
-  known_there : (view : PeerView) → known_cut other (get views other) ≡ view ∷ [] → view.of ≡ other → (others : List Device) → Contains others other → view_of other (views_cut views others) ≡ Some view
+  pub known_there : (view : PeerView) → known_cut other (get views other) ≡ view ∷ [] → view.of ≡ other → (others : List Device) → Contains others other → view_of other (views_cut views others) ≡ Some view
   known_there view is of [] stands = absurd (not_in_none other stands)
   known_there view is of (one ∷ others) stands = cases (one == other) refl (known_there view is of others) where
     cases : (b : Bool) → (one == other) ≡ b → (Contains others other → view_of other (views_cut views others) ≡ Some view) → view_of other (known_cut one (get views one) ++ views_cut views others) ≡ Some view

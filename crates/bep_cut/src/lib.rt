@@ -16,6 +16,7 @@ mod folders;
 mod laws;
 mod links;
 mod names;
+mod points;
 mod records;
 mod share;
 mod sound;
@@ -30,4 +31,5 @@ pub use bep_tables::{
 pub use cut::cut_of;
 pub use error::CutError;
 pub use laws::{clusters_are_parts, cut_says_cluster, same_cluster_same_cut};
+pub use points::cut_says_points;
 pub use sound::parts_are_sound;
