@@ -119,11 +119,13 @@ pub(crate) fn reverted_twice(alloc: Global, docs: &mut Docs) -> Option<[Told; 2]
     Some([reverted(docs), reverted(docs)])
 }
 
-// The seventh call of the store removes the file.
+// The sixth call of the store reads the file, and the seventh removes it.
 #[test]
 fn a_revert_that_cannot_remove_leaves_all(rt: HostRuntime) {
-    let fault = ((131, 2, false), b'7', [2, 1, 0, 2]);
     let gone = ((0, 0, false), 0, [3, 0, 0, 1]);
-    let told = told_of(rt.alloc(), FolderKind::ReceiveOnly, 7, Story::Revert);
-    assert_eq!(rt; told, Some([fault, gone]));
+    for (call, failed) in [(6, 1), (7, 2)] {
+        let fault = ((131, failed, false), b'7', [2, 1, 0, 2]);
+        let told = told_of(rt.alloc(), FolderKind::ReceiveOnly, call, Story::Revert);
+        assert_eq!(rt; told, Some([fault, gone]));
+    }
 }
