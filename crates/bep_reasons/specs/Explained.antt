@@ -11,7 +11,7 @@ use Rattle.bep_model.specs.Settled.{IsSettled}
 use Rattle.bep_model.specs.Verdict.{IsVerdict}
 use Rattle.bep_tables.specs.declared.cut.CutParts.{CutParts}
 use Rattle.bep_tables.specs.Cut.{tables_of}
-use Rattle.bep_tables.specs.document.Written.{check_of}
+use Rattle.bep_cut_document.specs.Written.{check_of}
 use Rattle.bep_explain.specs.Found.{AreFailures, verdict_of}
 use Rattle.bep_explain.specs.Annotated.{Annotated, IsJsonLine, device_tree, explanation_tree, failures_in}
 use Rattle.bep_explain.specs.Told.{Told, failures_of, explanation_text}

@@ -8,7 +8,7 @@ use Rattle.bep_model.specs.Firm.{IsFirm}
 use Rattle.bep_model.specs.Settled.{IsSettled}
 use Rattle.bep_tables.specs.declared.cut.CutParts.{CutParts}
 use Rattle.bep_tables.specs.Cut.{tables_of}
-use Rattle.bep_tables.specs.document.Written.{check_of}
+use Rattle.bep_cut_document.specs.Written.{check_of}
 use Rattle.bep_explain.specs.Found.{AreFailures}
 use Rattle.bep_explain.specs.Loose.{AreLoosenings}
 use Rattle.bep_explain.specs.Annotated.{Annotated, IsJsonLine, failures_in}

@@ -9,10 +9,11 @@ ghost use Rattle.bep_answer.specs.declared.outcome.Outcome.TheVariants as outcom
 use crate::json::{explain_in_json, refusal_json};
 use bep_answer::{Answer, Outcome, Question, fault_line};
 use bep_audit::Certificate;
+use bep_cut_document::{DocError, DocFault, read_check};
 use bep_explain::{Explained, explain, explanation};
 use bep_hints::{Expected, hint_at};
 use bep_lines::Form;
-use bep_tables::{Cut, DocError, DocFault, read_check};
+use bep_tables::Cut;
 use std::alloc::{AllocError, Global};
 
 /// All that keeps a document's cut from being settled under its certificate, in this form, and where the document is

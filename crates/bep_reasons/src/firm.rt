@@ -9,6 +9,7 @@ ghost use Rattle.bep_lines.specs.declared.form.Form.TheVariants.{Json, Text};
 use crate::explain::fault_in;
 use bep_answer::{Answer, Firmness, Question};
 use bep_audit::Certificate;
+use bep_cut_document::{DocError, read_check};
 use bep_explain::{
     Annotated, AnnotatedLoose, Explained, ExplainedLoose, annotate, annotate_loose, explain,
     explain_loose, firm_explanation, firm_explanation_json,
@@ -16,7 +17,7 @@ use bep_explain::{
 use bep_hints::{Expected, hint_at};
 use bep_lines::Form;
 use bep_model::firm_is_faultless;
-use bep_tables::{Cut, DocError, read_check};
+use bep_tables::Cut;
 use std::alloc::{AllocError, Global};
 
 /// All that keeps a document's cut from being firm under its certificate, in this form, and where the document is refused, a

@@ -10,9 +10,10 @@ ghost use Rattle.bep_lines.specs.declared.form.Form.TheVariants.{Json};
 
 use bep_answer::Outcome;
 use bep_audit::Certificate;
+use bep_document::DocFault;
 use bep_explain::{Annotated, annotate, device_tree, explanation_json, json_line};
 use bep_json::Members;
-use bep_tables::{Cut, DocFault};
+use bep_tables::Cut;
 use serde_json::Value;
 use std::alloc::{AllocError, Global};
 
