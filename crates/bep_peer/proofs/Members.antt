@@ -13,8 +13,8 @@ use Rattle.bep_model.specs.Tables.{Device, Folder}
 use Rattle.bep_machine.specs.Replica.{Replica}
 use Rattle.bep_machine.specs.Steps.{SharesFolder}
 use Rattle.bep_peer.specs.Member.{Member, tables_of}
-use Rattle.bep_network.specs.Network.{Network, is_number, member_at, config_of, kind_of, numbers_of}
-use Rattle.bep_network.proofs.Numbers.{itself, same_number}
+use Rattle.bep_peer.specs.network.Network.{Network, is_number, member_at, config_of, kind_of, numbers_of}
+use Rattle.bep_peer.proofs.Numbers.{itself, same_number}
 
 -- a device that is found has the number, and is one of them
 pub has_number : (members : List Member) (device : Device) (member : Member) → member_at members device ≡ Some member → (member.number ≡ device) × Contains members member

@@ -12,9 +12,9 @@ use Rattle.bep_machine.specs.Sound.{FitsFolder, IsSound, IsSoundLink, IsSoundPee
 use Rattle.bep_links.specs.Link.{LinkBetween}
 use Rattle.bep_peer.specs.Member.{Member, tables_of}
 use Rattle.bep_peer.specs.Sound.{IsSoundMember}
-use Rattle.bep_network.specs.Agreed.{AreAgreed, IsSoundBetween}
-use Rattle.bep_network.specs.Network.{Network, IsNetwork, between_at, cluster_of, config_of, is_between, link_of, member_at, peer_of}
-use Rattle.bep_network.proofs.Members.{found_by_number, has_number, listed, sharing_there}
+use Rattle.bep_peer.specs.network.Agreed.{AreAgreed, IsSoundBetween}
+use Rattle.bep_peer.specs.network.Network.{Network, IsNetwork, between_at, cluster_of, config_of, is_between, link_of, member_at, peer_of}
+use Rattle.bep_peer.proofs.Members.{found_by_number, has_number, listed, sharing_there}
 
 -- ---- links
 

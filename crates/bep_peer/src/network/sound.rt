@@ -1,10 +1,10 @@
 //! That devices and links are a sound cluster by their types. The functions change nothing; their contracts are the facts.
 ghost use Rattle.std.specs.List.{AllByRecursion};
 ghost use Rattle.bep_peer.specs.Sound.{IsSoundMember};
-ghost use Rattle.bep_network.specs.Agreed.{AreSoundWhereAgreed, IsSoundBetween, IsSoundWhereKept, network_of};
+ghost use Rattle.bep_peer.specs.network.Agreed.{AreSoundWhereAgreed, IsSoundBetween, IsSoundWhereKept, network_of};
 
+use crate::Peer;
 use bep_links::Link;
-use bep_peer::Peer;
 use bep_store::Store;
 
 /// Devices and links that agree on who shares what are a sound cluster, whatever was called of each; so is what a

@@ -9,9 +9,9 @@ use Rattle.bep_facts.specs.Members.{not_in_none, Contains-cons_cases, Contains-i
 use Rattle.bep_config.specs.Config.{by_ends}
 use Rattle.bep_model.specs.Tables.{Device}
 use Rattle.bep_links.specs.Link.{LinkBetween}
-use Rattle.bep_network.specs.Network.{between_at, ends_of, is_between}
-use Rattle.bep_network.specs.Sharing.{FoundByEnds}
-use Rattle.bep_network.proofs.Numbers.{itself, same_number}
+use Rattle.bep_peer.specs.network.Network.{between_at, ends_of, is_between}
+use Rattle.bep_peer.specs.network.Sharing.{FoundByEnds}
+use Rattle.bep_peer.proofs.Numbers.{itself, same_number}
 
 total_ends : IsTotalOrder by_ends
 total_ends = then_total (on_total (λ (ends : ℕ × ℕ). ends.0) nat_cmp_total) (on_total (λ (ends : ℕ × ℕ). ends.1) nat_cmp_total)

@@ -1,6 +1,6 @@
-use Rattle.bep_network.specs.Agreed.{network_of}
-use Rattle.bep_network.proofs.SoundFacts.{kept_is_agreed, sound_network}
-use Rattle.bep_network.proofs.sound.agreed_is_sound.Goals as goal
+use Rattle.bep_peer.specs.network.Agreed.{network_of}
+use Rattle.bep_peer.proofs.network.SoundFacts.{kept_is_agreed, sound_network}
+use Rattle.bep_peer.proofs.network.sound.agreed_is_sound.Goals as goal
 
 pub returns-clause-agreed : goal.returns-clause-agreed
 returns-clause-agreed g c = λ agreed. sound_network (network_of c.args.peers.now c.args.links.now) agreed c.members_are_sound.ensures c.links_are_sound.ensures

@@ -5,7 +5,7 @@ use Rattle.bep_model.specs.Tables.{Device, Folder}
 use Rattle.bep_machine.specs.Steps.{SharesFolder}
 use Rattle.bep_links.specs.Link.{LinkBetween}
 use Rattle.bep_peer.specs.Member.{Member}
-use Rattle.bep_network.specs.Network.{Network, IsNetwork, between_at, config_of, member_at}
+use Rattle.bep_peer.specs.network.Network.{Network, IsNetwork, between_at, config_of, member_at}
 
 -- the device is one of these, and has the folder
 pub record HasFolder (members : List Member) (device : Device) (folder : Folder) : Type 0 where

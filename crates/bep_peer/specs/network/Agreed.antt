@@ -7,7 +7,7 @@ use Rattle.bep_machine.specs.Replica.{Replica}
 use Rattle.bep_machine.specs.Sound.{FitsFolder, IsSound, IsSoundLink}
 use Rattle.bep_links.specs.Link.{LinkBetween}
 use Rattle.bep_peer.specs.Member.{Member, tables_of}
-use Rattle.bep_network.specs.Network.{Network, IsNetwork, cluster_of, config_of, ends_of, numbers_of}
+use Rattle.bep_peer.specs.network.Network.{Network, IsNetwork, cluster_of, config_of, ends_of, numbers_of}
 
 -- Devices rise, links join two of them, the smaller first, and each folder of a device is shared by the devices that it
 -- says. What the devices know of links isn't asked.

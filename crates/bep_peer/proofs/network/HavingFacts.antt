@@ -4,10 +4,10 @@ use Rattle.std.specs.FinMap.{get}
 use Rattle.bep_model.specs.Tables.{Device}
 use Rattle.bep_machine.specs.Replica.{Replica}
 use Rattle.bep_folder.specs.Held.{Held}
-use Rattle.bep_network.specs.Network.{config_of}
-use Rattle.bep_network.specs.Sharing.{FoundByNumber, SharingIsHaving}
-use Rattle.bep_network.proofs.Changed.{tables_at}
-use Rattle.bep_network.proofs.Members.{found_by_number, has_number, sharing_there}
+use Rattle.bep_peer.specs.network.Network.{config_of}
+use Rattle.bep_peer.specs.network.Sharing.{FoundByNumber, SharingIsHaving}
+use Rattle.bep_peer.proofs.Changed.{tables_at}
+use Rattle.bep_peer.proofs.Members.{found_by_number, has_number, sharing_there}
 
 some_held : (found : Option Held) (replica : Replica) → option_map (λ (held : Held). held.tables) found ≡ Some replica → IsSome found
 some_held None replica is = absurd (cc)
