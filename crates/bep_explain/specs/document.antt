@@ -1,3 +1,4 @@
+-- What is explained of a document.
 pub mod Explained
 pub mod FirmExplained
 pub mod Told

@@ -3,14 +3,14 @@ ghost use Rattle.std.specs.Prelude.{◌≡◌, IfOk, map};
 ghost use Rattle.bep_explain.specs.Found.{verdict_of};
 ghost use Rattle.bep_explain.specs.Told.{failures_of, told_of};
 ghost use Rattle.bep_answer.specs.Answer.{outcome_of};
-ghost use Rattle.bep_reasons.specs.Explained.{IsExplainedOfBytes, IsExplanation, IsRefusal};
+ghost use Rattle.bep_explain.specs.document.Explained.{IsExplainedOfBytes, IsExplanation, IsRefusal};
 ghost use Rattle.bep_answer.specs.declared.outcome.Outcome.TheVariants as outcomes;
 
-use crate::json::{explain_in_json, refusal_json};
+use crate::document::json::{explain_in_json, refusal_json};
+use crate::{Explained, explain, explanation};
 use bep_answer::{Answer, Outcome, Question, fault_line};
 use bep_audit::Certificate;
 use bep_cut_document::{DocError, DocFault, read_check};
-use bep_explain::{Explained, explain, explanation};
 use bep_hints::{Expected, hint_at};
 use bep_lines::Form;
 use bep_tables::Cut;
@@ -19,9 +19,9 @@ use std::alloc::{AllocError, Global};
 /// All that keeps a document's cut from being settled under its certificate, in this form, and where the document is
 /// refused, a hint on where it is at fault.
 #[derive(Drop)]
-pub(crate) struct ReasonsOfCut {
+pub struct ReasonsOfCut {
     /// How it is written.
-    pub(crate) form: Form,
+    pub form: Form,
 }
 
 impl Question<Outcome> for ReasonsOfCut {

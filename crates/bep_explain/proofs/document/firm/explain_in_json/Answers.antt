@@ -2,9 +2,9 @@ use Rattle.std.proofs.Common.{◌∙◌, map, refl, ap}
 use Rattle.bep_tables.specs.Cut.{tables_of}
 use Rattle.bep_explain.specs.Annotated.{annotated_of, failures_in}
 use Rattle.bep_explain.specs.FirmTold.{loose_annotated_of, loosenings_in}
-use Rattle.bep_reasons.specs.FirmExplained.{firmness_told}
-use Rattle.bep_reasons.proofs.FirmFacts.{firm_exactly}
-use Rattle.bep_reasons.proofs.firm.explain_in_json.Goals as goal
+use Rattle.bep_explain.specs.document.FirmExplained.{firmness_told}
+use Rattle.bep_explain.proofs.document.FirmFacts.{firm_exactly}
+use Rattle.bep_explain.proofs.document.firm.explain_in_json.Goals as goal
 
 pub returns : goal.returns
 returns c =

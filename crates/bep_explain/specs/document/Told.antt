@@ -2,7 +2,7 @@
 use Rattle.std.specs.Prelude.{ℕ, List, Option}
 use Rattle.bep_lines.specs.declared.form.Form.{Form}
 use Rattle.bep_answer.specs.Status.{IsToldAs, status_of}
-use Rattle.bep_reasons.specs.Explained.{IsExplainedOfBytes}
+use Rattle.bep_explain.specs.document.Explained.{IsExplainedOfBytes}
 
 -- all that fails was written, or the document refused
 abbrev pub IsExplanationTold : Form → Option (List ℕ) → Option (List ℕ) → Option (List ℕ) → Option (List ℕ) → ℕ → Type 0

@@ -19,7 +19,7 @@ use Rattle.bep_lines.specs.declared.form.Form.TheVariants.{Text, Json}
 use Rattle.bep_answer.specs.Status.{IsToldAs, firm_status_of}
 use Rattle.bep_answer.specs.declared.outcome.Firmness.{Firmness}
 use Rattle.bep_answer.specs.declared.outcome.Firmness.TheVariants as outcomes
-use Rattle.bep_reasons.specs.Explained.{IsRefusal}
+use Rattle.bep_explain.specs.document.Explained.{IsRefusal}
 
 -- the text tells these failures and then these loosenings, in order, each with something that is said of it, in one of two forms
 abbrev pub IsFirmWritten : Form → List Failure → List Loosening → List ℕ → Type 0

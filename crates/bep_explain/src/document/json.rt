@@ -5,13 +5,14 @@ ghost use Rattle.serde_json.specs.View.{view};
 ghost use Rattle.bep_explain.specs.Annotated.{IsJsonLine, annotated_of, failures_in};
 ghost use Rattle.bep_explain.specs.Found.{verdict_of};
 ghost use Rattle.bep_answer.specs.Answer.{outcome_of};
-ghost use Rattle.bep_reasons.specs.Explained.{IsExplanation, refusal_tree, text_tree};
+ghost use Rattle.bep_explain.specs.document.Explained.{IsExplanation, refusal_tree, text_tree};
 ghost use Rattle.bep_lines.specs.declared.form.Form.TheVariants.{Json};
 
+use crate::json::{device_tree, explanation_json, json_line};
+use crate::{Annotated, annotate};
 use bep_answer::Outcome;
 use bep_audit::Certificate;
 use bep_document::DocFault;
-use bep_explain::{Annotated, annotate, device_tree, explanation_json, json_line};
 use bep_json::Members;
 use bep_tables::Cut;
 use serde_json::Value;
@@ -51,7 +52,7 @@ pub(crate) fn refusal_json(alloc: Global, fault: &DocFault) -> Result<Vec<u8>, A
     json_line(alloc, &tree)
 }
 
-#[tactic(auto, unfolding(crate::specs::Explained::refusal_tree))]
+#[tactic(auto, unfolding(crate::specs::document::Explained::refusal_tree))]
 fn refusal_tree(
     alloc: Global,
     fault: &DocFault,

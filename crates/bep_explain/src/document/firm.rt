@@ -3,17 +3,17 @@ ghost use Rattle.std.specs.Prelude.{◌≡◌, IfOk, map};
 ghost use Rattle.bep_explain.specs.Annotated.{annotated_of, failures_in};
 ghost use Rattle.bep_explain.specs.FirmTold.{loose_annotated_of, loose_told_of, loosenings_in, loosenings_of};
 ghost use Rattle.bep_explain.specs.Told.{failures_of, told_of};
-ghost use Rattle.bep_reasons.specs.FirmExplained.{IsFirmExplainedOfBytes, IsFirmExplanation, firmness_told};
+ghost use Rattle.bep_explain.specs.document.FirmExplained.{IsFirmExplainedOfBytes, IsFirmExplanation, firmness_told};
 ghost use Rattle.bep_lines.specs.declared.form.Form.TheVariants.{Json, Text};
 
-use crate::explain::fault_in;
-use bep_answer::{Answer, Firmness, Question};
-use bep_audit::Certificate;
-use bep_cut_document::{DocError, read_check};
-use bep_explain::{
+use crate::document::explain::fault_in;
+use crate::{
     Annotated, AnnotatedLoose, Explained, ExplainedLoose, annotate, annotate_loose, explain,
     explain_loose, firm_explanation, firm_explanation_json,
 };
+use bep_answer::{Answer, Firmness, Question};
+use bep_audit::Certificate;
+use bep_cut_document::{DocError, read_check};
 use bep_hints::{Expected, hint_at};
 use bep_lines::Form;
 use bep_model::firm_is_faultless;
@@ -23,9 +23,9 @@ use std::alloc::{AllocError, Global};
 /// All that keeps a document's cut from being firm under its certificate, in this form, and where the document is refused, a
 /// hint on where it is at fault.
 #[derive(Drop)]
-pub(crate) struct FirmReasonsOfCut {
+pub struct FirmReasonsOfCut {
     /// How it is written.
-    pub(crate) form: Form,
+    pub form: Form,
 }
 
 impl Question<Firmness> for FirmReasonsOfCut {
