@@ -9,13 +9,13 @@ trap 'rm -rf "$work"' EXIT
 . "$top/bench/measure.sh"
 . "$top/bench/program.sh"
 
-start_program read_speed 'bep_tables serde_json' \
-  bep_facts bep_record bep_blocks bep_choice bep_map bep_index bep_json bep_document bep_model bep_tables
+start_program read_speed 'bep_cut_document serde_json' \
+  bep_facts bep_record bep_blocks bep_choice bep_map bep_index bep_json bep_document bep_model bep_tables bep_cut_document
 cat > src/main.rt <<PROGRAM
 // Reads the document: the whole of it, if there is a word, else its JSON tree alone.
 #![tactic(auto)]
 
-use bep_tables::read_check;
+use bep_cut_document::read_check;
 use serde_json::Value;
 use std::env;
 use std::fs;

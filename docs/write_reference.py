@@ -84,8 +84,8 @@ def page(crate):
 
 OVERVIEW = """# Reference
 
-What the comments of the crates say, crate by crate, lowest first. [names.md](names.md) says where each name stands,
-[headline.md](headline.md) what the two headlines rest on.
+What the comments of the crates say, crate by crate, in the order of [crates.txt](../../crates.txt). [names.md](names.md)
+says where each name stands, [headline.md](headline.md) what the two headlines rest on.
 
 Of a call the names of its contract's clauses are given; the clauses themselves stand above its body. A clause without a
 name is `ensures`, and `requires` is what a caller must meet. A law is a call that does nothing: its contract holds of

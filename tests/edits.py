@@ -16,7 +16,7 @@ LENT = "turn."
 
 
 def crates():
-    """The crates that have edits here, lowest first."""
+    """The crates that have edits here, in the order of crates.txt."""
     lines = (TOP / "crates.txt").read_text().splitlines()
     names = [line.partition(":")[0] for line in lines if ":" in line and not line.startswith("#")]
     strangers = sorted(folder.name for folder in (HERE / "wrong").iterdir() if folder.name not in names)

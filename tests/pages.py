@@ -1,8 +1,8 @@
 #!/usr/bin/env python3
 """pages.py: says whether the pages that are written by hand fit one another and the code: each link leads to a file and a
-heading, developing.md has each crate on its map, the functions on its three ways are there, and its counts are theirs;
-trust.md names each law of the reference, and no name or test that isn't there; documents.md has the schemas' members and the
-numbers of refusals, and reasons.md the reasons (documented.py). The last line is 'N passed, M failed'."""
+heading, developing.md's map has each crate as crates.txt does, the functions on its three ways are there, and its counts are
+theirs; trust.md names each law of the reference, and no name or test that isn't there; documents.md has the schemas' members
+and the numbers of refusals, and reasons.md the reasons (documented.py). The last line is 'N passed, M failed'."""
 
 import re
 import sys
@@ -94,16 +94,40 @@ def check_trust(count, crates):
         count.says(f"docs/trust.md: {name}", "" if name in known else "the reference has no such name")
 
 
+def subjects(text):
+    """The crates of crates.txt, each with its heading and the line that says what it is about."""
+    found, heading, about = {}, "", ""
+    for line in text.splitlines():
+        if line.startswith("# == "):
+            heading = line.removeprefix("# == ")
+        elif line.startswith("# "):
+            about = line.removeprefix("# ")
+        elif ":" in line:
+            found[line.partition(":")[0]] = (heading, about)
+    return found
+
+
+def on_map(text):
+    """The crates of developing.md's map, likewise."""
+    found, heading = {}, ""
+    for row in rows(text.partition("| Crate | What it is about |")[2].partition("\n\n")[0]):
+        if row[0].startswith("**"):
+            heading = row[0].strip("*")
+        elif row[0].startswith("`"):
+            found[row[0].strip("`")] = (heading, row[1])
+    return found
+
+
 def main():
     count = Count("pages")
     for page in PAGES:
         for link in sorted(set(LINK.findall(CODE.sub("", page.read_text())))):
             count.says(f"{page.relative_to(TOP)}: {link}", broken(page, link))
     developing = (TOP / "docs/developing.md").read_text()
-    on_map = [row[0].strip("`") for row in rows(developing)]
-    crates = [line.partition(":")[0] for line in (TOP / "crates.txt").read_text().splitlines() if not line.startswith("#")]
-    for crate in crates:
-        count.says(f"docs/developing.md: {crate}", "" if crate in on_map else "it isn't on the map")
+    crates, mapped = subjects((TOP / "crates.txt").read_text()), on_map(developing)
+    for crate in sorted(crates.keys() | mapped.keys()):
+        count.says(f"docs/developing.md: {crate}", "" if crates.get(crate) == mapped.get(crate) else
+                   "its row of the map isn't what crates.txt says of it")
     check_trust(count, crates)
     for name, lacks in untested(TOP / "docs/trust.md"):
         count.says(f"docs/trust.md: {name}", "the file has no such test" if lacks else "")

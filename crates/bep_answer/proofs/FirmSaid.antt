@@ -9,7 +9,7 @@ use Rattle.bep_machine.specs.FreeLaws.{FirmCutsStayPut}
 use Rattle.bep_machine.specs.Laws.{SettledStaysPut, SettledStaysSettled}
 use Rattle.bep_tables.specs.declared.cut.CutParts.{CutParts}
 use Rattle.bep_tables.specs.Cut.{tables_of}
-use Rattle.bep_tables.specs.document.Written.{check_of}
+use Rattle.bep_cut_document.specs.Written.{check_of}
 use Rattle.bep_answer.specs.declared.outcome.Firmness.{Firmness}
 use Rattle.bep_answer.specs.declared.outcome.Firmness.TheVariants as outcomes
 use Rattle.bep_answer.specs.Exchange.{IsWhole}

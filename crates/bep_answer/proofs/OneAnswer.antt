@@ -9,7 +9,7 @@ use Rattle.bep_model.specs.Tables.{Folder, FileName}
 use Rattle.bep_model.specs.Verdict.{Not}
 use Rattle.bep_report.specs.Report.{firm_report_text, report_text}
 use Rattle.bep_tables.specs.declared.cut.CutParts.{CutParts}
-use Rattle.bep_tables.specs.document.Written.{check_of, cut_of_document}
+use Rattle.bep_cut_document.specs.Written.{check_of, cut_of_document}
 use Rattle.bep_tables.specs.Cut.{tables_of}
 use Rattle.bep_answer.specs.Answer.{IsAnswer, outcome_of}
 use Rattle.bep_answer.specs.Certified.{IsCertified, document_text}

@@ -9,7 +9,7 @@ use Rattle.bep_tables.specs.declared.cut.CutParts.{CutParts}
 use Rattle.bep_tables.specs.Cut.{tables_of}
 use Rattle.bep_answer.specs.declared.outcome.Outcome.{Outcome}
 use Rattle.bep_answer.specs.declared.outcome.Outcome.TheVariants as outcomes
-use Rattle.bep_tables.specs.document.Written.{check_of}
+use Rattle.bep_cut_document.specs.Written.{check_of}
 use Rattle.bep_answer.specs.Answer.{IsAnswer, IsAnswerOfBytes, SaysSettled, TellsSettled, outcome_of}
 use Rattle.bep_answer.specs.Exchange.{IsWhole}
 

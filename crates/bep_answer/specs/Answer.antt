@@ -9,7 +9,7 @@ use Rattle.bep_model.specs.Verdict as verdicts
 use Rattle.bep_machine.specs.Laws.{StaysPut, StaysSettled}
 use Rattle.bep_tables.specs.declared.cut.CutParts.{CutParts}
 use Rattle.bep_tables.specs.Cut.{tables_of}
-use Rattle.bep_tables.specs.document.Written.{check_of}
+use Rattle.bep_cut_document.specs.Written.{check_of}
 use Rattle.bep_report.specs.Input.{IsRead}
 use Rattle.bep_lines.specs.Lines.{refused_line}
 use Rattle.bep_report.specs.Report.{report_text}

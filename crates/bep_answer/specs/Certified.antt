@@ -10,8 +10,8 @@ use Rattle.bep_model.specs.Verdict.{Not}
 use Rattle.bep_model.specs.WithoutWinner.{IsFirstWithoutWinner}
 use Rattle.bep_tables.specs.declared.cut.CutParts.{CutParts}
 use Rattle.bep_tables.specs.Cut.{tables_of}
-use Rattle.bep_tables.specs.document.Trees.{check_text}
-use Rattle.bep_tables.specs.document.Written.{check_of, cut_of_document}
+use Rattle.bep_cut_document.specs.Trees.{check_text}
+use Rattle.bep_cut_document.specs.Written.{check_of, cut_of_document}
 use Rattle.bep_lines.specs.Lines.{verdict_line, newline}
 use Rattle.bep_answer.specs.Answer.{fault_text}
 use Rattle.bep_answer.specs.declared.outcome.Certified.{Certified}

@@ -7,7 +7,7 @@ use Rattle.bep_model.specs.FirmVerdict as verdicts
 use Rattle.bep_machine.specs.FreeLaws.{FirmStaysPut}
 use Rattle.bep_tables.specs.declared.cut.CutParts.{CutParts}
 use Rattle.bep_tables.specs.Cut.{tables_of}
-use Rattle.bep_tables.specs.document.Written.{check_of}
+use Rattle.bep_cut_document.specs.Written.{check_of}
 use Rattle.bep_report.specs.Input.{IsRead}
 use Rattle.bep_report.specs.Report.{firm_report_text}
 use Rattle.bep_answer.specs.Answer.{TellsSettled, fault_text}

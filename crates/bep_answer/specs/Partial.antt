@@ -6,8 +6,8 @@ use Rattle.bep_model.specs.Reasons.{Place}
 use Rattle.bep_model.specs.declared.row.Row.{Row}
 use Rattle.bep_tables.specs.declared.cut.CutParts.{CutParts}
 use Rattle.bep_tables.specs.Cut.{tables_of}
-use Rattle.bep_tables.specs.document.Trees.{check_text}
-use Rattle.bep_tables.specs.document.Written.{check_of, cut_of_document}
+use Rattle.bep_cut_document.specs.Trees.{check_text}
+use Rattle.bep_cut_document.specs.Written.{check_of, cut_of_document}
 use Rattle.bep_answer.specs.Answer.{fault_text}
 use Rattle.bep_answer.specs.Certified.{document_text}
 use Rattle.bep_answer.specs.declared.outcome.Partial.{Partial}

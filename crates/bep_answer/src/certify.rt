@@ -4,10 +4,10 @@ ghost use Rattle.bep_document.specs.Reading.{Read, most_bytes};
 ghost use Rattle.bep_model.specs.declared.row.Row.{Row};
 ghost use Rattle.bep_model.specs.Winner.{IsWinner};
 ghost use Rattle.bep_tables.specs.Cut.{tables_of};
-ghost use Rattle.bep_tables.specs.document.Trees.{check_text};
+ghost use Rattle.bep_cut_document.specs.Trees.{check_text};
 ghost use Rattle.bep_model.specs.declared.reason.Reason.TheVariants.{NotWinner};
 ghost use Rattle.bep_model.specs.Verdict.{Not};
-ghost use Rattle.bep_tables.specs.document.Written.{check_of};
+ghost use Rattle.bep_cut_document.specs.Written.{check_of};
 ghost use Rattle.bep_lines.specs.Lines.{verdict_line};
 ghost use Rattle.bep_answer.specs.Certified.{IsCertificate, IsCertifiedOfBytes, document_text};
 
@@ -15,11 +15,12 @@ use crate::exchanging::{Answer, Question};
 use crate::outcome::Certified;
 use crate::refusing::fault_line;
 use bep_audit::{Certificate, CertifyError, certify};
+use bep_cut_document::{DocError, check_document, read_cut, winners_are_in_range};
 use bep_hints::{Expected, hint_at};
 use bep_lines::push_not_settled;
 use bep_model::Reason;
 use bep_record::{FolderName, Name};
-use bep_tables::{Cut, DocError, check_document, read_cut, winners_are_in_range};
+use bep_tables::Cut;
 use std::alloc::{AllocError, Global};
 
 /// The list of the winners of the document's cut, in the document of that cut, and where the document is refused, a hint

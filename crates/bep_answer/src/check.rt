@@ -9,9 +9,10 @@ use crate::exchanging::{Answer, Question};
 use crate::outcome::Outcome;
 use crate::refusing::refusal;
 use bep_audit::{Certificate, Verdict, check};
+use bep_cut_document::{DocError, read_check};
 use bep_hints::{Expected, hint_at};
 use bep_report::push_report;
-use bep_tables::{Cut, DocError, read_check};
+use bep_tables::Cut;
 use std::alloc::{AllocError, Global};
 
 /// Whether the document's cut is settled under its certificate: the report, and where the document is refused, a hint on

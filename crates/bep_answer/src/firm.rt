@@ -9,9 +9,10 @@ use crate::exchanging::{Answer, Question};
 use crate::outcome::Firmness;
 use crate::refusing::fault_line;
 use bep_audit::{Certificate, FirmVerdict, firm_verdict};
+use bep_cut_document::{DocError, read_check};
 use bep_hints::{Expected, hint_at};
 use bep_report::push_firm_report;
-use bep_tables::{Cut, DocError, read_check};
+use bep_tables::Cut;
 use std::alloc::{AllocError, Global};
 
 /// Whether the document's cut is firm under its certificate: the report, and where the document is refused, a hint on

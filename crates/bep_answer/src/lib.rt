@@ -11,8 +11,9 @@
 //! `firm_text` asks for firm in place of settled, and `certify_text` writes the document with its certificate,
 //! `partly_certified` as far as its names have winners. `checked`,
 //! `firm_checked` and `certified` are these with a hint on where a refused document is at fault; `check_and_tell`,
-//! `firm_and_tell` and `certify_and_tell` tell that on standard error, and answer the exit status. `exchange` answers whatever question, for those who ask more of a document: all that fails (`bep_reasons`), or
-//! where a scenario leads (`bep_play`).
+//! `firm_and_tell` and `certify_and_tell` tell that on standard error, and answer the exit status. `exchange` answers
+//! whatever question, for those who ask more of a document: all that fails (`bep_explain`), or where a scenario leads
+//! (`bep_play`).
 #![tactic(auto)]
 
 mod answers;

@@ -9,10 +9,11 @@ use crate::exchanging::{Answer, Question};
 use crate::outcome::Partial;
 use crate::refusing::fault_line;
 use bep_audit::{Spot, winners};
+use bep_cut_document::{DocError, read_cut};
 use bep_hints::{Expected, hint_at};
 use bep_lines::push_not_settled;
 use bep_model::Reason;
-use bep_tables::{Cut, DocError, read_cut};
+use bep_tables::Cut;
 use std::alloc::{AllocError, Global};
 
 /// The winners of the document's cut as far as there are any, in the document of that cut, and beside it the names that have

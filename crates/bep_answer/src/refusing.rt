@@ -4,8 +4,8 @@ ghost use Rattle.bep_answer.specs.Answer.{fault_text};
 ghost use Rattle.bep_answer.specs.declared.outcome.Outcome.TheVariants as outcomes;
 
 use crate::outcome::Outcome;
+use bep_document::DocFault;
 use bep_lines::push_refused;
-use bep_tables::DocFault;
 use std::alloc::{AllocError, Global};
 
 /// That the document is refused, and the fault's line.

@@ -16,7 +16,7 @@ use Rattle.bep_machine.specs.Steps.{AtLink}
 use Rattle.bep_links.specs.Link.{LinkBetween}
 use Rattle.bep_core.specs.declared.why.Why.{Why}
 use Rattle.bep_core.specs.declared.why.Why.TheVariants.{Refused, ConfigBad, Memory}
-use Rattle.bep_network.specs.Network.{Network, is_between as joins, cluster_of, between_at, ends_of, link_of}
+use Rattle.bep_peer.specs.network.Network.{Network, is_between as joins, cluster_of, between_at, ends_of, link_of}
 use Rattle.bep_core.specs.Why.{Gives}
 use Rattle.bep_core.proofs.Lift.{ReplacesLink, with_between, one_link, joins_ends, found_joins, none_joins}
 

@@ -22,7 +22,7 @@ use Rattle.bep_machine.specs.Replica.{ByDevice}
 use Rattle.bep_folder.specs.Held.{Held}
 use Rattle.bep_links.specs.Link.{LinkBetween, new_link}
 use Rattle.bep_peer.specs.Member.{Member, new_member}
-use Rattle.bep_network.specs.Network.{Network, numbers_of, ends_of}
+use Rattle.bep_peer.specs.network.Network.{Network, numbers_of, ends_of}
 use Rattle.bep_core.specs.Begin.{folders_at, linked_with, begun_folders, begun_member, begun}
 
 pub none_left : {X : Type 0} (xs : List X) → (0 < length xs → false ≡ true) → xs ≡ []

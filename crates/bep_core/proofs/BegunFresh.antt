@@ -19,11 +19,11 @@ use Rattle.bep_machine.specs.Replica.{Replica, view_of}
 use Rattle.bep_machine.specs.Sound.{IsSound}
 use Rattle.bep_links.specs.Link.{new_link}
 use Rattle.bep_peer.specs.Member.{Member, tables_of}
-use Rattle.bep_network.specs.Network.{Network, cluster_of, member_at, between_at, peer_of, link_of}
+use Rattle.bep_peer.specs.network.Network.{Network, cluster_of, member_at, between_at, peer_of, link_of}
 use Rattle.bep_core.specs.Begin.{begun, begun_member, begun_share}
 use Rattle.bep_core.specs.Reached.{IsReached}
 use Rattle.bep_core.proofs.BegunJoined.{replica_begun}
-use Rattle.bep_network.proofs.Members.{has_number}
+use Rattle.bep_peer.proofs.Members.{has_number}
 
 -- ---- links
 

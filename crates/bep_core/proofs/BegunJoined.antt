@@ -25,14 +25,14 @@ use Rattle.bep_machine.specs.Replica.{Replica}
 use Rattle.bep_machine.specs.Steps.{AreLinked, SharesFolder}
 use Rattle.bep_folder.specs.Held.{Held}
 use Rattle.bep_peer.specs.Member.{Member, tables_of}
-use Rattle.bep_network.specs.Network.{Network, IsNetwork, IsJoined, AreFew, ShareSome, numbers_of, ends_of, config_of, kind_of}
+use Rattle.bep_peer.specs.network.Network.{Network, IsNetwork, IsJoined, AreFew, ShareSome, numbers_of, ends_of, config_of, kind_of}
 use Rattle.bep_core.specs.Begin.{others_that, is_shared, is_linked, linked_with, sharing_with, own_share, begun_share, begun_folders, begun_member, begun}
 use Rattle.bep_core.proofs.Begun.{numbers-begun, ends-begun}
 use Rattle.bep_core.proofs.Lift.{both_true}
-use Rattle.bep_network.proofs.Changed.{tables_at}
-use Rattle.bep_network.proofs.Numbers.{itself, same_number, another_number}
+use Rattle.bep_peer.proofs.Changed.{tables_at}
+use Rattle.bep_peer.proofs.Numbers.{itself, same_number, another_number}
 use Rattle.bep_core.proofs.OthersThat.{kept_passes}
-use Rattle.bep_network.proofs.Members.{has_number, sharing_there}
+use Rattle.bep_peer.proofs.Members.{has_number, sharing_there}
 
 -- ---- what is kept by a test
 

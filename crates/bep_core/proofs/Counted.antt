@@ -12,8 +12,8 @@ use Rattle.bep_peer.specs.Member.{HasFailed, Member, Remains, untold}
 use Rattle.bep_core.specs.Applying.{failed_in, maker_of}
 use Rattle.bep_core.specs.Counts.{IsCounted, TellsFault}
 use Rattle.bep_core.specs.declared.why.Why.{Why}
-use Rattle.bep_network.specs.Network.{Network, cluster_of, failed_of, member_at}
-use Rattle.bep_network.proofs.Numbers.{same_number}
+use Rattle.bep_peer.specs.network.Network.{Network, cluster_of, failed_of, member_at}
+use Rattle.bep_peer.proofs.Numbers.{same_number}
 use Rattle.bep_core.proofs.OneDevice.{Replaces, at, at_itself, failed_now}
 
 -- ---- the device itself

@@ -16,7 +16,7 @@ use Rattle.bep_peer.specs.PeerError.{Gives as GivesThere}
 use Rattle.bep_peer.specs.Unhidden.{IsUnrefusedWithin}
 use Rattle.bep_peer.specs.Within.{StepWithin, TellsFault as TellsThere}
 use Rattle.bep_core.specs.declared.why.Why.{Why}
-use Rattle.bep_network.specs.Network.{Network, IsNetwork, is_number, cluster_of, failed_at}
+use Rattle.bep_peer.specs.network.Network.{Network, IsNetwork, is_number, cluster_of, failed_at}
 use Rattle.bep_core.specs.Applying.{maker_of}
 use Rattle.bep_core.specs.Counts.{AnswersFault, IsCounted, TellsFault}
 use Rattle.bep_core.specs.declared.why.Why.TheVariants.{Refused}

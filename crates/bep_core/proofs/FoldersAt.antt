@@ -14,7 +14,7 @@ use Rattle.bep_machine.specs.Replica.{ByDevice}
 use Rattle.bep_folder.specs.Held.{Held}
 use Rattle.bep_peer.specs.Member.{AreOwn}
 use Rattle.bep_core.specs.Begin.{folders_at, begun_share, own_share, begun_folders}
-use Rattle.bep_network.proofs.Numbers.{same_number, another_number}
+use Rattle.bep_peer.proofs.Numbers.{same_number, another_number}
 
 pub at_removed : (folders : ByDevice (ByName Held)) (device other : Device) → other ≢ device → folders_at (remove folders device) other ≡ folders_at folders other
 at_removed folders device other apart = ap (λ o. unwrap_or o empty) (get-remove_apart nat_cmp_total nat_cmp-IsAntisymmetric folders device other apart)

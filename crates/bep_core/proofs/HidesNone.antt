@@ -20,8 +20,8 @@ use Rattle.bep_peer.specs.Lent.{Lent}
 use Rattle.bep_peer.specs.Member.{Member, tables_of}
 use Rattle.bep_peer.specs.PeerError.{Gives as GivesThere}
 use Rattle.bep_peer.specs.Unhidden.{IsUnrefused, IsUnrefusedWithin}
-use Rattle.bep_network.specs.Network.{Network, IsNetwork, cluster_of, config_of, failed_at, in_order, link_of, member_at, peer_of}
-use Rattle.bep_network.proofs.Changed.{tables_at}
+use Rattle.bep_peer.specs.network.Network.{Network, IsNetwork, cluster_of, config_of, failed_at, in_order, link_of, member_at, peer_of}
+use Rattle.bep_peer.proofs.Changed.{tables_at}
 use Rattle.bep_core.specs.declared.folder_steps.Within.{Within}
 use Rattle.bep_core.specs.declared.folder_steps.Within.TheVariants as within
 use Rattle.bep_core.specs.declared.session_steps.Over.{Over}

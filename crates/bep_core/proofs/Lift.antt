@@ -10,8 +10,8 @@ use Rattle.bep_config.specs.Config.{by_ends}
 use Rattle.bep_model.specs.Tables.{Device}
 use Rattle.bep_machine.specs.Cluster.{Config, with_link}
 use Rattle.bep_links.specs.Link.{LinkBetween}
-use Rattle.bep_network.specs.Network.{Network, IsNetwork, IsJoined, AreFew, ShareSome, is_between as joins, ends_of, between_at, link_of, member_at, peer_of, config_of, sharing_of, numbers_of, cluster_of}
-use Rattle.bep_network.proofs.Numbers.{itself, same_number}
+use Rattle.bep_peer.specs.network.Network.{Network, IsNetwork, IsJoined, AreFew, ShareSome, is_between as joins, ends_of, between_at, link_of, member_at, peer_of, config_of, sharing_of, numbers_of, cluster_of}
+use Rattle.bep_peer.proofs.Numbers.{itself, same_number}
 
 pub both_true : (a b : Bool) → (a && b) ≡ true → (a ≡ true) × (b ≡ true)
 both_true true true e = (refl, refl)

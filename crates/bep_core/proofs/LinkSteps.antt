@@ -14,7 +14,7 @@ use Rattle.bep_core.specs.declared.link_steps.Between.TheVariants.{Connect, Lose
 use Rattle.bep_core.specs.Applying.{maker_of}
 use Rattle.bep_core.specs.Between.{row_of, step_of}
 use Rattle.bep_core.specs.Counts.{IsCounted, TellsFault}
-use Rattle.bep_network.specs.Network.{Network, IsNetwork, is_between, cluster_of}
+use Rattle.bep_peer.specs.network.Network.{Network, IsNetwork, is_between, cluster_of}
 use Rattle.bep_core.specs.Why.{Gives}
 use Rattle.bep_core.proofs.Counted.{counted_links}
 use Rattle.bep_core.proofs.AtLinks.{FirmStepOf, at_link, no_link, none_found, passed, replaces_link}

@@ -14,8 +14,8 @@ use Rattle.bep_machine.specs.Cluster.{Config, with_peer}
 use Rattle.bep_machine.specs.Sound.{FitsFolder}
 use Rattle.bep_machine.specs.Steps.{AreLinked}
 use Rattle.bep_peer.specs.Member.{Member, tables_of}
-use Rattle.bep_network.specs.Network.{Network, IsNetwork, IsJoined, AreFew, ShareSome, is_number, numbers_of, ends_of, member_at, between_at, peer_of, link_of, config_of, sharing_of, kind_of, cluster_of, failed_of, failed_at}
-use Rattle.bep_network.proofs.Numbers.{itself, same_number}
+use Rattle.bep_peer.specs.network.Network.{Network, IsNetwork, IsJoined, AreFew, ShareSome, is_number, numbers_of, ends_of, member_at, between_at, peer_of, link_of, config_of, sharing_of, kind_of, cluster_of, failed_of, failed_at}
+use Rattle.bep_peer.proofs.Numbers.{itself, same_number}
 use Rattle.bep_core.proofs.SameFolders.{SameFolders, same_kinds, same_fit, was_there}
 
 flat_map-set_same : {X Y : Type 0} (f : X → List Y) (xs : List X) (i : ℕ) (y d : X) → f y ≡ f (get_or xs i d) → flat_map f (set xs i y) ≡ flat_map f xs

@@ -9,7 +9,7 @@ use Rattle.bep_facts.specs.Members.{not_in_none, Contains-cons_cases}
 use Rattle.bep_model.specs.Tables.{Device}
 use Rattle.bep_folder.specs.Held.{AreOthers}
 use Rattle.bep_core.specs.Begin.{others_that}
-use Rattle.bep_network.proofs.Numbers.{itself}
+use Rattle.bep_peer.proofs.Numbers.{itself}
 
 -- what is kept by a test passes it
 pub kept_passes : {X : Type 0} (p : X → Bool) (xs : List X) (x : X) → Contains (filter p xs) x → p x ≡ true

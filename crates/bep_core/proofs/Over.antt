@@ -9,7 +9,7 @@ use Rattle.bep_machine.specs.Steps.{AreLinked, OverLink}
 use Rattle.bep_links.specs.Link.{LinkBetween}
 use Rattle.bep_peer.specs.Lent.{Lent, Joins, IsAtHand, Acts, StepOver}
 use Rattle.bep_peer.specs.Member.{Member, tables_of}
-use Rattle.bep_network.specs.Network.{Network, IsNetwork, cluster_of, config_of, member_at, between_at, in_order, peer_of, link_of}
+use Rattle.bep_peer.specs.network.Network.{Network, IsNetwork, cluster_of, config_of, member_at, between_at, in_order, peer_of, link_of}
 use Rattle.bep_core.proofs.Lift.{ReplacesLink, with_between, one_link, same_link}
 use Rattle.bep_core.proofs.OneDevice.{Replaces, with_member, one_device, nothing_changed}
 use Rattle.bep_core.proofs.SameFolders.{SameFolders, equal_folders}

@@ -17,7 +17,7 @@ use Rattle.bep_machine.specs.Steps.{IsStep, restarted, without_pulls}
 use Rattle.bep_links.specs.Link.{LinkBetween}
 use Rattle.bep_peer.specs.declared.trace.Trace.{Trace}
 use Rattle.bep_peer.specs.Member.{Member, Remains, nothing_told, tables_of, untold}
-use Rattle.bep_network.specs.Network.{Network, IsNetwork, is_between as joins, is_number, cluster_of, ends_of, numbers_of, sharing_of, member_at, between_at, peer_of, link_of}
+use Rattle.bep_peer.specs.network.Network.{Network, IsNetwork, is_between as joins, is_number, cluster_of, ends_of, numbers_of, sharing_of, member_at, between_at, peer_of, link_of}
 use Rattle.bep_core.specs.Restart.{left_by}
 use Rattle.bep_peer.proofs.Mapped.{get-changed}
 use Rattle.bep_core.specs.Counts.{IsCounted}
@@ -27,7 +27,7 @@ use Rattle.bep_core.proofs.Lift.{joins_ends, network_after_links}
 use Rattle.bep_core.proofs.OneDevice.{Replaces, with_member, one_device, network_after}
 use Rattle.bep_peer.proofs.RowsKeep.{outline}
 use Rattle.bep_core.proofs.SameFolders.{SameFolders}
-use Rattle.bep_network.proofs.Members.{listed, not_listed}
+use Rattle.bep_peer.proofs.Members.{listed, not_listed}
 use Rattle.bep_core.proofs.Within.{replaces}
 
 -- a device that starts again has the same folders

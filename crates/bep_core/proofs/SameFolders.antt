@@ -12,7 +12,7 @@ use Rattle.bep_machine.specs.Replica.{Replica}
 use Rattle.bep_machine.specs.Sound.{FitsFolder}
 use Rattle.bep_machine.specs.Steps.{SharesFolder}
 use Rattle.bep_peer.proofs.RowsKeep.{outline}
-use Rattle.bep_network.specs.Network.{kind_of}
+use Rattle.bep_peer.specs.network.Network.{kind_of}
 
 -- the same folders, each in the same kind and shared by the same devices
 abbrev pub SameFolders : ByName Replica → ByName Replica → Type 0

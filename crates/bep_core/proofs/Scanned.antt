@@ -20,7 +20,7 @@ use Rattle.bep_peer.specs.Faults.{HaveSameFaults}
 use Rattle.bep_peer.specs.Member.{HasFailed, Member, Remains, tables_of}
 use Rattle.bep_peer.specs.PeerError.{Gives}
 use Rattle.bep_peer.specs.Within.{CommitsWithin, FindsWithin, OnlyFolder, StepWithin, TellsFault}
-use Rattle.bep_network.proofs.Changed.{tables_at}
+use Rattle.bep_peer.proofs.Changed.{tables_at}
 
 -- the folder's replica, among the device's tables
 has_tables : (member : Member) (folder : Folder) (held : Held) → get member.folders folder ≡ Some held → get (tables_of member).replicas folder ≡ Some held.tables

@@ -12,11 +12,11 @@ use Rattle.bep_machine.specs.Replica.{Replica}
 use Rattle.bep_machine.specs.Sound.{FitsFolder}
 use Rattle.bep_machine.specs.Steps.{AreLinked, SharesFolder}
 use Rattle.bep_peer.specs.Member.{Member, tables_of}
-use Rattle.bep_network.specs.Network.{Network, IsNetwork, is_between, is_number, in_order, config_of, ends_of, member_at, numbers_of}
+use Rattle.bep_peer.specs.network.Network.{Network, IsNetwork, is_between, is_number, in_order, config_of, ends_of, member_at, numbers_of}
 use Rattle.bep_core.proofs.AtLinks.{none_found}
 use Rattle.bep_core.proofs.Lift.{none_joins}
-use Rattle.bep_network.proofs.Numbers.{itself, same_number}
-use Rattle.bep_network.proofs.Members.{has_number, not_listed, sharing_there}
+use Rattle.bep_peer.proofs.Numbers.{itself, same_number}
+use Rattle.bep_peer.proofs.Members.{has_number, not_listed, sharing_there}
 
 -- ---- links
 

@@ -3,8 +3,8 @@ use Rattle.std.proofs.Common.{◌≡◌, ◌≢◌, ◌==◌, ℕ, Bool, true, f
 use Rattle.std.specs.List.{position}
 use Rattle.bep_model.specs.Tables.{Device}
 use Rattle.bep_peer.specs.Member.{Member, tables_of, untold}
-use Rattle.bep_network.specs.Network.{Network, IsNetwork, is_number, cluster_of, member_at}
-use Rattle.bep_network.proofs.Numbers.{same_number}
+use Rattle.bep_peer.specs.network.Network.{Network, IsNetwork, is_number, cluster_of, member_at}
+use Rattle.bep_peer.proofs.Numbers.{same_number}
 use Rattle.bep_core.proofs.AtLinks.{none_found}
 use Rattle.bep_core.proofs.OneDevice.{Replaces, at, at_itself, network_after, nothing_changed, with_member}
 use Rattle.bep_core.proofs.SameFolders.{equal_folders}

@@ -18,15 +18,15 @@ use Rattle.bep_peer.specs.declared.error.PeerError.TheVariants as peer
 use Rattle.bep_peer.specs.Member.{Member, tables_of}
 use Rattle.bep_peer.specs.PeerError.{Gives as GivesThere}
 use Rattle.bep_peer.specs.Within.{StepWithin}
-use Rattle.bep_network.specs.Network.{Network, IsNetwork, is_number, cluster_of, config_of, member_at, peer_of}
+use Rattle.bep_peer.specs.network.Network.{Network, IsNetwork, is_number, cluster_of, config_of, member_at, peer_of}
 use Rattle.bep_core.specs.Why.{Gives, answer_of}
 use Rattle.bep_core.proofs.AtLinks.{first_found}
-use Rattle.bep_network.proofs.Numbers.{same_number}
-use Rattle.bep_network.proofs.Changed.{tables_at}
+use Rattle.bep_peer.proofs.Numbers.{same_number}
+use Rattle.bep_peer.proofs.Changed.{tables_at}
 use Rattle.bep_core.proofs.OneDevice.{Replaces, with_member, one_device, nothing_changed}
 use Rattle.bep_peer.proofs.RowsKeep.{Keeps}
 use Rattle.bep_core.proofs.SameFolders.{SameFolders, equal_folders, folder_changed}
-use Rattle.bep_network.proofs.Members.{absent_shares_none, without_shares_none}
+use Rattle.bep_peer.proofs.Members.{absent_shares_none, without_shares_none}
 
 -- a step that grows, where `there` is all that it names, and the row that it makes
 abbrev pub StepOf : Type 0 → Row Cluster → Cluster → Row Cluster

@@ -4,7 +4,7 @@ use Rattle.bep_model.specs.Tables.{Device}
 use Rattle.bep_machine.specs.declared.step.Step.{Step}
 use Rattle.bep_machine.specs.declared.step.Step.TheVariants.{Edit, Remove, Scan, Override, Revert, Connect, Lose, Begin, Deliver, Announce, StartPull, Ask, Finish, Restart}
 use Rattle.bep_peer.specs.Member.{Member}
-use Rattle.bep_network.specs.Network.{failed_at}
+use Rattle.bep_peer.specs.network.Network.{failed_at}
 
 -- the device that makes the step; a link that comes up or goes down does so by itself
 abbrev pub maker_of : Step → Option Device

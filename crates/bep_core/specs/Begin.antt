@@ -13,7 +13,7 @@ use Rattle.bep_machine.specs.Replica.{ByDevice}
 use Rattle.bep_folder.specs.Held.{Held, started}
 use Rattle.bep_links.specs.Link.{new_link}
 use Rattle.bep_peer.specs.Member.{Member, new_member}
-use Rattle.bep_network.specs.Network.{Network}
+use Rattle.bep_peer.specs.network.Network.{Network}
 
 -- those of the devices that pass the test and aren't this one
 abbrev pub others_that : (Device → Bool) → List Device → Device → List Device

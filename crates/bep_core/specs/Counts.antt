@@ -10,7 +10,7 @@ use Rattle.bep_machine.specs.declared.step.Step.{Step}
 use Rattle.bep_machine.specs.declared.step.Step.TheVariants.{Edit, Remove, Scan, Override, Revert, Connect, Lose, Begin, Deliver, Announce, StartPull, Ask, Finish, Restart}
 use Rattle.bep_machine.specs.Cluster.{Cluster, link_between}
 use Rattle.bep_machine.specs.Link.{end_of, sight_of}
-use Rattle.bep_network.specs.Network.{Network, cluster_of, member_at}
+use Rattle.bep_peer.specs.network.Network.{Network, cluster_of, member_at}
 use Rattle.bep_peer.specs.Member.{Member, Remains}
 use Rattle.bep_core.specs.declared.why.Why.{Why}
 use Rattle.bep_core.specs.declared.why.Why.TheVariants.{Refused, Memory}

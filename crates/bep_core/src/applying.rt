@@ -6,7 +6,7 @@ ghost use Rattle.bep_machine.specs.Steps.{IsStep};
 ghost use Rattle.bep_machine.specs.Undone.{LeavesAll};
 ghost use Rattle.bep_core.specs.Applying.{failed_by, failed_in, maker_of};
 ghost use Rattle.bep_core.specs.Counts.{IsCounted};
-ghost use Rattle.bep_network.specs.Network.{cluster_of};
+ghost use Rattle.bep_peer.specs.network.Network.{cluster_of};
 ghost use Rattle.bep_core.specs.Reached.{IsReached};
 ghost use Rattle.bep_core.specs.Unhidden.{HidesNone};
 ghost use Rattle.bep_core.specs.Why.{Gives};

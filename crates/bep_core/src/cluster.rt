@@ -6,7 +6,7 @@ ghost use Rattle.bep_record.specs.declared.limits.TheConstants.{MAX_DEVICES};
 ghost use Rattle.bep_config.specs.Config.{by_ends};
 ghost use Rattle.bep_machine.specs.Sound.{IsSound};
 ghost use Rattle.bep_core.specs.Begin.{begun};
-ghost use Rattle.bep_network.specs.Network.{IsNetwork, cluster_of, numbers_of, ends_of, member_at, between_at};
+ghost use Rattle.bep_peer.specs.network.Network.{IsNetwork, cluster_of, numbers_of, ends_of, member_at, between_at};
 ghost use Rattle.bep_core.specs.Reached.{IsReached};
 
 use crate::begin::{links_of, peers_of};
@@ -15,8 +15,7 @@ use crate::others::{numbers_of, sharing_of};
 use bep_config::{Config, ConfigParts};
 use bep_links::Link;
 use bep_machine::runs_are_gapless;
-use bep_network::agreed_is_sound;
-use bep_peer::Peer;
+use bep_peer::{Peer, agreed_is_sound};
 use bep_record::DeviceId;
 use bep_store::Store;
 use std::alloc::{AllocError, Global};
@@ -52,7 +51,7 @@ impl<S: Store> Model for Cluster<S> {
     ghost use Rattle.bep_peer.specs.Session.{session_code};
     ghost use Rattle.bep_peer.specs.Member.{member_code};
     ghost use Rattle.bep_peer.specs.contracts.trace.Trace as trace;
-    ghost use Rattle.bep_network.specs.Network.{Network, network_code, IsNetwork};
+    ghost use Rattle.bep_peer.specs.network.Network.{Network, network_code, IsNetwork};
 
     ghost Value = { Network };
 

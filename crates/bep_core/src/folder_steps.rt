@@ -7,7 +7,7 @@ ghost use Rattle.bep_peer.specs.PeerError.{Gives as GivesThere};
 ghost use Rattle.bep_peer.specs.Unhidden.{IsUnrefusedWithin};
 ghost use Rattle.bep_peer.specs.Within.{StepWithin, TellsFault};
 ghost use Rattle.bep_peer.specs.declared.error.PeerError.TheVariants.{Stale};
-ghost use Rattle.bep_network.specs.Network.{cluster_of, failed_at, is_number};
+ghost use Rattle.bep_peer.specs.network.Network.{cluster_of, failed_at, is_number};
 ghost use Rattle.bep_core.specs.Counts.{IsCounted};
 ghost use Rattle.bep_core.specs.Unhidden.{HidesNone, TestsWithin};
 ghost use Rattle.bep_core.specs.Within.{row_of, step_of};

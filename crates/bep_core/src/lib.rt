@@ -23,7 +23,7 @@ mod why;
 
 pub use bep_config::Config;
 pub use bep_machine::{Moved, Step};
-pub use bep_network::sharing_is_having;
+pub use bep_peer::sharing_is_having;
 pub use cluster::Cluster;
 pub use laws::reached_is_gapless;
 pub use why::Why;

@@ -3,7 +3,7 @@ ghost use Rattle.std.specs.Prelude.{◌≡◌, map};
 ghost use Rattle.bep_machine.specs.Link.{lost};
 ghost use Rattle.bep_machine.specs.declared.step.Step.TheVariants.{Restart};
 ghost use Rattle.bep_machine.specs.Steps.{IsStep};
-ghost use Rattle.bep_network.specs.Network.{cluster_of, failed_at};
+ghost use Rattle.bep_peer.specs.network.Network.{cluster_of, failed_at};
 ghost use Rattle.bep_core.specs.Counts.{IsCounted};
 ghost use Rattle.bep_core.specs.Why.{Gives};
 ghost use Rattle.bep_core.specs.Restart.{left_by};

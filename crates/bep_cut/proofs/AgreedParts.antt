@@ -9,9 +9,9 @@ use Rattle.bep_machine.specs.Sound.{FitsFolder}
 use Rattle.bep_machine.specs.Steps.{SharesFolder}
 use Rattle.bep_folder.specs.Held.{Held}
 use Rattle.bep_links.specs.Link.{LinkBetween}
-use Rattle.bep_network.specs.Agreed.{AreAgreed, network_of}
-use Rattle.bep_network.specs.Network.{Network, IsNetwork, config_of, kind_of, numbers_of, sharing_of}
-use Rattle.bep_network.specs.Sharing.{FoundByNumber}
+use Rattle.bep_peer.specs.network.Agreed.{AreAgreed, network_of}
+use Rattle.bep_peer.specs.network.Network.{Network, IsNetwork, config_of, kind_of, numbers_of, sharing_of}
+use Rattle.bep_peer.specs.network.Sharing.{FoundByNumber}
 use Rattle.bep_peer.specs.Laws.{TablesAreFound}
 use Rattle.bep_peer.specs.Member.{Member, tables_of}
 use Rattle.bep_cut.specs.Parts.{AreParts, Has, Knows}

@@ -17,8 +17,8 @@ use Rattle.bep_machine.specs.Steps.{AreLinked, SharesFolder}
 use Rattle.bep_folder.specs.Held.{Held}
 use Rattle.bep_peer.specs.Laws.{TablesAreFound}
 use Rattle.bep_peer.specs.Member.{Member, tables_of}
-use Rattle.bep_network.specs.Network.{Network, IsNetwork, config_of, numbers_of, member_at}
-use Rattle.bep_network.specs.Sharing.{FoundByNumber, SharingIsHaving}
+use Rattle.bep_peer.specs.network.Network.{Network, IsNetwork, config_of, numbers_of, member_at}
+use Rattle.bep_peer.specs.network.Sharing.{FoundByNumber, SharingIsHaving}
 use Rattle.bep_cut.specs.Cut.{Seen, folders_of, seen, with_folders}
 use Rattle.bep_cut.specs.Parts.{AgreeOnLinks, AgreeOnSharing, AreParts, Has, Knows, ShareSome}
 use Rattle.bep_cut.proofs.FoldersCut.{rising_keys}

@@ -17,7 +17,7 @@ use Rattle.bep_model.specs.Tables.{Device, Folder}
 use Rattle.bep_machine.specs.Replica.{Replica}
 use Rattle.bep_machine.specs.Said.{is_among, replica_said}
 use Rattle.bep_peer.specs.Member.{Member, tables_of}
-use Rattle.bep_network.specs.Network.{Network, cluster_of, kind_of, member_at, numbers_of, peer_of, sharing_of}
+use Rattle.bep_peer.specs.network.Network.{Network, cluster_of, kind_of, member_at, numbers_of, peer_of, sharing_of}
 use Rattle.bep_tables.specs.declared.share.Share.{Share}
 use Rattle.bep_tables.specs.declared.share.SharedFolder.{SharedFolder}
 use Rattle.bep_tables.specs.Cut.{is_device, is_folder, share_of, shares_of}

@@ -11,8 +11,8 @@ use Rattle.bep_machine.specs.Replica.{Replica, node_at, own_at, target_at, viewe
 use Rattle.bep_machine.specs.Said.{at_device, replica_said, tables_of_cluster}
 use Rattle.bep_machine.specs.Sound.{IsSound, IsSoundReplica}
 use Rattle.bep_peer.specs.Member.{Member}
-use Rattle.bep_network.specs.Agreed.{AreAgreed}
-use Rattle.bep_network.specs.Network.{Network, cluster_of, is_number, member_at, numbers_of, peer_of}
+use Rattle.bep_peer.specs.network.Agreed.{AreAgreed}
+use Rattle.bep_peer.specs.network.Network.{Network, cluster_of, is_number, member_at, numbers_of, peer_of}
 use Rattle.bep_tables.specs.declared.share.PeerView.{PeerView}
 use Rattle.bep_tables.specs.declared.share.Share.{Share}
 use Rattle.bep_tables.specs.Cut.{share_of, shares_of, tables_of, view_of}

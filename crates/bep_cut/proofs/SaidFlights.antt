@@ -22,9 +22,9 @@ use Rattle.bep_machine.specs.Replica.{Replica}
 use Rattle.bep_machine.specs.Said as said
 use Rattle.bep_links.specs.Link.{LinkBetween}
 use Rattle.bep_peer.specs.Member.{Member}
-use Rattle.bep_network.specs.Network as networks
-use Rattle.bep_network.specs.Agreed.{AreAgreed}
-use Rattle.bep_network.specs.Network.{Network, between_at, cluster_of, config_of, is_between, member_at, numbers_of, peer_of, sharing_of}
+use Rattle.bep_peer.specs.network.Network as networks
+use Rattle.bep_peer.specs.network.Agreed.{AreAgreed}
+use Rattle.bep_peer.specs.network.Network.{Network, between_at, cluster_of, config_of, is_between, member_at, numbers_of, peer_of, sharing_of}
 use Rattle.bep_tables.specs.declared.link.LinkState.{LinkState}
 use Rattle.bep_tables.specs.Cut as tables
 use Rattle.bep_cut.specs.LinkState.{both_have, carried}

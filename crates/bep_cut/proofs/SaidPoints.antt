@@ -11,7 +11,7 @@ use Rattle.bep_model.specs.Tables.{Device, Folder}
 use Rattle.bep_machine.specs.Replica.{ByDevice, Replica}
 use Rattle.bep_machine.specs.Said.{replica_said}
 use Rattle.bep_links.specs.Link.{LinkBetween}
-use Rattle.bep_network.specs.Network.{Network, IsNetwork, between_at, cluster_of, ends_of, is_between, link_of as link_there, numbers_of}
+use Rattle.bep_peer.specs.network.Network.{Network, IsNetwork, between_at, cluster_of, ends_of, is_between, link_of as link_there, numbers_of}
 use Rattle.bep_tables.specs.Cut.{link_of, view_of}
 use Rattle.bep_cut.specs.Cut.{cut_at, link_at, seen}
 use Rattle.bep_cut.specs.Points.{HasPoints, link_said, point_in, point_known, point_of, point_of_share, share_in, state_in, state_of}

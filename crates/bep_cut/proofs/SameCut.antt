@@ -7,8 +7,8 @@ use Rattle.bep_model.specs.Tables.{Device}
 use Rattle.bep_machine.specs.Cluster.{Cluster}
 use Rattle.bep_links.specs.Link.{LinkBetween}
 use Rattle.bep_peer.specs.Member.{Member}
-use Rattle.bep_network.specs.Network.{Network, IsNetwork, cluster_of, link_of, peer_of}
-use Rattle.bep_network.specs.Sharing.{FoundByEnds, FoundByNumber}
+use Rattle.bep_peer.specs.network.Network.{Network, IsNetwork, cluster_of, link_of, peer_of}
+use Rattle.bep_peer.specs.network.Sharing.{FoundByEnds, FoundByNumber}
 use Rattle.bep_cut.specs.Cut.{Seen, cut_at, parts_at, seen}
 use Rattle.bep_cut.specs.Laws.{SameClusterSameCut}
 

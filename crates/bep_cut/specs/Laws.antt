@@ -2,7 +2,7 @@
 use Rattle.std.specs.Prelude.{◌≡◌}
 use Rattle.bep_machine.specs.Said.{tables_of_cluster}
 use Rattle.bep_machine.specs.Sound.{IsSound}
-use Rattle.bep_network.specs.Network.{Network, IsNetwork, cluster_of}
+use Rattle.bep_peer.specs.network.Network.{Network, IsNetwork, cluster_of}
 use Rattle.bep_tables.specs.Cut.{tables_of}
 use Rattle.bep_cut.specs.Cut.{cut_at}
 use Rattle.bep_cut.specs.Parts.{AreParts}

@@ -9,7 +9,7 @@ use Rattle.bep_machine.specs.Cluster.{Cluster}
 use Rattle.bep_machine.specs.Link.{Link}
 use Rattle.bep_machine.specs.Replica.{Replica, view_of}
 use Rattle.bep_machine.specs.Said.{replica_said}
-use Rattle.bep_network.specs.Network.{Network, IsNetwork, cluster_of}
+use Rattle.bep_peer.specs.network.Network.{Network, IsNetwork, cluster_of}
 use Rattle.bep_tables.specs.declared.cut.CutParts.{CutParts}
 use Rattle.bep_tables.specs.declared.link.LinkState.{LinkState}
 use Rattle.bep_tables.specs.declared.share.PeerView.{PeerView}

@@ -4,8 +4,8 @@ use Rattle.bep_machine.specs.Cluster.{Cluster}
 use Rattle.bep_machine.specs.Said.{tables_of_cluster}
 use Rattle.bep_machine.specs.Sound.{IsSound}
 use Rattle.bep_links.specs.Link.{LinkBetween}
-use Rattle.bep_network.specs.Agreed.{network_of}
-use Rattle.bep_network.specs.Network.{cluster_of}
+use Rattle.bep_peer.specs.network.Agreed.{network_of}
+use Rattle.bep_peer.specs.network.Network.{cluster_of}
 use Rattle.bep_peer.specs.Member.{Member}
 use Rattle.bep_tables.specs.Cut.{tables_of}
 use Rattle.bep_tables.specs.declared.cut.CutParts.{CutParts}

@@ -1,8 +1,7 @@
 //! What holds of the parts of every cluster, and of their cut. The functions do nothing; their contracts are the laws.
 ghost use Rattle.bep_cut.specs.Laws.{ClustersAreParts, CutSaysCluster, SameClusterSameCut};
 
-use bep_network::sharing_is_having;
-use bep_peer::tables_are_found;
+use bep_peer::{sharing_is_having, tables_are_found};
 
 /// The devices and the links of every cluster are such that a cut can be taken of them.
 pub fn clusters_are_parts()

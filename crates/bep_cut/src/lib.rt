@@ -1,6 +1,6 @@
 //! The cut of a cluster: what its devices recorded, hold, know of others and pull at this moment, and what is on its way
-//! between them. Cuts themselves, their readers and their documents are those of `bep_tables`, which stands on no peers;
-//! all its names are given on here.
+//! between them. Cuts themselves are those of `bep_tables`, and their documents those of `bep_cut_document`, which stand on
+//! no peers; all their names are given on here.
 //!
 //! ```rust
 //! let (mut peers, links) = cluster.into_parts();
@@ -22,11 +22,14 @@ mod share;
 mod sound;
 mod views;
 
+pub use bep_cut_document::{
+    CutValue, DocError, DocFault, Fault, MAX_BYTES, check_document, check_value, cut_is_as_written,
+    read_check, read_cut, winners_are_in_range,
+};
 pub use bep_scenario::{Scenario, read_scenario};
 pub use bep_tables::{
-    Cut, CutParts, DocError, DocFault, Fault, Flight, Held, LinkState, MAX_BYTES, PeerView, Row,
-    Share, SharedFolder, Source, Table, TableEntry, check_document, check_value, cut_is_as_written,
-    cut_says, entries_are_held, names_are_known, read_check, read_cut, winners_are_in_range,
+    Cut, CutParts, Flight, Held, LinkState, PeerView, Row, Share, SharedFolder, Source, Table,
+    TableEntry, cut_says, entries_are_held, names_are_known,
 };
 pub use cut::cut_of;
 pub use error::CutError;

@@ -3,8 +3,7 @@
 ghost use Rattle.bep_cut.specs.Says.{AreSoundParts};
 
 use bep_links::Link;
-use bep_network::agreed_is_sound;
-use bep_peer::{Peer, tables_are_found};
+use bep_peer::{Peer, agreed_is_sound, tables_are_found};
 use bep_store::Store;
 
 /// Devices and links that agree on who shares what are a sound cluster, whatever was called of each, and wherever they come

@@ -1,6 +1,7 @@
 pub mod Adding
 pub mod Annotated
 pub mod Distinct
+pub mod document
 pub mod FirmTold
 pub mod Found
 pub mod Loose

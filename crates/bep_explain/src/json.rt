@@ -23,7 +23,7 @@ pub fn explanation_json(alloc: Global, told: Vec<Annotated<'_>>) -> Result<Vec<u
 }
 
 /// The tree as JSON without spaces, on a line. Or want of memory.
-pub fn json_line(alloc: Global, tree: &Value) -> Result<Vec<u8>, AllocError>
+pub(crate) fn json_line(alloc: Global, tree: &Value) -> Result<Vec<u8>, AllocError>
     ensures { IfOk result (λ text. IsJsonLine (view tree.now) text.items) }
 {
     let mut text = tree.to_string(alloc)?.into_bytes();
@@ -94,7 +94,7 @@ pub(crate) fn reason_tree(
 }
 
 /// The number of a device as JSON, null where there is none.
-pub fn device_tree(device: Option<DeviceId>) -> Value
+pub(crate) fn device_tree(device: Option<DeviceId>) -> Value
     ensures { view result ≡ device_tree device }
 {
     match device {

@@ -14,12 +14,16 @@
 //!
 //! `loosenings` has all that keeps a cut from being firm beside these; `explain_loose` and `annotate_loose` say more of each,
 //! and `firm_explanation` and `firm_explanation_json` print both.
+//!
+//! `document` answers so from the bytes that come in to the bytes that go out, as `bep_answer` does for the first reason:
+//! `explain_text`, and with the exit status `explain_and_tell` and `explain_firm_and_tell`.
 #![tactic(auto)]
 
 mod annotated;
 mod collect;
 mod detail;
 mod details;
+mod document;
 mod explained;
 mod firm;
 mod firm_json;
@@ -33,10 +37,13 @@ mod text;
 mod trees;
 
 pub use annotated::{Annotated, annotate};
+pub use document::{
+    FirmReasonsOfCut, ReasonsOfCut, explain_and_tell, explain_firm_and_tell, explain_text,
+};
 pub use explained::{Explained, explain};
 pub use firm::{AnnotatedLoose, ExplainedLoose, annotate_loose, explain_loose};
 pub use firm_json::firm_explanation_json;
 pub use gather::failures;
-pub use json::{device_tree, explanation_json, json_line};
+pub use json::explanation_json;
 pub use loose::loosenings;
 pub use text::{explanation, firm_explanation};

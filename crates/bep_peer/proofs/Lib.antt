@@ -30,3 +30,6 @@ mod RequestFacts
 mod ResponseFacts
 mod SentFacts
 mod Unrefused
+pub mod Numbers
+pub mod Changed
+pub mod Members

@@ -9,6 +9,7 @@ pub mod InSession
 pub mod Laws
 pub mod Lent
 pub mod Member
+pub mod network
 pub mod PeerError
 pub mod Read
 pub mod Received

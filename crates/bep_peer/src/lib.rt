@@ -9,6 +9,9 @@
 //! peer.deliver(&mut link)?;
 //! peer.announce(&mut link, &folder)?;
 //! ```
+//!
+//! `network` says what devices and links are together: a cluster as it is kept. Its steps are made above (`bep_core`), and
+//! its cut is taken there too (`bep_cut`), neither by the other.
 #![tactic(auto)]
 
 mod announce;
@@ -28,6 +31,7 @@ mod good_config;
 mod in_session;
 mod laws;
 mod local;
+mod network;
 mod over;
 mod peer;
 mod renewing;
@@ -48,6 +52,7 @@ pub use answer::{answer_to, has_bytes, refuse};
 pub use config::{cursor_for, names_once};
 pub use error::PeerError;
 pub use laws::tables_are_found;
+pub use network::{agreed_is_sound, sharing_is_having};
 pub use peer::Peer;
 pub use session::Session;
 pub use trace::Trace;

@@ -15,7 +15,7 @@ use Rattle.bep_model.specs.Tables.{Folder, FileName}
 use Rattle.bep_model.specs.Verdict.{IsVerdict, Not}
 use Rattle.bep_model.specs.declared.reason.Reason.TheVariants.{NotWinner}
 use Rattle.bep_model.specs.declared.row.Row.{Row}
-use Rattle.bep_network.specs.Network.{Network, cluster_of}
+use Rattle.bep_peer.specs.network.Network.{Network, cluster_of}
 use Rattle.bep_report.specs.Certificate.{certificate_lines}
 use Rattle.bep_report.specs.Report.{report_text}
 use Rattle.bep_scenario.specs.Scenario.{Said, scenario_of}

@@ -3,7 +3,7 @@ use Rattle.std.specs.Prelude.{◌≡◌, ℕ, List}
 use Rattle.bep_answer.specs.declared.outcome.Certified.{Certified}
 use Rattle.bep_answer.specs.declared.outcome.Outcome.{Outcome}
 use Rattle.bep_cut.specs.Cut.{cut_at}
-use Rattle.bep_network.specs.Network.{Network}
+use Rattle.bep_peer.specs.network.Network.{Network}
 use Rattle.bep_scenario.specs.Scenario.{Said}
 use Rattle.bep_play.specs.Played.{IsEndOfBytes, IsRunOfBytes, EndsAt}
 

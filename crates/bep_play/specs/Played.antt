@@ -3,7 +3,7 @@
 use Rattle.std.specs.Prelude.{◌≡◌, ◌⊎◌, ◌++◌, suc, ℕ, ⊤, List, [], ◌∷◌, map, codes, Option, None, Result, Ok, Err}
 use Rattle.bep_audit.specs.Certifier.{IsNeverSettled}
 use Rattle.bep_core.specs.Begin.{begun}
-use Rattle.bep_network.specs.Network.{Network, IsNetwork, cluster_of}
+use Rattle.bep_peer.specs.network.Network.{Network, IsNetwork, cluster_of}
 use Rattle.bep_core.specs.Why.{name_of_refusal}
 use Rattle.bep_core.specs.declared.why.Why.{Why}
 use Rattle.bep_core.specs.declared.why.Why.TheVariants as whys

@@ -6,9 +6,9 @@ ghost use Rattle.bep_play.specs.Played.{IsEndOfBytes, IsPlayedTo};
 use crate::ending::document_of_end;
 use crate::play::played;
 use bep_answer::{Answer, Certified, Question, fault_line};
+use bep_document::DocError;
 use bep_hints::{Expected, hint_at};
 use bep_scenario::{Scenario, read_scenario};
-use bep_tables::DocError;
 use std::alloc::{AllocError, Global};
 
 /// The check document of where the scenario leads, with the lines of refused steps beside it, and where the scenario is

@@ -1,6 +1,6 @@
 //! The steps of a scenario, made one after another.
 ghost use Rattle.std.specs.Prelude.{IfOk, OnOk};
-ghost use Rattle.bep_network.specs.Network.{cluster_of};
+ghost use Rattle.bep_peer.specs.network.Network.{cluster_of};
 ghost use Rattle.bep_scenario.specs.Scenario.{said};
 ghost use Rattle.bep_play.specs.Played.{EndsAt, IsTold, Leads};
 

@@ -6,9 +6,9 @@ ghost use Rattle.bep_play.specs.Played.{IsPlayed, IsRunOfBytes};
 use crate::ending::report_on_end;
 use crate::play::played;
 use bep_answer::{Answer, Outcome, Question, refusal};
+use bep_document::DocError;
 use bep_hints::{Expected, hint_at};
 use bep_scenario::{Scenario, read_scenario};
-use bep_tables::DocError;
 use std::alloc::{AllocError, Global};
 
 /// The report on where the scenario leads, and where the scenario is refused, a hint on where it is at fault.

@@ -1,6 +1,6 @@
-mod Found
+pub mod Found
 mod Grouped
-mod Tables
+pub mod Tables
 mod Values
 mod Added
 mod Known

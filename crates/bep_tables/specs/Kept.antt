@@ -2,27 +2,12 @@
 use Rattle.std.proofs.Common.{◌≡◌, Bool, true, false, cond, List, [], ◌∷◌, Contains, refl, subst, ⊎_elim}
 use Rattle.std.specs.List.{AllByRecursion, filter}
 use Rattle.bep_facts.specs.Members.{Contains-cons_cases, Contains-first, Contains-more, not_in_none}
-use Rattle.bep_document.specs.Faultless.{HasNoKey, KeysDiffer}
 
 pub all_kept : {X : Type 0} (test : X → Bool) (P : X → Type 0) (xs : List X) → AllByRecursion P xs → AllByRecursion P (filter test xs)
 all_kept test P [] all = tt
 all_kept test P (x ∷ more) all = cases (test x) (all_kept test P more all.1) where
   cases : (b : Bool) → AllByRecursion P (filter test more) → AllByRecursion P (cond b (x ∷ filter test more) (filter test more))
   cases true rest = (all.0, rest)
-  cases false rest = rest
-
-no_key_kept : {X K : Type 0} (test : X → Bool) (key : X → K) (k : K) (xs : List X) → HasNoKey key k xs → HasNoKey key k (filter test xs)
-no_key_kept test key k [] none = tt
-no_key_kept test key k (x ∷ more) none = cases (test x) (no_key_kept test key k more none.1) where
-  cases : (b : Bool) → HasNoKey key k (filter test more) → HasNoKey key k (cond b (x ∷ filter test more) (filter test more))
-  cases true rest = (none.0, rest)
-  cases false rest = rest
-
-pub differ_kept : {X K : Type 0} (test : X → Bool) (key : X → K) (xs : List X) → KeysDiffer key xs → KeysDiffer key (filter test xs)
-differ_kept test key [] differ = tt
-differ_kept test key (x ∷ more) differ = cases (test x) (differ_kept test key more differ.1) where
-  cases : (b : Bool) → KeysDiffer key (filter test more) → KeysDiffer key (cond b (x ∷ filter test more) (filter test more))
-  cases true rest = (no_key_kept test key (key x) more differ.0, rest)
   cases false rest = rest
 
 -- what is kept was there, and passes the test

@@ -3,8 +3,9 @@
 #![tactic(auto)]
 
 use bep_audit::{Certificate, check_plain};
+use bep_cut_document::{DocError, read_check};
 use bep_report::{ReportError, read_document, report};
-use bep_tables::{Cut, DocError, read_check};
+use bep_tables::Cut;
 use std::alloc::Global;
 use std::io::{Read, Write};
 use std::process::ExitCode;

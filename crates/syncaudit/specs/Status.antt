@@ -4,8 +4,8 @@ use Rattle.std.specs.Io.KnownBytes.{Keeps}
 use Rattle.bep_answer.specs.Status.{IsCertificateTold, IsFirmTold, IsPartTold, IsTold, status_of, usage}
 use Rattle.bep_lines.specs.declared.form.Form.{Form}
 use Rattle.bep_play.specs.Told.{IsEndTold, IsRunTold}
-use Rattle.bep_reasons.specs.FirmExplained.{IsFirmExplanationTold}
-use Rattle.bep_reasons.specs.Told.{IsExplanationTold}
+use Rattle.bep_explain.specs.document.FirmExplained.{IsFirmExplanationTold}
+use Rattle.bep_explain.specs.document.Told.{IsExplanationTold}
 use Rattle.bep_report.specs.declared.error.ReportError.TheVariants.{Memory}
 use Rattle.clap.specs.Words.{Text}
 use Rattle.bep_words.specs.Mode.{Asks}

@@ -9,9 +9,9 @@ pub use bep_answer::{
     Certified, Firmness, Outcome, certified_status_of, certify_text, check_text, firm_status_of,
     firm_text, status_of,
 };
+pub use bep_explain::explain_text;
 pub use bep_lines::Form;
 pub use bep_play::{run_document, run_text};
-pub use bep_reasons::{explain_text, firm_explained};
 pub use bep_words::{Ending, Extent, Goal, Mode, mode_of};
 use std::process::ExitCode;
 

@@ -14,9 +14,9 @@ ghost use Rattle.bep_words.specs.declared.mode.Mode.TheVariants.{Check, Firm, Ru
 use bep_answer::{
     USAGE, certify_and_tell, certify_partly_and_tell, check_and_tell, end, firm_and_tell,
 };
+use bep_explain::{explain_and_tell, explain_firm_and_tell};
 use bep_lines::Form;
 use bep_play::{run_and_tell, run_document_and_tell};
-use bep_reasons::{explain_and_tell, explain_firm_and_tell};
 use bep_report::ReportError;
 use bep_words::{Ending, Extent, Goal, Mode, Unfollowed, faultless_words_ask, mode_told};
 use std::convert::AsStr;

@@ -1,8 +1,8 @@
 //! What is answered of no folders, by the calls that tell nothing on standard error. What the program answers of all other
 //! documents, and where a stream fails, `tests/` shows.
 use bep_answer::{Certified, Firmness, Outcome, certify_text, check_text, firm_text};
+use bep_explain::explain_text;
 use bep_play::run_text;
-use bep_reasons::explain_text;
 use bep_report::ReportError;
 use std::alloc::Global;
 

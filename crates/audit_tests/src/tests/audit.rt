@@ -1,8 +1,9 @@
 //! A folder `docs` with a directory `a`, whose second version is device 2's: what is certified, told by both checkers, and
 //! written. The wanted lines were worked out by hand.
 use bep_audit::{Certificate, certify, check, check_plain};
+use bep_cut_document::read_cut;
 use bep_report::{certificate_text, report};
-use bep_tables::{Cut, read_cut};
+use bep_tables::Cut;
 use std::alloc::Global;
 
 const CUT: &str = r#"{"version":1,"cut":{"folders":[{"folder":"docs","devices":[

@@ -1,4 +1,5 @@
 //! A cut as a tree by itself, and a fault's copy. What is read and refused, and all else that is written, `tests/` shows.
+use bep_cut_document::CutValue;
 use bep_document::{DocError, DocFault, read_parts};
 use bep_tables::Cut;
 use serde_json::Value;

@@ -1,7 +1,8 @@
 //! A folder `docs` with a directory `a` at two devices: firm, and not firm for each of the reasons. The wanted answers were
 //! worked out by hand.
 use bep_audit::{Certificate, FirmReason, FirmVerdict, certify, firm_verdict};
-use bep_tables::{Cut, read_cut};
+use bep_cut_document::read_cut;
+use bep_tables::Cut;
 use std::alloc::{AllocError, Global};
 
 // The pieces of a cut's document, between which stand a record of device 1, one of device 2, what else device 2 has, and the

@@ -3,8 +3,8 @@ use Rattle.bep_document.specs.Reading.{Read, most_bytes}
 use Rattle.bep_model.specs.declared.row.Row.{Row}
 use Rattle.bep_model.specs.Winner.{IsWinner}
 use Rattle.bep_tables.specs.Cut.{tables_of}
-use Rattle.bep_tables.specs.document.Trees.{check_text}
-use Rattle.bep_tables.specs.document.Written.{check_of}
+use Rattle.bep_cut_document.specs.Trees.{check_text}
+use Rattle.bep_cut_document.specs.Written.{check_of}
 use Rattle.bep_answer.proofs.certify.document_of.Goals as goal
 
 pub returns-clause-read_back : goal.returns-clause-read_back

@@ -1,5 +1,5 @@
 use Rattle.std.proofs.Common.{◌∙◌, sym, subst}
-use Rattle.bep_network.specs.Agreed.{network_of}
+use Rattle.bep_peer.specs.network.Agreed.{network_of}
 use Rattle.bep_cut.specs.Says.{Says, cluster_at}
 use Rattle.bep_cut.proofs.AgreedParts.{parts_agree}
 use Rattle.bep_cut.proofs.CutFacts.{made_cut, made_is_cut}

@@ -1,6 +1,6 @@
 use Rattle.std.proofs.Common.{rules, ◌≡◌, ◌∷◌, List, refl, subst}
 use Rattle.bep_core.specs.Applying.{failed_by}
-use Rattle.bep_network.specs.Network.{cluster_of}
+use Rattle.bep_peer.specs.network.Network.{cluster_of}
 use Rattle.bep_machine.specs.declared.step.Step.{Step}
 use Rattle.bep_play.proofs.PlayFacts.{LeadsSoFar, leads_on}
 use Rattle.bep_play.proofs.play.play.Goals as goal

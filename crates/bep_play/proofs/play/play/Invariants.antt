@@ -1,4 +1,4 @@
-use Rattle.bep_network.specs.Network.{cluster_of}
+use Rattle.bep_peer.specs.network.Network.{cluster_of}
 use Rattle.bep_play.proofs.PlayFacts.{LeadsSoFar}
 use Rattle.bep_play.proofs.play.play.Given as goal
 

@@ -1,6 +1,6 @@
 use Rattle.std.proofs.Common.{subst}
 use Rattle.bep_machine.specs.Sound.{IsSound}
-use Rattle.bep_network.specs.Network.{Network, cluster_of}
+use Rattle.bep_peer.specs.network.Network.{Network, cluster_of}
 use Rattle.bep_play.specs.Played.{Leads}
 use Rattle.bep_play.proofs.play.played.Goals as goal
 

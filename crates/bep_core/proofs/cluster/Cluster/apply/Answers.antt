@@ -1,6 +1,6 @@
 use Rattle.bep_machine.specs.Steps.{IsStep}
 use Rattle.bep_core.specs.Applying.{failed_by}
-use Rattle.bep_network.specs.Network.{cluster_of}
+use Rattle.bep_peer.specs.network.Network.{cluster_of}
 use Rattle.bep_core.proofs.Reaching.{left_undone, never_bad, reaches}
 use Rattle.bep_core.proofs.cluster.Cluster.apply.Goals as goal
 

@@ -1,7 +1,7 @@
 use Rattle.std.proofs.Common.{◌≡◌, ◌∙◌, sym, subst}
 use Rattle.bep_machine.specs.Sound.{IsSound}
-use Rattle.bep_network.specs.Agreed.{network_of}
-use Rattle.bep_network.specs.Network.{Network, IsNetwork, cluster_of}
+use Rattle.bep_peer.specs.network.Agreed.{network_of}
+use Rattle.bep_peer.specs.network.Network.{Network, IsNetwork, cluster_of}
 use Rattle.bep_core.proofs.cluster.Cluster.cluster_is_sound.Goals as goal
 
 pub returns : goal.returns

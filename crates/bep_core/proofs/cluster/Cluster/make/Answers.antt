@@ -1,6 +1,6 @@
 use Rattle.std.proofs.Common.{sym, subst}
 use Rattle.bep_machine.specs.declared.step.Step.{Step}
-use Rattle.bep_network.specs.Network.{cluster_of}
+use Rattle.bep_peer.specs.network.Network.{cluster_of}
 use Rattle.bep_core.specs.Applying.{failed_by}
 use Rattle.bep_core.specs.Unhidden.{HidesNone}
 use Rattle.bep_core.proofs.cluster.Cluster.make.Goals as goal

@@ -5,7 +5,7 @@ use Rattle.bep_core.proofs.FoldersAt.{begun_own}
 use Rattle.bep_core.proofs.Begun.{is_begun, shared_there}
 use Rattle.bep_core.proofs.BegunJoined.{begun_network}
 use Rattle.bep_core.proofs.BegunFresh.{begun_reached}
-use Rattle.bep_network.specs.Network.{Network, IsNetwork, cluster_of}
+use Rattle.bep_peer.specs.network.Network.{Network, IsNetwork, cluster_of}
 use Rattle.bep_machine.specs.Sound.{IsSound}
 use Rattle.bep_core.specs.Reached.{IsReached}
 use Rattle.bep_core.proofs.cluster.Cluster.new.Goals as goal

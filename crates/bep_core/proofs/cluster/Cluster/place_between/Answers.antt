@@ -2,7 +2,7 @@ use Rattle.std.proofs.Common.{◌≡◌, ◌==◌, Bool, true, false, cond, nat_
 use Rattle.std.specs.declared.cmp.Ordering.TheVariants.{Less, Equal, Greater}
 use Rattle.std.specs.List.{position}
 use Rattle.std.specs.Ordering.{is_lt}
-use Rattle.bep_network.specs.Network.{is_between}
+use Rattle.bep_peer.specs.network.Network.{is_between}
 use Rattle.bep_core.proofs.Over.{ordered}
 use Rattle.bep_core.proofs.cluster.Cluster.place_between.Goals as goal
 

@@ -1,5 +1,5 @@
 use Rattle.std.proofs.Common.{set, sym, ◌∙◌}
-use Rattle.bep_network.specs.Network.{Network, failed_at, is_number}
+use Rattle.bep_peer.specs.network.Network.{Network, failed_at, is_number}
 use Rattle.bep_core.proofs.AtLinks.{none_found}
 use Rattle.bep_core.proofs.Restarted.{none_restarted_counts, none_restarts, restart_counts, restart_made, restart_rules}
 use Rattle.bep_core.proofs.cluster.Cluster.restart.Goals as goal

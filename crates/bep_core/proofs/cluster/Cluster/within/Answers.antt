@@ -1,5 +1,5 @@
 use Rattle.std.proofs.Common.{sym, ◌∙◌}
-use Rattle.bep_network.specs.Network.{failed_at}
+use Rattle.bep_peer.specs.network.Network.{failed_at}
 use Rattle.bep_core.proofs.DeviceSteps.{none_counts, none_within, within_counts, within_hides, within_made, within_rules}
 use Rattle.bep_core.proofs.cluster.Cluster.within.Goals as goal
 

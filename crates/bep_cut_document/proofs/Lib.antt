@@ -1,0 +1,16 @@
+-- What a document without faults writes down is a cut, which says what the document lists.
+mod KeysKept
+mod SortingFacts
+mod WrittenFacts
+mod LinksWritten
+mod CutWritten
+mod AsWrittenFacts
+mod AsWrittenViews
+mod AsWrittenLinks
+mod ToldFacts
+pub mod RangeTold
+mod ReadAgain
+mod Shallow
+mod WholeNumbers
+mod WinnersInRange
+pub mod back

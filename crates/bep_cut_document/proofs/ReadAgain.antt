@@ -1,0 +1,26 @@
+-- The bytes of a check document are read as its tree is.
+use Rattle.std.proofs.Common.{◌≡◌, ◌≤◌, ℕ, Bool, true, List, length, map, Option, Some, None, ap, ◌∙◌, if◌then◌else◌}
+use Rattle.std.specs.Str.{is_utf8}
+use Rattle.std.proofs.lemmas.Bool.{le-leb}
+use Rattle.serde_json.specs.Data.{Data}
+use Rattle.serde_json.specs.Read.{read}
+use Rattle.bep_document.specs.declared.fault.Fault.TheVariants.{NotJson, Range}
+use Rattle.bep_document.specs.declared.parts.CheckParts.{CheckParts}
+use Rattle.bep_document.specs.Fault.{nowhere}
+use Rattle.bep_document.specs.Reading.{Reading, Read, Refused, ◌>>=◌, given, is_short, most_bytes, reading_of, reading_of_tree, tree_of}
+use Rattle.bep_model.specs.declared.row.Row.{Row}
+use Rattle.bep_tables.specs.declared.cut.CutParts.{CutParts}
+use Rattle.bep_cut_document.specs.Written.{check_of, check_of_tree, cut_written, row_written}
+
+reading_as : (bytes : List ℕ) (tree : Data) → is_utf8 bytes ≡ true → read bytes ≡ Some tree → length bytes ≤ most_bytes → reading_of bytes ≡ reading_of_tree tree
+unfolding reading_of
+reading_as bytes tree text is few =
+    let short : is_short bytes ≡ true = le-leb (length bytes) most_bytes few in
+    ap (λ (b : Bool). ((if b then Read bytes else Refused (nowhere Range)) >>= (λ (whole : List ℕ). given NotJson (tree_of whole))) >>= reading_of_tree) short
+    ∙ ap (λ (b : Bool). given NotJson (if b then read bytes else None) >>= reading_of_tree) text
+    ∙ ap (λ (found : Option Data). given NotJson found >>= reading_of_tree) is
+
+pub read_again : (bytes : List ℕ) (tree : Data) (cut : CutParts) (rows : List Row) → is_utf8 bytes ≡ true → read bytes ≡ Some tree → length bytes ≤ most_bytes →
+    check_of_tree tree ≡ Read (cut, rows) → check_of bytes ≡ Read (cut, rows)
+read_again bytes tree cut rows text is few says =
+    ap (λ (reading : Reading CheckParts). reading >>= (λ (parts : CheckParts). Read (cut_written parts.folders parts.links, map row_written parts.certificate))) (reading_as bytes tree text is few) ∙ says

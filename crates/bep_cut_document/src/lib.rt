@@ -1,0 +1,25 @@
+//! A cut of a cluster and a certificate for it, read from a check document and written to it. A caller reads one so:
+//!
+//!     let (cut, rows) = read_check(alloc, bytes)?;
+//!     for shared in cut.folders() {
+//!         for (name, _) in cut.known_names(alloc, &shared.folder)?.iter() { .. }
+//!     }
+//!
+//! What a document lists and why it is refused stands below (`bep_document`), what a cut is in `bep_tables`, which knows of
+//! no documents.
+#![tactic(auto)]
+
+mod laws;
+mod reading;
+mod records;
+mod sorting;
+mod trees;
+mod value;
+mod whole;
+mod written;
+
+pub use bep_document::{DocError, DocFault, Fault, MAX_BYTES};
+pub use laws::{cut_is_as_written, winners_are_in_range};
+pub use reading::{read_check, read_cut};
+pub use value::CutValue;
+pub use whole::{check_document, check_value};

@@ -1,0 +1,2 @@
+-- What is explained of a document.
+mod FirmFacts

@@ -1,0 +1,4 @@
+-- What is explained of a document.
+pub mod Explained
+pub mod FirmExplained
+pub mod Told

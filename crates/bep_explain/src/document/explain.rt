@@ -1,0 +1,91 @@
+//! All reasons why a document's cut isn't settled.
+ghost use Rattle.std.specs.Prelude.{◌≡◌, IfOk, map};
+ghost use Rattle.bep_explain.specs.Found.{verdict_of};
+ghost use Rattle.bep_explain.specs.Told.{failures_of, told_of};
+ghost use Rattle.bep_answer.specs.Answer.{outcome_of};
+ghost use Rattle.bep_explain.specs.document.Explained.{IsExplainedOfBytes, IsExplanation, IsRefusal};
+ghost use Rattle.bep_answer.specs.declared.outcome.Outcome.TheVariants as outcomes;
+
+use crate::document::json::{explain_in_json, refusal_json};
+use crate::{Explained, explain, explanation};
+use bep_answer::{Answer, Outcome, Question, fault_line};
+use bep_audit::Certificate;
+use bep_cut_document::{DocError, DocFault, read_check};
+use bep_hints::{Expected, hint_at};
+use bep_lines::Form;
+use bep_tables::Cut;
+use std::alloc::{AllocError, Global};
+
+/// All that keeps a document's cut from being settled under its certificate, in this form, and where the document is
+/// refused, a hint on where it is at fault.
+#[derive(Drop)]
+pub struct ReasonsOfCut {
+    /// How it is written.
+    pub form: Form,
+}
+
+impl Question<Outcome> for ReasonsOfCut {
+    ghost says = { λ asked. IsExplainedOfBytes asked.form };
+
+    fn answer(self, alloc: Global, bytes: &[u8]) -> Result<Answer<Outcome>, AllocError> {
+        let form = self.form;
+        match read_check(alloc, bytes) {
+            Ok((cut, rows)) => Ok((
+                explain_cut(alloc, form, &cut, &Certificate::of(rows))?,
+                None,
+            )),
+            Err(DocError::Refused(fault)) => {
+                let refused = refusal_in(alloc, form, &fault)?;
+                Ok((refused, hint_at(alloc, bytes, Expected::Check)))
+            }
+            Err(DocError::Memory) => Err(AllocError),
+        }
+    }
+}
+
+// The outcome for a cut and its certificate, and the text.
+fn explain_cut(
+    alloc: Global,
+    form: Form,
+    cut: &Cut,
+    certificate: &Certificate,
+) -> Result<(Outcome, Vec<u8>), AllocError>
+    ensures { IfOk result (λ answer. IsExplanation form cut.now certificate.now answer.0 answer.1.items) }
+{
+    match form {
+        Form::Text => {
+            let told = explain(alloc, cut, certificate)?;
+            let text = explanation(alloc, told.as_slice())?;
+            Ok((outcome_for(told.as_slice()), text))
+        }
+        Form::Json => explain_in_json(alloc, cut, certificate),
+    }
+}
+
+// Settled where nothing is told.
+fn outcome_for(told: &[Explained<'_>]) -> Outcome
+    ensures { result ≡ outcome_of (verdict_of (failures_of (map told_of told.now))) }
+{
+    match told {
+        [] => Outcome::Settled,
+        _ => Outcome::NotSettled,
+    }
+}
+
+// That the document is refused, and the fault in this form.
+fn refusal_in(alloc: Global, form: Form, fault: &DocFault) -> Result<(Outcome, Vec<u8>), AllocError>
+    ensures { IfOk result (λ answer. (answer.0 ≡ outcomes.Refused) × IsRefusal form fault.now answer.1.items) }
+{
+    let text = fault_in(alloc, form, fault)?;
+    Ok((Outcome::Refused, text))
+}
+
+/// The fault for which a document is refused, in this form.
+pub(crate) fn fault_in(alloc: Global, form: Form, fault: &DocFault) -> Result<Vec<u8>, AllocError>
+    ensures { IfOk result (λ text. IsRefusal form fault.now text.items) }
+{
+    match form {
+        Form::Text => fault_line(alloc, fault),
+        Form::Json => refusal_json(alloc, fault),
+    }
+}

@@ -1,6 +1,0 @@
-pub mod Numbers
-pub mod Changed
-pub mod Members
-mod HavingFacts
-mod Ends
-mod SoundFacts

@@ -1,8 +1,0 @@
-use Rattle.std.proofs.Common.{drop}
-use Rattle.std.specs.List.{AllByRecursion}
-use Rattle.bep_network.specs.Agreed.{IsSoundBetween}
-use Rattle.bep_network.proofs.sound.links_are_sound.Given as goal
-
--- where those that are left are sound, all are
-abbrev pub invariant-loop-link : goal.invariant-loop-link
-invariant-loop-link l = AllByRecursion IsSoundBetween (drop l.link-index l.links) → AllByRecursion IsSoundBetween l.links

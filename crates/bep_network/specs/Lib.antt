@@ -1,3 +1,0 @@
-pub mod Network
-pub mod Sharing
-pub mod Agreed

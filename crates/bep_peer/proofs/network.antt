@@ -1,0 +1,4 @@
+-- What holds of a cluster as it is kept.
+mod HavingFacts
+mod Ends
+mod SoundFacts

@@ -1,0 +1,4 @@
+-- A cluster as it is kept.
+pub mod Network
+pub mod Sharing
+pub mod Agreed

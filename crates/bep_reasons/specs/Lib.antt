@@ -1,3 +1,0 @@
-pub mod Explained
-pub mod FirmExplained
-pub mod Told

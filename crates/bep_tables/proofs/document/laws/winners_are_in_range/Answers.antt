@@ -1,5 +1,0 @@
-use Rattle.bep_tables.proofs.document.WinnersInRange.{winners_are_in_range}
-use Rattle.bep_tables.proofs.document.laws.winners_are_in_range.Goals as goal
-
-pub returns : goal.returns
-returns c = winners_are_in_range c.args.cut.now c.folders-folders.ensures.a_cut

@@ -1,4 +1,0 @@
-use Rattle.bep_tables.proofs.document.reading.read_check.Goals as goal
-
-pub check_from-requires : goal.check_from-requires
-check_from-requires c = c.readings_are_faultless.ensures.documents c.args.bytes.now c.in-Ok.parts c.in-Ok.ensures
