@@ -84,12 +84,12 @@ def flights():
     return document([{"folder": "docs", "devices": [device(1, own, store), device(2, own, store)]}], [link], rows_of("docs", own))
 
 
-def filled(folders, rows, message):
-    """With this message on its way over each link in both directions, as often as there is room."""
+def filled(folders, rows, message, limit=MAX_BYTES):
+    """With this message on its way over each link in both directions, as often as there is room below the limit."""
     pairs = list(itertools.combinations(range(1, 17), 2))
     links = [{"a": a, "b": b, "up": True, "epoch": 1, "to_a": [], "to_b": []} for a, b in pairs]
     queues = [queue for link in links for queue in (link["to_a"], link["to_b"])]
-    room = MAX_BYTES - len(text_of(document(folders, links, rows)))
+    room = limit - len(text_of(document(folders, links, rows)))
     each = len(text_of(message)) + 1
     for place in range(min(room // each, 1024 * len(queues))):
         queues[place % len(queues)].append(message)
@@ -106,12 +106,12 @@ def devices():
     return filled([{"folder": "docs", "devices": shares}], rows_of("docs", own), {"folder": "docs", "full": False, "records": own})
 
 
-def names():
+def names(limit=MAX_BYTES):
     names = [f"{place:04}" for place in range(4096)]
     own = [directory_record(name, place) for place, name in enumerate(names)]
     store = [directory_node(name, place) for place, name in enumerate(names)]
     shares = [device(one, own, store) for one in range(1, 17)]
-    return filled([{"folder": "docs", "devices": shares}], rows_of("docs", own), {"folder": "docs", "full": False, "records": own[:1000]})
+    return filled([{"folder": "docs", "devices": shares}], rows_of("docs", own), {"folder": "docs", "full": False, "records": own[:1000]}, limit)
 
 
 def files():
@@ -128,6 +128,7 @@ def text_of(tree):
 
 KINDS = {"settled": settled, "flights": flights, "devices": devices, "names": names, "bytes": files}
 
-if len(sys.argv) != 2 or sys.argv[1] not in KINDS:
-    sys.exit(f"usage: make_document.py {'|'.join(KINDS)}")
-sys.stdout.write(text_of(KINDS[sys.argv[1]]()))
+if __name__ == "__main__":
+    if len(sys.argv) != 2 or sys.argv[1] not in KINDS:
+        sys.exit(f"usage: make_document.py {'|'.join(KINDS)}")
+    sys.stdout.write(text_of(KINDS[sys.argv[1]]()))

@@ -125,7 +125,7 @@ module _ (said : CutSays) (asked_here : ShareIsAsked) (cut : CutParts) (is_cut :
 
   module _ (held : EntriesAreHeld) (group : List Listed) (is_group : IsGroupOf cut (key_of row) group) where
     -- what is asked of the share beside its entries is what is asked of the device
-    asked_by_group : (reason : Reason) (share : Share) → Contains (shares_of row.folder cut.folders) share → AsksGroup reason row group share ↔ AsksShare (tables_of cut) reason row share.device
+    pub asked_by_group : (reason : Reason) (share : Share) → Contains (shares_of row.folder cut.folders) share → AsksGroup reason row group share ↔ AsksShare (tables_of cut) reason row share.device
     unfolding AsksTables IsShare
     asked_by_group ViewAhead share member =
         let asks = elsewhere_asked said cut is_cut row share member held group is_group View in

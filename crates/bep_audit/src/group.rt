@@ -2,15 +2,15 @@
 ghost use Rattle.std.specs.Prelude.{◌↔◌, IsTrue, map};
 ghost use Rattle.std.specs.Option.{option_copied};
 ghost use Rattle.bep_tables.specs.Listed.{listed};
-ghost use Rattle.bep_audit.specs.Group.{HasEntry, PassesFrom, GroupPasses, AsksElsewhere, AsksGroup};
+ghost use Rattle.bep_audit.specs.Group.{HasEntry, PassesFrom, GroupPasses, AsksElsewhere, AsksBeside, AsksGroup, GroupIsKnown, GroupIsAsked};
 
-use crate::{is_harmless, meets_share};
+use crate::{is_harmless, meets_share, share_is_asked};
 use bep_model::{Reason, Row};
-use bep_record::{DeviceId, Record};
-use bep_tables::{Held, Share, Source, TableEntry};
+use bep_record::{DeviceId, Node, Record};
+use bep_tables::{Held, Share, Source, TableEntry, cut_says, entries_are_held};
 
 /// Whether the name is known whose entries these are: each makes it known.
-pub(crate) fn has_known(group: &[TableEntry<'_>]) -> bool
+pub fn has_known(group: &[TableEntry<'_>]) -> bool
     ensures { IsTrue result ↔ HasEntry (map listed group.now) }
 {
     !group.is_empty()
@@ -25,11 +25,33 @@ pub(crate) fn meets_group(
 ) -> bool
     ensures { IsTrue result ↔ AsksGroup reason row.now (map listed group.now) share.now }
 {
-    let winner = &row.entry;
-    let name = &winner.entry().name;
-    let own = share.own.get(name);
-    meets_share(reason, own, share.store.get(name), winner)
-        && meets_elsewhere(reason, row, group, share.device, own)
+    let name = &row.entry.entry().name;
+    let (own, node) = (share.own.get(name), share.store.get(name));
+    meets_beside(reason, row, group, share.device, own, node)
+}
+
+/// The same of a device with this own record and this node of the row's name.
+pub fn meets_beside(
+    reason: Reason,
+    row: &Row,
+    group: &[TableEntry<'_>],
+    device: DeviceId,
+    own: Option<&Record>,
+    node: Option<&Node>,
+) -> bool
+    ensures { IsTrue result ↔ AsksBeside reason row.now (map listed group.now) device (option_copied own.entry) (option_copied node.entry) }
+{
+    meets_share(reason, own, node, &row.entry) && meets_elsewhere(reason, row, group, device, own)
+}
+
+/// What the entries of a name say is what the tables of the cut say of it: laws, which do nothing when they run.
+pub fn group_says()
+    ensures known { GroupIsKnown }
+    ensures asked { GroupIsAsked }
+{
+    cut_says();
+    entries_are_held();
+    share_is_asked();
 }
 
 // Whether the device meets it by its foreign records.

@@ -43,6 +43,7 @@ pub use error::CertifyError;
 pub use failing::meets_asked;
 pub use failure::Failure;
 pub use firm::{FirmVerdict, entries_are_asked, firm_verdict, loosening_of, meets_row, meets_rows};
+pub use group::{group_says, has_known, meets_beside};
 pub use known::is_known;
 pub use loose::Looseness;
 pub use rows::{Certificate, compare_row, compare_rows, find_row, first_disordered};
@@ -52,4 +53,4 @@ pub use share::{
 };
 pub use spot::Spot;
 pub use verdict::Verdict;
-pub use winner::{is_winner, winner_of};
+pub use winner::{holds_winner, is_winner, winner_in, winner_of};

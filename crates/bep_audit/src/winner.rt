@@ -4,7 +4,7 @@ ghost use Rattle.bep_choice.specs.Choice.{Candidate, candidate_of};
 ghost use Rattle.bep_tables.specs.Cut.{tables_of};
 ghost use Rattle.bep_tables.specs.Listed.{listed};
 ghost use Rattle.bep_model.specs.Settled.{key_of};
-ghost use Rattle.bep_model.specs.Tables.{FileName};
+ghost use Rattle.bep_model.specs.Tables.{Tables, FileName};
 ghost use Rattle.bep_model.specs.Winner.{IsWinner};
 ghost use Rattle.bep_audit.specs.Candidates.{FindsWinner};
 ghost use Rattle.bep_audit.specs.Group.{IsGroupOf};
@@ -31,7 +31,7 @@ pub fn winner_of<'a>(
 }
 
 /// What `winner_of` finds of a name of the folder, found among the name's entries.
-pub(crate) fn winner_in<'a>(
+pub fn winner_in<'a>(
     cut: &'a Cut,
     group: &[TableEntry<'a>],
     folder: &FolderName,
@@ -61,10 +61,19 @@ pub(crate) fn is_winner_in<'a>(cut: &'a Cut, group: &[TableEntry<'a>], row: &Row
     requires { IsGroupOf cut.now (key_of row.now) (map listed group.now) }
     ensures { IsTrue result ↔ IsWinner (tables_of cut.now) row.now.folder row.now.entry.name (row.now.device, row.now.entry) }
 {
+    holds_winner(&winner_in(cut, group, &row.folder), row)
+}
+
+/// Whether the row holds what was found of its name's winner.
+pub fn holds_winner(found: &Option<(DeviceId, &Record)>, row: &Row) -> bool
+    ensures { (t : Tables) →
+        FindsWinner t row.now.folder row.now.entry.name (option_map candidate_of found.now) →
+        IsTrue result ↔ IsWinner t row.now.folder row.now.entry.name (row.now.device, row.now.entry) }
+{
     winner_is_unique();
-    match winner_in(cut, group, &row.folder) {
+    match found {
         None => false,
-        Some(one) => is_of_row(&one, row),
+        Some(one) => is_of_row(one, row),
     }
 }
 
