@@ -2,6 +2,7 @@ mod Rising
 mod Merged
 mod Deciding
 mod Faultless
+mod OneList
 mod OneVerdict
 mod SomeVerdict
 mod SmallLogs

@@ -79,6 +79,23 @@ module _ {E : Type 0} (ticket : E → ℕ) where
       let after : more ≡ rest = one_rising more rest rises.1 rising.1 (λ z. (rest_same first more rest rises (λ y. (same_too y).0) z, rest_same first rest more rising_too (λ y. (same_too y).1) z)) in
       ap (λ z. z ∷ more) is ∙ ap (λ zs. other ∷ zs) after
 
+  -- one event has a ticket
+  pub rises-one : (list : List E) → Rises ticket list → (one other : E) → Contains list one → Contains list other → ticket one ≡ ticket other → one ≡ other
+  rises-one [] rises one other here there same = absurd (not_in_none one here)
+  rises-one (first ∷ more) rises one other here there same =
+      ⊎_elim
+      (λ is.
+      ⊎_elim
+      (λ too. sym is ∙ too)
+      (λ later. absurd (let above = rises.0 other later in let tied : ticket first ≡ ticket one = ap ticket is in omega (arith, above, tied, same)))
+      (Contains-cons_cases first more other there))
+      (λ later.
+      ⊎_elim
+      (λ is. absurd (let above = rises.0 one later in let tied : ticket first ≡ ticket other = ap ticket is in omega (arith, above, tied, same)))
+      (λ too. rises-one more rises.1 one other later too same)
+      (Contains-cons_cases first more other there))
+      (Contains-cons_cases first more one here)
+
   -- ---- there is one of given members
 
   -- the list holds what the other one holds, and this

@@ -1,5 +1,5 @@
 -- Lists that rise, and walks: what is done, what is left, and what comes next.
-use Rattle.std.proofs.Common.{◌≡◌, ◌≢◌, ◌⊎◌, ◌<◌, ◌≤◌, ◌==◌, ℕ, Bool, true, false, cond, List, [], ◌∷◌, ◌++◌, Contains, refl, sym, ap, subst, ◌∙◌, inl, inr, ⊎_elim, arith}
+use Rattle.std.proofs.Common.{◌≡◌, ◌≢◌, ◌⊎◌, ◌<◌, ◌≤◌, ◌==◌, ℕ, Bool, true, false, cond, List, [], ◌∷◌, ◌++◌, Contains, refl, sym, ap, subst, inl, inr, ⊎_elim, arith}
 use Rattle.std.proofs.lemmas.Bool.{cases_eq, eq-eqb, ne_eqb}
 use Rattle.std.proofs.lemmas.List.Elements.{Contains-append_cases, Contains-append_left, Contains-append_right}
 use Rattle.std.specs.List.{filter}
@@ -28,22 +28,6 @@ module _ {E : Type 0} (ticket : E → ℕ) where
         (Contains-append_cases more (last ∷ []) later stands),
     rises-push more last rises.1 (λ one stands. above one (Contains-more first more one stands)),
   )
-
-  pub rises-one : (list : List E) → Rises ticket list → (one other : E) → Contains list one → Contains list other → ticket one ≡ ticket other → one ≡ other
-  rises-one [] rises one other here there same = absurd (not_in_none one here)
-  rises-one (first ∷ more) rises one other here there same =
-      ⊎_elim
-      (λ is.
-      ⊎_elim
-      (λ too. sym is ∙ too)
-      (λ later. absurd (let above = rises.0 other later in let tied : ticket first ≡ ticket one = ap ticket is in omega (arith, above, tied, same)))
-      (Contains-cons_cases first more other there))
-      (λ later.
-      ⊎_elim
-      (λ is. absurd (let above = rises.0 one later in let tied : ticket first ≡ ticket other = ap ticket is in omega (arith, above, tied, same)))
-      (λ too. rises-one more rises.1 one other later too same)
-      (Contains-cons_cases first more other there))
-      (Contains-cons_cases first more one here)
 
 -- ---- past a ticket
 

@@ -6,13 +6,12 @@ use Rattle.std.proofs.lemmas.List.Elements.{Contains-append_cases, filter-append
 use Rattle.std.specs.List.{filter}
 use Rattle.bep_facts.specs.Members.{Contains-from_image, Contains-one, not_in_none}
 use Rattle.bep_fit.specs.declared.stamped.Stamped.{Stamped}
-use Rattle.bep_fit.specs.Fit.{DoAgree}
 use Rattle.bep_fit.specs.Logs.{HasLog, ObjectLog, named, touches}
-use Rattle.bep_fit.specs.Merge.{IsLogged, Rises}
+use Rattle.bep_fit.specs.Merge.{IsLogged}
 use Rattle.bep_fit.specs.Walk.{AgreesNext, AllRise, ComesNext, IsNext, IsWalked, Left, WalkBegins, WalkEnds, WalkGoesOn, after, past, start}
-use Rattle.bep_fit.proofs.Faultless.{agreed_is_faultless, entries_of, ticket_of}
-use Rattle.bep_fit.proofs.Rising.{kept-passes, kept-rises, passes-kept}
-use Rattle.bep_fit.proofs.WalkFacts.{done_below, in_past, left_rises, log_there, next_stands, of_walk, past_above, rises-one, rises-push}
+use Rattle.bep_fit.proofs.Faultless.{entries_of, ticket_of}
+use Rattle.bep_fit.proofs.OneList.{list_fits}
+use Rattle.bep_fit.proofs.WalkFacts.{done_below, in_past, left_rises, log_there, next_stands, of_walk, past_above, rises-push}
 
 abbrev log_of : Left → ObjectLog
 log_of one = one.log
@@ -101,36 +100,14 @@ walk_goes_on logs walk done event rise walked next agrees = goes_on logs walk do
 
 -- ---- it ends
 
-module _ (logs : List ObjectLog) (walk : List Left) (done : List Stamped) (walked : IsWalked logs walk done) (empty : (one : Left) → Contains walk one → one.events ≡ []) where
-  -- each log is its part of what is done
-  is_part : (log : ObjectLog) → Contains logs log → log.events ≡ filter (λ (e : Stamped). touches e log) done
-  is_part log there =
-      let at = of_walk logs walk done walked log there in
-      subst (λ (l : ObjectLog). l.events ≡ filter (λ (e : Stamped). touches e l) done) at.2
-      (walked.parts at.0 at.1 ∙ ap (λ es. filter (λ (e : Stamped). touches e at.0.log) done ++ es) (empty at.0 at.1) ∙ append-nil (filter (λ (e : Stamped). touches e at.0.log) done))
-
-  in_part : (log : ObjectLog) → Contains logs log → (one : Stamped) → Contains log.events one → Contains done one × (touches one log ≡ true)
-  in_part log there one stands = kept-passes (λ (e : Stamped). touches e log) done one (subst (λ es. Contains es one) (is_part log there) stands)
-
-  is_done : (one : Stamped) → IsLogged entries_of logs one → Contains done one
-  is_done one logged = (in_part logged.0 logged.1 one logged.2).0
-
-  done_agree : DoAgree logs
-  done_agree = record {
-    agree = record {
-      rise = λ log there. subst (λ es. Rises ticket_of es) (sym (is_part log there)) (kept-rises ticket_of (λ (e : Stamped). touches e log) done walked.rises);
-      every = λ one log logged there touching. subst (λ es. Contains es one) (sym (is_part log there)) (passes-kept (λ (e : Stamped). touches e log) done one (is_done one logged) touching);
-      no_other = λ one log there stands. (in_part log there one stands).1;
-      one_ticket = λ one other logged found same. rises-one ticket_of done walked.rises one other (is_done one logged) (is_done other found) same;
-    };
-    there = λ log one object there stands names. walked.there one object (is_done one (log, there, stands)) names;
-  }
-
 pub walk_ends : WalkEnds
-walk_ends logs walk done rounds walked empty = record {
-  rounds = rounds;
-  faultless = agreed_is_faultless logs (done_agree logs walk done walked empty);
-  merged = done;
-  is_merged = record { rises = walked.rises; holds = λ one. (walked.logged one, is_done logs walk done walked empty one) };
-  counted = refl;
-}
+walk_ends logs walk done rounds walked empty = list_fits logs done rounds (record {
+  rises = walked.rises;
+  parts = λ log there.
+      let at = of_walk logs walk done walked log there in
+      let part = filter (λ (e : Stamped). touches e at.0.log) done in
+      subst (λ (l : ObjectLog). l.events ≡ filter (λ (e : Stamped). touches e l) done) at.2
+      (walked.parts at.0 at.1 ∙ ap (λ es. part ++ es) (empty at.0 at.1) ∙ append-nil part);
+  logged = walked.logged;
+  there = walked.there;
+})

@@ -13,8 +13,9 @@ use Rattle.bep_fit.specs.Merge.{Rises}
 use Rattle.bep_fit.specs.Walk.{AgreesNext, AllRise, ComesNext, IsAt, IsFirstAt, IsNext, IsWalked, Left, WalkFails}
 use Rattle.bep_fit.proofs.Deciding.{stands_or_not}
 use Rattle.bep_fit.proofs.Faultless.{rises_not_fall, ticket_of}
+use Rattle.bep_fit.proofs.Rising.{rises-one}
 use Rattle.bep_fit.proofs.SomeVerdict.{IsWrong, has_log_or_not, wrong_or_not}
-use Rattle.bep_fit.proofs.WalkFacts.{done_below, done_or_left, done_stands, left_not_below, left_rises, left_stands, log_there, next_stands, of_walk, rises-one}
+use Rattle.bep_fit.proofs.WalkFacts.{done_below, done_or_left, done_stands, left_not_below, left_rises, left_stands, log_there, next_stands, of_walk}
 
 module _ (logs : List ObjectLog) (walk : List Left) (done : List Stamped) (walked : IsWalked logs walk done) where
   -- what stands in a log is done, and touches it, or is left of it

@@ -1,5 +1,5 @@
 -- Where logs fit, they are of one run; the functions of src/ have these as contracts.
-use Rattle.std.specs.Prelude.{◌≡◌, ◌↔◌, ℕ, List, length}
+use Rattle.std.specs.Prelude.{◌≡◌, ◌↔◌, ℕ, List, length, Contains}
 use Rattle.bep_model.specs.declared.row.Row.{Row}
 use Rattle.bep_model.specs.Settled.{IsSettled}
 use Rattle.bep_model.specs.Stays.{Stays}
@@ -9,10 +9,11 @@ use Rattle.bep_machine.specs.HalfLaws.{HasStepsOf}
 use Rattle.bep_machine.specs.Said.{tables_of_cluster}
 use Rattle.bep_machine.specs.Sound.{IsSound}
 use Rattle.bep_machine.specs.Steps.{Event, IsRun}
+use Rattle.bep_fit.specs.declared.object.Object.{Object}
 use Rattle.bep_fit.specs.declared.stamped.Stamped.{Stamped}
 use Rattle.bep_fit.specs.declared.verdict.RunVerdict.{RunVerdict}
-use Rattle.bep_fit.specs.Fit.{AreFaultless, DoAgree, Fits, IsMerged, IsRunVerdict}
-use Rattle.bep_fit.specs.Logs.{ObjectLog, events_of, touches}
+use Rattle.bep_fit.specs.Fit.{AreFaultless, AreOfOneRound, DoAgree, Fits, IsMerged, IsRunVerdict}
+use Rattle.bep_fit.specs.Logs.{HasLog, ObjectLog, events_of, named, touches}
 use Rattle.bep_fit.specs.Merge as lists
 use Rattle.bep_fit.specs.Replayed.{AreQuietLogs, AreReplayed, AreSoundLogs}
 
@@ -30,9 +31,22 @@ FaultlessLogsAgree = (logs : List ObjectLog) → AreFaultless logs ↔ DoAgree l
 abbrev pub FaultlessLogsMerge : Type 0
 FaultlessLogsMerge = (logs : List ObjectLog) → AreFaultless logs → (merged : List Stamped) × IsMerged logs merged × AreParts logs merged
 
--- they have no other
+-- they have no other merged list
 abbrev pub MergedIsOne : Type 0
 MergedIsOne = (logs : List ObjectLog) (merged other : List Stamped) → IsMerged logs merged → IsMerged logs other → merged ≡ other
+
+-- One list of events, by rising ticket, of which each object's log is what touches the object, in that order. Each event of it
+-- is logged, and what it names has a log.
+pub record IsListOf (logs : List ObjectLog) (list : List Stamped) : Type 0 where
+  pub rises : lists.Rises (λ (one : Stamped). one.ticket) list
+  pub parts : AreParts logs list
+  pub logged : (one : Stamped) → Contains list one → lists.IsLogged (λ (log : ObjectLog). log.events) logs one
+  pub there : (one : Stamped) (object : Object) → Contains list one → Contains (named one) object → HasLog logs object
+
+-- logs fit exactly where they are of one round and of one list; the count is its length
+abbrev pub LogsFitExactly : Type 0
+LogsFitExactly = (logs : List ObjectLog) (count : ℕ) →
+    Fits logs count ↔ (AreOfOneRound logs × ((list : List Stamped) × IsListOf logs list × (length list ≡ count)))
 
 -- ---- the verdict
 

@@ -15,7 +15,7 @@ mod stamped;
 mod verdict;
 mod walk;
 
-pub use merge::{faultless_logs_agree, faultless_logs_merge};
+pub use merge::{faultless_logs_agree, faultless_logs_merge, logs_fit_exactly};
 pub use object::Object;
 pub use one_run::{fitting_logs_are_one_run, settled_logs_stay_put};
 pub use stamped::Stamped;

@@ -2,6 +2,7 @@
 ghost use Rattle.std.specs.Prelude.{◌≡◌, IfOk};
 
 use bep_machine::Logged;
+use bep_record::Same;
 use std::alloc::{AllocError, Global};
 
 /// An event of a log, and the ticket under which it was made. Tickets order the events of all logs of a run.
@@ -31,5 +32,11 @@ impl Stamped {
             ticket: self.ticket,
             event: self.event.copy(alloc)?,
         })
+    }
+}
+
+impl Same for Stamped {
+    fn same(&self, other: &Stamped) -> bool {
+        self.ticket == other.ticket && self.event.same(&other.event)
     }
 }
