@@ -1,0 +1,6 @@
+mod LogFacts
+mod LinkFacts
+mod WithinFacts
+mod LocalFacts
+mod ActFacts
+mod Acted

@@ -1,0 +1,27 @@
+//! Logs that replay: a device, or a link, with what it was when its log began, and each event since, under a ticket.
+//!
+//! ```rust
+//! let mut device = LoggedPeer::new(alloc, peer)?;
+//! device.edit(1, &folder, &name, &node)?;
+//! let event = &device.log()[0]; // the edit, under ticket 1
+//! ```
+#![tactic(auto)]
+
+mod acting;
+mod error;
+mod event;
+mod folder_actions;
+mod history;
+mod laws;
+mod local;
+mod logged_link;
+mod logged_peer;
+mod looking;
+mod restarting;
+mod stamped;
+
+pub use error::LogError;
+pub use laws::logs_have_one_state;
+pub use logged_link::LoggedLink;
+pub use logged_peer::LoggedPeer;
+pub use stamped::{MAX_EVENTS, Stamped};
