@@ -4,3 +4,6 @@ mod WithinFacts
 mod LocalFacts
 mod ActFacts
 mod Acted
+mod OverFacts
+mod OverReplayed
+mod OverActed

@@ -87,7 +87,7 @@ fails_of (Revert name) folder old new Stale made = absurd made
 fails_of (Revert name) folder old new Memory made = Makes OutOfMemory refl made
 
 -- the device that acts makes its half
-touched : {half : Type 0} (device : Device) (old new : Peer) → OnlyIf (device == device) half old new → half
+pub touched : {half : Type 0} (device : Device) (old new : Peer) → OnlyIf (device == device) half old new → half
 touched device old new made = at (device == device) (eq-eqb device device refl) made
   where
     at : {half : Type 0} (b : Bool) → b ≡ true → OnlyIf b half old new → half

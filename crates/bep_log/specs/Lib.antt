@@ -7,4 +7,6 @@ pub mod Ticket
 pub mod Acts
 pub mod Local
 pub mod Restart
+pub mod Over
+pub mod ActsOver
 pub mod Laws

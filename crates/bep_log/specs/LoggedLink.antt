@@ -1,5 +1,5 @@
 -- A link with its log: what it was, what became of it since, and what it is (this project's profile).
-use Rattle.std.specs.Prelude.{◌≡◌, ◌<◌, ◌≤◌, ⊤, ℕ, true, false, List, [], ◌∷◌, length, None, Result, Ok, Err, refl}
+use Rattle.std.specs.Prelude.{◌≡◌, ◌<◌, ◌≤◌, ⊤, ℕ, true, false, List, [], ◌∷◌, length, Option, Some, None, Result, Ok, Err, refl}
 use Rattle.std.specs.Coded.{Coded, code_by, coded×, coded_ℕ, coded_list}
 use Rattle.bep_model.specs.Tables.{Device}
 use Rattle.bep_machine.specs.declared.logged.Logged.{Logged}
@@ -14,7 +14,7 @@ use Rattle.bep_log.specs.declared.error.LogError.TheVariants.{TicketOld, LogFull
 use Rattle.bep_log.specs.declared.stamped.Stamped.{Stamped}
 use Rattle.bep_log.specs.declared.stamped.TheConstants.{MAX_EVENTS}
 use Rattle.bep_log.specs.Event.{event_of}
-use Rattle.bep_log.specs.History.{MayLog, events_of, with_event}
+use Rattle.bep_log.specs.History.{MayLog, events_of, last_with, with_events}
 
 -- a link: as it is, as it was when its log began, the events since, their round, and the last ticket that was taken
 pub record LoggedBetween : Type 0 where
@@ -46,18 +46,18 @@ pub record IsLinkReplayed (now base : LinkBetween) (log : List Stamped) : Type 0
 
 -- ---- what an action leaves
 
--- the event stands in the log as its last one, under the ticket
-pub record LinkTells (ticket : ℕ) (event : Logged) (old new : LoggedBetween) : Type 0 where
+-- the log goes on from the same base, and this stands in it as its last event, under the ticket, if anything was logged
+pub record LinkTells (ticket : ℕ) (event : Option Logged) (old new : LoggedBetween) : Type 0 where
   pub base : new.base ≡ old.base
   pub round : new.round ≡ old.round
-  pub log : new.log ≡ with_event old.log ticket event
-  pub last : new.last ≡ ticket
+  pub log : new.log ≡ with_events old.log ticket event
+  pub last : new.last ≡ last_with old.last ticket event
 
 -- What becomes of the link under a ticket: `TicketOld` comes first, then `LogFull`; else the link makes the row, and where it
 -- is done, the step's event is logged. Anything else changes nothing.
 abbrev pub LinkLogs : Step → (Link → Row Link) → ℕ → LoggedBetween → LoggedBetween → Result (Unit {0}) LogError → Type 0
 LinkLogs step row ticket old new (Ok _) =
-    MayLog ticket old.log old.last × row old.now.link new.now.link (Done Changed) × (new.now.ends ≡ old.now.ends) × LinkTells ticket (event_of step None false None) old new
+    MayLog ticket old.log old.last × row old.now.link new.now.link (Done Changed) × (new.now.ends ≡ old.now.ends) × LinkTells ticket (Some (event_of step None false None)) old new
 LinkLogs step row ticket old new (Err TicketOld) = (ticket ≤ old.last) × (new ≡ old)
 LinkLogs step row ticket old new (Err LogFull) = (old.last < ticket) × (MAX_EVENTS ≤ length old.log) × (new ≡ old)
 LinkLogs step row ticket old new (Err (Refused refusal)) = MayLog ticket old.log old.last × row old.now.link new.now.link (Refuses refusal) × (new ≡ old)

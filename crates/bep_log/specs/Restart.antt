@@ -28,7 +28,7 @@ Restarts ticket old new (Err error) = ⊥
 -- one of its ends.
 abbrev pub LinkRestarts : Device → ℕ → LoggedBetween → LoggedBetween → Result (Unit {0}) LogError → Type 0
 LinkRestarts device ticket old new (Ok _) =
-    MayLog ticket old.log old.last × ((device ≡ old.now.ends.0) ⊎ (device ≡ old.now.ends.1)) × (new.now ≡ record old.now { link = lost old.now.link }) × LinkTells ticket (event_of (steps.Restart device) None false None) old new
+    MayLog ticket old.log old.last × ((device ≡ old.now.ends.0) ⊎ (device ≡ old.now.ends.1)) × (new.now ≡ record old.now { link = lost old.now.link }) × LinkTells ticket (Some (event_of (steps.Restart device) None false None)) old new
 LinkRestarts device ticket old new (Err TicketOld) = (ticket ≤ old.last) × (new ≡ old)
 LinkRestarts device ticket old new (Err LogFull) = (old.last < ticket) × (MAX_EVENTS ≤ length old.log) × (new ≡ old)
 LinkRestarts device ticket old new (Err (Refused NotShared)) =

@@ -1,9 +1,10 @@
 //! What is logged of a step.
 ghost use Rattle.std.specs.Prelude.{◌≡◌, None};
+ghost use Rattle.std.specs.Option.{option_copied};
 ghost use Rattle.bep_log.specs.Event.{event_of, event_told};
-ghost use Rattle.bep_machine.specs.Halves.{failed_told, only_call};
+ghost use Rattle.bep_machine.specs.Halves.{failed_told, has_answered, only_call, was_answered};
 
-use bep_machine::{Logged, Moved, Step};
+use bep_machine::{Exchanged, Logged, Moved, Step, Traffic};
 use bep_peer::{PeerError, Trace};
 
 // What is logged of a step in a folder that answered and told this: its event where it was done, or kept a copy and then
@@ -32,23 +33,60 @@ pub(crate) fn event_told(
 pub(crate) fn event_in_folder(step: Step, failed: Option<u32>, kept: bool) -> Logged
     ensures { result ≡ event_of step failed kept None }
 {
-    let failed = failed_in_folder(&step, failed, kept);
+    event_with(step, failed, kept, None)
+}
+
+// The event of a step, with what it did over a link.
+pub(crate) fn event_with(
+    step: Step,
+    failed: Option<u32>,
+    kept: bool,
+    traffic: Option<Traffic>,
+) -> Logged
+    ensures { result ≡ event_of step failed kept traffic }
+{
+    let failed = failed_told(&step, kept, traffic.as_ref(), failed);
     Logged {
         step,
         failed,
         kept,
-        traffic: None,
+        traffic,
     }
 }
 
-// The call of the store that failed, if the event tells of it: only the last call of a pull's end, which has kept a copy.
-fn failed_in_folder(step: &Step, failed: Option<u32>, kept: bool) -> Option<u32>
-    ensures { result ≡ failed_told step.now kept None failed }
+// The call of the store that failed, if the event tells of it: the read for an answer, or the last call of a pull's end, which
+// has kept a copy.
+fn failed_told(
+    step: &Step,
+    kept: bool,
+    traffic: Option<&Traffic>,
+    failed: Option<u32>,
+) -> Option<u32>
+    ensures { result ≡ failed_told step.now kept (option_copied traffic.entry) failed }
 {
     match step {
         Step::Finish(_, _, _) => only_call(kept, 4, failed),
-        Step::Deliver(_, _) => only_call(false, 1, failed),
+        Step::Deliver(_, _) => only_call(has_answered(traffic), 1, failed),
         _ => None,
+    }
+}
+
+// Whether a message was taken and answered.
+fn has_answered(traffic: Option<&Traffic>) -> bool
+    ensures { result ≡ has_answered (option_copied traffic.entry) }
+{
+    match traffic {
+        Some(traffic) => was_answered(&traffic.done),
+        None => false,
+    }
+}
+
+fn was_answered(done: &Exchanged) -> bool
+    ensures { result ≡ was_answered done.now }
+{
+    match done {
+        Exchanged::Took(_, Some(_)) => true,
+        _ => false,
     }
 }
 

@@ -8,15 +8,19 @@
 #![tactic(auto)]
 
 mod acting;
+mod acting_over;
 mod error;
 mod event;
 mod folder_actions;
 mod history;
 mod laws;
+mod link_actions;
 mod local;
 mod logged_link;
 mod logged_peer;
 mod looking;
+mod over;
+mod ready;
 mod restarting;
 mod stamped;
 
