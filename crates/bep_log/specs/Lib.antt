@@ -9,4 +9,5 @@ pub mod Local
 pub mod Restart
 pub mod Over
 pub mod ActsOver
+pub mod Copies
 pub mod Laws

@@ -26,7 +26,7 @@ impl<S: Store> LoggedPeer<S> {
         name: &Name,
         node: &Node,
     ) -> Result<Moved, LogError>
-        ensures { LogsIn None folder.now (MakesIn folder.now (EditRow name.now node.now)) (Step.Edit self.old.now.number folder.now name.now node.now) ticket self.old self.new result }
+        ensures logs { LogsIn None folder.now (MakesIn folder.now (EditRow name.now node.now)) (Step.Edit self.old.now.number folder.now name.now node.now) ticket self.old self.new result }
     {
         self.act(ticket, folder, Local::Edit(name, node))
     }
@@ -38,7 +38,7 @@ impl<S: Store> LoggedPeer<S> {
         folder: &FolderName,
         name: &Name,
     ) -> Result<Moved, LogError>
-        ensures { LogsIn None folder.now (MakesIn folder.now (RemoveRow name.now)) (Step.Remove self.old.now.number folder.now name.now) ticket self.old self.new result }
+        ensures logs { LogsIn None folder.now (MakesIn folder.now (RemoveRow name.now)) (Step.Remove self.old.now.number folder.now name.now) ticket self.old self.new result }
     {
         self.act(ticket, folder, Local::Remove(name))
     }
@@ -50,14 +50,14 @@ impl<S: Store> LoggedPeer<S> {
         folder: &FolderName,
         scan: ScanResult,
     ) -> Result<Moved, LogError>
-        ensures { LogsIn None folder.now (CommitsWithin folder.now scan) (Step.Scan self.old.now.number folder.now scan.name) ticket self.old self.new result }
+        ensures logs { LogsIn None folder.now (CommitsWithin folder.now scan) (Step.Scan self.old.now.number folder.now scan.name) ticket self.old self.new result }
     {
         self.act(ticket, folder, Local::Commit(scan))
     }
 
     /// Begins a pull of the record that the device wants of the name, as `Peer::pull` does.
     pub fn pull(&mut self, ticket: u64, folder: &FolderName, name: &Name) -> Result<Moved, LogError>
-        ensures { LogsIn None folder.now (MakesIn folder.now (λ _. StartPullRow self.old.now.number name.now)) (Step.StartPull self.old.now.number folder.now name.now) ticket self.old self.new result }
+        ensures logs { LogsIn None folder.now (MakesIn folder.now (λ _. StartPullRow self.old.now.number name.now)) (Step.StartPull self.old.now.number folder.now name.now) ticket self.old self.new result }
     {
         self.act(ticket, folder, Local::Pull(name))
     }
@@ -70,7 +70,7 @@ impl<S: Store> LoggedPeer<S> {
         folder: &FolderName,
         name: &Name,
     ) -> Result<Moved, LogError>
-        ensures { LogsIn (Some name.now) folder.now (MakesIn folder.now (FinishRow self.old.now.number name.now)) (Step.Finish self.old.now.number folder.now name.now) ticket self.old self.new result }
+        ensures logs { LogsIn (Some name.now) folder.now (MakesIn folder.now (FinishRow self.old.now.number name.now)) (Step.Finish self.old.now.number folder.now name.now) ticket self.old self.new result }
     {
         self.act(ticket, folder, Local::Finish(name))
     }
@@ -82,7 +82,7 @@ impl<S: Store> LoggedPeer<S> {
         folder: &FolderName,
         name: &Name,
     ) -> Result<Moved, LogError>
-        ensures { LogsIn None folder.now (MakesIn folder.now (λ _. OverrideRow self.old.now.number name.now)) (Step.Override self.old.now.number folder.now name.now) ticket self.old self.new result }
+        ensures logs { LogsIn None folder.now (MakesIn folder.now (λ _. OverrideRow self.old.now.number name.now)) (Step.Override self.old.now.number folder.now name.now) ticket self.old self.new result }
     {
         self.act(ticket, folder, Local::Override(name))
     }
@@ -94,7 +94,7 @@ impl<S: Store> LoggedPeer<S> {
         folder: &FolderName,
         name: &Name,
     ) -> Result<Moved, LogError>
-        ensures { LogsIn None folder.now (MakesIn folder.now (RevertRow self.old.now.number name.now)) (Step.Revert self.old.now.number folder.now name.now) ticket self.old self.new result }
+        ensures logs { LogsIn None folder.now (MakesIn folder.now (RevertRow self.old.now.number name.now)) (Step.Revert self.old.now.number folder.now name.now) ticket self.old self.new result }
     {
         self.act(ticket, folder, Local::Revert(name))
     }

@@ -52,6 +52,16 @@ impl History {
         }
     }
 
+    // The history that has these events, which it takes. It takes no memory.
+    pub(crate) fn of(log: Vec<Stamped>, round: u64, last: u64) -> Self
+        requires { IsHistory log.items last }
+        ensures log { result.log ≡ log.items }
+        ensures round { result.round ≡ round }
+        ensures last { result.last ≡ last }
+    {
+        History { log, round, last }
+    }
+
     // The events, by rising ticket.
     pub(crate) fn log(&self) -> &[Stamped]
         ensures value { result.now ≡ self.now.log }

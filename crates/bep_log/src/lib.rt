@@ -9,6 +9,7 @@
 
 mod acting;
 mod acting_over;
+mod copying;
 mod error;
 mod event;
 mod folder_actions;
@@ -24,6 +25,7 @@ mod ready;
 mod restarting;
 mod stamped;
 
+pub use copying::{LinkCopy, PeerCopy};
 pub use error::LogError;
 pub use laws::logs_have_one_state;
 pub use logged_link::LoggedLink;

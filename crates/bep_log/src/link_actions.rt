@@ -15,14 +15,14 @@ use bep_store::Store;
 impl<S: Store> LoggedPeer<S> {
     /// Begins a session over the link, as `Peer::begin` does.
     pub fn begin(&mut self, ticket: u64, link: &mut LoggedLink) -> Result<Moved, LogError>
-        ensures { LogsOver begins ticket self.old self.new link.old link.new result }
+        ensures logs { LogsOver begins ticket self.old self.new link.old link.new result }
     {
         self.act_over(ticket, link, Over::Begin)
     }
 
     /// Takes the first message that came over the link, as `Peer::deliver` does.
     pub fn deliver(&mut self, ticket: u64, link: &mut LoggedLink) -> Result<Moved, LogError>
-        ensures { LogsOver delivers ticket self.old self.new link.old link.new result }
+        ensures logs { LogsOver delivers ticket self.old self.new link.old link.new result }
     {
         self.act_over(ticket, link, Over::Deliver)
     }
@@ -34,7 +34,7 @@ impl<S: Store> LoggedPeer<S> {
         link: &mut LoggedLink,
         folder: &FolderName,
     ) -> Result<Moved, LogError>
-        ensures { LogsOver (announces folder.now) ticket self.old self.new link.old link.new result }
+        ensures logs { LogsOver (announces folder.now) ticket self.old self.new link.old link.new result }
     {
         self.act_over(ticket, link, Over::Announce(folder))
     }
@@ -47,7 +47,7 @@ impl<S: Store> LoggedPeer<S> {
         folder: &FolderName,
         name: &Name,
     ) -> Result<Moved, LogError>
-        ensures { LogsOver (asks folder.now name.now) ticket self.old self.new link.old link.new result }
+        ensures logs { LogsOver (asks folder.now name.now) ticket self.old self.new link.old link.new result }
     {
         self.act_over(ticket, link, Over::Ask(folder, name))
     }

@@ -111,7 +111,7 @@ impl LoggedLink {
     /// one, then `LogFull` where the log has 65536 events, then what the link refuses. What is done adds one event to the
     /// log; anything else changes nothing.
     pub fn connect(&mut self, ticket: u64) -> Result<(), LogError>
-        ensures { LinkLogs (Step.Connect self.old.now.ends.0 self.old.now.ends.1) ConnectRow ticket self.old self.new result }
+        ensures logs { LinkLogs (Step.Connect self.old.now.ends.0 self.old.now.ends.1) ConnectRow ticket self.old self.new result }
     {
         // the event that is logged makes the step that was made
         actions_are_told();
@@ -127,7 +127,7 @@ impl LoggedLink {
     /// the ticket isn't above the last one, then `LogFull` where the log has 65536 events, then what the link refuses. What
     /// is done adds one event to the log; anything else changes nothing.
     pub fn lose(&mut self, ticket: u64) -> Result<(), LogError>
-        ensures { LinkLogs (Step.Lose self.old.now.ends.0 self.old.now.ends.1) LoseRow ticket self.old self.new result }
+        ensures logs { LinkLogs (Step.Lose self.old.now.ends.0 self.old.now.ends.1) LoseRow ticket self.old self.new result }
     {
         // the event that is logged makes the step that was made
         actions_are_told();

@@ -15,7 +15,7 @@ impl<S: Store> LoggedPeer<S> {
     /// under the same ticket. Refuses `TicketOld` where the ticket isn't above the last one, then `LogFull` where the log has
     /// 65536 events; else only for want of memory for its event. Then nothing changed.
     pub fn restart(&mut self, ticket: u64) -> Result<(), LogError>
-        ensures { Restarts ticket self.old self.new result }
+        ensures logs { Restarts ticket self.old self.new result }
     {
         // the event that is logged makes the step that was made
         actions_are_told();
@@ -32,7 +32,7 @@ impl LoggedLink {
     /// the ticket isn't above the last one, then `LogFull` where the log has 65536 events, then `NotShared` where the device
     /// is at no end of the link; else only for want of memory for its event. Then nothing changed.
     pub fn restart(&mut self, ticket: u64, device: DeviceId) -> Result<(), LogError>
-        ensures { LinkRestarts device ticket self.old self.new result }
+        ensures logs { LinkRestarts device ticket self.old self.new result }
     {
         // the event that is logged makes the step that was made
         actions_are_told();
