@@ -1,0 +1,9 @@
+mod LogFacts
+mod LinkFacts
+mod WithinFacts
+mod LocalFacts
+mod ActFacts
+mod Acted
+mod OverFacts
+mod OverReplayed
+mod OverActed

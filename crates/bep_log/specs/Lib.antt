@@ -1,0 +1,13 @@
+pub mod History
+pub mod Event
+pub mod LogError
+pub mod LoggedPeer
+pub mod LoggedLink
+pub mod Ticket
+pub mod Acts
+pub mod Local
+pub mod Restart
+pub mod Over
+pub mod ActsOver
+pub mod Copies
+pub mod Laws
