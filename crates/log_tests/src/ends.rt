@@ -1,0 +1,54 @@
+//! The end of a pull that keeps a conflict copy and then fails.
+use crate::made::{Pair, two_devices};
+use crate::scenario::made;
+use std::alloc::Global;
+
+// The first device puts a file and the second another one under its name, with an older time; the second pulls the first's.
+const STEPS: [&str; 15] = [
+    "e1", "s1", "x2", "s2", "c", "b1", "b2", "d2", "d1", "a1", "d2", "p2", "q2", "d1", "d2",
+];
+
+// The number of a refusal; and of the last event of the second device its ticket, whether it kept a copy and then failed, and
+// which call failed.
+type Ended = (Option<u32>, u64, bool, Option<u32>);
+
+fn ended(alloc: Global, pair: &mut Pair, ticket: u64) -> Option<Ended> {
+    let number = match made(alloc, pair, ticket, "f2")? {
+        Ok(_) => None,
+        Err(error) => error.number(),
+    };
+    let last = pair.second.log().last()?;
+    Some((number, last.ticket, last.event.kept, last.event.failed))
+}
+
+// The end of the pull, and the same again, where this call of it fails in the store.
+fn twice(alloc: Global, call: u64) -> Option<[Ended; 2]> {
+    // before it the store was called four times: by the copy at the beginning, the edit, the look and the scan
+    let mut pair = two_devices(alloc, [0, call.checked_add(4)?])?;
+    let mut ticket = 0u64;
+    for step in STEPS {
+        ticket = ticket.saturating_add(1);
+        made(alloc, &mut pair, ticket, step)?.ok()?;
+    }
+    let first = ended(alloc, &mut pair, 16)?;
+    Some([first, ended(alloc, &mut pair, 17)?])
+}
+
+// It reads the file and looks at the conflict name, and then writes the copy and the file.
+#[test]
+fn a_kept_copy_is_logged_where_the_file_is_not_written(rt: HostRuntime) {
+    let told = twice(rt.alloc(), 4);
+    assert_eq!(rt;
+        told,
+        Some([(Some(131), 16, true, Some(4)), (None, 17, false, None)])
+    );
+}
+
+#[test]
+fn nothing_is_logged_where_the_copy_is_not_written(rt: HostRuntime) {
+    let told = twice(rt.alloc(), 3);
+    assert_eq!(rt;
+        told,
+        Some([(Some(131), 15, false, None), (None, 17, false, None)])
+    );
+}

@@ -1,0 +1,11 @@
+//! Tests of devices and links with their logs, by public calls.
+#![tactic(auto)]
+
+#[cfg(test)]
+mod ends;
+#[cfg(test)]
+mod full;
+#[cfg(test)]
+mod made;
+#[cfg(test)]
+mod scenario;
