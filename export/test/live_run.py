@@ -147,8 +147,10 @@ cd "{room}/$machine/user" && HOME=$PWD PATH={programs}:$PATH exec sh -c "$*"
         with endless.open("wb") as file:
             file.truncate(1 << 40)
         try:
+            # Where the tests run in the background, their shell may have them ignore SIGINT.
             process = subprocess.Popen([self.program, "run", "far:", self.two.home, self.three.home, "--syncaudit", self.auditor],
-                                       env={**os.environ, "PATH": self.path_with_ssh}, stdout=subprocess.DEVNULL, stderr=subprocess.DEVNULL)
+                                       env={**os.environ, "PATH": self.path_with_ssh}, stdout=subprocess.DEVNULL, stderr=subprocess.DEVNULL,
+                                       preexec_fn=lambda: signal.signal(signal.SIGINT, signal.SIG_DFL))
             wait_until("the other machine hashes", lambda: len(list(room.iterdir())) > 1)
             process.send_signal(signal.SIGINT)
             self.assertEqual(process.wait(SECONDS_TO_WAIT), 128 + signal.SIGINT)

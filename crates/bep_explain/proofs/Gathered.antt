@@ -1,6 +1,11 @@
 -- What the rows and the names of a cut say of failures, all together, is what the reasons ask.
 use Rattle.std.proofs.Common.{◌≡◌, ◌↔◌, List, Contains, map, Option, Some, None, IsSome, refl, sym, ap, subst, ⊎_elim, arith}
-use Rattle.bep_facts.specs.Members.{Contains-from_image}
+use Rattle.std.specs.declared.cmp.Ordering.TheVariants.{Equal}
+use Rattle.std.specs.Ordering.{is_eq}
+use Rattle.std.specs.Cmp.{Equal-is}
+use Rattle.std.proofs.lemmas.Cmp.{tied_itself}
+use Rattle.bep_facts.specs.Members.{Contains-image, Contains-from_image}
+use Rattle.bep_facts.specs.Orders.{texts_total, texts_exact}
 use Rattle.bep_record.specs.declared.entry.Entry.{Entry}
 use Rattle.bep_model.specs.declared.row.Row.{Row}
 use Rattle.bep_model.specs.declared.reason.Reason.{Reason}
@@ -8,21 +13,23 @@ use Rattle.bep_model.specs.declared.reason.Reason.TheVariants.{CertificateOrder,
 use Rattle.bep_model.specs.Tables.{Tables, Device, Folder, FileName}
 use Rattle.bep_model.specs.Foreign.{HasTrace, IsForeign, IsKnown}
 use Rattle.bep_model.specs.Winner.{IsWinner}
-use Rattle.bep_model.specs.Settled.{key_of}
+use Rattle.bep_model.specs.Settled.{key_of, key_cmp}
 use Rattle.bep_model.specs.Reasons.{AsksAt, AsksShare}
 use Rattle.bep_tables.specs.declared.cut.CutParts.{CutParts}
 use Rattle.bep_tables.specs.declared.table.entry.Source.TheVariants.{Own, View, Flight, Pull}
 use Rattle.bep_tables.specs.declared.table.entry.TableEntry.{TableEntry}
 use Rattle.bep_tables.specs.Cut.{IsCut, shares_of, tables_of}
 use Rattle.bep_tables.specs.Laws.{SharingIsSaid}
-use Rattle.bep_tables.specs.Listed.{Holding, Record, Node, Listed, key_at, listed, cut_listed, IsGrouped}
-use Rattle.bep_tables.specs.Said.{Holds, EntriesAreHeld}
+use Rattle.bep_tables.specs.Kept.{kept, from_kept}
+use Rattle.bep_tables.specs.Listed.{Holding, Record, Node, Listed, key_at, listed, cut_listed, is_of, group_of, IsGrouped}
+use Rattle.bep_tables.specs.Said.{Holds, EntriesAreHeld, HoldersShare}
 use Rattle.bep_audit.specs.declared.checkers.TheConstants.{REASONS}
+use Rattle.bep_audit.specs.Group.{IsGroupOf, GroupIsKnown}
 use Rattle.bep_audit.specs.Grouped.{same_group_same}
 use Rattle.bep_audit.specs.Walk.{Failure}
 use Rattle.bep_explain.specs.Adding.{Each}
 use Rattle.bep_explain.specs.Found.{IsMet}
-use Rattle.bep_explain.specs.Says.{failure_at, NameHasRow, SaysOrder, SaysEntry, SaysAtRow}
+use Rattle.bep_explain.specs.Says.{failure_at, NameHasRow, SaysOrder, SaysEntry, SaysHasRow, SaysAtRow}
 
 -- each reason is one of all
 is_a_reason : (reason : Reason) → Contains REASONS reason
@@ -122,3 +129,38 @@ module _ (cut : CutParts) (is_cut : IsCut cut) (rows : List Row) (entries : List
 
     pub said_exactly : (one : Failure) → AllSay one ↔ IsMet t rows one
     said_exactly one = (λ all. met one.reason one.place.folder one.place.name one.place.device all, λ asked. said one asked)
+
+-- ---- the same of rows that are sorted by their names
+module _ (cut : CutParts) (is_cut : IsCut cut) (rows : List Row) (entries : List TableEntry) (sorted : List Row) where
+  -- what all say, where each entry's name is known
+  abbrev pub SortedSay : Failure → Type 0
+  SortedSay one = (SaysOrder rows one × Each (SaysHasRow sorted) entries one) × Each (SaysAtRow cut) sorted one
+
+  module _ (same : (row : Row) → Contains sorted row ↔ Contains rows row) (held : EntriesAreHeld) (shares : HoldersShare) (known : GroupIsKnown) (grouped : IsGrouped (cut_listed cut) entries) where
+    -- an entry's name is known
+    entry_is_known : (entry : TableEntry) → Contains entries entry → IsKnown (tables_of cut) (key_at (listed entry)).0 (key_at (listed entry)).1
+    entry_is_known entry member =
+        let one = listed entry in
+        let there = same_group_same one (map listed entries) (cut_listed cut) (grouped.groups (key_at one)) (Contains-image listed entries entry member) in
+        (known cut (key_at one) (group_of (key_at one) (cut_listed cut)) is_cut (group_is_of (key_at one))).0 (one, kept (is_of (key_at one)) (cut_listed cut) one there (ap is_eq (tied_itself texts_total (key_at one))))
+      where
+        group_is_of : (key : Folder × FileName) → IsGroupOf cut key (group_of key (cut_listed cut))
+        group_is_of key one = (
+          λ member. let both = from_kept (is_of key) (cut_listed cut) one member in (both.0, texts_exact (key_at one) key ((Equal-is (key_cmp (key_at one) key)).0 both.1)),
+          λ both. kept (is_of key) (cut_listed cut) one both.0 (ap is_eq (subst (λ (k : Folder × FileName). key_cmp (key_at one) k ≡ Equal) both.1 (tied_itself texts_total (key_at one)))),
+        )
+
+    has_row_exactly : (entry : TableEntry) → Contains entries entry → (one : Failure) → SaysHasRow sorted entry one ↔ SaysEntry (tables_of cut) rows entry one
+    has_row_exactly entry member one = (
+      λ says at _. let has = says at in (has.0, (same has.0).0 has.1, has.2),
+      λ says at. let has = says at (entry_is_known entry member) in (has.0, (same has.0).1 has.1, has.2),
+    )
+
+    pub sorted_exactly : SharingIsSaid → (one : Failure) → SortedSay one ↔ IsMet (tables_of cut) rows one
+    sorted_exactly sharing one =
+        let exactly = said_exactly cut is_cut rows entries sharing held grouped one in (
+          λ all. exactly.0 ((all.0.0, λ entry member. (has_row_exactly entry member one).0 (all.0.1 entry member)), λ row member. all.1 row ((same row).1 member)),
+          λ met.
+              let all = exactly.1 met in
+              ((all.0.0, λ entry member. (has_row_exactly entry member one).1 (all.0.1 entry member)), λ row member. all.1 row ((same row).0 member)),
+        )

@@ -1,24 +1,24 @@
 -- What the entries of a cut add to what keeps it from being firm.
-use Rattle.std.proofs.Common.{◌≡◌, ◌↔◌, Bool, List, [], ◌∷◌, ◌++◌, Contains, IsTrue, Option, Some, None, map, refl, sym, ap, subst, ◌∙◌, inl, inr, ⊎_elim}
+use Rattle.std.proofs.Common.{◌≡◌, ◌↔◌, Bool, List, [], ◌∷◌, ◌++◌, Contains, IsTrue, Some, None, map, refl, sym, ap, subst, ◌∙◌, inl, inr, ⊎_elim}
 use Rattle.std.specs.Prelude.{if◌then◌else◌}
 use Rattle.std.specs.declared.cmp.Ordering.TheVariants.{Less, Equal, Greater}
 use Rattle.std.specs.Ordering.{nat_cmp}
 use Rattle.bep_facts.specs.Decided.{OrNot}
 use Rattle.bep_facts.specs.Members.{Contains-first, Contains-one, Contains-image, Contains-from_image}
 use Rattle.bep_facts.specs.Orders.{order_cases, both_tied, Equal_from_same}
-use Rattle.bep_record.specs.declared.entry.Entry.{Entry}
 use Rattle.bep_model.specs.declared.firm_reason.FirmReason.{FirmReason}
 use Rattle.bep_model.specs.declared.firm_reason.FirmReason.TheVariants.{VersionDiffers, ViewNotBelow, FlightNotBelow, PullNotBelow}
 use Rattle.bep_model.specs.declared.row.Row.{Row}
 use Rattle.bep_model.specs.FirmVerdict.{firm_number_of}
 use Rattle.bep_model.specs.Reasons.{place_cmp}
 use Rattle.bep_model.specs.Settled.{key_of}
-use Rattle.bep_tables.specs.declared.table.entry.Source.{Source}
 use Rattle.bep_tables.specs.declared.table.entry.TableEntry.{TableEntry}
 use Rattle.bep_tables.specs.Listed.{Holding, Record, Node, Listed, key_at, listed}
-use Rattle.bep_audit.specs.Loose.{Loosening, loose_cmp, asked_by, place_at, loosening_at, loosening_of, AsksVersion, AsksEntry, AsksEntries, MeetsFirm}
+use Rattle.bep_audit.specs.Loose.{Loosening, loose_cmp, asked_by, place_at, loosening_at, loosening_of, AsksEntry, AsksEntries, MeetsFirm}
 use Rattle.bep_audit.specs.LooseOrder.{loose_total}
 use Rattle.bep_explain.specs.Adding.{AddsFailing, Each}
+use Rattle.bep_explain.specs.Rows.{row_shown, named_key}
+use Rattle.bep_explain.specs.declared.rows.NamedRow.{NamedRow}
 use Rattle.bep_explain.proofs.AddFacts.{adds_none, adds_as, adds_unless}
 use Rattle.bep_explain.proofs.FailureFacts.{same_number, same_place}
 
@@ -92,13 +92,25 @@ module _ (rows : List Row) (one : Listed) where
       adds_as (λ loose. loose ≡ first → MeetsFirm rows one) (AsksEntry rows one) old new (asked_there first one.holding refl some)
       (adds_unless first (MeetsFirm rows one) (λ loose. same_or_not loose first) holds old new exactly is)
 
-  -- beside each of the rows is beside all of them
-  pub each_is_all : ((row : Row) → Contains rows row → MeetsFirm (row ∷ []) one) ↔ MeetsFirm rows one
-  each_is_all = (
-    λ each source entry row holding member key. each row member source entry row holding (Contains-first row []) key,
-    λ meets row member source entry other holding there key.
-        meets source entry other holding (subst (λ (r : Row). Contains rows r) (Contains-one row other there) member) key,
+  -- it is asked the same beside other rows that are the same
+  pub same_asked : (others : List Row) → ((row : Row) → Contains others row ↔ Contains rows row) → (loose : Loosening) → AsksEntry others one loose ↔ AsksEntry rows one loose
+  same_asked others same loose = (
+    λ asks source entry row holding reason place member key. asks source entry row holding reason place ((same row).1 member) key,
+    λ asks source entry row holding reason place member key. asks source entry row holding reason place ((same row).0 member) key,
   )
+
+-- beside each of the rows about its name is beside all rows
+pub each_is_all : (rows found : List NamedRow) (one : Listed) → ((lent : NamedRow) → Contains found lent ↔ (Contains rows lent × (named_key lent ≡ key_at one))) →
+    ((lent : NamedRow) → Contains found lent → MeetsFirm (row_shown lent ∷ []) one) ↔ MeetsFirm (map row_shown rows) one
+each_is_all rows found one exactly = (
+  λ each source entry row holding member key.
+      let image = Contains-from_image row_shown rows row member in
+      let there = (exactly image.0).1 (image.1, ap key_of image.2 ∙ key) in
+      each image.0 there source entry row holding (subst (λ (r : Row). Contains (row_shown image.0 ∷ []) r) image.2 (Contains-first (row_shown image.0) [])) key,
+  λ meets lent there source entry row holding member key.
+      let among = Contains-image row_shown rows lent ((exactly lent).0 there).0 in
+      meets source entry row holding (subst (λ (r : Row). Contains (map row_shown rows) r) (Contains-one (row_shown lent) row member) among) key,
+)
 
 -- ---- all entries
 

@@ -5,5 +5,6 @@ pub mod document
 pub mod FirmTold
 pub mod Found
 pub mod Loose
+pub mod Rows
 pub mod Says
 pub mod Told

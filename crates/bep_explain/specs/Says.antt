@@ -1,5 +1,7 @@
 -- What each row, each device and each name of a cut says of a failure.
-use Rattle.std.specs.Prelude.{◌≡◌, List, Option, Some, None}
+use Rattle.std.specs.Prelude.{◌≡◌, ⊤, List, Option, Some, None, Contains}
+use Rattle.bep_record.specs.declared.entry.Entry.{Entry}
+use Rattle.bep_record.specs.declared.node.NodeParts.{NodeParts}
 use Rattle.bep_model.specs.declared.row.Row.{Row}
 use Rattle.bep_model.specs.declared.reason.Reason.{Reason}
 use Rattle.bep_model.specs.declared.reason.Reason.TheVariants.{CertificateOrder, NameMissing, NameUnknown, NotWinner}
@@ -12,7 +14,8 @@ use Rattle.bep_tables.specs.declared.cut.CutParts.{CutParts}
 use Rattle.bep_tables.specs.declared.share.Share.{Share}
 use Rattle.bep_tables.specs.Cut.{tables_of, shares_of}
 use Rattle.bep_tables.specs.declared.table.entry.TableEntry.{TableEntry}
-use Rattle.bep_tables.specs.Listed.{key_at, listed}
+use Rattle.bep_tables.specs.Listed.{Listed, key_at, listed}
+use Rattle.bep_audit.specs.Group.{AsksBeside}
 use Rattle.bep_audit.specs.declared.checkers.TheConstants.{REASONS}
 use Rattle.bep_audit.specs.Walk.{Failure}
 use Rattle.bep_explain.specs.Adding.{Each}
@@ -32,6 +35,12 @@ NameHasRow t rows key = IsKnown t key.0 key.1 → HasRow rows key.0 key.1
 -- so has an entry's name
 abbrev pub SaysEntry : Tables → List Row → TableEntry → Failure → Type 0
 SaysEntry t rows entry one = one ≡ failure_at NameMissing (key_at (listed entry)) None → NameHasRow t rows (key_at (listed entry))
+
+-- an entry's name has a row, known or not
+abbrev pub SaysHasRow : List Row → TableEntry → Failure → Type 0
+SaysHasRow rows entry one =
+    let key = key_at (listed entry) in
+    one ≡ failure_at NameMissing key None → HasRow rows key.0 key.1
 
 -- a row's name is known
 abbrev pub SaysKnown : Tables → Row → Failure → Type 0
@@ -58,3 +67,35 @@ pub record SaysRow (t : Tables) (shares : List Share) (row : Row) (one : Failure
 -- that of the devices that share its folder
 abbrev pub SaysAtRow : CutParts → Row → Failure → Type 0
 SaysAtRow cut row = SaysRow (tables_of cut) (shares_of row.folder cut.folders) row
+
+-- ---- what the rows about one name say, all together
+
+-- each of them has the name's winner
+abbrev pub AreWon : Tables → Folder × FileName → List Row → Type 0
+AreWon t key rows = (row : Row) → Contains rows row → IsWinner t key.0 key.1 (row.device, row.entry)
+
+-- a device meets what a reason asks of it beside a row, and beside another one if there is one
+abbrev pub AsksOther : Tables → Reason → Option Row → Device → Type 0
+AsksOther t reason None device = ⊤
+AsksOther t reason (Some other) device = AsksShare t reason other device
+
+abbrev pub AsksBoth : Tables → Reason → Row → Option Row → Device → Type 0
+AsksBoth t reason row other device = AsksShare t reason row device × AsksOther t reason other device
+
+abbrev pub SaysReasonBoth : Tables → Row → Option Row → Share → Reason → Failure → Type 0
+SaysReasonBoth t row other share reason one = one ≡ failure_at reason (key_of row) (Some share.device) → AsksBoth t reason row other share.device
+
+-- what all reasons ask of it
+abbrev pub SaysBoth : Tables → Row → Option Row → Share → Failure → Type 0
+SaysBoth t row other share = Each (SaysReasonBoth t row other share) REASONS
+
+-- what is asked of a row's name, of all rows about it, and of these devices beside two of these
+pub record SaysName (t : Tables) (shares : List Share) (rows : List Row) (row : Row) (other : Option Row) (one : Failure) : Type 0 where
+  pub known : SaysKnown t row one
+  pub winner : one ≡ failure_at NotWinner (key_of row) None → AreWon t (key_of row) rows
+  pub devices : Each (SaysBoth t row other) shares one
+
+-- what a reason asks of a device beside the other row and the name's entries, if there is one
+abbrev pub AsksOtherBeside : Reason → Option Row → List Listed → Device → Option Entry → Option NodeParts → Type 0
+AsksOtherBeside reason None group device own stored = ⊤
+AsksOtherBeside reason (Some other) group device own stored = AsksBeside reason other group device own stored

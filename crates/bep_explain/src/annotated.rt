@@ -10,8 +10,9 @@ ghost use Rattle.bep_explain.specs.Annotated.{failures_in, annotated_of};
 use crate::collect::copy_of;
 use crate::details::details_of;
 use crate::failures;
+use crate::lookup::Lookup;
 use crate::trees::trees_of;
-use bep_audit::{Certificate, Failure, first_disordered};
+use bep_audit::{Certificate, Failure};
 use bep_model::Row;
 use bep_tables::Cut;
 use serde_json::Value;
@@ -49,10 +50,11 @@ fn with_trees<'a>(
 ) -> Result<Vec<Annotated<'a>>, AllocError>
     ensures { IfOk result (λ told. failures_in (map annotated_of told.items) ≡ map failure_shown found.now) }
 {
-    let rise = first_disordered(rows).is_none();
+    let lookup = Lookup::of(alloc, cut, rows)?;
     let mut told = Vec::new(alloc);
     for one in found {
-        let details = details_of(alloc, cut, rows, rise, one)?;
+        let of = lookup.find(one.spot.folder, one.spot.name);
+        let details = details_of(alloc, cut, &of, one)?;
         let trees = trees_of(alloc, details.as_slice())?;
         told.reserve(1)?;
         told.push_reserved(Annotated {

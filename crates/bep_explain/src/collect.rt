@@ -1,15 +1,25 @@
 //! What the rows of a certificate add to the failures.
-ghost use Rattle.std.specs.Prelude.{◌≡◌, ◌++◌, ◌∷◌, [], Some, None, Contains, OnOk, map, if◌then◌else◌};
+ghost use Rattle.std.specs.Prelude.{◌≡◌, ◌++◌, ◌∷◌, ◌↔◌, [], Some, None, Contains, OnOk, IfSome, IsTrue, map, if◌then◌else◌};
+ghost use Rattle.std.specs.FinMap.{get};
+ghost use Rattle.std.specs.Option.{option_copied};
 ghost use Rattle.bep_model.specs.Settled.{key_of};
 ghost use Rattle.bep_tables.specs.Cut.{tables_of, shares_of};
+ghost use Rattle.bep_tables.specs.Listed.{IsGrouped, cut_listed, listed};
+ghost use Rattle.bep_audit.specs.Group.{AsksBeside, IsGroupOf};
 ghost use Rattle.bep_audit.specs.Walk.{failure_shown};
 ghost use Rattle.bep_explain.specs.Adding.{AddsFailing, Each};
-ghost use Rattle.bep_explain.specs.Says.{failure_at, SaysOrder, SaysShare, SaysRow, SaysAtRow};
+ghost use Rattle.bep_explain.specs.Rows.{AreAbout, AreAlike, row_shown};
+ghost use Rattle.bep_explain.specs.Says.{failure_at, AreWon, SaysOrder, AsksOtherBeside, SaysAtRow, SaysBoth};
 
-use bep_audit::{Failure, REASONS, Spot, first_disordered, is_known, is_winner, meets_asked};
+use crate::by_name::about;
+use crate::rows::{NamedRow, alike_at, other_content};
+use bep_audit::{
+    Failure, REASONS, Spot, first_disordered, group_says, has_known, holds_winner, meets_beside,
+    winner_in,
+};
 use bep_model::{Reason, Row, reasons_are_numbered};
-use bep_record::DeviceId;
-use bep_tables::{Cut, Share};
+use bep_record::{DeviceId, Node, Record};
+use bep_tables::{Cut, Share, TableEntry};
 use std::alloc::AllocError;
 
 /// Adds the failure, unless what it tells of holds.
@@ -79,56 +89,187 @@ pub(crate) fn add_out_of_order<'a>(
     }
 }
 
-/// Adds what fails at each of the rows.
+/// Adds what fails at each of the rows, which are sorted by name, in the cut whose entries these are.
 pub(crate) fn add_rows<'a>(
     found: &mut Vec<Failure<'a>>,
     cut: &Cut,
-    rows: &'a [Row],
+    table: &[TableEntry<'_>],
+    rows: &[NamedRow<'a>],
 ) -> Result<(), AllocError>
-    ensures { OnOk result (AddsFailing (Each (SaysAtRow cut.now) rows.now) (map failure_shown found.old.items) (map failure_shown found.new.items)) }
+    requires { IsGrouped (cut_listed cut.now) table.now }
+    ensures { OnOk result (AddsFailing (Each (SaysAtRow cut.now) (map row_shown rows.now)) (map failure_shown found.old.items) (map failure_shown found.new.items)) }
 {
-    for row in rows {
-        add_row(found, cut, row)?;
+    let mut place = 0;
+    while place < rows.len() {
+        let alike = alike_at(&rows[place..]);
+        add_alike(found, cut, table, alike)?;
+        place += alike.len();
     }
     Ok(())
 }
 
-// Adds what fails at the row.
-fn add_row<'a>(found: &mut Vec<Failure<'a>>, cut: &Cut, row: &'a Row) -> Result<(), AllocError>
-    ensures { OnOk result (AddsFailing (SaysRow (tables_of cut.now) (shares_of row.now.folder cut.now.folders) row.now) (map failure_shown found.old.items) (map failure_shown found.new.items)) }
+// Adds what fails at each of the rows, which are all about one name.
+fn add_alike<'a>(
+    found: &mut Vec<Failure<'a>>,
+    cut: &Cut,
+    table: &[TableEntry<'_>],
+    rows: &[NamedRow<'a>],
+) -> Result<(), AllocError>
+    requires table { IsGrouped (cut_listed cut.now) table.now }
+    requires alike { AreAlike (map row_shown rows.now) }
+    ensures { OnOk result (AddsFailing (Each (SaysAtRow cut.now) (map row_shown rows.now)) (map failure_shown found.old.items) (map failure_shown found.new.items)) }
+{
+    match rows {
+        [] => Ok(()),
+        [first, ..] => {
+            let row = first.row;
+            let _folders = cut.folders();
+            let group = about(table, &row.folder, &row.entry.entry().name);
+            add_name(found, cut, group, row, rows)?;
+            Ok(())
+        }
+    }
+}
+
+// Adds what fails at the name of these rows, of which this is one, by the name's entries.
+//
+// What a reason asks of a device depends on a row's content alone. Two of the contents are enough: whatever fails beside a
+// third one fails beside one of two that differ.
+fn add_name<'a>(
+    found: &mut Vec<Failure<'a>>,
+    cut: &Cut,
+    group: &[TableEntry<'_>],
+    row: &'a Row,
+    rows: &[NamedRow<'a>],
+) -> Result<(), AllocError>
+    requires group { IsGroupOf cut.now (key_of row.now) (map listed group.now) }
+    requires row { Contains (map row_shown rows.now) row.now }
+    requires about { AreAbout (key_of row.now) (map row_shown rows.now) }
+    ensures { OnOk result (AddsFailing (Each (SaysAtRow cut.now) (map row_shown rows.now)) (map failure_shown found.old.items) (map failure_shown found.new.items)) }
 {
     reasons_are_numbered();
-    let known = is_known(cut, &row.folder, &row.entry.entry().name);
-    add_unless(found, known, &at_row(Reason::NameUnknown, row))?;
-    add_unless(found, is_winner(cut, row), &at_row(Reason::NotWinner, row))?;
-    add_devices(found, cut, row)?;
+    group_says();
+    let _folders = cut.folders();
+    add_unless(found, has_known(group), &at_row(Reason::NameUnknown, row))?;
+    let won = are_won(cut, group, row, rows);
+    add_unless(found, won, &at_row(Reason::NotWinner, row))?;
+    let other = other_content(row, rows);
+    add_devices(found, cut, group, row, other)?;
     Ok(())
 }
 
-// Adds what fails at the row on each device that shares its folder.
-fn add_devices<'a>(found: &mut Vec<Failure<'a>>, cut: &Cut, row: &'a Row) -> Result<(), AllocError>
-    ensures { OnOk result (AddsFailing (Each (SaysShare (tables_of cut.now) row.now) (shares_of row.now.folder cut.now.folders)) (map failure_shown found.old.items) (map failure_shown found.new.items)) }
+// Whether each of the rows about the row's name has the name's winner, which is looked for once.
+fn are_won(cut: &Cut, group: &[TableEntry<'_>], row: &Row, rows: &[NamedRow<'_>]) -> bool
+    requires group { IsGroupOf cut.now (key_of row.now) (map listed group.now) }
+    requires about { AreAbout (key_of row.now) (map row_shown rows.now) }
+    ensures { IsTrue result ↔ AreWon (tables_of cut.now) (key_of row.now) (map row_shown rows.now) }
+{
+    let winner = winner_in(cut, group, &row.folder);
+    for one in rows {
+        if !holds_winner(&winner, one.row) {
+            return false;
+        }
+    }
+    true
+}
+
+// Adds what fails on each device that shares the folder, beside the row and the other one.
+fn add_devices<'a>(
+    found: &mut Vec<Failure<'a>>,
+    cut: &Cut,
+    group: &[TableEntry<'_>],
+    row: &'a Row,
+    other: Option<&Row>,
+) -> Result<(), AllocError>
+    requires group { IsGroupOf cut.now (key_of row.now) (map listed group.now) }
+    requires other { IfSome other (λ one. key_of one.now ≡ key_of row.now) }
+    ensures { OnOk result (AddsFailing (Each (SaysBoth (tables_of cut.now) row.now (option_copied other.entry)) (shares_of row.now.folder cut.now.folders)) (map failure_shown found.old.items) (map failure_shown found.new.items)) }
 {
     for share in cut.shares(&row.folder) {
-        add_device(found, cut, row, share)?;
+        add_device(found, cut, group, row, other, share)?;
     }
     Ok(())
 }
 
-// Adds what fails at the row on this device.
+// Adds what fails on this device, whose record and node of the name are looked up once.
 fn add_device<'a>(
     found: &mut Vec<Failure<'a>>,
     cut: &Cut,
+    group: &[TableEntry<'_>],
     row: &'a Row,
+    other: Option<&Row>,
     share: &Share,
 ) -> Result<(), AllocError>
-    requires { Contains (shares_of row.now.folder cut.now.folders) share.now }
-    ensures { OnOk result (AddsFailing (SaysShare (tables_of cut.now) row.now share.now) (map failure_shown found.old.items) (map failure_shown found.new.items)) }
+    requires group { IsGroupOf cut.now (key_of row.now) (map listed group.now) }
+    requires other { IfSome other (λ one. key_of one.now ≡ key_of row.now) }
+    requires share { Contains (shares_of row.now.folder cut.now.folders) share.now }
+    ensures { OnOk result (AddsFailing (SaysBoth (tables_of cut.now) row.now (option_copied other.entry) share.now) (map failure_shown found.old.items) (map failure_shown found.new.items)) }
+{
+    let name = &row.entry.entry().name;
+    let (own, node) = (share.own.get(name), share.store.get(name));
+    add_reasons(found, cut, group, row, other, share, own, node)?;
+    Ok(())
+}
+
+// The same, with this record and this node.
+fn add_reasons<'a>(
+    found: &mut Vec<Failure<'a>>,
+    cut: &Cut,
+    group: &[TableEntry<'_>],
+    row: &'a Row,
+    other: Option<&Row>,
+    share: &Share,
+    own: Option<&Record>,
+    node: Option<&Node>,
+) -> Result<(), AllocError>
+    requires group { IsGroupOf cut.now (key_of row.now) (map listed group.now) }
+    requires other { IfSome other (λ one. key_of one.now ≡ key_of row.now) }
+    requires share { Contains (shares_of row.now.folder cut.now.folders) share.now }
+    requires own { option_copied own ≡ get share.now.own row.now.entry.name }
+    requires node { option_copied node ≡ get share.now.store row.now.entry.name }
+    ensures { OnOk result (AddsFailing (SaysBoth (tables_of cut.now) row.now (option_copied other.entry) share.now) (map failure_shown found.old.items) (map failure_shown found.new.items)) }
 {
     reasons_are_numbered();
+    group_says();
+    let _folders = cut.folders();
     for reason in REASONS {
-        let met = meets_asked(cut, row, share, reason);
+        let met = meets_both(reason, row, other, group, share.device, own, node);
         add_unless(found, met, &on_device(reason, row, share.device))?;
     }
     Ok(())
+}
+
+// Whether the device with this own record and this node meets what the reason asks beside the row, and beside the other one.
+fn meets_both(
+    reason: Reason,
+    row: &Row,
+    other: Option<&Row>,
+    group: &[TableEntry<'_>],
+    device: DeviceId,
+    own: Option<&Record>,
+    node: Option<&Node>,
+) -> bool
+    ensures { IsTrue result ↔ (
+        AsksBeside reason row.now (map listed group.now) device (option_copied own.entry) (option_copied node.entry)
+        × AsksOtherBeside reason (option_copied other.entry) (map listed group.now) device (option_copied own.entry) (option_copied node.entry)) }
+{
+    meets_beside(reason, row, group, device, own, node)
+        && meets_other(reason, other, group, device, own, node)
+}
+
+// Whether it does beside the other row, if there is one.
+fn meets_other(
+    reason: Reason,
+    other: Option<&Row>,
+    group: &[TableEntry<'_>],
+    device: DeviceId,
+    own: Option<&Record>,
+    node: Option<&Node>,
+) -> bool
+    ensures { IsTrue result ↔ AsksOtherBeside reason (option_copied other.entry) (map listed group.now) device (option_copied own.entry) (option_copied node.entry) }
+{
+    match other {
+        None => true,
+        Some(row) => meets_beside(reason, row, group, device, own, node),
+    }
 }

@@ -11,7 +11,8 @@ use crate::collect::copy_of;
 use crate::details::details_of;
 use crate::failures;
 use crate::lines::lines_of;
-use bep_audit::{Certificate, Failure, first_disordered};
+use crate::lookup::Lookup;
+use bep_audit::{Certificate, Failure};
 use bep_model::Row;
 use bep_tables::Cut;
 use std::alloc::{AllocError, Global};
@@ -48,10 +49,11 @@ fn with_details<'a>(
 ) -> Result<Vec<Explained<'a>>, AllocError>
     ensures { IfOk result (λ told. failures_of (map told_of told.items) ≡ map failure_shown found.now) }
 {
-    let rise = first_disordered(rows).is_none();
+    let lookup = Lookup::of(alloc, cut, rows)?;
     let mut told = Vec::new(alloc);
     for one in found {
-        let details = details_of(alloc, cut, rows, rise, one)?;
+        let of = lookup.find(one.spot.folder, one.spot.name);
+        let details = details_of(alloc, cut, &of, one)?;
         let lines = lines_of(alloc, details.as_slice())?;
         told.reserve(1)?;
         told.push_reserved(Explained {

@@ -7,10 +7,11 @@ ghost use Rattle.bep_explain.specs.Loose.{AreLoosenings, IsTight};
 
 use crate::details::details_of_loose;
 use crate::lines::lines_of;
+use crate::lookup::Lookup;
 use crate::loose::copy_of_loose;
 use crate::loosenings;
 use crate::trees::trees_of;
-use bep_audit::{Certificate, Looseness, first_disordered};
+use bep_audit::{Certificate, Looseness};
 use bep_model::Row;
 use bep_tables::Cut;
 use serde_json::Value;
@@ -69,10 +70,11 @@ fn with_details<'a>(
 ) -> Result<Vec<ExplainedLoose<'a>>, AllocError>
     ensures { IfOk result (λ told. loosenings_of (map loose_told_of told.items) ≡ map loose_shown found.now) }
 {
-    let rise = first_disordered(rows).is_none();
+    let lookup = Lookup::of(alloc, cut, rows)?;
     let mut told = Vec::new(alloc);
     for one in found {
-        let details = details_of_loose(alloc, cut, rows, rise, one)?;
+        let of = lookup.find(one.folder, one.name);
+        let details = details_of_loose(alloc, cut, &of, one)?;
         let lines = lines_of(alloc, details.as_slice())?;
         told.reserve(1)?;
         told.push_reserved(ExplainedLoose {
@@ -92,10 +94,11 @@ fn with_trees<'a>(
 ) -> Result<Vec<AnnotatedLoose<'a>>, AllocError>
     ensures { IfOk result (λ told. loosenings_in (map loose_annotated_of told.items) ≡ map loose_shown found.now) }
 {
-    let rise = first_disordered(rows).is_none();
+    let lookup = Lookup::of(alloc, cut, rows)?;
     let mut told = Vec::new(alloc);
     for one in found {
-        let details = details_of_loose(alloc, cut, rows, rise, one)?;
+        let of = lookup.find(one.folder, one.name);
+        let details = details_of_loose(alloc, cut, &of, one)?;
         let trees = trees_of(alloc, details.as_slice())?;
         told.reserve(1)?;
         told.push_reserved(AnnotatedLoose {

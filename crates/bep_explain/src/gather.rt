@@ -11,7 +11,8 @@ ghost use Rattle.bep_explain.specs.Found.{AreFailures, IsMet, verdict_of};
 
 use crate::collect::{add_out_of_order, add_rows, copy_of};
 use crate::missing::add_missing;
-use bep_audit::{Certificate, Failure};
+use crate::rows::sorted_by_name;
+use bep_audit::{Certificate, Failure, group_says};
 use bep_model::{Row, reasons_are_numbered, settled_is_faultless};
 use bep_tables::{Cut, Table, cut_says, entries_are_held};
 use std::alloc::{AllocError, Global};
@@ -22,8 +23,8 @@ use std::alloc::{AllocError, Global};
 ///
 /// Of rows that don't rise only the first out of order fails for that; each row is judged all the same.
 ///
-/// Asks each reason of each row and device, hashes each file once a row, and looks through what is on its way for each row and
-/// device; only where the rows don't rise it looks through all rows for each name.
+/// Groups the cut by folder and name, and sorts the rows so. Then it looks at each name once: it asks each reason of each
+/// device beside two of the name's rows at most, and so hashes each file twice at most.
 pub fn failures<'a>(
     alloc: Global,
     cut: &'a Cut,
@@ -51,12 +52,16 @@ fn gathered<'a>(
 {
     cut_says();
     entries_are_held();
+    group_says();
     let _folders = cut.folders();
     let mut found = Vec::new(alloc);
     let table = Table::of(alloc, cut)?;
+    let entries = table.entries();
+    let by_name = sorted_by_name(alloc, rows)?;
+    let sorted = by_name.as_slice();
     add_out_of_order(&mut found, rows)?;
-    add_missing(&mut found, cut, table.entries(), rows)?;
-    add_rows(&mut found, cut, rows)?;
+    add_missing(&mut found, entries, sorted)?;
+    add_rows(&mut found, cut, entries, sorted)?;
     Ok(found)
 }
 

@@ -20,7 +20,9 @@
 #![tactic(auto)]
 
 mod annotated;
+mod by_name;
 mod collect;
+mod coming;
 mod detail;
 mod details;
 mod document;
@@ -30,8 +32,10 @@ mod firm_json;
 mod gather;
 mod json;
 mod lines;
+mod lookup;
 mod loose;
 mod missing;
+mod rows;
 mod sources;
 mod text;
 mod trees;

@@ -1,7 +1,7 @@
 //! All that keeps a cut from being firm beside what keeps it from being settled, each once, in their order.
 ghost use Rattle.std.specs.Prelude.{◌≡◌, ◌++◌, ◌∷◌, ◌↔◌, [], map, Contains, IfOk, IsTrue, OnOk, if◌then◌else◌};
-ghost use Rattle.bep_model.specs.declared.row.Row.{Row};
-ghost use Rattle.bep_model.specs.Settled.{Rise};
+ghost use Rattle.std.specs.List.Sorted.{IsSortedByKey};
+ghost use Rattle.bep_model.specs.Settled.{key_cmp};
 ghost use Rattle.bep_tables.specs.Cut.{tables_of};
 ghost use Rattle.bep_tables.specs.Listed.{listed};
 ghost use Rattle.bep_audit.specs.Loose.{loose_shown, AsksEntry, MeetsFirm};
@@ -9,11 +9,12 @@ ghost use Rattle.bep_audit.specs.LooseOrder.{loose_lent_cmp};
 ghost use Rattle.bep_explain.specs.Adding.{AddsFailing, Each};
 ghost use Rattle.bep_explain.specs.Distinct.{is_below_next, distinct};
 ghost use Rattle.bep_explain.specs.Loose.{AreLoosenings, IsFirmlyMet, IsTight};
+ghost use Rattle.bep_explain.specs.Rows.{named_key, row_shown};
+ghost use Rattle.bep_explain.specs.declared.rows.NamedRow.{NamedRow};
 
-use bep_audit::{
-    Certificate, Looseness, entries_are_asked, first_disordered, loosening_of, meets_row,
-    meets_rows,
-};
+use crate::by_name::about;
+use crate::rows::{NamedRow, sorted_by_name};
+use bep_audit::{Certificate, Looseness, entries_are_asked, loosening_of, meets_row};
 use bep_model::Row;
 use bep_tables::{Cut, Table, TableEntry};
 use std::alloc::{AllocError, Global};
@@ -21,7 +22,7 @@ use std::alloc::{AllocError, Global};
 /// All of the four further reasons that fail, each at every place at which it fails, or want of memory: by reason, then
 /// folder, name and device, each once. Each row is judged, also where they don't rise or the cut isn't settled.
 ///
-/// Walks once over the table of the cut; only where the rows don't rise it looks through all rows for each entry.
+/// Groups the cut by folder and name, sorts the rows so, and looks at each entry beside the rows about its name.
 pub fn loosenings<'a>(
     alloc: Global,
     cut: &'a Cut,
@@ -44,21 +45,22 @@ fn gathered<'a>(alloc: Global, cut: &'a Cut, rows: &[Row]) -> Result<Vec<Loosene
     let _folders = cut.folders();
     let mut found = Vec::new(alloc);
     let table = Table::of(alloc, cut)?;
-    add_entries(&mut found, rows, table.entries())?;
+    let sorted = sorted_by_name(alloc, rows)?;
+    add_entries(&mut found, sorted.as_slice(), table.entries())?;
     Ok(found)
 }
 
-// Adds what these entries are asked in vain.
+// Adds what these entries are asked in vain beside the rows, which are sorted by name.
 fn add_entries<'a>(
     found: &mut Vec<Looseness<'a>>,
-    rows: &[Row],
+    rows: &[NamedRow<'_>],
     entries: &[TableEntry<'a>],
 ) -> Result<(), AllocError>
-    ensures { OnOk result (AddsFailing (Each (λ entry. AsksEntry rows.now (listed entry)) entries.now) (map loose_shown found.old.items) (map loose_shown found.new.items)) }
+    requires { IsSortedByKey named_key key_cmp rows.now }
+    ensures { OnOk result (AddsFailing (Each (λ entry. AsksEntry (map row_shown rows.now) (listed entry)) entries.now) (map loose_shown found.old.items) (map loose_shown found.new.items)) }
 {
-    let rise = first_disordered(rows).is_none();
     for entry in entries {
-        add_entry(found, rows, rise, entry)?;
+        add_entry(found, rows, entry)?;
     }
     Ok(())
 }
@@ -66,39 +68,39 @@ fn add_entries<'a>(
 // Adds what this entry is asked in vain.
 fn add_entry<'a>(
     found: &mut Vec<Looseness<'a>>,
-    rows: &[Row],
-    rise: bool,
+    rows: &[NamedRow<'_>],
     entry: &TableEntry<'a>,
 ) -> Result<(), AllocError>
-    requires { IsTrue rise → Rise rows.now }
-    ensures { OnOk result (AddsFailing (AsksEntry rows.now (listed entry.now)) (map loose_shown found.old.items) (map loose_shown found.new.items)) }
+    requires { IsSortedByKey named_key key_cmp rows.now }
+    ensures { OnOk result (AddsFailing (AsksEntry (map row_shown rows.now) (listed entry.now)) (map loose_shown found.old.items) (map loose_shown found.new.items)) }
 {
     match loosening_of(entry) {
         None => Ok(()),
         Some(one) => {
-            add_unless(found, meets(rows, rise, entry), &one)?;
+            add_unless(found, meets(rows, entry), &one)?;
             Ok(())
         }
     }
 }
 
-// Whether the entry meets what it is asked beside these rows, which rise or not.
-fn meets(rows: &[Row], rise: bool, entry: &TableEntry<'_>) -> bool
-    requires { IsTrue rise → Rise rows.now }
-    ensures { IsTrue result ↔ MeetsFirm rows.now (listed entry.now) }
+// Whether the entry meets what it is asked beside these rows, which are sorted by name.
+fn meets(rows: &[NamedRow<'_>], entry: &TableEntry<'_>) -> bool
+    requires { IsSortedByKey named_key key_cmp rows.now }
+    ensures { IsTrue result ↔ MeetsFirm (map row_shown rows.now) (listed entry.now) }
 {
-    if rise {
-        meets_rows(rows, entry)
-    } else {
-        meets_each(rows, entry)
-    }
+    meets_each(about(rows, entry.folder, entry.name), entry)
 }
 
-// Whether it meets that beside each of them, as if there were no other.
-fn meets_each(rows: &[Row], entry: &TableEntry<'_>) -> bool
-    ensures { IsTrue result ↔ ((row : Row) → Contains rows.now row → MeetsFirm (row ∷ []) (listed entry.now)) }
+// Whether it meets that beside each of these, as if there were no other.
+fn meets_each(rows: &[NamedRow<'_>], entry: &TableEntry<'_>) -> bool
+    ensures { IsTrue result ↔ ((one : NamedRow) → Contains rows.now one → MeetsFirm (row_shown one ∷ []) (listed entry.now)) }
 {
-    rows.iter().all(|row| meets_row(row, entry))
+    for one in rows {
+        if !meets_row(one.row, entry) {
+            return false;
+        }
+    }
+    true
 }
 
 // Adds this one, unless what it tells of holds.

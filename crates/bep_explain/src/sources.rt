@@ -1,9 +1,10 @@
 //! The records of others that a device knows of. No contract speaks of which these are.
+use crate::coming::Coming;
 use crate::detail::{Detail, What, add_record};
 use bep_audit::is_harmless;
-use bep_model::{Flight, Row};
-use bep_record::{DeviceId, FolderName, Name, Record};
-use bep_tables::{LinkState, Share};
+use bep_model::Row;
+use bep_record::{DeviceId, Name, Record};
+use bep_tables::{Held, Share};
 use std::alloc::AllocError;
 
 /// Which records of a name are asked for.
@@ -20,7 +21,6 @@ pub(crate) enum Which<'a> {
 /// Which records are asked for: these of this name.
 #[derive(Drop)]
 pub(crate) struct Asked<'a> {
-    pub(crate) folder: &'a FolderName,
     pub(crate) name: &'a Name,
     pub(crate) which: Which<'a>,
 }
@@ -67,18 +67,17 @@ pub(crate) fn add_views<'a>(
 }
 
 /// Those on their way to the device, each with its sender.
-pub(crate) fn add_flights<'a>(
+pub(crate) fn add_coming<'a>(
     details: &mut Vec<Detail<'a>>,
     asked: &Asked<'_>,
-    links: &'a [LinkState],
+    coming: &[Coming<'a>],
     device: DeviceId,
 ) -> Result<(), AllocError> {
-    for link in links {
-        if link.a == device {
-            add_sent(details, asked, link.to_a.as_slice(), device, link.b)?;
-        }
-        if link.b == device {
-            add_sent(details, asked, link.to_b.as_slice(), device, link.a)?;
+    for one in coming {
+        if one.at.device == device {
+            let (to, from) = (Some(device), Some(one.from));
+            let record = record_of(one.at.held);
+            add_if_asked(details, asked, What::Message, to, from, record)?;
         }
     }
     Ok(())
@@ -94,35 +93,11 @@ pub(crate) fn add_pull<'a>(
     add_if_asked(details, asked, What::Pull, at, None, target)
 }
 
-// Those of these messages to a device from another.
-fn add_sent<'a>(
-    details: &mut Vec<Detail<'a>>,
-    asked: &Asked<'_>,
-    flights: &'a [Flight],
-    to: DeviceId,
-    from: DeviceId,
-) -> Result<(), AllocError> {
-    for flight in flights {
-        if flight.folder == *asked.folder {
-            add_carried(details, asked, flight.records.as_slice(), to, from)?;
-        }
+fn record_of(holding: Held<'_>) -> Option<&Record> {
+    match holding {
+        Held::Record(_, record) => Some(record),
+        Held::Node(_) => None,
     }
-    Ok(())
-}
-
-// Those of these records on their way to a device from another.
-fn add_carried<'a>(
-    details: &mut Vec<Detail<'a>>,
-    asked: &Asked<'_>,
-    records: &'a [Record],
-    to: DeviceId,
-    from: DeviceId,
-) -> Result<(), AllocError> {
-    for record in records {
-        let (to, from) = (Some(to), Some(from));
-        add_if_asked(details, asked, What::Message, to, from, Some(record))?;
-    }
-    Ok(())
 }
 
 fn add_if_asked<'a>(

@@ -1,19 +1,26 @@
-use Rattle.std.proofs.Common.{map}
-use Rattle.bep_audit.specs.Walk.{failure_shown}
+use Rattle.std.proofs.Common.{◌++◌, List, map, length, take, sym, subst}
+use Rattle.bep_model.specs.declared.row.Row.{Row}
+use Rattle.bep_audit.specs.Walk.{Failure, failure_shown}
+use Rattle.bep_explain.specs.Adding.{AddsFailing, Each}
+use Rattle.bep_explain.specs.Rows.{row_shown}
 use Rattle.bep_explain.specs.Says.{SaysAtRow}
-use Rattle.bep_explain.proofs.AddFacts.{each_starts, each_goes_on, each_ends}
+use Rattle.bep_explain.proofs.AddFacts.{adds_both, adds_as}
+use Rattle.bep_explain.proofs.RowLists.{each_append, with_front, within_left}
 use Rattle.bep_explain.proofs.collect.add_rows.Goals as goal
 
-pub loop-row-init : goal.loop-row-init
-loop-row-init c = each_starts (SaysAtRow c.args.cut.now) c.args.rows.now (map failure_shown c.args.found.now.items)
-
-pub loop-row-preserved : goal.loop-row-preserved
-loop-row-preserved c =
-    each_goes_on (SaysAtRow c.args.cut.now) c.args.rows.now c.loop-row.row-index c.row-item.result
-    (map failure_shown c.args.found.now.items) (map failure_shown c.loop-row.found.items) (map failure_shown c.add_row.new.found.items)
-    c.loop-row-test.true c.row-item.is c.loop-row.invariant c.in_ok-add_row.ensures
-
-pub returns : goal.returns
-returns c =
-    each_ends (SaysAtRow c.args.cut.now) c.args.rows.now c.loop-row.row-index
-    (map failure_shown c.args.found.now.items) (map failure_shown c.loop-row.found.items) c.loop-row-test.false c.loop-row.invariant
+pub loop-place-preserved : goal.loop-place-preserved
+loop-place-preserved c =
+    let Says = SaysAtRow c.args.cut.now in
+    let rows = c.args.rows.now in
+    let place = c.loop-place.place in
+    let front = c.alike_at-alike.result.now in
+    let before = map row_shown (take place rows) in
+    let here = map row_shown front in
+    let old = map failure_shown c.args.found.now.items in
+    let middle = map failure_shown c.loop-place.found.items in
+    let new = map failure_shown c.add_alike.new.found.items in (
+      within_left rows place (length front) c.loop-place-test.true c.alike_at-alike.ensures.within,
+      subst (λ (all : List Row). AddsFailing (Each Says all) old new) (sym (with_front rows front place c.alike_at-alike.ensures.front))
+          (adds_as (λ (one : Failure). Each Says before one × Each Says here one) (Each Says (before ++ here)) old new (each_append Says before here)
+          (adds_both (Each Says before) (Each Says here) old middle new c.loop-place.invariant.1 c.in_ok-add_alike.ensures)),
+    )

@@ -1,10 +1,10 @@
 use Rattle.std.proofs.Common.{map, take}
-use Rattle.bep_tables.specs.Cut.{tables_of}
 use Rattle.bep_audit.specs.Walk.{failure_shown}
 use Rattle.bep_explain.specs.Adding.{AddsFailing, Each}
-use Rattle.bep_explain.specs.Says.{SaysEntry}
+use Rattle.bep_explain.specs.Rows.{row_shown}
+use Rattle.bep_explain.specs.Says.{SaysHasRow}
 use Rattle.bep_explain.proofs.missing.add_missing.Given as goal
 
--- the names of the entries so far that are known and have no row are there
+-- the names of the entries so far that have no row are there
 abbrev pub invariant-loop-entry : goal.invariant-loop-entry
-invariant-loop-entry l = AddsFailing (Each (SaysEntry (tables_of l.cut) l.rows) (take l.entry-index l.entries)) (map failure_shown l.initial.found.items) (map failure_shown l.found.items)
+invariant-loop-entry l = AddsFailing (Each (SaysHasRow (map row_shown l.rows)) (take l.entry-index l.entries)) (map failure_shown l.initial.found.items) (map failure_shown l.found.items)
