@@ -25,6 +25,7 @@ mod collect;
 mod coming;
 mod detail;
 mod details;
+mod differing;
 mod document;
 mod explained;
 mod firm;

@@ -1,27 +1,42 @@
 //! The details of a failure as lines of the text. No contract speaks of what they say.
 use crate::detail::{Detail, What};
-use bep_blocks::blocks;
+use crate::differing::{blocks_told, first_difference, stored_blocks};
 use bep_lines::{Piece, push_pieces};
-use bep_record::{Block, BlockSize, DeviceId, Entry, Kind, Node, Record};
+use bep_record::{Block, DeviceId, Entry, Kind, Node, Record};
 use std::alloc::{AllocError, Global};
 
-/// A line for each of these.
+/// The blocks of a file, and which of them is told of.
+#[derive(Drop)]
+struct Told<'a> {
+    blocks: &'a [Block],
+    place: usize,
+}
+
+/// A line for each of these. Of files that have several blocks each line tells the same one: the first at which they differ.
 pub(crate) fn lines_of(alloc: Global, details: &[Detail<'_>]) -> Result<Vec<Vec<u8>>, AllocError> {
-    let mut lines = Vec::new(alloc);
+    let mut stored = Vec::new(alloc);
     for detail in details {
-        let line = line_of(alloc, detail)?;
+        let list = stored_blocks(alloc, detail)?;
+        stored.reserve(1)?;
+        stored.push_reserved(list);
+    }
+    let place = first_difference(details, stored.as_slice());
+    let mut lines = Vec::new(alloc);
+    for (detail, list) in details.iter().zip(stored.iter()) {
+        let blocks = blocks_told(detail, list.as_slice());
+        let line = line_of(alloc, detail, &Told { blocks, place })?;
         lines.reserve(1)?;
         lines.push_reserved(line);
     }
     Ok(lines)
 }
 
-fn line_of(alloc: Global, detail: &Detail<'_>) -> Result<Vec<u8>, AllocError> {
+fn line_of(alloc: Global, detail: &Detail<'_>, told: &Told<'_>) -> Result<Vec<u8>, AllocError> {
     let mut line = Vec::new(alloc);
     push_label(&mut line, detail)?;
     match (detail.record, detail.node) {
-        (Some(record), _) => push_record(alloc, &mut line, record)?,
-        (None, Some(node)) => push_node(alloc, &mut line, node)?,
+        (Some(record), _) => push_record(alloc, &mut line, record, told)?,
+        (None, Some(node)) => push_node(alloc, &mut line, node, told)?,
         (None, None) => push_text(&mut line, nothing_of(detail.what))?,
     }
     Ok(line)
@@ -73,10 +88,15 @@ fn push_device<'a>(
 }
 
 // Says the record: its version, what it tells is there, its time, and whether it is local-only.
-fn push_record(alloc: Global, line: &mut Vec<u8>, record: &Record) -> Result<(), AllocError> {
+fn push_record(
+    alloc: Global,
+    line: &mut Vec<u8>,
+    record: &Record,
+    told: &Told<'_>,
+) -> Result<(), AllocError> {
     let entry = record.entry();
     push_version(line, entry.version.counters())?;
-    push_content(alloc, line, entry)?;
+    push_content(alloc, line, entry, told)?;
     push_time(line, entry.modified_s, entry.modified_ns)?;
     if entry.invalid {
         push_pieces(line, &[Piece::Text(", local-only")])?;
@@ -84,11 +104,16 @@ fn push_record(alloc: Global, line: &mut Vec<u8>, record: &Record) -> Result<(),
     Ok(())
 }
 
-// Says what a store holds: kind, size and the first digits of its hash, or target, and its time.
-fn push_node(alloc: Global, line: &mut Vec<u8>, node: &Node) -> Result<(), AllocError> {
+// Says what a store holds: kind, size and the first digits of a block's hash, or target, and its time.
+fn push_node(
+    alloc: Global,
+    line: &mut Vec<u8>,
+    node: &Node,
+    told: &Told<'_>,
+) -> Result<(), AllocError> {
     let parts = node.parts();
     match parts.kind {
-        Kind::File => push_bytes(alloc, line, parts.bytes.as_slice())?,
+        Kind::File => push_file(alloc, line, parts.bytes.as_slice().len() as u64, told)?,
         Kind::Directory => push_pieces(line, &[Piece::Text("directory")])?,
         Kind::Symlink => push_target(line, parts.target.as_bytes())?,
     }
@@ -111,31 +136,28 @@ fn push_version(line: &mut Vec<u8>, counters: &[(u64, u64)]) -> Result<(), Alloc
 }
 
 // Says what the entry tells is there.
-fn push_content(alloc: Global, line: &mut Vec<u8>, entry: &Entry) -> Result<(), AllocError> {
+fn push_content(
+    alloc: Global,
+    line: &mut Vec<u8>,
+    entry: &Entry,
+    told: &Told<'_>,
+) -> Result<(), AllocError> {
     if entry.deleted {
         return push_pieces(line, &[Piece::Text("deleted")]);
     }
     match entry.kind {
-        Kind::File => push_file(alloc, line, entry.size, entry.blocks.as_slice()),
+        Kind::File => push_file(alloc, line, entry.size, told),
         Kind::Directory => push_pieces(line, &[Piece::Text("directory")]),
         Kind::Symlink => push_target(line, entry.target.as_bytes()),
     }
 }
 
-// Says a file of these bytes.
-fn push_bytes(alloc: Global, line: &mut Vec<u8>, bytes: &[u8]) -> Result<(), AllocError> {
-    match blocks(alloc, bytes, BlockSize::base()) {
-        Ok(list) => push_file(alloc, line, bytes.len() as u64, list.as_slice()),
-        Err(_) => Err(AllocError),
-    }
-}
-
-// Says a file of this size and these blocks. Where there is one, its hash is that of the file.
+// Says a file of this size. A file of one block has its hash; of several, the one that is told of is named.
 fn push_file(
     alloc: Global,
     line: &mut Vec<u8>,
     size: u64,
-    blocks: &[Block],
+    told: &Told<'_>,
 ) -> Result<(), AllocError> {
     push_pieces(
         line,
@@ -145,14 +167,31 @@ fn push_file(
             Piece::Text(" bytes"),
         ],
     )?;
-    match blocks {
+    match told.blocks {
         [] => Ok(()),
         [only] => push_hash(alloc, line, ", sha256 ", only),
         [first, ..] => {
-            let count = Piece::Number(blocks.len() as u64);
+            let count = Piece::Number(told.blocks.len() as u64);
             push_pieces(line, &[Piece::Text(", "), count, Piece::Text(" blocks")])?;
-            push_hash(alloc, line, ", sha256 of the first ", first)
+            push_one_of_several(alloc, line, first, told)
         }
+    }
+}
+
+// Says the block that is told of, or the first one, where the file has no such block.
+fn push_one_of_several(
+    alloc: Global,
+    line: &mut Vec<u8>,
+    first: &Block,
+    told: &Told<'_>,
+) -> Result<(), AllocError> {
+    match told.blocks.get(told.place) {
+        Some(block) if told.place > 0 => {
+            let place = Piece::Number(told.place as u64);
+            push_pieces(line, &[Piece::Text(", sha256 of block "), place])?;
+            push_hash(alloc, line, " (the first is 0) ", block)
+        }
+        _ => push_hash(alloc, line, ", sha256 of the first ", first),
     }
 }
 
