@@ -11,7 +11,7 @@ use Rattle.bep_peer.specs.Member.{Member, Remains, tables_of, untold}
 use Rattle.bep_peer.specs.Within.{AtFolder}
 use Rattle.bep_log.specs.declared.local.Local.{Local}
 use Rattle.bep_log.specs.declared.local.Local.TheVariants.{Edit, Remove, Commit, Pull, Finish, Override, Revert}
-use Rattle.bep_log.specs.declared.stamped.Stamped.{Stamped}
+use Rattle.bep_fit.specs.declared.stamped.Stamped.{Stamped}
 use Rattle.bep_log.specs.Acts.{MayGain}
 use Rattle.bep_log.specs.Event.{event_of, event_told}
 use Rattle.bep_log.specs.History.{with_events}

@@ -10,7 +10,7 @@ use Rattle.bep_peer.specs.declared.trace.Trace.{Trace}
 use Rattle.bep_peer.specs.Member.{Member, Remains, untold}
 use Rattle.bep_log.specs.declared.error.LogError.{LogError}
 use Rattle.bep_log.specs.declared.local.Local.{Local}
-use Rattle.bep_log.specs.declared.stamped.Stamped.{Stamped}
+use Rattle.bep_fit.specs.declared.stamped.Stamped.{Stamped}
 use Rattle.bep_log.specs.Acts.{ActsIn, LogsIn, MayGain}
 use Rattle.bep_log.specs.Event.{event_told}
 use Rattle.bep_log.specs.History.{History, MayLog, last_with, with_events}

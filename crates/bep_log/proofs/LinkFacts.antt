@@ -13,7 +13,7 @@ use Rattle.bep_machine.specs.Peer.{Peer}
 use Rattle.bep_machine.specs.Steps.{restarted}
 use Rattle.bep_links.specs.Link.{LinkBetween}
 use Rattle.bep_peer.specs.Member.{Member, Remains, tables_of}
-use Rattle.bep_log.specs.declared.stamped.Stamped.{Stamped}
+use Rattle.bep_fit.specs.declared.stamped.Stamped.{Stamped}
 use Rattle.bep_log.specs.Event.{event_of}
 use Rattle.bep_log.specs.History.{with_event}
 use Rattle.bep_log.specs.LoggedLink.{IsLinkReplayed}

@@ -6,8 +6,9 @@ use Rattle.bep_machine.specs.Halves.{guards_of, touches_device, touches_link, Li
 use Rattle.bep_machine.specs.Peer.{Peer}
 use Rattle.bep_links.specs.Link.{LinkBetween}
 use Rattle.bep_peer.specs.Member.{Member, tables_of}
-use Rattle.bep_log.specs.declared.stamped.Stamped.{Stamped}
-use Rattle.bep_log.specs.History.{RiseTo, events_of, with_event}
+use Rattle.bep_fit.specs.declared.stamped.Stamped.{Stamped}
+use Rattle.bep_fit.specs.Logs.{events_of}
+use Rattle.bep_log.specs.History.{RiseTo, with_event}
 use Rattle.bep_log.specs.LoggedLink.{IsLinkReplayed, TouchLink}
 use Rattle.bep_log.specs.LoggedPeer.{IsReplayed, TouchDevice}
 

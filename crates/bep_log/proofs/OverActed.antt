@@ -14,7 +14,7 @@ use Rattle.bep_peer.specs.PeerError.{Gives}
 use Rattle.bep_log.specs.declared.error.LogError.{LogError}
 use Rattle.bep_log.specs.declared.over.Over.{Over}
 use Rattle.bep_log.specs.declared.ready.Ready.{Ready}
-use Rattle.bep_log.specs.declared.stamped.Stamped.{Stamped}
+use Rattle.bep_fit.specs.declared.stamped.Stamped.{Stamped}
 use Rattle.bep_log.specs.ActsOver.{ActsOver, LogsOver, MayLogBoth, event_for, event_over}
 use Rattle.bep_log.specs.History.{History, MayLog, last_with, with_events}
 use Rattle.bep_log.specs.LogError.{answer_of}

@@ -13,8 +13,8 @@ use Rattle.bep_peer.specs.PeerError.{Gives}
 use Rattle.bep_log.specs.declared.error.LogError.{LogError}
 use Rattle.bep_log.specs.declared.error.LogError.TheVariants.{TicketOld, LogFull, Refused, Stale, Memory}
 use Rattle.bep_log.specs.declared.ready.Ready.{Ready}
-use Rattle.bep_log.specs.declared.stamped.Stamped.{Stamped}
-use Rattle.bep_log.specs.declared.stamped.TheConstants.{MAX_EVENTS}
+use Rattle.bep_fit.specs.declared.stamped.Stamped.{Stamped}
+use Rattle.bep_log.specs.declared.limits.TheConstants.{MAX_EVENTS}
 use Rattle.bep_log.specs.Event.{event_of}
 use Rattle.bep_log.specs.History.{MayLog}
 use Rattle.bep_log.specs.LoggedLink.{LinkTells, LoggedBetween}

@@ -1,8 +1,8 @@
 -- The events of a log, each with the ticket under which it was made (this project's profile).
 use Rattle.std.specs.Prelude.{◌<◌, ◌≤◌, ℕ, Bool, List, [], ◌∷◌, ◌++◌, length, map, Option, Some, None}
 use Rattle.bep_machine.specs.declared.logged.Logged.{Logged}
-use Rattle.bep_log.specs.declared.stamped.Stamped.{Stamped}
-use Rattle.bep_log.specs.declared.stamped.TheConstants.{MAX_EVENTS}
+use Rattle.bep_fit.specs.declared.stamped.Stamped.{Stamped}
+use Rattle.bep_log.specs.declared.limits.TheConstants.{MAX_EVENTS}
 
 -- a log, its round, and the last ticket that was taken; and whether the log has memory for one event more
 pub record History : Type 0 where
@@ -10,10 +10,6 @@ pub record History : Type 0 where
   pub round : ℕ
   pub last : ℕ
   pub room : Bool
-
--- the events without their tickets
-abbrev pub events_of : List Stamped → List Logged
-events_of log = map (λ (one : Stamped). one.event) log
 
 -- each ticket is above the one before it, the first above `low`, and none is above `last`
 abbrev pub RiseTo : ℕ → List Stamped → ℕ → Type 0

@@ -3,8 +3,8 @@ use Rattle.std.specs.Prelude.{◌≡◌, List}
 use Rattle.bep_machine.specs.Determined.{SharesWithOthers}
 use Rattle.bep_links.specs.Link.{LinkBetween}
 use Rattle.bep_peer.specs.Member.{Member, tables_of}
-use Rattle.bep_log.specs.declared.stamped.Stamped.{Stamped}
-use Rattle.bep_log.specs.History.{events_of}
+use Rattle.bep_fit.specs.declared.stamped.Stamped.{Stamped}
+use Rattle.bep_fit.specs.Logs.{events_of}
 use Rattle.bep_log.specs.LoggedLink.{IsLinkReplayed}
 use Rattle.bep_log.specs.LoggedPeer.{IsReplayed}
 

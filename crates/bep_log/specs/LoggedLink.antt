@@ -11,10 +11,11 @@ use Rattle.bep_machine.specs.Link.{Link}
 use Rattle.bep_links.specs.Link.{LinkBetween}
 use Rattle.bep_log.specs.declared.error.LogError.{LogError}
 use Rattle.bep_log.specs.declared.error.LogError.TheVariants.{TicketOld, LogFull, Refused, Stale, Memory}
-use Rattle.bep_log.specs.declared.stamped.Stamped.{Stamped}
-use Rattle.bep_log.specs.declared.stamped.TheConstants.{MAX_EVENTS}
+use Rattle.bep_fit.specs.declared.stamped.Stamped.{Stamped}
+use Rattle.bep_log.specs.declared.limits.TheConstants.{MAX_EVENTS}
 use Rattle.bep_log.specs.Event.{event_of}
-use Rattle.bep_log.specs.History.{MayLog, events_of, last_with, with_events}
+use Rattle.bep_fit.specs.Logs.{events_of}
+use Rattle.bep_log.specs.History.{MayLog, last_with, with_events}
 
 -- a link: as it is, as it was when its log began, the events since, their round, and the last ticket that was taken
 pub record LoggedBetween : Type 0 where

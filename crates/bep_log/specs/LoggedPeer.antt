@@ -6,8 +6,9 @@ use Rattle.bep_machine.specs.declared.logged.Logged.{Logged}
 use Rattle.bep_machine.specs.Halves.{guards_of, touches_device, PeerReplays}
 use Rattle.bep_peer.specs.Copied.{member_copied}
 use Rattle.bep_peer.specs.Member.{Member, Remains, tables_of}
-use Rattle.bep_log.specs.declared.stamped.Stamped.{Stamped}
-use Rattle.bep_log.specs.History.{events_of, last_with, with_events}
+use Rattle.bep_fit.specs.declared.stamped.Stamped.{Stamped}
+use Rattle.bep_fit.specs.Logs.{events_of}
+use Rattle.bep_log.specs.History.{last_with, with_events}
 
 -- a device: as it is, as it was when its log began, the events since, their round, and the last ticket that was taken
 pub record LoggedMember : Type 0 where

@@ -8,7 +8,7 @@ use Rattle.bep_machine.specs.Steps.{restarted}
 use Rattle.bep_peer.specs.Member.{Remains, tables_of}
 use Rattle.bep_log.specs.declared.error.LogError.{LogError}
 use Rattle.bep_log.specs.declared.error.LogError.TheVariants.{TicketOld, LogFull, Refused, Memory}
-use Rattle.bep_log.specs.declared.stamped.TheConstants.{MAX_EVENTS}
+use Rattle.bep_log.specs.declared.limits.TheConstants.{MAX_EVENTS}
 use Rattle.bep_log.specs.Event.{event_of}
 use Rattle.bep_log.specs.History.{MayLog}
 use Rattle.bep_log.specs.LoggedPeer.{LoggedMember, Tells}

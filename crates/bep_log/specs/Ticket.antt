@@ -4,8 +4,8 @@ use Rattle.bep_peer.specs.declared.error.PeerError.{PeerError}
 use Rattle.bep_peer.specs.declared.error.PeerError.TheVariants as peer
 use Rattle.bep_log.specs.declared.error.LogError.{LogError}
 use Rattle.bep_log.specs.declared.error.LogError.TheVariants.{TicketOld, LogFull, Refused, Stale, Memory}
-use Rattle.bep_log.specs.declared.stamped.Stamped.{Stamped}
-use Rattle.bep_log.specs.declared.stamped.TheConstants.{MAX_EVENTS}
+use Rattle.bep_fit.specs.declared.stamped.Stamped.{Stamped}
+use Rattle.bep_log.specs.declared.limits.TheConstants.{MAX_EVENTS}
 use Rattle.bep_log.specs.History.{MayLog}
 
 -- why no event can be logged under the ticket, or why there is no memory for one: the ticket comes first

@@ -6,7 +6,8 @@ ghost use Rattle.bep_machine.specs.declared.refusal.Refusal.TheVariants.{StoreFa
 ghost use Rattle.bep_peer.specs.Member.{Remains, tables_of};
 
 use crate::history::History;
-use crate::{LogError, LoggedLink, LoggedPeer, Stamped};
+use crate::{LogError, LoggedLink, LoggedPeer};
+use bep_fit::Stamped;
 use bep_store::{MemStore, Store};
 use std::alloc::{AllocError, Global};
 use std::marker::Model;
@@ -33,7 +34,7 @@ impl Model for PeerCopy {
     ghost use Rattle.bep_peer.specs.Session.{session_code};
     ghost use Rattle.bep_peer.specs.Member.{member_code};
     ghost use Rattle.bep_peer.specs.contracts.trace.Trace as trace;
-    ghost use Rattle.bep_log.specs.contracts.stamped.Stamped as stamped;
+    ghost use Rattle.bep_fit.specs.contracts.stamped.Stamped as stamped;
     ghost use Rattle.bep_log.specs.LoggedPeer.{LoggedMember, logged_code};
 
     ghost Value = { LoggedMember };
@@ -65,7 +66,7 @@ impl Drop for LinkCopy {
 
 impl Model for LinkCopy {
     ghost use Rattle.bep_links.specs.contracts.link.Link as between;
-    ghost use Rattle.bep_log.specs.contracts.stamped.Stamped as stamped;
+    ghost use Rattle.bep_fit.specs.contracts.stamped.Stamped as stamped;
     ghost use Rattle.bep_log.specs.LoggedLink.{LoggedBetween, logged_link_code};
 
     ghost Value = { LoggedBetween };

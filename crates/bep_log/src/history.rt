@@ -2,9 +2,10 @@
 ghost use Rattle.std.specs.Prelude.{◌≡◌, ◌↔◌, ◌<◌, ◌≤◌, [], true, length, IsTrue, IfErr, OnOk};
 ghost use Rattle.bep_log.specs.History.{IsHistory, MayLog, last_with, with_event, with_events};
 ghost use Rattle.bep_log.specs.Ticket.{WhyNotOpen};
-ghost use Rattle.bep_log.specs.declared.stamped.TheConstants.{MAX_EVENTS};
+ghost use Rattle.bep_log.specs.declared.limits.TheConstants.{MAX_EVENTS};
 
-use crate::{LogError, MAX_EVENTS, Stamped};
+use crate::{LogError, MAX_EVENTS};
+use bep_fit::Stamped;
 use bep_machine::Logged;
 use std::alloc::{AllocError, Global};
 use std::marker::Model;

@@ -5,9 +5,10 @@ ghost use Rattle.bep_log.specs.LoggedLink.{IsLinkReplayed, LinkLogs};
 ghost use Rattle.bep_machine.specs.declared.step.Step.TheVariants as Step;
 ghost use Rattle.bep_machine.specs.Steps.{ConnectRow, LoseRow};
 
+use crate::LogError;
 use crate::event::event_in_folder;
 use crate::history::History;
-use crate::{LogError, Stamped};
+use bep_fit::Stamped;
 use bep_links::Link;
 use bep_machine::{Step, actions_are_told};
 use std::alloc::{AllocError, Global};
@@ -37,7 +38,7 @@ impl Drop for LoggedLink {
 
 impl Model for LoggedLink {
     ghost use Rattle.bep_links.specs.contracts.link.Link as between;
-    ghost use Rattle.bep_log.specs.contracts.stamped.Stamped as stamped;
+    ghost use Rattle.bep_fit.specs.contracts.stamped.Stamped as stamped;
     ghost use Rattle.bep_log.specs.LoggedLink.{IsLinkReplayed, LoggedBetween, logged_link_code};
 
     ghost Value = { LoggedBetween };

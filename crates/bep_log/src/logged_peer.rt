@@ -6,8 +6,9 @@ ghost use Rattle.bep_log.specs.declared.error.LogError.TheVariants.{Memory, Refu
 ghost use Rattle.bep_machine.specs.declared.refusal.Refusal.TheVariants.{StoreFault};
 ghost use Rattle.bep_peer.specs.Member.{Remains, tables_of};
 
+use crate::LogError;
 use crate::history::History;
-use crate::{LogError, Stamped};
+use bep_fit::Stamped;
 use bep_peer::Peer;
 use bep_store::{MemStore, Store};
 use std::alloc::Global;
@@ -46,7 +47,7 @@ impl<S: Store> Model for LoggedPeer<S> {
     ghost use Rattle.bep_peer.specs.Session.{session_code};
     ghost use Rattle.bep_peer.specs.Member.{member_code};
     ghost use Rattle.bep_peer.specs.contracts.trace.Trace as trace;
-    ghost use Rattle.bep_log.specs.contracts.stamped.Stamped as stamped;
+    ghost use Rattle.bep_fit.specs.contracts.stamped.Stamped as stamped;
     ghost use Rattle.bep_log.specs.LoggedPeer.{IsReplayed, LoggedMember, logged_code};
 
     ghost Value = { LoggedMember };

@@ -4,7 +4,7 @@ use Rattle.bep_machine.specs.declared.logged.Logged.{Logged}
 use Rattle.bep_machine.specs.Halves.{LinkReplays, PeerReplays}
 use Rattle.bep_machine.specs.Peer.{Peer}
 use Rattle.bep_peer.specs.Member.{tables_of}
-use Rattle.bep_log.specs.History.{events_of}
+use Rattle.bep_fit.specs.Logs.{events_of}
 use Rattle.bep_log.proofs.laws.logs_have_one_state.Goals as goal
 
 pub returns-clause-devices : goal.returns-clause-devices

@@ -1,7 +1,7 @@
 use Rattle.std.proofs.Common.{◌<◌, ◌≤◌, ℕ, List, length, ap, subst, sym, arith}
 use Rattle.std.proofs.lemmas.List.{length_push}
-use Rattle.bep_log.specs.declared.stamped.Stamped.{Stamped}
-use Rattle.bep_log.specs.declared.stamped.TheConstants.{MAX_EVENTS}
+use Rattle.bep_fit.specs.declared.stamped.Stamped.{Stamped}
+use Rattle.bep_log.specs.declared.limits.TheConstants.{MAX_EVENTS}
 use Rattle.bep_log.specs.History.{History, RiseTo}
 use Rattle.bep_log.proofs.LogFacts.{rise_on}
 use Rattle.bep_log.proofs.history.History.tell.Goals as goal
