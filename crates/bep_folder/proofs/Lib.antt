@@ -1,5 +1,6 @@
 mod AskedFacts
 mod BlockFacts
+mod CallFacts
 mod CommitFacts
 mod CopyFacts
 mod DeviceMapFacts

@@ -1,11 +1,12 @@
 //! The last part of the end of a pull: the record is put, and the files are written.
-ghost use Rattle.std.specs.Prelude.{◌≡◌, ◌+◌, ◌≤◌, Some, None, IsSome};
+ghost use Rattle.std.specs.Prelude.{◌≡◌, ◌+◌, ◌≤◌, Some, None, IsSome, IfOk};
 ghost use Rattle.std.specs.Option.{option_copied};
 ghost use Rattle.std.specs.FinMap as map;
 ghost use Rattle.bep_machine.specs.Replica.{HasContentOf, own_at, node_at, pull_at};
 ghost use Rattle.bep_machine.specs.Replica as machine;
 ghost use Rattle.bep_machine.specs.Pull.{IsFile, IsMissingBlocks};
 ghost use Rattle.bep_model.specs.Tables.{FileName};
+ghost use Rattle.bep_folder.specs.Calls.{CallsSince};
 ghost use Rattle.bep_folder.specs.Ending.{PulledRow, PutsAndWrites, RoomyRow, WroteCopy};
 ghost use Rattle.bep_folder.specs.Finish.{FailsLater};
 ghost use Rattle.bep_folder.specs.Makes.{Makes, Stays, CountsFaults};
@@ -42,6 +43,8 @@ impl<S: Store> Replica<S> {
         ensures made { Makes (λ old. PulledRow name.now (λ pull. RoomyRow name.now pull (option_copied copy.entry) (self.old.made + 1) self.new.trace.failed old) old) self.old self.new result }
         ensures copied { WroteCopy (option_copied copy.entry) self.old self.new result }
         ensures later { FailsLater self.old self.new }
+        ensures called { (pull : machine.Pull) → pull_at self.old.tables name.now ≡ Some pull → CallsSince self.old.made (own_at self.old.tables name.now) (node_at self.old.tables name.now) pull (option_copied copy.entry) self.new.made self.new.trace.failed result }
+        ensures changed { IfOk result (λ moved. moved ≡ Moved.Changed) }
         ensures same { Stays self.old self.new }
         ensures counted { CountsFaults self.old self.new result }
     {
@@ -87,7 +90,8 @@ fn put_and_write<S: Store>(
     requires node { map.get store.old.contents name.now ≡ option_copied node }
     requires kept { IsSome copy → IsSome (option_copied node) }
     requires complete { IsFile pull.now.target → (¬ HasContentOf (map.get index.old.records name.now) pull.now.target) → ¬ IsMissingBlocks pull.now }
-    ensures { PutsAndWrites name.now pull.now (option_copied copy.entry) (option_copied node.entry) index.old index.new store.old store.new result }
+    ensures puts { PutsAndWrites name.now pull.now (option_copied copy.entry) (option_copied node.entry) index.old index.new store.old store.new result }
+    ensures called { CallsSince store.old.made (map.get index.old.records name.now) (option_copied node.entry) pull.now (option_copied copy.entry) store.new.made store.new.trace.failed result }
 {
     let same = has_content_of(index.get(name), pull.target());
     let undo = match put_adopted(index, alloc, name, pull.target()) {

@@ -6,6 +6,7 @@ ghost use Rattle.bep_record.specs.Node.{IsClean};
 ghost use Rattle.bep_machine.specs.Replica as machine;
 ghost use Rattle.bep_machine.specs.Replica.{own_at, node_at, pull_at, without_pull};
 ghost use Rattle.bep_machine.specs.Pull.{CopyingRow, EndingRow, FinishRow, IsConflictDue, IsStillWanted, copy_name};
+ghost use Rattle.bep_folder.specs.Calls.{CallsInFinish};
 ghost use Rattle.bep_folder.specs.Ending.{CleanRow, IsIncomplete, PulledRow};
 ghost use Rattle.bep_folder.specs.Finish.{FailsLater, GainsCopy, IfPulled, Looks, TellsOfCopy};
 ghost use Rattle.bep_folder.specs.Kept.{IsKeptAs, IsKeptAt};
@@ -32,7 +33,8 @@ impl<S: Store> Replica<S> {
     /// over 1024 bytes, `StoreFault` where reading there fails, and `CopyExists` where another node stands there;
     /// `TooManyCounters`, `SequenceFull` and `IndexFull` where the record has no room; and `StoreFault` where a write
     /// fails. Else only want of memory is answered. After an error all is as before, save a conflict copy, of which the
-    /// trace tells.
+    /// trace tells. It calls the store once to read the name, once more to read the conflict name where a copy is due, and
+    /// once for each write; where a call fails, it was the last one.
     pub fn finish(&mut self, name: &Name) -> Result<Moved, FolderError>
         ensures finished { Makes (FinishRow self.old.device name.now self.new.trace.failed) self.old self.new result }
 
@@ -41,6 +43,7 @@ impl<S: Store> Replica<S> {
 
         ensures stays { Stays self.old self.new }
         ensures counted { CountsFaults self.old self.new result }
+        ensures called { CallsInFinish name.now self.old.tables self.new result }
     {
         self.begin();
         if !self.pulls.contains(name) {
@@ -90,6 +93,7 @@ impl<S: Store> Replica<S> {
         ensures copied { TellsOfCopy name.now self.old self.new result }
         ensures same { Stays self.old self.new }
         ensures counted { CountsFaults self.old self.new result }
+        ensures called { CallsInFinish name.now self.old.tables self.new result }
     {
         if self.is_incomplete(name) {
             return Err(FolderError::BlocksMissing);
@@ -135,6 +139,7 @@ impl<S: Store> Replica<S> {
         ensures later { FailsLater self.old self.new }
         ensures same { Stays self.old self.new }
         ensures counted { CountsFaults self.old self.new result }
+        ensures called { CallsInFinish name.now self.old.tables self.new result }
     {
         if !self.is_scanned(name, node) {
             return Err(FolderError::Unscanned);
@@ -182,6 +187,7 @@ impl<S: Store> Replica<S> {
         ensures later { FailsLater self.old self.new }
         ensures same { Stays self.old self.new }
         ensures counted { CountsFaults self.old self.new result }
+        ensures called { CallsInFinish name.now self.old.tables self.new result }
     {
         let copy = self.name_of_copy(alloc, name)?;
         let kept = self.is_kept(alloc, &copy, node)?;

@@ -1,10 +1,13 @@
 //! The writes at the end of a pull.
-ghost use Rattle.std.specs.Prelude.{◌≡◌, ◌≢◌, ◌≤◌, ◌↔◌, ⊤, false, IfErr, IsTrue, IsSome, IsErr, OnOk, Some, None};
+ghost use Rattle.std.specs.Prelude.{◌≡◌, ◌≢◌, ◌≤◌, ◌↔◌, ⊤, false, Option, IfErr, IsTrue, IsSome, IsErr, IsErrOf, OnOk, Some, None};
+ghost use Rattle.bep_record.specs.declared.node.NodeParts.{NodeParts};
+ghost use Rattle.bep_folder.specs.Calls.{CallsIf, CallsToWrite};
+ghost use Rattle.bep_folder.specs.Trace.{next_call};
 ghost use Rattle.std.specs.Option.{option_copied};
 ghost use Rattle.std.specs.FinMap as map;
 ghost use Rattle.bep_machine.specs.Pull.{IsFile, IsMissingBlocks, timed};
 ghost use Rattle.bep_record.specs.declared.limits.TheConstants.{MAX_NANOSECONDS};
-ghost use Rattle.bep_folder.specs.Ending.{Stores, WritesAll, WritesTarget, with_copy};
+ghost use Rattle.bep_folder.specs.Ending.{CallsIn, EndsIn, Stores, WritesAll, WritesTarget, with_copy};
 ghost use Rattle.bep_folder.specs.Revert.{after_removal};
 
 use crate::traced::Traced;
@@ -24,7 +27,8 @@ pub(crate) fn write_all<S: Store>(
     requires node { map.get store.old.contents name.now ≡ option_copied node }
     requires kept { IsSome copy → IsSome (option_copied node) }
     requires complete { IsFile pull.now.target → same ≡ false → ¬ IsMissingBlocks pull.now }
-    ensures { WritesAll name.now pull.now same (option_copied copy.entry) (option_copied node.entry) store.old store.new result }
+    ensures writes { WritesAll name.now pull.now same (option_copied copy.entry) (option_copied node.entry) store.old store.new result }
+    ensures called { CallsToWrite same (option_copied node.entry) pull.now (option_copied copy.entry) store.old store.new result }
 {
     match copy {
         None => write_target(store, name, node, pull, same),
@@ -44,6 +48,7 @@ fn write_copy<S: Store>(
     requires { IsSome (option_copied node) }
     ensures ok { OnOk result (store.new ≡ with_copy store.old copy.now (option_copied node.entry)) }
     ensures err { IsErr result → Stores copy.now (option_copied node.entry) ⊤ store.old store.new result }
+    ensures last { IsErrOf result FolderError.StoreFault → store.new.trace.failed ≡ Some store.new.made }
 {
     match node {
         Some(node) => {
@@ -66,7 +71,9 @@ fn write_target<S: Store>(
 ) -> Result<(), FolderError>
     requires node { map.get store.old.contents name.now ≡ option_copied node }
     requires complete { IsFile pull.now.target → same ≡ false → ¬ IsMissingBlocks pull.now }
-    ensures { WritesTarget name.now pull.now same (option_copied node.entry) store.old store.new result }
+    ensures writes { WritesTarget name.now pull.now same (option_copied node.entry) store.old store.new result }
+    ensures called { (after : Option NodeParts) → EndsIn same (option_copied node.entry) pull.now after → CallsIf (CallsIn same (option_copied node.entry) pull.now.target after) store.old.made store.new.made }
+    ensures last { IsErrOf result FolderError.StoreFault → store.new.trace.failed ≡ Some store.new.made }
 {
     let target = pull.target();
     let entry = target.entry();
@@ -81,7 +88,9 @@ fn write_target<S: Store>(
 
 // Gives the name the node.
 fn write_node<S: Store>(store: &mut Traced<S>, name: &Name, node: &Node) -> Result<(), FolderError>
-    ensures { Stores name.now (Some node.now) ⊤ store.old store.new result }
+    ensures stores { Stores name.now (Some node.now) ⊤ store.old store.new result }
+    ensures made { store.new.made ≡ next_call store.old.made }
+    ensures last { IsErrOf result FolderError.StoreFault → store.new.trace.failed ≡ Some store.new.made }
 {
     store.write(name, node)
 }
@@ -95,7 +104,9 @@ fn take_time<S: Store>(
 ) -> Result<(), FolderError>
     requires node { map.get store.old.contents name.now ≡ option_copied node }
     requires nanoseconds { target.now.modified_ns ≤ MAX_NANOSECONDS }
-    ensures { Stores name.now (timed (option_copied node.entry) target.now) (timed (option_copied node.entry) target.now ≢ option_copied node.entry) store.old store.new result }
+    ensures stores { Stores name.now (timed (option_copied node.entry) target.now) (timed (option_copied node.entry) target.now ≢ option_copied node.entry) store.old store.new result }
+    ensures called { CallsIf (timed (option_copied node.entry) target.now ≢ option_copied node.entry) store.old.made store.new.made }
+    ensures last { IsErrOf result FolderError.StoreFault → store.new.trace.failed ≡ Some store.new.made }
 {
     match node {
         Some(node) if !has_time(node, target) => {
@@ -122,6 +133,7 @@ pub(crate) fn remove_node<S: Store>(
     requires node { map.get store.old.contents name.now ≡ option_copied node }
     ensures removed { Stores name.now None (None ≢ option_copied node.entry) store.old store.new result }
     ensures made { store.new.made ≡ after_removal (option_copied node.entry) store.old.made }
+    ensures last { IsErrOf result FolderError.StoreFault → store.new.trace.failed ≡ Some store.new.made }
     ensures only { IfErr result (λ e. e ≡ FolderError.StoreFault) }
 {
     match node {

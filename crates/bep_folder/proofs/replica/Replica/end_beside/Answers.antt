@@ -1,4 +1,4 @@
-use Rattle.std.proofs.Common.{◌<◌, ◌∙◌, length, Option, ap, sym, subst}
+use Rattle.std.proofs.Common.{◌<◌, ◌∙◌, length, Option, inl, refl, ap, sym, subst}
 use Rattle.std.proofs.lemmas.Result.{err_from_is_err_and}
 use Rattle.std.specs.Option.{option_copied}
 use Rattle.bep_record.specs.Name.{max_name_len}
@@ -7,6 +7,7 @@ use Rattle.bep_machine.specs.Replica.{node_at}
 use Rattle.bep_machine.specs.Pull.{IsCopy}
 use Rattle.bep_folder.specs.Held.{Held}
 use Rattle.bep_folder.specs.Trace.{next_call}
+use Rattle.bep_folder.proofs.CallFacts.{ends_copying as calls_copying, ends_without as calls_without, not_kept, not_named}
 use Rattle.bep_folder.proofs.FinishFacts.{Beside, ends_unkept, ends_with_copy, ends_without, kept_there, nothing_there, own_there}
 use Rattle.bep_folder.proofs.replica.Replica.end_beside.Goals as goal
 
@@ -45,3 +46,29 @@ returns-clause-made g c =
     } in
     ends_with_copy c.args.name.now c.in_ok-copy.copy c.args.self.now c.is_kept.new.self c.settle-2.new.self beside c.settle-2.result
     found.1 c.settle-2.ensures.made
+
+pub returns-in_err-copy-clause-called : goal.returns-in_err-copy-clause-called
+returns-in_err-copy-clause-called g c =
+    let error = err_from_is_err_and c.from_residual.result c.from_residual.ensures.1 in
+    rw (error.1, error.2)
+    (not_named c.args.name.now c.args.self.now.tables c.args.self.now c.in_err-copy.field-0.0 c.requires.second c.in_err-copy.ensures.only)
+
+pub returns-in_err-kept-clause-called : goal.returns-in_err-kept-clause-called
+returns-in_err-kept-clause-called g c =
+    let error = err_from_is_err_and c.from_residual-in_err-kept.result c.from_residual-in_err-kept.ensures.1 in
+    rw (error.1, error.2)
+    (not_kept c.args.name.now c.in_ok-copy.copy (option_copied c.args.node) c.args.self.now.tables c.args.self.now c.is_kept.new.self c.in_err-kept.field-0.0 c.requires.second c.in_err-kept.ensures)
+
+pub returns-then-kept-clause-called : goal.returns-then-kept-clause-called
+returns-then-kept-clause-called g c =
+    let found = kept_there c.in_ok-copy.copy (option_copied c.args.node) c.args.self.now c.is_kept.new.self c.in_ok-kept.kept c.if-kept.true c.in_ok-kept.ensures in
+    calls_without c.args.name.now c.args.self.now.tables c.is_kept.new.self c.settle.new.self c.settle.result (ap (λ (h : Held). h.tables) found.0) c.requires.pulled
+    2 (ap (λ (h : Held). h.made) found.0 ∙ ap next_call c.requires.second) (λ pull is. inl (c.requires.due pull is, refl)) c.settle.ensures.changed
+    (ap (λ (h : Held). h.trace.copied) found.0 ∙ c.requires.uncopied) c.settle.ensures.copied c.settle.ensures.called
+
+pub returns-clause-called : goal.returns-clause-called
+returns-clause-called g c =
+    let found = nothing_there c.in_ok-copy.copy (option_copied c.args.node) c.args.self.now c.is_kept.new.self c.in_ok-kept.kept c.if-kept.false c.in_ok-kept.ensures in
+    calls_copying c.args.name.now c.args.self.now.tables c.is_kept.new.self c.settle-2.new.self c.settle-2.result (ap (λ (h : Held). h.tables) found.0) c.requires.pulled
+    2 (ap (λ (h : Held). h.made) found.0 ∙ ap next_call c.requires.second) (λ pull is. inl (c.requires.due pull is, refl)) c.settle-2.ensures.changed
+    c.in_ok-copy.copy c.settle-2.ensures.copied c.settle-2.ensures.called

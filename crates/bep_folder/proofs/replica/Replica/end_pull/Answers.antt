@@ -1,12 +1,15 @@
-use Rattle.std.proofs.Common.{◌≡◌, ◌∙◌, true, ap, subst, arith}
+use Rattle.std.proofs.Common.{◌≡◌, ◌∙◌, Option, true, ap, subst, arith}
 use Rattle.std.proofs.lemmas.Result.{err_from_is_err_and}
+use Rattle.bep_record.specs.declared.node.NodeParts.{NodeParts}
 use Rattle.bep_machine.specs.Local.{Fails}
-use Rattle.bep_machine.specs.Replica.{own_at}
+use Rattle.bep_machine.specs.Replica.{Replica, own_at}
 use Rattle.bep_machine.specs.Pull.{EndingRow}
 use Rattle.bep_folder.specs.Ending.{IsIncomplete, PulledRow}
 use Rattle.bep_folder.specs.Finish.{IfPulled}
 use Rattle.bep_folder.specs.Held.{Held}
 use Rattle.bep_folder.specs.Trace.{next_call}
+use Rattle.bep_folder.specs.Calls.{CallsInFinish}
+use Rattle.bep_folder.proofs.CallFacts.{looked_in_vain}
 use Rattle.bep_folder.proofs.FinishFacts.{ends_read, ends_unread, look_makes}
 use Rattle.bep_folder.proofs.replica.Replica.end_pull.Goals as goal
 
@@ -30,3 +33,13 @@ returns-clause-made g c =
     let one : c.read_node.new.self.made ≡ 1 = ap (λ (h : Held). h.made) looked ∙ ap next_call c.requires.first in
     ends_read name c.args.self.now c.read_node.new.self c.end_with.new.self c.end_with.result (ap (λ (h : Held). h.tables) looked)
     (c.end_with.ensures.later 1 (omega (arith, one))) complete c.end_with.ensures.made
+
+pub returns-in_err-node-clause-called : goal.returns-in_err-node-clause-called
+returns-in_err-node-clause-called g c =
+    let error = err_from_is_err_and c.from_residual.result c.from_residual.ensures.1 in
+    rw (error.1, error.2)
+    (looked_in_vain (Option NodeParts) c.args.name.now c.args.self.now.tables c.args.self.now c.read_node.new.self c.in_err-node.field-0.0 c.in_err-node.ensures.looked)
+
+pub returns-clause-called : goal.returns-clause-called
+returns-clause-called g c =
+    subst (λ (tables : Replica). CallsInFinish c.args.name.now tables c.end_with.new.self c.end_with.result) (ap (λ (h : Held). h.tables) c.in_ok-node.ensures.looked) c.end_with.ensures.called

@@ -1,8 +1,9 @@
-use Rattle.std.proofs.Common.{◌≡◌, IsSome, true, sym, subst}
+use Rattle.std.proofs.Common.{◌≡◌, IsSome, true, inr, refl, sym, subst}
 use Rattle.bep_record.specs.Node.{IsClean}
 use Rattle.bep_machine.specs.Replica.{own_at, node_at}
 use Rattle.bep_machine.specs.Pull.{IsConflictDue}
 use Rattle.bep_folder.specs.Finish.{IfPulled}
+use Rattle.bep_folder.proofs.CallFacts.{ends_without as calls_without}
 use Rattle.bep_folder.proofs.FinishFacts.{ends_copying, ends_plain, file_there}
 use Rattle.bep_folder.proofs.replica.Replica.end_with.Goals as goal
 
@@ -30,3 +31,12 @@ returns-clause-made g c =
     let apart : IfPulled c.args.name.now tables (λ pull. ¬ IsConflictDue (own_at tables c.args.name.now) pull.target) =
     λ pull is due. absurd (let yes : c.needs_copy.result ≡ true = (c.needs_copy.ensures pull is).1 due in let no = c.if-needs_copy.false in cc) in
     ends_plain c.args.name.now c.args.self.now c.settle.new.self c.settle.result c.requires.second clean apart c.settle.ensures.made
+
+pub returns-clause-called : goal.returns-clause-called
+returns-clause-called g c =
+    let tables = c.args.self.now.tables in
+    let name = c.args.name.now in
+    let apart : IfPulled name tables (λ pull. ¬ IsConflictDue (own_at tables name) pull.target) =
+    λ pull is due. absurd (let yes : c.needs_copy.result ≡ true = (c.needs_copy.ensures pull is).1 due in let no = c.if-needs_copy.false in cc) in
+    calls_without name tables c.args.self.now c.settle.new.self c.settle.result refl c.requires.pulled 1 c.requires.second (λ pull is. inr (apart pull is, refl)) c.settle.ensures.changed
+    c.requires.uncopied c.settle.ensures.copied c.settle.ensures.called

@@ -1,9 +1,10 @@
 use Rattle.std.proofs.Common.{◌≡◌, ◌∙◌, true, sym, ap, subst}
 use Rattle.std.specs.Prelude.{IsSome}
-use Rattle.bep_machine.specs.Replica.{pull_at, without_pull}
+use Rattle.bep_machine.specs.Replica.{Replica, pull_at, without_pull}
 use Rattle.bep_machine.specs.Pull.{IsStillWanted}
 use Rattle.bep_folder.specs.Finish.{IfPulled}
 use Rattle.bep_folder.specs.Held.{Held}
+use Rattle.bep_folder.specs.Calls.{CallsInFinish}
 use Rattle.bep_folder.proofs.FinishFacts.{ends_dropped, ends_wanted}
 use Rattle.bep_folder.proofs.replica.Replica.finish.Goals as goal
 
@@ -30,3 +31,7 @@ returns-clause-finished g c =
     ends_wanted name c.args.self.now c.begin.new.self c.end_pull-2.new.self c.end_pull-2.result (ap (λ (h : Held). h.tables) begun) pulled
     (subst (λ (h : Held). IfPulled name h.tables (λ pull. IsStillWanted h.device h.tables name pull.target)) begun wanted)
     c.end_pull-2.ensures.made
+
+pub returns-clause-called : goal.returns-clause-called
+returns-clause-called g c =
+    subst (λ (tables : Replica). CallsInFinish c.args.name.now tables c.end_pull-2.new.self c.end_pull-2.result) (ap (λ (h : Held). h.tables) c.begin.ensures) c.end_pull-2.ensures.called

@@ -1,3 +1,6 @@
+use Rattle.std.proofs.Common.{sym, subst}
+use Rattle.bep_peer.specs.Call.{IsStepped}
+use Rattle.bep_peer.specs.declared.local.Step.{Step}
 use Rattle.bep_peer.specs.declared.local.Step.TheVariants.{Edit, Remove, Pull, Finish, Override, Revert}
 use Rattle.bep_peer.proofs.Steady.{steady_step}
 use Rattle.bep_peer.proofs.local.StepCallMoved.make.Goals as goal
@@ -19,3 +22,12 @@ returns-in-Override-clause-steady g c = steady_step (Override c.in-Override.name
 
 pub returns-in-Revert-clause-steady : goal.returns-in-Revert-clause-steady
 returns-in-Revert-clause-steady g c = steady_step (Revert c.in-Revert.name) _ _ _ c.revert_one.ensures.reverted c.revert_one.ensures.stays c.revert_one.ensures.counted
+
+pub returns-in-Finish-clause-does : goal.returns-in-Finish-clause-does
+returns-in-Finish-clause-does g c =
+    let done : IsStepped (Finish c.in-Finish.name) c.args.replica.now c.finish.new.self c.finish.result = record {
+      made = c.finish.ensures.finished;
+      told = record { copied = c.finish.ensures.copied; kept = c.finish.ensures.kept };
+      unhidden = tt;
+    } in
+    subst (λ (step : Step). IsStepped step c.args.replica.now c.finish.new.self c.finish.result) (sym c.in-Finish.is) done
