@@ -1,6 +1,7 @@
 //! The scenario of two devices, step by step, and what stands in which log.
 use crate::made::{Pair, docs, name, two_devices, within};
-use bep_log::{LogError, LoggedLink, LoggedPeer, Stamped};
+use bep_fit::Stamped;
+use bep_log::{LogError, LoggedLink, LoggedPeer};
 use bep_machine::Moved;
 use bep_record::{DeviceId, Same};
 use bep_store::{FaultStore, MemStore};
