@@ -1,0 +1,4 @@
+pub mod Log
+pub mod Guards
+pub mod Rest
+pub mod Next
