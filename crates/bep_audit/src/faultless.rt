@@ -6,8 +6,8 @@ ghost use Rattle.bep_tables.specs.declared.share.Share.{Share};
 ghost use Rattle.bep_tables.specs.Cut.{tables_of};
 ghost use Rattle.bep_tables.specs.Listed.{listed};
 ghost use Rattle.bep_audit.specs.Group.{IsGroupOf};
-ghost use Rattle.bep_audit.specs.Faultless.{AsksAll, AsksAllHere, AsksAllElsewhere};
-ghost use Rattle.bep_audit.specs.Walk.{FindsLeast};
+ghost use Rattle.bep_audit.specs.inner.Faultless.{AsksAll, AsksAllHere, AsksAllElsewhere};
+ghost use Rattle.bep_audit.specs.inner.Walk.{FindsLeast};
 
 use crate::group::{all_pass, has_known};
 use crate::winner::is_winner_in;

@@ -9,7 +9,7 @@ ghost use Rattle.bep_tables.specs.Listed.{listed};
 ghost use Rattle.bep_audit.specs.declared.firm.FirmVerdict.TheVariants.{Firm};
 ghost use Rattle.bep_audit.specs.Loose.{loose_cmp, loose_shown, firm_shown, asked_by, AsksVersion, AsksEntry, AsksEntries, MeetsFirm, EntriesAreAsked};
 ghost use Rattle.bep_audit.specs.Loose as spec;
-ghost use Rattle.bep_audit.specs.Search.{FindsFirst};
+ghost use Rattle.bep_audit.specs.inner.Search.{FindsFirst};
 
 use crate::loose::{Looseness, precedes};
 use crate::{Certificate, Verdict, check, compare_row, find_row};

@@ -9,9 +9,10 @@ ghost use Rattle.bep_model.specs.Verdict.{number_of};
 ghost use Rattle.bep_tables.specs.Cut.{tables_of, devices_of};
 ghost use Rattle.bep_tables.specs.Listed.{listed};
 ghost use Rattle.bep_audit.specs.Group.{IsGroupOf, AsksAmongGroup};
-ghost use Rattle.bep_audit.specs.Search.{FindsFirst, FindsFailing};
+ghost use Rattle.bep_audit.specs.inner.Search.{FindsFirst, FindsFailing};
 ghost use Rattle.bep_audit.specs.Shown.{place_shown};
-ghost use Rattle.bep_audit.specs.Walk.{FindsLeast, FindsHere, failure_shown};
+ghost use Rattle.bep_audit.specs.Walk.{failure_shown};
+ghost use Rattle.bep_audit.specs.inner.Walk.{FindsLeast, FindsHere};
 
 use crate::checkers::REASONS;
 use crate::failing::unless;

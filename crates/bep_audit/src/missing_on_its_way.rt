@@ -1,5 +1,5 @@
 //! The least name without a row, of those on their way.
-ghost use Rattle.bep_audit.specs.Known.{IsValidOf, Brings, IsOver};
+ghost use Rattle.bep_audit.specs.inner.Known.{IsValidOf, Brings, IsOver};
 
 use crate::least::{HasNames, has_row_if_valid, least_of, lesser};
 use bep_model::Row;

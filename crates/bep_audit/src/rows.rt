@@ -16,6 +16,7 @@ pub struct Certificate {
     rows: Items<Row>,
 }
 
+// By hand: a caller's proof then sees one call where it lets go of one, and not each field (docs/developing.md).
 impl Drop for Certificate {
     fn drop(self) {
         let Certificate { rows: _ } = self;

@@ -30,6 +30,7 @@ pub struct Cluster<S: Store> {
     pub(crate) alloc: Global,
 }
 
+// By hand: a caller's proof then sees one call where it lets go of one, and not each field (docs/developing.md).
 impl<S: Store> Drop for Cluster<S> {
     fn drop(self) {
         let Cluster {

@@ -73,6 +73,7 @@ pub struct DocFault {
     pub name: Option<Name>,
 }
 
+// By hand: a caller's proof then sees one call where it lets go of one, and not each field (docs/developing.md).
 impl Drop for DocFault {
     fn drop(self) {
         let DocFault {

@@ -7,9 +7,9 @@ ghost use Rattle.bep_tables.specs.Cut.{tables_of, shares_of};
 ghost use Rattle.bep_tables.specs.Listed.{IsGrouped, cut_listed, listed};
 ghost use Rattle.bep_audit.specs.Group.{AsksBeside, IsGroupOf};
 ghost use Rattle.bep_audit.specs.Walk.{failure_shown};
-ghost use Rattle.bep_explain.specs.Adding.{AddsFailing, Each};
-ghost use Rattle.bep_explain.specs.Rows.{AreAbout, AreAlike, row_shown};
-ghost use Rattle.bep_explain.specs.Says.{failure_at, AreWon, SaysOrder, AsksOtherBeside, SaysAtRow, SaysBoth};
+ghost use Rattle.bep_explain.specs.inner.Adding.{AddsFailing, Each};
+ghost use Rattle.bep_explain.specs.inner.Rows.{AreAbout, AreAlike, row_shown};
+ghost use Rattle.bep_explain.specs.inner.Says.{failure_at, AreWon, SaysOrder, AsksOtherBeside, SaysAtRow, SaysBoth};
 
 use crate::by_name::about;
 use crate::rows::{NamedRow, alike_at, other_content};

@@ -13,7 +13,7 @@ mod NamesFacts
 mod OverrideFacts
 mod PullFacts
 mod RevertFacts
-mod SettleFacts
+mod AdoptFacts
 mod SoundFacts
 mod StartPullFacts
 mod StoredFacts

@@ -16,6 +16,7 @@ pub struct CutParts {
     pub links: Items<LinkState>,
 }
 
+// By hand: a caller's proof then sees one call where it lets go of one, and not each field (docs/developing.md).
 impl Drop for CutParts {
     fn drop(self) {
         let CutParts {
@@ -35,6 +36,7 @@ pub struct Cut {
     parts: CutParts,
 }
 
+// By hand: a caller's proof then sees one call where it lets go of one, and not each field (docs/developing.md).
 impl Drop for Cut {
     fn drop(self) {
         let Cut { parts: _ } = self;

@@ -6,7 +6,7 @@ ghost use Rattle.std.specs.Cmp.Rules.{comparing};
 ghost use Rattle.std.proofs.Common.{rules};
 ghost use Rattle.bep_model.specs.Settled.{key_cmp};
 ghost use Rattle.bep_tables.specs.Listed.{listed, key_at};
-ghost use Rattle.bep_tables.specs.TableOrder.{entry_cmp, entry_total};
+ghost use Rattle.bep_tables.specs.inner.TableOrder.{entry_cmp, entry_total};
 
 use bep_record::{DeviceId, FolderName, Name, Node, Record};
 use std::cmp::Ordering;
