@@ -25,7 +25,7 @@ pub struct Failure<'a> {
 }
 
 impl<'a> Failure<'a> {
-    /// How two failures stand: by reason, then by folder, name and device.
+    /// How two failures compare: by reason, then by folder, name and device.
     pub fn compare(&self, other: &Failure<'_>) -> Ordering
         ensures { result ≡ failure_cmp (failure_shown self.now) (failure_shown other.now) }
     {

@@ -26,7 +26,7 @@ use bep_model::{Reason, Row, reasons_are_numbered};
 use bep_record::{DeviceId, FolderName, Name};
 use bep_tables::{Cut, Share, TableEntry, cut_says, entries_are_held};
 
-/// The least failure at the name, whose entries these are and whose rows these, one or none.
+/// The least failure at a name. These are its entries and its rows, one or none.
 pub(crate) fn failure_at<'a>(
     cut: &'a Cut,
     group: &[TableEntry<'a>],

@@ -13,7 +13,7 @@ use bep_record::{FolderName, Name, Node};
 use bep_store::Store;
 use std::alloc::Global;
 
-// The device looks at the name and records what it finds. As nothing comes between, what it found stands there still.
+// The device looks at the name and records what it finds. Nothing comes between, so what it found still stands there.
 pub(crate) fn scan_at<S: Store>(
     alloc: Global,
     peer: &mut Peer<S>,

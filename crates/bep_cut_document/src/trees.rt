@@ -27,7 +27,7 @@ pub(crate) trait Written {
     /// What is written of it.
     ghost tree_of: { Self → Data };
 
-    /// That this is read again, where it is in range.
+    /// This is read again, if it is in range: a law.
     ghost is_told: { Self → Type 0 };
 
     /// That its records and nodes are ones.
@@ -102,7 +102,7 @@ fn name_of_kind(kind: FolderKind) -> &'static str
     }
 }
 
-// That numbers, devices, index ids and folder names are read again.
+// Numbers, devices, index ids and folder names are read again: a law, which does nothing when it runs.
 fn number_is_told(number: u64)
     ensures { Says is_whole (read_number 0 greatest_id) number (whole number) }
 {}

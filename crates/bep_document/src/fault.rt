@@ -161,7 +161,7 @@ impl DocFault {
         })
     }
 
-    /// Whether the fault is at some place, rather than of the whole document.
+    /// Whether the fault is at some place and not of the whole document.
     pub fn has_place(&self) -> bool
         ensures { result ≡ has_place self.now.fault }
     {

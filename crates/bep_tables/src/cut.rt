@@ -59,8 +59,8 @@ impl Model for Cut {
 }
 
 impl Cut {
-    /// The cut of these parts. The caller sees to it that they are those of one: all that is said of a cut above holds of
-    /// them.
+    /// The cut of these parts. The caller sees to it that they are the parts of a cut: all that is said of a cut above
+    /// holds of them.
     pub fn of(parts: CutParts) -> Self
         requires { IsCut parts }
         ensures { result ≡ parts }
@@ -84,7 +84,7 @@ impl Cut {
         self.parts.links.as_slice()
     }
 
-    /// What each device has that shares the folder, devices rising; nothing where there is no such folder.
+    /// What each device that shares the folder has of it, devices rising; nothing if there is no such folder.
     pub fn shares(&self, folder: &FolderName) -> &[Share]
         ensures value { result.now ≡ shares_of folder.now self.now.folders }
         ensures a_cut { IsCut self.now }

@@ -45,7 +45,7 @@ Brings folder name flight = (flight.folder ≡ folder) × HasValidOf name flight
 abbrev pub IsBroughtBy : Folder → FileName → List Flight → Type 0
 IsBroughtBy folder name flights = (flight : Flight) × Contains flights flight × Brings folder name flight
 
--- a message on its way over the link does, one way or the other
+-- a message on its way over the link has such a record, one way or the other
 abbrev pub IsOver : Folder → FileName → LinkState → Type 0
 IsOver folder name link = IsBroughtBy folder name link.to_a ⊎ IsBroughtBy folder name link.to_b
 

@@ -8,7 +8,7 @@ use Rattle.bep_model.specs.declared.reason.Reason.{Reason}
 use Rattle.bep_model.specs.Tables.{Tables}
 use Rattle.bep_model.specs.Reasons.{Place, place_cmp, Asks}
 
--- it doesn't hold here, but of all that comes before in the order
+-- it doesn't hold here, and it holds of all that comes before in the order
 pub record FailsFirst {X : Type 0} (cmp : X → X → Ordering) (Holds : X → Type 0) (here : X) : Type 0 where
   pub fails : ¬ Holds here
   pub before : (earlier : X) → cmp earlier here ≡ Less → Holds earlier

@@ -49,7 +49,7 @@ pub struct TableEntry<'a> {
 }
 
 impl<'a> TableEntry<'a> {
-    /// How the entry's folder and name stand to these.
+    /// How the entry's folder and name compare with these.
     pub fn compare(&self, folder: &FolderName, name: &Name) -> Ordering
         ensures { result ≡ key_cmp (key_at (listed self.now)) (folder.now, name.now) }
     {
