@@ -1,5 +1,5 @@
 -- The walk along a cut's names, as the code makes it (this project's profile).
-use Rattle.std.specs.Prelude.{◌≡◌, ℕ, ◌+◌, Bool, true, false, nat_lt, List, ◌∷◌, Option, Some, None, if◌then◌else◌}
+use Rattle.std.specs.Prelude.{[], ◌≡◌, ℕ, ◌+◌, Bool, true, false, nat_lt, List, ◌∷◌, Option, Some, None, if◌then◌else◌}
 use Rattle.std.specs.Ordering.{is_lt, is_eq}
 use Rattle.std.specs.Borrow.{Bor}
 use Rattle.bep_model.specs.declared.row.Row.{Row}

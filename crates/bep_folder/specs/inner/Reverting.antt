@@ -1,5 +1,5 @@
 -- What a revert does to index and store (Syncthing, 'Folder Types', in this project's profile).
-use Rattle.std.specs.Prelude.{◌≡◌, ◌⊎◌, ◌<◌, ℕ, Option, Some, None, Result, Ok, Err, IsSome}
+use Rattle.std.specs.Prelude.{[], ◌≡◌, ◌⊎◌, ◌<◌, ℕ, Option, Some, None, Result, Ok, Err, IsSome}
 use Rattle.std.specs.FinMap.{get, remove}
 use Rattle.bep_record.specs.declared.entry.Entry.{Entry}
 use Rattle.bep_record.specs.declared.node.NodeParts.{NodeParts}
