@@ -52,7 +52,7 @@ pub(crate) fn copy_of<'a>(one: &Failure<'a>) -> Failure<'a>
     }
 }
 
-// That the reason fails at the row's name as a whole.
+// The failure of the reason at the row's name as a whole.
 fn at_row<'a>(reason: Reason, row: &'a Row) -> Failure<'a>
     ensures { failure_shown result ≡ failure_at reason (key_of row.now) None }
 {
@@ -257,7 +257,7 @@ fn meets_both(
         && meets_other(reason, other, group, device, own, node)
 }
 
-// Whether it does beside the other row, if there is one.
+// Whether the device meets it beside the other row, if there is one.
 fn meets_other(
     reason: Reason,
     other: Option<&Row>,

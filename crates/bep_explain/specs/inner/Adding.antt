@@ -1,7 +1,7 @@
--- Adding to a list those of which something doesn't hold.
+-- Adding to a list what doesn't hold.
 use Rattle.std.specs.Prelude.{◌⊎◌, List, Contains}
 
--- to the list come those, and no others, of which this doesn't hold
+-- those of which this doesn't hold are added to the list, and no others
 pub record AddsFailing {X : Type 0} (Holds : X → Type 0) (old new : List X) : Type 0 where
   pub keeps : (one : X) → Contains old one → Contains new one
   pub fails : (one : X) → Contains new one → Contains old one ⊎ (¬ Holds one)
