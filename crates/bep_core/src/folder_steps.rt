@@ -10,7 +10,7 @@ ghost use Rattle.bep_peer.specs.declared.error.PeerError.TheVariants.{Stale};
 ghost use Rattle.bep_peer.specs.network.Network.{cluster_of, failed_at, is_number};
 ghost use Rattle.bep_core.specs.Counts.{IsCounted};
 ghost use Rattle.bep_core.specs.Unhidden.{HidesNone, TestsWithin};
-ghost use Rattle.bep_core.specs.Within.{row_of, step_of};
+ghost use Rattle.bep_core.specs.inner.Within.{row_of, step_of};
 ghost use Rattle.bep_core.specs.Why.{Gives, answer_of};
 
 use crate::{Cluster, Why};

@@ -14,7 +14,7 @@ mod OverrideFacts
 mod PullFacts
 mod RevertFacts
 mod ScanFacts
-mod SettleFacts
+mod AdoptFacts
 mod SoundFacts
 mod StartPullFacts
 mod StoredFacts

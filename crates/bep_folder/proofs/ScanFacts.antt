@@ -14,7 +14,8 @@ use Rattle.bep_machine.specs.Answer.{Answer}
 use Rattle.bep_machine.specs.declared.moved.Moved.{Moved}
 use Rattle.bep_machine.specs.Local.{ScanRow}
 use Rattle.bep_machine.specs.Replica.{Replica, node_at}
-use Rattle.bep_folder.specs.Commit.{CanRaise, Commits, IsNotPut, Records}
+use Rattle.bep_folder.specs.Commit.{Commits}
+use Rattle.bep_folder.specs.inner.Found.{CanRaise, IsNotPut, Records}
 use Rattle.bep_folder.specs.declared.error.FolderError.{FolderError}
 use Rattle.bep_folder.specs.declared.error.FolderError.TheVariants as errors
 use Rattle.bep_folder.specs.FolderError.{of_index}

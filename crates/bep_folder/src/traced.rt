@@ -23,6 +23,7 @@ pub(crate) struct Traced<S: Store> {
     copied: bool,
 }
 
+// By hand: a caller's proof then sees one call where it lets go of one, and not each field (docs/developing.md).
 impl<S: Store> Drop for Traced<S> {
     fn drop(self) {
         let Traced {

@@ -29,6 +29,7 @@ pub struct Index {
     alloc: Global,
 }
 
+// By hand: a caller's proof then sees one call where it lets go of one, and not each field (docs/developing.md).
 impl Drop for Index {
     fn drop(self) {
         let Index {

@@ -6,9 +6,9 @@ use Rattle.bep_machine.specs.Replica.{Replica}
 use Rattle.bep_folder.specs.declared.error.FolderError.{FolderError}
 use Rattle.bep_folder.specs.Held.{Held}
 use Rattle.bep_folder.specs.Makes.{Makes, Stays, CountsFaults}
-use Rattle.bep_peer.specs.Call.{IsSteady, row_of}
-use Rattle.bep_peer.specs.declared.local.Step.{Step}
-use Rattle.bep_peer.specs.declared.local.Step.TheVariants.{Edit, Remove, Scan, Pull, Finish, Override, Revert}
+use Rattle.bep_peer.specs.inner.Call.{IsSteady, row_of}
+use Rattle.bep_peer.specs.declared.within.steps.Step.{Step}
+use Rattle.bep_peer.specs.declared.within.steps.Step.TheVariants.{Edit, Remove, Scan, Pull, Finish, Override, Revert}
 use Rattle.bep_peer.proofs.OthersKept.{makes_keeps}
 use Rattle.bep_peer.proofs.Refusals.{of_step}
 use Rattle.bep_peer.proofs.RowsKeep.{Keeps, edit_keeps, remove_keeps, scan_keeps, start_keeps, finish_keeps, override_keeps, revert_keeps}

@@ -16,6 +16,7 @@ pub struct MemStore {
     alloc: Global,
 }
 
+// By hand: a caller's proof then sees one call where it lets go of one, and not each field (docs/developing.md).
 impl Drop for MemStore {
     fn drop(self) {
         let MemStore { nodes: _, alloc: _ } = self;

@@ -62,8 +62,8 @@ pub trait Store: Drop {
         None
     }
 
-    /// How often the store has failed; 18446744073709551615 where it was more often than that. And what each store holds
-    /// are nodes: this is the one call that changes no store, so a store says it here.
+    /// How often the store has failed, at most 18446744073709551615. It also says that all that the store holds are
+    /// nodes, since it is the one call that changes no store.
     fn faults(&self) -> u64
         ensures count { result ≡ min (faults self.now) u64.MAX }
         ensures nodes { AreNodes (contents self.now) };

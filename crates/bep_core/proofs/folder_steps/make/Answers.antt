@@ -7,7 +7,7 @@ use Rattle.bep_peer.specs.PeerError.{Gives}
 use Rattle.bep_peer.specs.Unhidden.{IsUnrefusedWithin}
 use Rattle.bep_peer.specs.Within.{StepWithin}
 use Rattle.bep_core.specs.Unhidden.{TestsWithin}
-use Rattle.bep_core.specs.Within.{row_of}
+use Rattle.bep_core.specs.inner.Within.{row_of}
 use Rattle.bep_core.specs.declared.folder_steps.Within.{Within}
 use Rattle.bep_core.proofs.folder_steps.make.Goals as goal
 
