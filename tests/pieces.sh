@@ -61,7 +61,7 @@ letters() {
   printf "n%.0s" $(seq "$1")
 }
 
-for part in documents records lists cuts choices; do
+for part in documents records lists cuts choices differing; do
   # shellcheck source=/dev/null
   source "tests/pieces/$part.sh"
 done

@@ -11,7 +11,7 @@ ghost use Rattle.bep_json.specs.Written.{whole, list_of, record_written};
 ghost use Rattle.bep_cut_document.specs.Trees.{name_of_kind, records_tree, nodes_tree, view_tree, share_tree, folder_tree, flight_tree, link_tree, row_tree};
 ghost use Rattle.bep_record.specs.Entry.{IsWellFormed};
 ghost use Rattle.bep_cut_document.specs.inner.Sound.{AreRecords, AreNodes, IsViewSound, IsShareSound, IsFolderSound, IsFlightSound, IsLinkSound};
-ghost use Rattle.bep_cut_document.specs.Told.{IsRecordTold, IsNodeTold, IsViewTold, IsShareTold, IsFolderTold, IsFlightTold, IsLinkTold, IsRowTold};
+ghost use Rattle.bep_cut_document.specs.inner.Told.{IsRecordTold, IsNodeTold, IsViewTold, IsShareTold, IsFolderTold, IsFlightTold, IsLinkTold, IsRowTold};
 
 use bep_index::IndexId;
 use bep_json::{Members, node_value, record_value, texts_are_told};

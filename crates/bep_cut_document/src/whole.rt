@@ -4,7 +4,8 @@ ghost use Rattle.serde_json.specs.View.{view};
 ghost use Rattle.bep_json.specs.Written.{list_of};
 ghost use Rattle.bep_document.specs.Reading.{Read, most_bytes};
 ghost use Rattle.bep_cut_document.specs.Trees.{folder_tree, link_tree, cut_tree, row_tree, check_tree, check_document_text};
-ghost use Rattle.bep_cut_document.specs.Told.{IsCutTold, AreRowsInRange};
+ghost use Rattle.bep_cut_document.specs.Told.{AreRowsInRange};
+ghost use Rattle.bep_cut_document.specs.inner.Told.{IsCutTold};
 ghost use Rattle.bep_cut_document.specs.Written.{check_of, check_of_tree};
 
 use crate::trees::list_tree;

@@ -1,13 +1,15 @@
 //! Copies of devices and links with their logs: plain data, which no call changes.
-ghost use Rattle.std.specs.Prelude.{◌≡◌, ◌⊎◌, IfOk, IfErr};
+ghost use Rattle.std.specs.Prelude.{◌≡◌, ◌⊎◌, ◌↔◌, IfOk, IfErr, IsErrOf, IsSome};
 ghost use Rattle.bep_log.specs.Copies.{IsCopied};
 ghost use Rattle.bep_log.specs.declared.error.LogError.TheVariants.{Memory, Refused};
 ghost use Rattle.bep_machine.specs.declared.refusal.Refusal.TheVariants.{StoreFault};
+ghost use Rattle.bep_peer.specs.Copied.{member_copied};
 ghost use Rattle.bep_peer.specs.Member.{Remains, tables_of};
 
 use crate::history::History;
 use crate::{LogError, LoggedLink, LoggedPeer};
 use bep_fit::Stamped;
+use bep_peer::Peer;
 use bep_store::{MemStore, Store};
 use std::alloc::{AllocError, Global};
 use std::marker::Model;
@@ -88,8 +90,8 @@ impl LinkCopy {
 }
 
 impl<S: Store> LoggedPeer<S> {
-    /// A copy of the device with its log. Refuses `StoreFault` where a store fails to list its names or to read one; else only
-    /// for want of memory. It is no step, and leaves device, base and log as they are.
+    /// A copy of the device with its log. Refuses `StoreFault` exactly where a store of the device fails to list its names or
+    /// to read one; else only for want of memory. It is no step, and leaves device, base and log as they are.
     pub fn copy(&mut self) -> Result<PeerCopy, LogError>
         ensures copied { IfOk result (IsCopied self.old) }
         ensures same { tables_of self.new.now ≡ tables_of self.old.now }
@@ -97,9 +99,10 @@ impl<S: Store> LoggedPeer<S> {
         ensures base { tables_of self.new.base ≡ tables_of self.old.base }
         ensures log { self.new ≡ record self.old { now = self.new.now; base = self.new.base } }
         ensures only { IfErr result (λ e. (e ≡ Refused StoreFault) ⊎ (e ≡ Memory)) }
+        ensures fault { IsErrOf result (Refused StoreFault) ↔ IsSome self.new.now.trace.failed }
     {
         let peer = self.peer.copy_out()?;
-        let base = self.base.copy_out()?;
+        let base = copy_base(&mut self.base)?;
         let history = copy_of(self.alloc, &self.history)?;
         Ok(PeerCopy {
             logged: LoggedPeer {
@@ -128,6 +131,19 @@ impl LoggedLink {
                 alloc: self.alloc,
             },
         })
+    }
+}
+
+// A copy of a base, or want of memory: its stores are in memory, and never fail.
+fn copy_base(base: &mut Peer<MemStore>) -> Result<Peer<MemStore>, AllocError>
+    ensures copied { IfOk result (λ copy. copy ≡ member_copied base.old) }
+    ensures tables { IfOk result (λ copy. tables_of copy ≡ tables_of base.old) }
+    ensures same { tables_of base.new ≡ tables_of base.old }
+    ensures rest { Remains base.old base.new }
+{
+    match base.copy_out() {
+        Ok(copy) => Ok(copy),
+        Err(_) => Err(AllocError),
     }
 }
 

@@ -1,5 +1,5 @@
 //! A link with its log.
-ghost use Rattle.std.specs.Prelude.{◌≡◌, [], IfOk};
+ghost use Rattle.std.specs.Prelude.{◌≡◌, [], IfOk, OnOk, OnErr};
 ghost use Rattle.bep_log.specs.History.{IsHistory};
 ghost use Rattle.bep_log.specs.LoggedLink.{IsLinkReplayed, LinkLogs};
 ghost use Rattle.bep_machine.specs.declared.step.Step.TheVariants as Step;
@@ -107,6 +107,17 @@ impl LoggedLink {
         ensures { IsLinkReplayed self.now.now self.now.base self.now.log }
     {
         self.history.last();
+    }
+
+    /// The link as it is becomes its base, and its log is empty, in this round. The last ticket stays. It fails only for want
+    /// of memory, and nothing changed then.
+    pub fn rebase(&mut self, round: u64) -> Result<(), AllocError>
+        ensures rebased { OnOk result (self.new ≡ record self.old { base = self.old.now; log = []; round = round }) }
+        ensures err { OnErr result (self.new ≡ self.old) }
+    {
+        self.base = self.link.copy(self.alloc)?;
+        self.history.restart(round);
+        Ok(())
     }
 
     /// The link comes up, as `Link::connect` does, under a ticket. Refuses `TicketOld` where the ticket isn't above the last

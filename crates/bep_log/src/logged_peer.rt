@@ -1,5 +1,5 @@
 //! A device with its log.
-ghost use Rattle.std.specs.Prelude.{◌≡◌, ◌⊎◌, IfOk, IfErr, OnOk, OnErr};
+ghost use Rattle.std.specs.Prelude.{◌≡◌, ◌⊎◌, ◌↔◌, IfOk, IfErr, IsErrOf, IsSome, OnOk, OnErr};
 ghost use Rattle.bep_log.specs.History.{IsHistory};
 ghost use Rattle.bep_log.specs.LoggedPeer.{IsBegun, IsRebased, IsReplayed, LoggedMember};
 ghost use Rattle.bep_log.specs.declared.error.LogError.TheVariants.{Memory, Refused};
@@ -121,13 +121,14 @@ impl<S: Store> LoggedPeer<S> {
     }
 
     /// The device as it is becomes its base, and its log is empty, in this round. The last ticket stays. Refuses
-    /// `StoreFault` where a store fails to list its names or to read one; else only for want of memory. After an error
-    /// nothing changed.
+    /// `StoreFault` exactly where a store fails to list its names or to read one; else only for want of memory. After an
+    /// error nothing changed.
     pub fn rebase(&mut self, round: u64) -> Result<(), LogError>
         ensures rebased { OnOk result (IsRebased round self.old self.new) }
         ensures same { tables_of self.new.now ≡ tables_of self.old.now }
         ensures rest { Remains self.old.now self.new.now }
         ensures only { IfErr result (λ e. (e ≡ Refused StoreFault) ⊎ (e ≡ Memory)) }
+        ensures fault { IsErrOf result (Refused StoreFault) ↔ IsSome self.new.now.trace.failed }
         ensures err { OnErr result (self.new ≡ record self.old { now = self.new.now }) }
     {
         self.base = self.peer.copy_out()?;

@@ -1,5 +1,5 @@
 //! The end of a pull that keeps a conflict copy and then fails.
-use crate::made::{Pair, two_devices};
+use crate::made::{Pair, number, two_devices};
 use crate::scenario::made;
 use std::alloc::Global;
 
@@ -13,10 +13,7 @@ const STEPS: [&str; 15] = [
 type Ended = (Option<u32>, u64, bool, Option<u32>);
 
 fn ended(alloc: Global, pair: &mut Pair, ticket: u64) -> Option<Ended> {
-    let number = match made(alloc, pair, ticket, "f2")? {
-        Ok(_) => None,
-        Err(error) => error.number(),
-    };
+    let number = number(made(alloc, pair, ticket, "f2")?);
     let last = pair.second.log().last()?;
     Some((number, last.ticket, last.event.kept, last.event.failed))
 }

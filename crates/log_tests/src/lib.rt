@@ -8,4 +8,8 @@ mod full;
 #[cfg(test)]
 mod made;
 #[cfg(test)]
+mod rebasing;
+#[cfg(test)]
+mod restarting;
+#[cfg(test)]
 mod scenario;

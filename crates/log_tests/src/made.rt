@@ -40,23 +40,25 @@ pub(crate) fn file(alloc: Global, bytes: &[u8], modified_s: i64) -> Option<Node>
     Node::read(parts).ok()
 }
 
-fn only(alloc: Global, device: u64) -> Option<Vec<DeviceId>> {
+fn devices(alloc: Global, numbers: &[u64]) -> Option<Vec<DeviceId>> {
     let mut devices = Vec::new(alloc);
-    devices.push(DeviceId::read(device)?).ok()?;
+    for number in numbers {
+        devices.push(DeviceId::read(*number)?).ok()?;
+    }
     Some(devices)
 }
 
-// The device's part of the folder, which it shares with the other one; this call of its store fails, or none for 0.
+// The device's part of the folder, which it shares with the others; this call of its store fails, or none for 0.
 fn replica(
     alloc: Global,
     device: u64,
-    other: u64,
+    others: &[u64],
     call: u64,
 ) -> Option<Replica<FaultStore<MemStore>>> {
     let store = FaultStore::new(MemStore::new(alloc), call);
     let number = DeviceId::read(device)?;
     let id = IndexId::read(device)?;
-    let others = only(alloc, other)?;
+    let others = devices(alloc, others)?;
     let docs = docs(alloc)?;
     Replica::new(
         alloc,
@@ -69,31 +71,45 @@ fn replica(
     )
 }
 
-fn peer(
+/// The device as it begins, with an empty log, linked with the others, with which it shares the folder; this call of its store
+/// fails, or none for 0. The copy of the device that is its base takes the first call.
+pub(crate) fn peer(
     alloc: Global,
     device: u64,
-    other: u64,
+    others: &[u64],
     call: u64,
 ) -> Option<LoggedPeer<FaultStore<MemStore>>> {
     let mut folders = FolderMap::new(alloc);
     folders
-        .insert(docs(alloc)?, replica(alloc, device, other, call)?)
+        .insert(docs(alloc)?, replica(alloc, device, others, call)?)
         .ok()?;
-    let linked = only(alloc, other)?;
+    let linked = devices(alloc, others)?;
     let peer = Peer::new(alloc, DeviceId::read(device)?, folders, linked)?;
     LoggedPeer::new(alloc, peer).ok()
 }
 
-/// The two devices as they begin, with empty logs; this call of the store of each fails, or none for 0. The copy of a device
-/// that is its base takes its store's first call.
+/// The link between the two, as it begins, with an empty log.
+pub(crate) fn link(alloc: Global, lower: u64, upper: u64) -> Option<LoggedLink> {
+    let link = Link::new(alloc, DeviceId::read(lower)?, DeviceId::read(upper)?)?;
+    LoggedLink::new(alloc, link).ok()
+}
+
+/// The two devices as they begin; this call of the store of each fails, or none for 0.
 pub(crate) fn two_devices(alloc: Global, calls: [u64; 2]) -> Option<Pair> {
     let [first, second] = calls;
-    let link = Link::new(alloc, DeviceId::read(1)?, DeviceId::read(2)?)?;
     Some(Pair {
-        first: peer(alloc, 1, 2, first)?,
-        second: peer(alloc, 2, 1, second)?,
-        link: LoggedLink::new(alloc, link).ok()?,
+        first: peer(alloc, 1, &[2], first)?,
+        second: peer(alloc, 2, &[1], second)?,
+        link: link(alloc, 1, 2)?,
     })
+}
+
+/// The number of a refusal.
+pub(crate) fn number<T: Drop>(answer: Result<T, LogError>) -> Option<u32> {
+    match answer {
+        Ok(_) => None,
+        Err(error) => error.number(),
+    }
 }
 
 /// What a device does in its folder: a letter, and that of a name.

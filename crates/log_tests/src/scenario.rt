@@ -1,8 +1,9 @@
 //! The scenario of two devices, step by step, and what stands in which log.
-use crate::made::{Pair, docs, name, two_devices, within};
-use bep_log::{LogError, LoggedLink, LoggedPeer, Stamped};
+use crate::made::{Pair, docs, name, number, two_devices, within};
+use bep_fit::Stamped;
+use bep_log::{LogError, LoggedLink, LoggedPeer};
 use bep_machine::Moved;
-use bep_record::{DeviceId, Same};
+use bep_record::Same;
 use bep_store::{FaultStore, MemStore};
 use std::alloc::Global;
 
@@ -66,11 +67,11 @@ pub(crate) fn made(
     }
 }
 
-// Whether the log has these tickets as far as they are at most `last`, and no others.
-fn has(log: &[Stamped], due: &[u64], last: u64) -> bool {
+// Whether the log has those of these tickets that are above `after` and at most `last`, and no others.
+fn has(log: &[Stamped], due: &[u64], after: u64, last: u64) -> bool {
     let mut place = 0usize;
     for ticket in due {
-        if *ticket <= last {
+        if after < *ticket && *ticket <= last {
             match log.get(place) {
                 Some(one) if one.ticket == *ticket => place = place.saturating_add(1),
                 _ => return false,
@@ -80,23 +81,34 @@ fn has(log: &[Stamped], due: &[u64], last: u64) -> bool {
     place == log.len()
 }
 
-fn all_have(pair: &Pair, last: u64) -> bool {
-    has(pair.first.log(), &FIRST, last)
-        && has(pair.second.log(), &SECOND, last)
-        && has(pair.link.log(), &LINK, last)
+/// Whether the three logs have the events of the steps that touch them, of those after `after` and up to `last`, and no others.
+pub(crate) fn all_have(pair: &Pair, after: u64, last: u64) -> bool {
+    has(pair.first.log(), &FIRST, after, last)
+        && has(pair.second.log(), &SECOND, after, last)
+        && has(pair.link.log(), &LINK, after, last)
+}
+
+/// Makes the steps after `after` and up to `last`, and answers the number of the last one's refusal.
+pub(crate) fn play(alloc: Global, pair: &mut Pair, after: u64, last: u64) -> Option<Option<u32>> {
+    let mut ticket = 0u64;
+    let mut refused = None;
+    for step in STEPS {
+        ticket = ticket.saturating_add(1);
+        if after < ticket && ticket <= last {
+            refused = number(made(alloc, pair, ticket, step)?);
+        }
+    }
+    Some(refused)
 }
 
 // After how many of the steps the logs were right, and the number of the last refusal.
 fn story(alloc: Global, pair: &mut Pair) -> Option<(u64, Option<u32>)> {
-    let (mut ticket, mut right) = (0u64, 0u64);
+    let mut right = 0u64;
     let mut refused = None;
-    for step in STEPS {
-        ticket = ticket.saturating_add(1);
-        refused = match made(alloc, pair, ticket, step)? {
-            Ok(_) => None,
-            Err(error) => error.number(),
-        };
-        if all_have(pair, ticket) {
+    for after in 0..15u64 {
+        let last = after.saturating_add(1);
+        refused = play(alloc, pair, after, last)?;
+        if all_have(pair, 0, last) {
             right = right.saturating_add(1);
         }
     }
@@ -136,10 +148,7 @@ fn old(alloc: Global, pair: &mut Pair) -> Option<([Option<u32>; 3], (usize, usiz
         if place == 1 {
             within(alloc, &mut pair.first, 7, b'e', b'h')?.ok()?;
         }
-        numbers[place] = match pair.first.begin(ticket, &mut pair.link) {
-            Ok(_) => None,
-            Err(error) => error.number(),
-        };
+        numbers[place] = number(pair.first.begin(ticket, &mut pair.link));
     }
     Some((numbers, (pair.first.log().len(), pair.link.log().len())))
 }
@@ -160,36 +169,12 @@ fn copied(alloc: Global) -> Option<(bool, bool)> {
     let device = pair.first.copy().ok()?;
     let link = pair.link.copy().ok()?;
     Some((
-        has(device.logged().log(), &FIRST, 15),
-        has(link.logged().log(), &LINK, 15),
+        has(device.logged().log(), &FIRST, 0, 15),
+        has(link.logged().log(), &LINK, 0, 15),
     ))
 }
 
 #[test]
 fn a_copy_has_the_log(rt: HostRuntime) {
     assert_eq!(rt; copied(rt.alloc()), Some((true, true)));
-}
-
-// What restarts leave of the link, which is up first and down then, and the refusal of a device that is at no end.
-fn restarted(pair: &mut Pair) -> Option<(bool, usize, usize, Option<u32>)> {
-    pair.link.connect(1).ok()?;
-    let device = DeviceId::read(1)?;
-    for ticket in [2u64, 3] {
-        pair.first.restart(ticket).ok()?;
-        pair.link.restart(ticket, device).ok()?;
-    }
-    let refused = match pair.link.restart(4, DeviceId::read(9)?) {
-        Ok(()) => None,
-        Err(error) => error.number(),
-    };
-    let up = pair.link.link().is_up();
-    Some((up, pair.first.log().len(), pair.link.log().len(), refused))
-}
-
-#[test]
-fn a_restart_is_logged_by_a_link_that_is_up_and_by_one_that_is_down(rt: HostRuntime) {
-    let Some(mut pair) = two_devices(rt.alloc(), [0, 0]) else {
-        panic!(rt; "no pair");
-    };
-    assert_eq!(rt; restarted(&mut pair), Some((false, 2, 3, Some(162))));
 }

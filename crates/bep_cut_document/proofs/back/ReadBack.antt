@@ -21,7 +21,8 @@ use Rattle.bep_document.specs.read.Folders.{is_row, read_row}
 use Rattle.bep_tables.specs.declared.cut.CutParts.{CutParts}
 use Rattle.bep_tables.specs.Cut.{IsCut}
 use Rattle.bep_cut_document.specs.inner.Sound.{IsFolderSound, IsLinkSound}
-use Rattle.bep_cut_document.specs.Told.{folder_parts, link_parts, row_parts, parts_of, AreRowsInRange, IsFolderTold, IsLinkTold, IsRowTold, IsCutTold}
+use Rattle.bep_cut_document.specs.Told.{AreRowsInRange}
+use Rattle.bep_cut_document.specs.inner.Told.{folder_parts, link_parts, row_parts, parts_of, IsFolderTold, IsLinkTold, IsRowTold, IsCutTold}
 use Rattle.bep_cut_document.specs.Trees.{cut_tree, row_tree, check_tree}
 use Rattle.bep_cut_document.specs.Written.{row_written, cut_written, cut_of_tree, check_of_tree}
 use Rattle.bep_cut_document.proofs.RangeTold.{IsReadAgain, cut_says}

@@ -1,0 +1,4 @@
+pub mod NextFacts
+pub mod Walking
+pub mod ListDone
+pub mod WalkLists

@@ -1,0 +1,89 @@
+//! A device that starts again under one ticket: it, its link that is up, and its link that is down.
+use crate::made::{link, number, peer};
+use bep_fit::Stamped;
+use bep_log::{LoggedLink, LoggedPeer};
+use bep_machine::Step;
+use bep_record::{DeviceId, Same};
+use bep_store::{FaultStore, MemStore};
+use std::alloc::Global;
+
+// The first of three devices, and its links with the second and the third.
+#[derive(Drop)]
+struct Hub {
+    device: LoggedPeer<FaultStore<MemStore>>,
+    up: LoggedLink,
+    down: LoggedLink,
+}
+
+// The first link comes up, and a session begins over it; then the device starts again, and both links with it.
+fn restarted(alloc: Global) -> Option<Hub> {
+    let mut hub = Hub {
+        device: peer(alloc, 1, &[2, 3], 0)?,
+        up: link(alloc, 1, 2)?,
+        down: link(alloc, 1, 3)?,
+    };
+    let device = DeviceId::read(1)?;
+    hub.up.connect(1).ok()?;
+    hub.device.begin(2, &mut hub.up).ok()?;
+    hub.device.restart(3).ok()?;
+    hub.up.restart(3, device).ok()?;
+    hub.down.restart(3, device).ok()?;
+    Some(hub)
+}
+
+// Whether the last event of the log is the device's restart under the ticket; and how many events the log has.
+fn ended(log: &[Stamped], device: u64, ticket: u64) -> Option<(bool, usize)> {
+    let due = Step::Restart(DeviceId::read(device)?);
+    let last = log.last()?;
+    Some((
+        last.ticket == ticket && last.event.step.same(&due),
+        log.len(),
+    ))
+}
+
+#[test]
+fn a_restart_is_logged_by_the_device_and_by_both_links(rt: HostRuntime) {
+    let Some(hub) = restarted(rt.alloc()) else {
+        panic!(rt; "not restarted");
+    };
+    assert_eq!(rt; ended(hub.device.log(), 1, 3), Some((true, 2)));
+    assert_eq!(rt; ended(hub.up.log(), 1, 3), Some((true, 3)));
+    assert_eq!(rt; ended(hub.down.log(), 1, 3), Some((true, 1)));
+}
+
+// Whether the device has a session with the second one, and each link is up; and their epochs.
+fn left(hub: &Hub) -> Option<([bool; 3], [u64; 2])> {
+    let session = hub.device.peer().session(DeviceId::read(2)?);
+    let (up, down) = (hub.up.link(), hub.down.link());
+    Some((
+        [session.is_some(), up.is_up(), down.is_up()],
+        [up.epoch(), down.epoch()],
+    ))
+}
+
+#[test]
+fn a_restart_takes_session_and_link_away(rt: HostRuntime) {
+    let Some(mut hub) = restarted(rt.alloc()) else {
+        panic!(rt; "not restarted");
+    };
+    assert_eq!(rt; left(&hub), Some(([false; 3], [1, 0])));
+    // both come up again, and a session begins over each
+    let mut refused = [Some(0u32); 4];
+    refused[0] = number(hub.up.connect(4));
+    refused[1] = number(hub.down.connect(4));
+    refused[2] = number(hub.device.begin(5, &mut hub.up));
+    refused[3] = number(hub.device.begin(6, &mut hub.down));
+    assert_eq!(rt; refused, [None; 4]);
+    assert_eq!(rt; (hub.up.link().epoch(), hub.down.link().epoch()), (2, 1));
+}
+
+// a device at no end of the link, and then an old ticket
+#[test]
+fn a_restart_of_another_device_is_refused(rt: HostRuntime) {
+    let (Some(mut hub), Some(other)) = (restarted(rt.alloc()), DeviceId::read(3)) else {
+        panic!(rt; "not restarted");
+    };
+    assert_eq!(rt; number(hub.up.restart(4, other)), Some(162));
+    assert_eq!(rt; number(hub.up.restart(3, other)), Some(171));
+    assert_eq!(rt; hub.up.log().len(), 3);
+}
