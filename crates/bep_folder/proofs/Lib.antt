@@ -13,6 +13,7 @@ mod NamesFacts
 mod OverrideFacts
 mod PullFacts
 mod RevertFacts
+mod ScanFacts
 mod SettleFacts
 mod SoundFacts
 mod StartPullFacts

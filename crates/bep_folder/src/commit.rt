@@ -87,8 +87,8 @@ fn record_found(
     Ok(Moved::Changed)
 }
 
-// Puts the record of what was found in the place of the own one.
-fn put_found(
+/// Puts the record of what was found in the place of the own one.
+pub(crate) fn put_found(
     index: &mut Index,
     alloc: Global,
     kind: FolderKind,

@@ -34,6 +34,7 @@ mod readers;
 mod record_of;
 mod replica;
 mod reverting;
+mod scan;
 mod scan_result;
 mod settle;
 mod sound;

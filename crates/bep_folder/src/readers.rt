@@ -1,14 +1,15 @@
 //! What is read of a folder at a device without its store.
-ghost use Rattle.std.specs.Prelude.{◌≡◌, None};
+ghost use Rattle.std.specs.Prelude.{◌≡◌, None, Some, IfSome};
 ghost use Rattle.std.specs.Option.{option_copied};
 ghost use Rattle.std.specs.FinMap as map;
 ghost use Rattle.bep_store.specs.Sure.{NeverFails};
+ghost use Rattle.bep_machine.specs.Replica.{node_at};
 ghost use Rattle.bep_folder.specs.Held.{AreOthers, ArePulls};
 
 use crate::{Pull, Replica};
 use bep_index::{Index, View};
 use bep_map::NameMap;
-use bep_record::{DeviceId, FolderKind, FolderName, Name};
+use bep_record::{DeviceId, FolderKind, FolderName, Name, Node};
 use bep_store::Store;
 
 impl<S: Store> Replica<S> {
@@ -68,6 +69,14 @@ impl<S: Store> Replica<S> {
         ensures pulls { ArePulls self.now.tables.pulls }
     {
         &self.pulls
+    }
+
+    /// The node that stands at the name now, lent, where the store has it at hand; that is no call of the store. `None` says
+    /// nothing: then `look` tells.
+    pub fn at_hand(&self, name: &Name) -> Option<&Node>
+        ensures { IfSome (option_copied result) (λ node. node_at self.now.tables name.now ≡ Some node) }
+    {
+        self.store.at_hand(name)
     }
 
     /// Of the last call that may change the folder or look into its store: which of its calls of the store failed,

@@ -7,7 +7,7 @@ use Rattle.bep_model.specs.Tables.{Device, Folder, FileName}
 use Rattle.bep_machine.specs.declared.moved.Moved.{Moved}
 use Rattle.bep_machine.specs.declared.refusal.Refusal.TheVariants.{NotShared}
 use Rattle.bep_machine.specs.Answer.{Row}
-use Rattle.bep_machine.specs.Local.{EditRow, OverrideRow, RemoveRow, RevertRow}
+use Rattle.bep_machine.specs.Local.{EditRow, OverrideRow, RemoveRow, RevertRow, ScanRow}
 use Rattle.bep_machine.specs.Pull.{FinishRow, StartPullRow}
 use Rattle.bep_machine.specs.Replica.{Replica, node_at}
 use Rattle.bep_folder.specs.Commit.{Commits}
@@ -22,7 +22,7 @@ use Rattle.bep_peer.specs.Contents.{HasNames, HoldsNodes}
 use Rattle.bep_peer.specs.declared.error.PeerError.{PeerError}
 use Rattle.bep_peer.specs.declared.error.PeerError.TheVariants.{Refused}
 use Rattle.bep_peer.specs.declared.local.Step.{Step}
-use Rattle.bep_peer.specs.declared.local.Step.TheVariants.{Edit, Remove, Pull, Finish, Override, Revert}
+use Rattle.bep_peer.specs.declared.local.Step.TheVariants.{Edit, Remove, Scan, Pull, Finish, Override, Revert}
 use Rattle.bep_peer.specs.Member.{Member, untold}
 use Rattle.bep_peer.specs.Within.{IsOfStep, answer_of, with_folder}
 
@@ -59,6 +59,7 @@ AnswersAt does folder old new result =
 abbrev pub row_of : Step → Device → Option ℕ → Replica → Row Replica
 row_of (Edit name node) device failed = EditRow name.now node.now failed
 row_of (Remove name) device failed = RemoveRow name.now failed
+row_of (Scan name) device failed = ScanRow device name.now failed
 row_of (Pull name) device failed = StartPullRow device name.now
 row_of (Finish name) device failed = FinishRow device name.now failed
 row_of (Override name) device failed = OverrideRow device name.now

@@ -1,6 +1,6 @@
-//! What a device does with one of its folders alone: a user's changes, pulls, override and revert.
+//! What a device does with one of its folders alone: a user's changes, scans, pulls, override and revert.
 ghost use Rattle.std.specs.Prelude.{◌≡◌, ◌↔◌, true, false, IsErr, IsErrOf};
-ghost use Rattle.bep_machine.specs.Local.{EditRow, OverrideRow, RemoveRow, RevertRow};
+ghost use Rattle.bep_machine.specs.Local.{EditRow, OverrideRow, RemoveRow, RevertRow, ScanRow};
 ghost use Rattle.bep_machine.specs.Pull.{FinishRow, StartPullRow};
 ghost use Rattle.bep_peer.specs.Call.{IsStepped};
 ghost use Rattle.bep_peer.specs.Member.{Remains, tables_of};
@@ -44,6 +44,19 @@ impl<S: Store> Peer<S> {
         ensures uncopied { self.new.trace.copied ≡ false }
     {
         self.call(folder, Step::Remove(name))
+    }
+
+    /// Looks at the name in the folder and records what it finds, as `look`, `ScanResult::plain` and `scan_commit` do one after
+    /// another where nothing comes between. Refuses `NotShared` where the device doesn't share the folder, and then what a
+    /// scan refuses, as the table of steps has it. What the store has at hand is hashed only once a record is put.
+    pub fn scan(&mut self, folder: &FolderName, name: &Name) -> Result<Moved, PeerError>
+        ensures step { Gives (StepWithin folder.now (ScanRow self.old.number name.now self.new.trace.failed) self.old) self.new result }
+        ensures rest { Remains self.old self.new }
+        ensures only { OnlyFolder folder.now self.old self.new }
+        ensures fault { TellsFault self.new result }
+        ensures uncopied { self.new.trace.copied ≡ false }
+    {
+        self.call(folder, Step::Scan(name))
     }
 
     /// Begins a pull of the record that the device wants of the name. Refuses `NotShared` where the device doesn't share the
@@ -109,6 +122,7 @@ impl<S: Store> Peer<S> {
 enum Step<'a> {
     Edit(&'a Name, &'a Node),
     Remove(&'a Name),
+    Scan(&'a Name),
     Pull(&'a Name),
     Finish(&'a Name),
     Override(&'a Name),
@@ -122,6 +136,7 @@ impl<S: Store> Call<S, Moved> for Step<'_> {
         match self {
             Step::Edit(name, node) => replica.edit(name, node),
             Step::Remove(name) => replica.remove(name),
+            Step::Scan(name) => replica.scan(name),
             Step::Pull(name) => replica.start_pull(name),
             Step::Finish(name) => replica.finish(name),
             Step::Override(name) => replica.override_one(name),

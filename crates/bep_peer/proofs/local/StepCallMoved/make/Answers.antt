@@ -1,7 +1,7 @@
 use Rattle.std.proofs.Common.{sym, subst}
 use Rattle.bep_peer.specs.Call.{IsStepped}
 use Rattle.bep_peer.specs.declared.local.Step.{Step}
-use Rattle.bep_peer.specs.declared.local.Step.TheVariants.{Edit, Remove, Pull, Finish, Override, Revert}
+use Rattle.bep_peer.specs.declared.local.Step.TheVariants.{Edit, Remove, Scan, Pull, Finish, Override, Revert}
 use Rattle.bep_peer.proofs.Steady.{steady_step}
 use Rattle.bep_peer.proofs.local.StepCallMoved.make.Goals as goal
 
@@ -10,6 +10,9 @@ returns-in-Edit-clause-steady g c = steady_step (Edit c.in-Edit.name c.in-Edit.n
 
 pub returns-in-Remove-clause-steady : goal.returns-in-Remove-clause-steady
 returns-in-Remove-clause-steady g c = steady_step (Remove c.in-Remove.name) _ _ _ c.remove.ensures.removed c.remove.ensures.stays c.remove.ensures.counted
+
+pub returns-in-Scan-clause-steady : goal.returns-in-Scan-clause-steady
+returns-in-Scan-clause-steady g c = steady_step (Scan c.in-Scan.name) _ _ _ c.scan.ensures.scanned c.scan.ensures.stays c.scan.ensures.counted
 
 pub returns-in-Pull-clause-steady : goal.returns-in-Pull-clause-steady
 returns-in-Pull-clause-steady g c = steady_step (Pull c.in-Pull.name) _ _ _ c.start_pull.ensures.started c.start_pull.ensures.stays c.start_pull.ensures.counted
