@@ -1,6 +1,8 @@
 #!/usr/bin/env python3
-"""Writes a check document that is costly to explain to standard output, of the kind and the size in megabytes that its
-two arguments tell.
+"""Writes a document that is costly to answer to standard output, of the kind and the size in megabytes that its two
+arguments tell.
+
+Check documents that are costly to explain:
 
 names      make_document's `names`, cut off at this size: 4096 names at 16 devices, and many records on their way
 repeated   1000 names at 16 devices, one of their rows again and again, and as many records on their way
@@ -8,7 +10,22 @@ falling    4096 names in each folder, at one device, and their rows in falling o
 contents   one name at 16 devices, and as many rows about it, no two of the same content
 ahead      4096 names at 16 devices that are ahead of their rows on all links: as many failures, with many details
 unknown    rows of names that nothing knows, at 16 devices: as many failures as a document of this size can have
+
+Check documents that are costly to read:
+
+digits     files of 10 KB at two devices, all of whose bytes and hashes are hexadecimal digits
+strangers  one object with as many members as there is room for, none of them known: refused with 183
+nested     objects in one another, 120 deep: refused with 182
+twice      `digits` with one device twice: refused with 185
+
+Scenarios that are costly to run:
+
+scans      one file of 16 MiB, scanned again and again: 16.8 MB have 200 scans
+crowded    the same where 4096 other names leave no room for it, so that each scan is refused
+asks       one file of 16 MiB, whose first block is asked for over a link again and again
 """
+import hashlib
+import random
 import sys
 
 from make_document import device, directory_node, directory_record, document, file_node, file_record, filled, names, rows_of, text_of
@@ -61,7 +78,67 @@ def unknown(limit):
     return with_rows(sixteen([], []), row_at, limit)
 
 
-KINDS = {"names": names, "repeated": repeated, "falling": falling, "contents": contents, "ahead": ahead, "unknown": unknown}
+def digits(limit):
+    bytes_of = lambda place: random.Random(place).randbytes(10_000)
+    each = 2 * (20_000 + 400)
+    files = {f"files/{place:05}": bytes_of(place) for place in range(min(4096, limit // each))}
+    own = [{**file_record(name, place), "size": len(data), "blocks": [hashlib.sha256(data).hexdigest()]} for place, (name, data) in enumerate(files.items())]
+    store = [{"name": name, "type": 0, "modified_s": 1700000000 + place, "modified_ns": 5, "hex": data.hex()} for place, (name, data) in enumerate(files.items())]
+    return document([{"folder": "docs", "devices": [device(1, own, store), device(2, own, store)]}], [], rows_of("docs", own))
+
+
+def strangers(limit):
+    chosen = random.Random(0)
+    return {"version": 1, **{chosen.randbytes(3).hex() if place % 2 else chosen.randbytes(4).hex(): 0 for place in range(limit // 10)}}
+
+
+def nested(limit):
+    one = {}
+    for _ in range(119):
+        one = {"": one}
+    return [one] * ((limit - 2) // (len(text_of(one)) + 1))
+
+
+def twice(limit):
+    whole = digits(limit)
+    devices = whole["cut"]["folders"][0]["devices"]
+    devices[1] = {**devices[1], "device": 1}
+    return whole
+
+
+def scenario(devices, links, steps):
+    shares = [{"device": one, "kind": "send-receive", "index_id": one} for one in devices]
+    return {"version": 1, "folders": [{"folder": "docs", "devices": shares}], "links": links, "steps": steps}
+
+
+def repeated_steps(devices, links, begun, again, limit):
+    """The steps `begun`, and `again` as often as there is room for."""
+    room = limit - len(text_of(scenario(devices, links, begun)))
+    return scenario(devices, links, begun + again * (room // (len(text_of(again)) - 1)))
+
+
+LARGE = ["edit", 1, "docs", {"name": "large", "type": 0, "modified_s": 1, "text": "x" * 2**24}]
+SCAN = ["scan", 1, "docs", "large"]
+
+
+def scans(limit):
+    return repeated_steps([1], [], [LARGE], [SCAN], limit)
+
+
+def crowded(limit):
+    others = [f"{place:04}" for place in range(4096)]
+    put = [step for name in others for step in (["edit", 1, "docs", {"name": name, "type": 1, "modified_s": 0}], ["scan", 1, "docs", name])]
+    return repeated_steps([1], [], put + [LARGE], [SCAN], limit)
+
+
+def asks(limit):
+    begin = [["connect", 1, 2], ["begin", 1, 2], ["begin", 2, 1], ["deliver", 2, 1], ["deliver", 1, 2]]
+    told = [["announce", 1, 2, "docs"], ["deliver", 2, 1], ["pull", 2, "docs", "large"]]
+    ask = [["ask", 2, 1, "docs", "large"], ["deliver", 1, 2], ["lose", 1, 2]]
+    return repeated_steps([1, 2], [[1, 2]], [LARGE, SCAN] + begin + told + ask, begin + ask, limit)
+
+
+KINDS = {"names": names, "repeated": repeated, "falling": falling, "contents": contents, "ahead": ahead, "unknown": unknown, "digits": digits, "strangers": strangers, "nested": nested, "twice": twice, "scans": scans, "crowded": crowded, "asks": asks}
 
 if len(sys.argv) != 3 or sys.argv[1] not in KINDS:
     sys.exit(f"usage: make_hostile.py {'|'.join(KINDS)} MEGABYTES")

@@ -15,6 +15,7 @@ sys.path.insert(0, str(HERE / "generate"))
 
 from definitions import definitions  # noqa: E402
 from headline import Page  # noqa: E402
+from inner import misplaced  # noqa: E402
 from rust import items, module_comment, program_names, public_names  # noqa: E402
 
 PAGES = HERE / "reference"
@@ -76,7 +77,9 @@ def page(crate):
     calls = [(file, [], [call_entry(item) for item in found if not item.is_law]) for file, found in sources]
     laws = [(file, [], [law_entry(item) for item in found if item.is_law]) for file, found in sources]
     stated = [(file, head, [entry(one.name, one.comment) for one in found]) for file, head, found in specs]
-    parts = [*section("Calls", calls), *section("Laws", laws), *section("Definitions", stated)]
+    inner = [one for one in stated if one[0].parent.name == "inner"]
+    parts = [*section("Calls", calls), *section("Laws", laws), *section("Definitions", [one for one in stated if one not in inner]),
+             *section("Definitions of private contracts", inner)]
     names = [(item.full_name, file) for file, found in sources for item in found]
     names += [(one.name, file) for file, _, found in specs for one in found]
     return "\n\n".join([f"# {crate}", "\n".join(comment), *parts]) + "\n" if parts else "", names
@@ -137,6 +140,8 @@ def check(count, made):
     for file in PAGES.glob("*"):
         if file.name not in made:
             count.fails(f"{file.name} is a page of no crate: run docs/write_reference.py")
+    for crate, module, why in misplaced([TOP / "crates" / crate for crate in crates()]):
+        count.fails(f"{crate}: specs/{module.replace('.', '/')}.antt: {why}")
 
 
 def write(made):

@@ -1,6 +1,7 @@
 #!/usr/bin/env python3
-"""reference.py: says whether docs/reference/ is what the comments of the crates say, and tries on small files what is read
-of them. The last line is 'N passed, M failed'."""
+"""reference.py: says whether docs/reference/ is what the comments of the crates say, and whether each definition that private
+contracts alone name stands in specs/inner/, and no other; and tries on small files what is read of them. The last line is
+'N passed, M failed'."""
 
 import sys
 import tempfile
@@ -12,6 +13,7 @@ DOCS = Path(__file__).resolve().parents[1] / "docs"
 sys.path[1:1] = [str(DOCS), str(DOCS / "generate")]
 
 from definitions import definitions  # noqa: E402
+from inner import misplaced  # noqa: E402
 from reading import Specs, clause  # noqa: E402
 from rust import exported, items, module_comment  # noqa: E402
 from write_reference import check, pages  # noqa: E402
@@ -130,6 +132,37 @@ def reading_list():
     return {place: [name for block in blocks for name in block.names] for place, blocks in found.items()}, types
 
 
+LENDER = """ghost use Rattle.lender.specs.Open.{IsOpen};
+ghost use Rattle.lender.specs.inner.Kept.{IsKept};
+ghost use Rattle.lender.specs.inner.Told.{IsTold};
+
+/// It is told.
+pub fn call(n: u64)
+    requires { IsOpen n }
+    ensures told { IsTold n }
+{
+    helper(n)
+}
+
+fn helper(n: u64)
+    ensures { IsKept n }
+{}
+"""
+
+
+def wrong_places():
+    """What stands in the wrong place: an inner file that a public contract names, and one that isn't inner and none names."""
+    with tempfile.TemporaryDirectory() as top:
+        crate = Path(top) / "lender"
+        for name, text in [("src/lib.rt", "mod call;\npub use call::call;\n"), ("src/call.rt", LENDER),
+                           *((f"specs/{module}.antt", f"abbrev pub Is{module[-4:]} : Type 0\n")
+                             for module in ("Open", "Shut", "inner/Kept", "inner/Told"))]:
+            file = crate / name
+            file.parent.mkdir(parents=True, exist_ok=True)
+            file.write_text(text)
+        return [place[1] for place in misplaced([crate])]
+
+
 def found_items():
     """What is read of a source file: names, heads, clauses, and what is public or a law."""
     return [(item.full_name, item.head, item.comment, item.clauses, item.is_law) for item in items(SOURCE) if item.is_public]
@@ -160,6 +193,7 @@ def main():
            [(one.name, one.comment) for one in found])
     expect("what a clause rests on", ({("upper", "Kinds"): ["◌of◌"], ("lower", "Number"): ["IsSmall", "most"]}, {("lower", "kind")}),
            reading_list())
+    expect("what stands in the wrong place", ["Shut", "inner.Told"], wrong_places())
     check(count, pages())
     return count.told()
 

@@ -10,7 +10,7 @@ use Rattle.bep_model.specs.Verdict.{Not}
 use Rattle.bep_model.specs.WithoutWinner.{IsFirstWithoutWinner}
 use Rattle.bep_tables.specs.declared.cut.CutParts.{CutParts}
 use Rattle.bep_tables.specs.Cut.{tables_of}
-use Rattle.bep_cut_document.specs.Trees.{check_text}
+use Rattle.bep_cut_document.specs.Trees.{check_document_text}
 use Rattle.bep_cut_document.specs.Written.{check_of, cut_of_document}
 use Rattle.bep_lines.specs.Lines.{verdict_line, newline}
 use Rattle.bep_answer.specs.Answer.{fault_text}
@@ -20,7 +20,7 @@ use Rattle.bep_answer.specs.declared.outcome.Certified.TheVariants as outcomes
 
 -- the document of this cut with these rows, on a line
 abbrev pub document_text : CutParts → List Row → List ℕ
-document_text cut rows = check_text cut rows ++ newline
+document_text cut rows = check_document_text cut rows ++ newline
 
 -- the text is the document of this cut with the one list of its names' winners, for which it is settled if it is for any
 pub record IsDocumentOf (cut : CutParts) (text : List ℕ) : Type 0 where
@@ -29,7 +29,7 @@ pub record IsDocumentOf (cut : CutParts) (text : List ℕ) : Type 0 where
   pub settled_if_any : IsSettledIfAny (tables_of cut) rows
   pub written : text ≡ document_text cut rows
   -- without its line's end it is read as the very cut and rows, where it isn't longer than a document may be
-  pub read_back : length (check_text cut rows) ≤ most_bytes → check_of (check_text cut rows) ≡ Read (cut, rows)
+  pub read_back : length (check_document_text cut rows) ≤ most_bytes → check_of (check_document_text cut rows) ≡ Read (cut, rows)
 
 -- the text is the line of the cut's first known name without a winner, and the cut is settled for no list of rows
 pub record IsLineWithout (cut : CutParts) (text : List ℕ) : Type 0 where

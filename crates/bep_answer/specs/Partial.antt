@@ -6,7 +6,7 @@ use Rattle.bep_model.specs.Reasons.{Place}
 use Rattle.bep_model.specs.declared.row.Row.{Row}
 use Rattle.bep_tables.specs.declared.cut.CutParts.{CutParts}
 use Rattle.bep_tables.specs.Cut.{tables_of}
-use Rattle.bep_cut_document.specs.Trees.{check_text}
+use Rattle.bep_cut_document.specs.Trees.{check_document_text}
 use Rattle.bep_cut_document.specs.Written.{check_of, cut_of_document}
 use Rattle.bep_answer.specs.Answer.{fault_text}
 use Rattle.bep_answer.specs.Certified.{document_text}
@@ -27,7 +27,7 @@ pub record IsPart (cut : CutParts) (outcome : Partial) (text : List ℕ) : Type 
   pub told : outcome ≡ partial_of without
   pub written : text ≡ document_text cut rows
   -- without its line's end it is read as the very cut and rows, where it isn't longer than a document may be
-  pub read_back : length (check_text cut rows) ≤ most_bytes → check_of (check_text cut rows) ≡ Read (cut, rows)
+  pub read_back : length (check_document_text cut rows) ≤ most_bytes → check_of (check_document_text cut rows) ≡ Read (cut, rows)
 
 -- the outcome and the text for what a document says of its cut: that, or the fault for which it is refused
 abbrev pub IsPartly : Reading CutParts → Partial → List ℕ → Type 0

@@ -13,7 +13,7 @@ use Rattle.bep_tables.specs.declared.link.LinkState.{LinkState}
 use Rattle.bep_tables.specs.declared.cut.CutParts.{CutParts}
 use Rattle.bep_tables.specs.Cut.{IsCut, ArePulls, devices_of, shares_of, tables_of}
 use Rattle.bep_tables.specs.Laws.{CutSays, Carries, HasRecord}
-use Rattle.bep_audit.specs.Known.{HasName, Brings, IsBroughtBy, IsOver, IsOnItsWay, IsKnownFrom}
+use Rattle.bep_audit.specs.inner.Known.{HasName, Brings, IsBroughtBy, IsOver, IsOnItsWay, IsKnownFrom}
 use Rattle.bep_audit.proofs.MapFacts.{there_is}
 use Rattle.bep_audit.proofs.WinnerSaid.{are_shares, few_rise}
 

@@ -17,8 +17,8 @@ use Rattle.bep_tables.specs.declared.link.LinkState.{LinkState}
 use Rattle.bep_tables.specs.declared.cut.CutParts.{CutParts}
 use Rattle.bep_tables.specs.Cut.{IsCut, shares_of, tables_of}
 use Rattle.bep_audit.specs.Share.{AsksHere, ShareIsAsked}
-use Rattle.bep_audit.specs.Held.{AsksOf, AsksAmong}
-use Rattle.bep_audit.specs.Search.{FindsFirst, FindsFailing}
+use Rattle.bep_audit.specs.inner.Held.{AsksOf, AsksAmong}
+use Rattle.bep_audit.specs.inner.Search.{FindsFirst, FindsFailing}
 use Rattle.bep_audit.specs.Shown.{part_of}
 use Rattle.bep_audit.proofs.AskedAtRow.{IsOfDevices}
 use Rattle.bep_tables.specs.Laws.{CutSays}

@@ -13,7 +13,7 @@ use Rattle.bep_model.specs.Foreign.{IsKnown}
 use Rattle.bep_model.specs.Winner.{IsWinner}
 use Rattle.bep_model.specs.Settled.{key_of}
 use Rattle.bep_model.specs.Reasons.{Place, place_cmp, device_rank, AsksAt, AsksName, AsksDevice, first_disordered}
-use Rattle.bep_audit.specs.Search.{FindsFailing}
+use Rattle.bep_audit.specs.inner.Search.{FindsFailing}
 use Rattle.bep_audit.specs.Shown.{name_of}
 use Rattle.bep_audit.proofs.AskedAtRow.{IsOfRows, asked_if_here}
 use Rattle.bep_audit.proofs.RowWalk.{device_before}

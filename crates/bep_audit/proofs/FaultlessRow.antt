@@ -15,10 +15,10 @@ use Rattle.bep_tables.specs.declared.cut.CutParts.{CutParts}
 use Rattle.bep_tables.specs.Cut.{IsCut, shares_of, tables_of}
 use Rattle.bep_tables.specs.Listed.{Listed}
 use Rattle.bep_tables.specs.Said.{EntriesAreHeld}
-use Rattle.bep_audit.specs.Faultless.{AsksAll, AsksAllHere, AsksAllElsewhere}
+use Rattle.bep_audit.specs.inner.Faultless.{AsksAll, AsksAllHere, AsksAllElsewhere}
 use Rattle.bep_audit.specs.Group.{IsGroupOf, AsksElsewhere}
 use Rattle.bep_audit.specs.Share.{AsksHere, ShareIsAsked}
-use Rattle.bep_audit.specs.Walk.{FindsHere, FindsLeast}
+use Rattle.bep_audit.specs.inner.Walk.{FindsHere, FindsLeast}
 use Rattle.bep_audit.proofs.AskedAtRow.{IsOfDevices}
 use Rattle.bep_tables.specs.Laws.{CutSays}
 use Rattle.bep_audit.proofs.FailingDevice.{finds_by_group}

@@ -18,9 +18,9 @@ use Rattle.bep_tables.specs.declared.share.SharedFolder.{SharedFolder}
 use Rattle.bep_tables.specs.declared.link.LinkState.{LinkState}
 use Rattle.bep_tables.specs.declared.cut.CutParts.{CutParts}
 use Rattle.bep_tables.specs.Cut.{IsCut, tables_of}
-use Rattle.bep_audit.specs.Known.{IsKnownFrom}
-use Rattle.bep_audit.specs.Missing.{FindsMissing}
-use Rattle.bep_audit.specs.Search.{FindsFirst, FindsFailing}
+use Rattle.bep_audit.specs.inner.Known.{IsKnownFrom}
+use Rattle.bep_audit.specs.inner.Missing.{FindsMissing}
+use Rattle.bep_audit.specs.inner.Search.{FindsFirst, FindsFailing}
 use Rattle.bep_audit.proofs.SearchFacts.{AllSay, finds_as}
 use Rattle.bep_audit.proofs.WalkFacts.{IsBefore, AreInOrder, in_order_by_key}
 use Rattle.bep_tables.specs.Laws.{CutSays}

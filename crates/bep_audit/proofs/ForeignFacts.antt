@@ -8,7 +8,7 @@ use Rattle.bep_model.specs.Reasons.{AsksShare}
 use Rattle.bep_tables.specs.declared.share.Share.{Share}
 use Rattle.bep_tables.specs.declared.cut.CutParts.{CutParts}
 use Rattle.bep_tables.specs.Cut.{IsCut, shares_of, tables_of}
-use Rattle.bep_audit.specs.Foreign.{Passes, PassesIfThere, ViewsPass, LinkPasses, LinksPass}
+use Rattle.bep_audit.specs.inner.Foreign.{Passes, PassesIfThere, ViewsPass, LinkPasses, LinksPass}
 use Rattle.bep_tables.specs.Laws.{CutSays}
 
 module _ (said : CutSays) (cut : CutParts) (is_cut : IsCut cut) (row : Row) (share : Share) (member : Contains (shares_of row.folder cut.folders) share) where

@@ -15,8 +15,9 @@ use Rattle.bep_model.specs.Settled.{key_of}
 use Rattle.bep_model.specs.Reasons.{Place, place_cmp, device_rank, Asks, AsksAt}
 use Rattle.bep_model.specs.Verdict.{number_of}
 use Rattle.bep_model.specs.Laws.{NumbersAreWithin, NumbersDiffer}
-use Rattle.bep_audit.specs.Search.{FindsFailing}
-use Rattle.bep_audit.specs.Walk.{Failure, failure_cmp, key_in, FindsLeast, FindsHere}
+use Rattle.bep_audit.specs.inner.Search.{FindsFailing}
+use Rattle.bep_audit.specs.Walk.{Failure, failure_cmp}
+use Rattle.bep_audit.specs.inner.Walk.{key_in, FindsLeast, FindsHere}
 use Rattle.bep_audit.proofs.SearchFacts.{finds_as}
 use Rattle.bep_audit.proofs.AskedAtRow.{IsOfRows, asked_if_here}
 use Rattle.bep_audit.proofs.RowWalk.{device_before}

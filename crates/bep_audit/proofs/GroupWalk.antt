@@ -13,7 +13,7 @@ use Rattle.bep_tables.specs.Listed.{Listed, key_at, listed, AreInOrder, IsGroupe
 use Rattle.bep_tables.specs.Said.{EntriesAreHeld, HoldersShare}
 use Rattle.bep_audit.specs.Grouped.{same_group_same}
 use Rattle.bep_audit.specs.Group.{IsGroupOf}
-use Rattle.bep_audit.specs.Walk.{next_key, count_at, rows_about}
+use Rattle.bep_audit.specs.inner.Walk.{next_key, count_at, rows_about}
 use Rattle.bep_audit.proofs.GroupFacts.{known_by_group}
 use Rattle.bep_audit.proofs.NameWalk.{Key, IsUnder, Remains, IsNext, in_either, from_front, from_rest, under_itself, is_next, entries_part, rows_part, was_left, not_left, order_rest, rise_rest, shorter}
 

@@ -22,8 +22,9 @@ use Rattle.bep_tables.specs.Cut.{IsCut, tables_of}
 use Rattle.bep_tables.specs.Listed.{IsGrouped, cut_listed}
 use Rattle.bep_tables.specs.Said.{EntriesAreHeld, HoldersShare}
 use Rattle.bep_audit.specs.FailureOrder.{failure_total}
-use Rattle.bep_audit.specs.Search.{lesser}
-use Rattle.bep_audit.specs.Walk.{Failure, failure_cmp, key_in, FindsLeast, replaces, next_key, count_at, rows_about}
+use Rattle.bep_audit.specs.inner.Search.{lesser}
+use Rattle.bep_audit.specs.Walk.{Failure, failure_cmp}
+use Rattle.bep_audit.specs.inner.Walk.{key_in, FindsLeast, replaces, next_key, count_at, rows_about}
 use Rattle.bep_audit.proofs.SearchFacts.{finds_as, lesser_finds}
 use Rattle.bep_audit.proofs.FailingRow.{less_by_order}
 use Rattle.bep_audit.proofs.GroupRow.{unknown_holds}

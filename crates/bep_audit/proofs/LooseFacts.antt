@@ -32,7 +32,7 @@ use Rattle.bep_tables.specs.Said.{Holds, EntriesAreHeld, HoldersShare}
 use Rattle.bep_audit.specs.Grouped.{same_group_same}
 use Rattle.bep_audit.specs.Loose.{Loosening, loose_cmp, precedes, asked_by, loosening_at, loosening_of, AsksVersion, place_at, AsksEntry, AsksEntries, MeetsFirm}
 use Rattle.bep_audit.specs.LooseOrder.{loose_total}
-use Rattle.bep_audit.specs.Search.{FindsFirst, lesser}
+use Rattle.bep_audit.specs.inner.Search.{FindsFirst, lesser}
 use Rattle.bep_audit.proofs.FailingRow.{less_by_order}
 use Rattle.bep_audit.proofs.RowsFacts.{rows_sorted}
 use Rattle.bep_audit.proofs.NameWalk.{rise_later}

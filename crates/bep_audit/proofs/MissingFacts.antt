@@ -15,9 +15,9 @@ use Rattle.bep_model.specs.declared.row.Row.{Row}
 use Rattle.bep_model.specs.Tables.{Folder, FileName}
 use Rattle.bep_model.specs.Settled.{HasRow}
 use Rattle.bep_model.specs.declared.flight.Flight.{Flight}
-use Rattle.bep_audit.specs.Known.{HasValid, IsValidOf, HasValidOf, Brings}
-use Rattle.bep_audit.specs.Missing.{FindsMissing, OneHas}
-use Rattle.bep_audit.specs.Search.{FindsFirst, lesser}
+use Rattle.bep_audit.specs.inner.Known.{HasValid, IsValidOf, HasValidOf, Brings}
+use Rattle.bep_audit.specs.inner.Missing.{FindsMissing, OneHas}
+use Rattle.bep_audit.specs.inner.Search.{FindsFirst, lesser}
 use Rattle.bep_facts.specs.Entries.{both_hold}
 use Rattle.bep_audit.proofs.MapFacts.{by_name, there_is, later_is_above, entry_stands}
 use Rattle.bep_audit.proofs.SearchFacts.{AllSay, finds_as, goes_on, fails_here, ends, lesser_finds}

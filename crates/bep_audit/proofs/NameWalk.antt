@@ -16,7 +16,7 @@ use Rattle.bep_model.specs.Tables.{Folder, FileName}
 use Rattle.bep_model.specs.Settled.{key_of, key_cmp, Rise}
 use Rattle.bep_tables.specs.declared.table.entry.TableEntry.{TableEntry}
 use Rattle.bep_tables.specs.Listed.{key_at, listed, AreInOrder}
-use Rattle.bep_audit.specs.Walk.{next_key, count_at, rows_about}
+use Rattle.bep_audit.specs.inner.Walk.{next_key, count_at, rows_about}
 use Rattle.bep_audit.proofs.RowsFacts.{rows_sorted, rise_from_sorted}
 
 abbrev pub Key : Type 0

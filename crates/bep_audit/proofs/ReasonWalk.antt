@@ -14,7 +14,7 @@ use Rattle.bep_model.specs.Laws.{RowsRiseInOrder, NumbersAreWithin, NumbersDiffe
 use Rattle.bep_audit.specs.declared.verdict.Verdict as program
 use Rattle.bep_audit.specs.declared.verdict.Verdict.TheVariants as lends
 use Rattle.bep_audit.specs.declared.checkers.TheConstants.{REASONS}
-use Rattle.bep_audit.specs.Search.{FindsFailing}
+use Rattle.bep_audit.specs.inner.Search.{FindsFailing}
 use Rattle.bep_audit.specs.Shown.{verdict_shown}
 
 -- ---- the order of reasons

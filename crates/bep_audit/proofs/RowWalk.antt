@@ -11,7 +11,7 @@ use Rattle.bep_model.specs.declared.reason.Reason.{Reason}
 use Rattle.bep_model.specs.Tables.{Tables, Folder, FileName}
 use Rattle.bep_model.specs.Settled.{Rise, key_of, key_cmp}
 use Rattle.bep_model.specs.Reasons.{Place, place_cmp, device_rank, Asks}
-use Rattle.bep_audit.specs.Search.{FindsFirst, FindsFailing}
+use Rattle.bep_audit.specs.inner.Search.{FindsFirst, FindsFailing}
 use Rattle.bep_audit.proofs.SearchFacts.{AllSay, finds_as}
 use Rattle.bep_audit.proofs.WalkFacts.{IsBefore, AreInOrder, in_order_by_key}
 use Rattle.bep_audit.proofs.RowsFacts.{rows_sorted}

@@ -8,7 +8,7 @@ use Rattle.std.specs.Cmp.{IsTotalOrder}
 use Rattle.std.proofs.lemmas.Cmp.{alike_right}
 use Rattle.bep_facts.specs.Orders.{Less_from_is_lt}
 use Rattle.bep_facts.specs.Members.{Contains-cons_cases, Contains-first, Contains-more, not_in_none}
-use Rattle.bep_audit.specs.Search.{FailsFirst, FindsFirst, lesser}
+use Rattle.bep_audit.specs.inner.Search.{FailsFirst, FindsFirst, lesser}
 
 -- a search for the same
 pub finds_as : {X : Type 0} (cmp : X → X → Ordering) (One Other : X → Type 0) → ((x : X) → One x → Other x) → ((x : X) → Other x → One x) → (found : Option X) → FindsFirst cmp One found → FindsFirst cmp Other found

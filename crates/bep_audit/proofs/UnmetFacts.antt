@@ -9,7 +9,7 @@ use Rattle.std.proofs.lemmas.Map.Keys.{sorted_from_strictly_increasing}
 use Rattle.bep_model.specs.Tables.{Device}
 use Rattle.bep_tables.specs.declared.share.Share.{Share}
 use Rattle.bep_tables.specs.Cut.{devices_of}
-use Rattle.bep_audit.specs.Search.{FindsFirst}
+use Rattle.bep_audit.specs.inner.Search.{FindsFirst}
 use Rattle.bep_audit.proofs.WalkFacts.{IsBefore, AreInOrder, in_order_by_key}
 
 module _ (Meets : Share → Type 0) where

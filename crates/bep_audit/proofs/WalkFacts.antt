@@ -8,7 +8,7 @@ use Rattle.std.proofs.lemmas.Map.Keys.{sorted_tail}
 use Rattle.std.proofs.lemmas.List.{drop_all, take-append-drop}
 use Rattle.bep_facts.specs.Places.{rest_at}
 use Rattle.bep_facts.specs.Rising.{below_later}
-use Rattle.bep_audit.specs.Search.{FindsFirst}
+use Rattle.bep_audit.specs.inner.Search.{FindsFirst}
 use Rattle.bep_audit.proofs.SearchFacts.{AllSay, goes_on, fails_here, ends}
 
 module _ {X Y : Type 0} (cmp : X → X → Ordering) (Says : Y → X → Type 0) where

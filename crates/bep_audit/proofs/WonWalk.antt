@@ -19,7 +19,7 @@ use Rattle.bep_tables.specs.Said.{EntriesAreHeld, HoldersShare}
 use Rattle.bep_audit.specs.declared.spot.Spot.{Spot}
 use Rattle.bep_audit.specs.Shown.{place_shown}
 use Rattle.bep_audit.specs.Certifier.{IsWon, AddsName, AreWinners, PlacesRise, place_of}
-use Rattle.bep_audit.specs.Walk.{next_key, count_at}
+use Rattle.bep_audit.specs.inner.Walk.{next_key, count_at}
 use Rattle.bep_audit.proofs.GroupWalk.{Stands, next, same_or_not, stands_at_first, unlisted_is_unknown, stands_afterwards, table_left, smaller_at}
 use Rattle.bep_audit.proofs.NameWalk.{Key, IsUnder, IsNext, Remains, none_left, was_left, left_above, left_or_here}
 

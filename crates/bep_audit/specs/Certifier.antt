@@ -41,7 +41,7 @@ IsUnwon t key = (one : Candidate) → ¬ IsWinner t key.0 key.1 one
 abbrev pub place_of : Folder × FileName → Place
 place_of key = record { folder = key.0; name = key.1; device = None }
 
--- a known name's row comes to the old ones, or its place where it has no winner, and nothing of a name that isn't known
+-- a known name adds its row, or its place if it has no winner; a name that isn't known adds nothing
 abbrev pub AddsName : Tables → Folder × FileName → List Row → List Row → List Place → List Place → Type 0
 AddsName t key old new places more =
     (IsKnown t key.0 key.1 × ((row : Row) × IsWon t key row × (new ≡ old ++ row ∷ [])) × (more ≡ places))

@@ -1,4 +1,4 @@
--- Two lists of entries with the same groups have the same entries.
+-- Two lists of entries that have the same groups have the same entries.
 use Rattle.std.proofs.Common.{◌≡◌, List, Contains, ap, subst}
 use Rattle.std.specs.Ordering.{is_eq}
 use Rattle.std.proofs.lemmas.Cmp.{tied_itself}

@@ -1,16 +1,11 @@
 pub mod Candidates
 pub mod Certifier
 pub mod FailureOrder
-pub mod Faultless
-pub mod Foreign
 pub mod Group
 pub mod Grouped
-pub mod Held
-pub mod Known
 pub mod Loose
 pub mod LooseOrder
-pub mod Missing
-pub mod Search
 pub mod Share
 pub mod Shown
 pub mod Walk
+pub mod inner

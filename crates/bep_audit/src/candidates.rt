@@ -90,7 +90,7 @@ fn first_own<'a>(shares: &'a [Share], owns: Owns<'_, 'a>) -> Option<&'a Record>
     None
 }
 
-// Puts the own records of the name to the front, each beside its device, and tells how many there are.
+// Moves the own records of the name to the front, each beside its device, and answers how many there are.
 fn gather<'a>(
     found: &mut [(DeviceId, &'a Record)],
     shares: &'a [Share],

@@ -17,8 +17,8 @@ use bep_record::{FolderName, Name};
 use bep_tables::{Cut, Table, TableEntry, entries_are_held};
 use std::alloc::{AllocError, Global};
 
-/// The certificate of the cut: the winner of each known name, names rising. Where a known name has no winner there is
-/// none, and the error tells the first such name; or want of memory.
+/// The certificate of the cut: the winner of each known name, names rising. If a known name has no winner there is no
+/// certificate, and the error tells the first such name. Or want of memory.
 ///
 /// Where the cut is settled for any list of rows, it is settled for this certificate, which is that list.
 pub fn certify(alloc: Global, cut: &Cut) -> Result<Certificate, CertifyError>

@@ -8,8 +8,8 @@ ghost use Rattle.bep_model.specs.Settled.{Rise};
 ghost use Rattle.bep_model.specs.Reasons.{AsksShare};
 ghost use Rattle.bep_model.specs.Verdict.{number_of};
 ghost use Rattle.bep_tables.specs.Cut.{tables_of, shares_of, devices_of};
-ghost use Rattle.bep_audit.specs.Held.{AsksOf, AsksAmong};
-ghost use Rattle.bep_audit.specs.Search.{FindsFirst, FindsFailing};
+ghost use Rattle.bep_audit.specs.inner.Held.{AsksOf, AsksAmong};
+ghost use Rattle.bep_audit.specs.inner.Search.{FindsFirst, FindsFailing};
 ghost use Rattle.bep_audit.specs.Shown.{place_shown, name_of};
 
 use crate::foreign::meets_foreign;

@@ -5,7 +5,8 @@ ghost use Rattle.std.specs.Cmp.{partial_equiv_from_equiv, eq_by_cmp_equiv, parti
 ghost use Rattle.std.specs.Cmp.Rules.{comparing};
 ghost use Rattle.std.proofs.Common.{rules};
 ghost use Rattle.bep_model.specs.Verdict.{number_of};
-ghost use Rattle.bep_audit.specs.Walk.{failure_cmp, failure_shown, replaces};
+ghost use Rattle.bep_audit.specs.Walk.{failure_cmp, failure_shown};
+ghost use Rattle.bep_audit.specs.inner.Walk.{replaces};
 ghost use Rattle.bep_audit.specs.FailureOrder.{lent_cmp, lent_total};
 
 use crate::spot::Spot;
@@ -24,7 +25,7 @@ pub struct Failure<'a> {
 }
 
 impl<'a> Failure<'a> {
-    /// How two failures stand: by reason, then by folder, name and device.
+    /// How two failures compare: by reason, then by folder, name and device.
     pub fn compare(&self, other: &Failure<'_>) -> Ordering
         ensures { result ≡ failure_cmp (failure_shown self.now) (failure_shown other.now) }
     {

@@ -1,4 +1,4 @@
-//! Whether nothing fails at a name that has a row, told with one look at each device.
+//! Whether nothing fails at a name that has a row, found by one look at each device.
 ghost use Rattle.std.specs.Prelude.{◌≡◌, ◌↔◌, ◌∷◌, [], IsTrue, None, Contains, map};
 ghost use Rattle.std.specs.Option.{option_copied};
 ghost use Rattle.bep_model.specs.Settled.{key_of};
@@ -6,8 +6,8 @@ ghost use Rattle.bep_tables.specs.declared.share.Share.{Share};
 ghost use Rattle.bep_tables.specs.Cut.{tables_of};
 ghost use Rattle.bep_tables.specs.Listed.{listed};
 ghost use Rattle.bep_audit.specs.Group.{IsGroupOf};
-ghost use Rattle.bep_audit.specs.Faultless.{AsksAll, AsksAllHere, AsksAllElsewhere};
-ghost use Rattle.bep_audit.specs.Walk.{FindsLeast};
+ghost use Rattle.bep_audit.specs.inner.Faultless.{AsksAll, AsksAllHere, AsksAllElsewhere};
+ghost use Rattle.bep_audit.specs.inner.Walk.{FindsLeast};
 
 use crate::group::{all_pass, has_known};
 use crate::winner::is_winner_in;
@@ -16,8 +16,8 @@ use bep_model::Row;
 use bep_record::{DeviceId, Node, Record};
 use bep_tables::{Cut, Share, Source, TableEntry, cut_says, entries_are_held};
 
-/// Whether no reason fails at the row's name, as if there were no other row. It looks each device's own record and node up
-/// once, where a search for the least failure does so for each reason.
+/// Whether no reason fails at the row's name, as if there were no other row. It looks each device's own record and node
+/// up once. A search for the least failure does so for each reason.
 pub(crate) fn is_faultless<'a>(cut: &'a Cut, group: &[TableEntry<'a>], row: &Row) -> bool
     requires { IsGroupOf cut.now (key_of row.now) (map listed group.now) }
     ensures { IsTrue result → FindsLeast (tables_of cut.now) (row.now ∷ []) (λ key. key ≡ key_of row.now) None }
@@ -52,7 +52,7 @@ fn is_met(share: &Share, group: &[TableEntry<'_>], row: &Row) -> bool
     meets_here(own, share.store.get(name), winner) && meets_elsewhere(group, row, share.device, own)
 }
 
-// Whether it does by its own record and its node.
+// Whether the device meets it by its own record and its node.
 #[tactic(auto, unfolding(crate::specs::Faultless::AsksAllHere))]
 fn meets_here(own: Option<&Record>, node: Option<&Node>, winner: &Record) -> bool
     ensures { IsTrue result ↔ AsksAllHere (option_copied own.entry) (option_copied node.entry) winner.now }

@@ -9,7 +9,7 @@ ghost use Rattle.bep_tables.specs.Listed.{listed};
 ghost use Rattle.bep_audit.specs.declared.firm.FirmVerdict.TheVariants.{Firm};
 ghost use Rattle.bep_audit.specs.Loose.{loose_cmp, loose_shown, firm_shown, asked_by, AsksVersion, AsksEntry, AsksEntries, MeetsFirm, EntriesAreAsked};
 ghost use Rattle.bep_audit.specs.Loose as spec;
-ghost use Rattle.bep_audit.specs.Search.{FindsFirst};
+ghost use Rattle.bep_audit.specs.inner.Search.{FindsFirst};
 
 use crate::loose::{Looseness, precedes};
 use crate::{Certificate, Verdict, check, compare_row, find_row};
@@ -79,7 +79,7 @@ fn firm_or_loose<'a>(
     }
 }
 
-// The least that the entries of a cut are asked in vain.
+// The least of what the entries of a cut are asked and don't meet.
 fn least_loose<'a>(rows: &[Row], table: &[TableEntry<'a>]) -> Option<Looseness<'a>>
     requires { Rise rows.now }
     ensures { FindsFirst loose_cmp (AsksEntries rows.now (map listed table.now)) (option_map loose_shown result) }
@@ -105,7 +105,7 @@ fn loose_at<'a>(rows: &[Row], entry: &TableEntry<'a>) -> Option<Looseness<'a>>
     loosening_of(entry)
 }
 
-/// What the entry is asked where firm is asked for, and where: `None` exactly where it holds no record.
+/// What firm asks of the entry, and at which place: `None` exactly if the entry holds no record.
 pub fn loosening_of<'a>(entry: &TableEntry<'a>) -> Option<Looseness<'a>>
     ensures { option_map loose_shown result ≡ spec.loosening_of (listed entry.now) }
 {
@@ -120,8 +120,8 @@ pub fn loosening_of<'a>(entry: &TableEntry<'a>) -> Option<Looseness<'a>>
     }
 }
 
-/// Whether the entry meets what it is asked beside these rows, which rise: where it holds a record, whether that has the
-/// version that it should have beside its name's row.
+/// Whether the entry meets what firm asks of it beside these rows, which rise: whether its record, if it holds one, has
+/// the version that it should have beside its name's row.
 pub fn meets_rows(rows: &[Row], entry: &TableEntry<'_>) -> bool
     requires { Rise rows.now }
     ensures { IsTrue result ↔ MeetsFirm rows.now (listed entry.now) }
@@ -164,7 +164,7 @@ fn is_about(row: &Row, folder: &FolderName, name: &Name) -> bool
     compare_row(row, folder, name).is_eq()
 }
 
-/// What the entries of a cut are asked is what the four reasons ask: a law, which does nothing when it runs.
+/// What firm asks of the entries of a cut is what the four reasons ask: a law, which does nothing when it runs.
 pub fn entries_are_asked()
     ensures { EntriesAreAsked }
 {

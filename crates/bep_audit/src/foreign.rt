@@ -2,7 +2,7 @@
 //! pulls.
 ghost use Rattle.std.specs.Prelude.{◌↔◌, IsTrue};
 ghost use Rattle.std.specs.Option.{option_copied};
-ghost use Rattle.bep_audit.specs.Foreign.{AsksForeign, Passes, PassesIfThere, ViewsPass, LinksPass, LinkPasses, EndPasses, FlightsPass, FlightPasses, RecordsPass, PassesIfNamed};
+ghost use Rattle.bep_audit.specs.inner.Foreign.{AsksForeign, Passes, PassesIfThere, ViewsPass, LinksPass, LinkPasses, EndPasses, FlightsPass, FlightPasses, RecordsPass, PassesIfNamed};
 
 use crate::is_harmless;
 use bep_model::{Reason, Row};

@@ -9,14 +9,14 @@ use bep_model::{Reason, Row};
 use bep_record::{DeviceId, Node, Record};
 use bep_tables::{Held, Share, Source, TableEntry, cut_says, entries_are_held};
 
-/// Whether the name is known whose entries these are: each makes it known.
+/// Whether the name of these entries is known: each entry makes it known.
 pub fn has_known(group: &[TableEntry<'_>]) -> bool
     ensures { IsTrue result ↔ HasEntry (map listed group.now) }
 {
     !group.is_empty()
 }
 
-/// Whether the device meets what the reason asks of it beside the row, whose name's entries these are.
+/// Whether the device meets what the reason asks of it beside the row. These are the entries of the row's name.
 pub(crate) fn meets_group(
     reason: Reason,
     row: &Row,

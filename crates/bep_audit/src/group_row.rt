@@ -9,9 +9,10 @@ ghost use Rattle.bep_model.specs.Verdict.{number_of};
 ghost use Rattle.bep_tables.specs.Cut.{tables_of, devices_of};
 ghost use Rattle.bep_tables.specs.Listed.{listed};
 ghost use Rattle.bep_audit.specs.Group.{IsGroupOf, AsksAmongGroup};
-ghost use Rattle.bep_audit.specs.Search.{FindsFirst, FindsFailing};
+ghost use Rattle.bep_audit.specs.inner.Search.{FindsFirst, FindsFailing};
 ghost use Rattle.bep_audit.specs.Shown.{place_shown};
-ghost use Rattle.bep_audit.specs.Walk.{FindsLeast, FindsHere, failure_shown};
+ghost use Rattle.bep_audit.specs.Walk.{failure_shown};
+ghost use Rattle.bep_audit.specs.inner.Walk.{FindsLeast, FindsHere};
 
 use crate::checkers::REASONS;
 use crate::failing::unless;
@@ -25,7 +26,7 @@ use bep_model::{Reason, Row, reasons_are_numbered};
 use bep_record::{DeviceId, FolderName, Name};
 use bep_tables::{Cut, Share, TableEntry, cut_says, entries_are_held};
 
-/// The least failure at the name, whose entries these are and whose rows these, one or none.
+/// The least failure at a name. These are its entries and its rows, one or none.
 pub(crate) fn failure_at<'a>(
     cut: &'a Cut,
     group: &[TableEntry<'a>],

@@ -2,7 +2,7 @@
 ghost use Rattle.std.specs.Prelude.{◌↔◌, IsTrue};
 ghost use Rattle.bep_model.specs.Foreign.{IsKnown};
 ghost use Rattle.bep_tables.specs.Cut.{tables_of};
-ghost use Rattle.bep_audit.specs.Known.{HasValid, IsViewedIn, HasForeign, HasName, IsHeldIn, IsValidOf, HasValidOf, Brings, IsBroughtBy, IsOver, IsOnItsWay};
+ghost use Rattle.bep_audit.specs.inner.Known.{HasValid, IsViewedIn, HasForeign, HasName, IsHeldIn, IsValidOf, HasValidOf, Brings, IsBroughtBy, IsOver, IsOnItsWay};
 
 use bep_map::NameMap;
 use bep_record::{FolderName, Name, Record};

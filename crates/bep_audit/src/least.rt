@@ -5,8 +5,8 @@ ghost use Rattle.std.specs.Ordering.{nat_cmp};
 ghost use Rattle.std.specs.Cmp.Lexicographic.{slice_cmp};
 ghost use Rattle.bep_model.specs.Settled.{Rise, HasRow};
 ghost use Rattle.bep_model.specs.Tables.{Folder, FileName};
-ghost use Rattle.bep_audit.specs.Missing.{FindsMissing, OneHas};
-ghost use Rattle.bep_audit.specs.Search.{lesser};
+ghost use Rattle.bep_audit.specs.inner.Missing.{FindsMissing, OneHas};
+ghost use Rattle.bep_audit.specs.inner.Search.{lesser};
 
 use crate::find_row;
 use bep_model::Row;

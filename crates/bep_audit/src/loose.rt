@@ -30,7 +30,7 @@ pub struct Looseness<'a> {
 }
 
 impl<'a> Looseness<'a> {
-    /// How two stand: by reason, then by folder, name and device.
+    /// How two of them compare: by reason, then by folder, name and device.
     pub fn compare(&self, other: &Looseness<'_>) -> Ordering
         ensures { result ≡ loose_cmp (loose_shown self.now) (loose_shown other.now) }
     {

@@ -4,9 +4,9 @@ ghost use Rattle.std.specs.Option.{option_copied};
 ghost use Rattle.bep_model.specs.declared.reason.Reason.TheVariants.{NameMissing};
 ghost use Rattle.bep_model.specs.Settled.{Rise};
 ghost use Rattle.bep_tables.specs.Cut.{tables_of};
-ghost use Rattle.bep_audit.specs.Known.{IsKnownFrom};
-ghost use Rattle.bep_audit.specs.Missing.{FindsMissing};
-ghost use Rattle.bep_audit.specs.Search.{FindsFailing};
+ghost use Rattle.bep_audit.specs.inner.Known.{IsKnownFrom};
+ghost use Rattle.bep_audit.specs.inner.Missing.{FindsMissing};
+ghost use Rattle.bep_audit.specs.inner.Search.{FindsFailing};
 ghost use Rattle.bep_audit.specs.Shown.{place_shown};
 
 use crate::least::{least_of, lesser};

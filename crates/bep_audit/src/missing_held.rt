@@ -3,8 +3,8 @@ ghost use Rattle.std.specs.Prelude.{IsTrue};
 ghost use Rattle.std.specs.Option.{option_copied};
 ghost use Rattle.std.specs.FinMap.{contains_key};
 ghost use Rattle.bep_model.specs.Settled.{Rise};
-ghost use Rattle.bep_audit.specs.Known.{HasValid, HasForeign, HasName};
-ghost use Rattle.bep_audit.specs.Missing.{FindsMissing};
+ghost use Rattle.bep_audit.specs.inner.Known.{HasValid, HasForeign, HasName};
+ghost use Rattle.bep_audit.specs.inner.Missing.{FindsMissing};
 
 use crate::find_row;
 use crate::least::{HasNames, has_row_if_valid, least_of, lesser};

@@ -1,12 +1,12 @@
 //! The least name without a row, of those on their way.
-ghost use Rattle.bep_audit.specs.Known.{IsValidOf, Brings, IsOver};
+ghost use Rattle.bep_audit.specs.inner.Known.{IsValidOf, Brings, IsOver};
 
 use crate::least::{HasNames, has_row_if_valid, least_of, lesser};
 use bep_model::Row;
 use bep_record::{FolderName, Name, Record};
 use bep_tables::{Flight, LinkState};
 
-// Those on their way over the link, one way or the other.
+// The least name without a row, of those on their way over the link, one way or the other.
 impl HasNames for LinkState {
     ghost names = { λ link folder name. IsOver folder name link };
 
@@ -17,7 +17,7 @@ impl HasNames for LinkState {
     }
 }
 
-// Those that the message brings, if it is of the folder.
+// The least name without a row, of those that the message brings, if it is of the folder.
 impl HasNames for Flight {
     ghost names = { λ flight folder name. Brings folder name flight };
 

@@ -16,6 +16,7 @@ pub struct Certificate {
     rows: Items<Row>,
 }
 
+// By hand: a caller's proof then sees one call where it lets go of one, and not each field (docs/developing.md).
 impl Drop for Certificate {
     fn drop(self) {
         let Certificate { rows: _ } = self;
@@ -74,7 +75,7 @@ pub fn first_disordered(rows: &[Row]) -> Option<&Row>
     None
 }
 
-/// How two rows stand in a certificate: by folder, then by name, each by its bytes.
+/// How two rows compare: by folder, then by name, each by its bytes.
 pub fn compare_rows(one: &Row, other: &Row) -> Ordering
     ensures { result ≡ key_cmp (key_of one.now) (key_of other.now) }
 {

@@ -34,7 +34,7 @@ pub fn meets_share(
     }
 }
 
-/// That `meets_share` answers for the model's reasons: a law, which does nothing when it runs.
+/// `meets_share` answers what the model's reasons ask: a law, which does nothing when it runs.
 pub fn share_is_asked()
     ensures { ShareIsAsked }
 {}

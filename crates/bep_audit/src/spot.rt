@@ -48,7 +48,7 @@ impl<'a> Spot<'a> {
         }
     }
 
-    /// How two places stand: by folder, then by name, then by device, where none comes before each.
+    /// How two places compare: by folder, then by name, then by device; no device comes before each device.
     pub fn compare(&self, other: &Spot<'_>) -> Ordering
         ensures { result ≡ place_cmp (place_shown self.now) (place_shown other.now) }
     {
@@ -58,7 +58,7 @@ impl<'a> Spot<'a> {
     }
 }
 
-// The device's place among all devices, where none is the first.
+// The device's place among all devices; no device has the first.
 fn rank_of(device: Option<DeviceId>) -> u128
     ensures { result ≡ device_rank device }
 {

@@ -3,7 +3,8 @@ ghost use Rattle.std.specs.Prelude.{◌≡◌, ◌≤◌, ⊤, length, option_ma
 ghost use Rattle.bep_model.specs.Settled.{Rise};
 ghost use Rattle.bep_tables.specs.Cut.{tables_of};
 ghost use Rattle.bep_tables.specs.Listed.{IsGrouped, cut_listed};
-ghost use Rattle.bep_audit.specs.Walk.{FindsLeast, failure_shown, key_shown, next_key, count_at, rows_about};
+ghost use Rattle.bep_audit.specs.Walk.{failure_shown};
+ghost use Rattle.bep_audit.specs.inner.Walk.{FindsLeast, key_shown, next_key, count_at, rows_about};
 
 use crate::compare_row;
 use crate::failure::{Failure, replaces};

@@ -1,4 +1,4 @@
-//! Blocks that are told by their hashes alone.
+//! Block lists that are made from hashes.
 ghost use Rattle.std.specs.Prelude.{◌≡◌, ◌*◌, ◌<◌, ◌≤◌, ◌^◌, ◌↔◌, map, length, IfOk, IfSome, IsSome};
 ghost use Rattle.bep_record.specs.Block.{CutWhole, block_count, cut_at};
 
@@ -8,8 +8,8 @@ use std::alloc::{AllocError, Global};
 
 /// The block list of a file of this length whose blocks, in order, have these hashes.
 ///
-/// The blocks' places and sizes follow from the file's length and the block size. `None` where the file has not as
-/// many blocks as there are hashes; it has one even where it has no bytes.
+/// The blocks' places and sizes follow from the file's length and the block size. `None` if the file has another number
+/// of blocks than there are hashes. A file without bytes has one block.
 pub fn blocks_of_hashes(
     alloc: Global,
     hashes: &[[u8; 32]],

@@ -13,7 +13,7 @@ pub fn plain_blocks_match()
     ensures only { OnlyPlainMatches }
 {}
 
-/// That `blocks_of_hashes` has no choice: a law, which does nothing when it runs.
+/// A length and hashes have one block list: a law, which does nothing when it runs.
 pub fn hashes_tell_blocks()
     ensures { HashesTellBlocks }
 {}

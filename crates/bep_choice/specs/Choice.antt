@@ -1,5 +1,5 @@
--- Which of the records known of a name is held for the best (this project's profile).
--- Candidates are a finite set of pairs of a device and its record; a list stands for the set of its members.
+-- Which record is chosen among those that are known of a name (this project's profile). Candidates are a finite set of pairs
+-- of a device and its record; a list stands for the set of its members.
 use Rattle.std.specs.Prelude.{◌≡◌, ◌≢◌, ◌==◌, ℕ, false, List, map, Contains, IsSomeAnd, slice_get}
 use Rattle.std.specs.declared.cmp.Ordering.{Ordering}
 use Rattle.std.specs.declared.cmp.Ordering.TheVariants.{Greater}
@@ -27,7 +27,7 @@ IsDominated one other = (other.invalid ≡ false) × IsBelow one.version other.v
 abbrev pub IsValidAmong : List Candidate → Candidate → Type 0
 IsValidAmong candidates one = Contains candidates one × (one.1.invalid ≡ false)
 
--- what is left once invalid records are away, and then each whose version is strictly below that of another
+-- what is left without invalid records, and then without each whose version is strictly below that of another
 pub record IsLeft (candidates : List Candidate) (one : Candidate) : Type 0 where
   pub valid : IsValidAmong candidates one
   pub undominated : (other : Candidate) → Contains candidates other → ¬ IsDominated one.1 other.1

@@ -1,4 +1,4 @@
-//! Which of the candidates a device holds for the best.
+//! Which candidate a device chooses.
 ghost use Rattle.std.specs.Prelude.{◌≡◌, ◌↔◌, ℕ, IsTrue, IsSome, IfSome, Contains, map};
 ghost use Rattle.std.specs.List.Sorted.{IsStrictlyIncreasing};
 ghost use Rattle.bep_choice.specs.Choice.{Candidate, candidate_of, candidates_of, choice_cmp, IsDominated, IsLeft, IsValidAmong, IsChoiceAt};
@@ -10,8 +10,9 @@ use std::cmp::Ordering;
 /// invalid, or there is none.
 ///
 /// Candidates are pairs of a device and its record of one name, devices rising. An invalid record is passed over, and
-/// so is one whose version is strictly below that of another. Of the rest comes first what isn't deleted, then the
-/// later time, the smaller `modified_by`, the chooser's own, and the smaller device. This project's profile.
+/// so is one whose version is strictly below that of another. Of the rest one that isn't deleted comes first, then one
+/// of a later time, of a smaller `modified_by`, the chooser's own, and that of the smaller device. This project's
+/// profile.
 pub fn choose(me: DeviceId, candidates: &[(DeviceId, &Record)]) -> Option<usize>
     requires { IsStrictlyIncreasing (map (λ one. one.0) candidates.now) }
     ensures found { IsSome result ↔ ((one : Candidate) × IsValidAmong (candidates_of candidates.now) one) }

@@ -25,13 +25,13 @@ pub fn choice_is_on_top()
         → ¬ IsBelow one.1.version other.1.version }
 {}
 
-/// The choice is of the set: neither the order of the candidates counts, nor how often each of them stands.
+/// The choice depends on the set of candidates, not on their order or on how often each of them stands.
 pub fn choice_is_of_the_set()
     ensures { (chooser : ℕ) (candidates others : List Candidate) (one : Candidate) → SameSet candidates others
         → IsChoice chooser candidates one → IsChoice chooser others one }
 {}
 
-/// The choice is the same for two devices, where none that is left is theirs.
+/// Two devices choose the same, if no candidate that is left is one of theirs.
 pub fn choice_is_shared()
     ensures { (chooser other : ℕ) (candidates : List Candidate) (one : Candidate)
         → HasNoneLeft chooser candidates → HasNoneLeft other candidates

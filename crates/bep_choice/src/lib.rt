@@ -1,4 +1,4 @@
-//! Which of the records that a device knows of a name it holds for the best, and whether it needs that one.
+//! Which record a device chooses among those that it knows of a name, and whether it needs the chosen one.
 //!
 //! `choose` gives the place of the choice among the candidates, and `needed` says whether the choice is wanted. Neither
 //! takes memory. `laws` has what holds of each choice.

@@ -46,6 +46,7 @@ pub struct Config<S> {
     alloc: Global,
 }
 
+// By hand: a caller's proof then sees one call where it lets go of one, and not each field (docs/developing.md).
 impl<S: Drop> Drop for Config<S> {
     fn drop(self) {
         let Config {

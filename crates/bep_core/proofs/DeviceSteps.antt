@@ -22,7 +22,7 @@ use Rattle.bep_core.specs.Counts.{AnswersFault, IsCounted, TellsFault}
 use Rattle.bep_core.specs.declared.why.Why.TheVariants.{Refused}
 use Rattle.bep_core.specs.Unhidden.{HidesNone, TestsWithin}
 use Rattle.bep_core.specs.Why.{Gives, answer_of}
-use Rattle.bep_core.specs.Within.{row_of, step_of}
+use Rattle.bep_core.specs.inner.Within.{row_of, step_of}
 use Rattle.bep_core.specs.declared.folder_steps.Within.{Within}
 use Rattle.bep_core.specs.declared.folder_steps.Within.TheVariants.{Edit, Remove, Scan, Override, Revert, Pull, Finish}
 use Rattle.bep_core.proofs.AtLinks.{none_found}

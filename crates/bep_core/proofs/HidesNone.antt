@@ -28,10 +28,10 @@ use Rattle.bep_core.specs.declared.session_steps.Over.{Over}
 use Rattle.bep_core.specs.declared.session_steps.Over.TheVariants.{Begin, Deliver, Announce, Ask}
 use Rattle.bep_core.specs.declared.why.Why.{Why}
 use Rattle.bep_core.specs.declared.why.Why.TheVariants.{Memory}
-use Rattle.bep_core.specs.Over as over
+use Rattle.bep_core.specs.inner.Over as over
 use Rattle.bep_core.specs.Unhidden.{HidesNone, TestsFirst, TestsWithin}
 use Rattle.bep_core.specs.Why.{answer_of}
-use Rattle.bep_core.specs.Within.{row_of, step_of}
+use Rattle.bep_core.specs.inner.Within.{row_of, step_of}
 use Rattle.bep_core.proofs.Lift.{ReplacesLink}
 use Rattle.bep_core.proofs.OneDevice.{Replaces, with_member, failed_now}
 use Rattle.bep_core.proofs.Over.{link_found, linked_there, other_is, with_both}

@@ -19,6 +19,5 @@ mod LinkSteps
 mod BegunJoined
 mod Restarted
 mod ListDone
-mod Scanned
 mod Reaching
 mod BegunFresh

@@ -12,7 +12,7 @@ use Rattle.bep_core.specs.declared.why.Why.{Why}
 use Rattle.bep_core.specs.declared.link_steps.Between.{Between}
 use Rattle.bep_core.specs.declared.link_steps.Between.TheVariants.{Connect, Lose}
 use Rattle.bep_core.specs.Applying.{maker_of}
-use Rattle.bep_core.specs.Between.{row_of, step_of}
+use Rattle.bep_core.specs.inner.Between.{row_of, step_of}
 use Rattle.bep_core.specs.Counts.{IsCounted, TellsFault}
 use Rattle.bep_peer.specs.network.Network.{Network, IsNetwork, is_between, cluster_of}
 use Rattle.bep_core.specs.Why.{Gives}

@@ -18,7 +18,7 @@ use Rattle.bep_links.specs.Link.{LinkBetween}
 use Rattle.bep_peer.specs.declared.trace.Trace.{Trace}
 use Rattle.bep_peer.specs.Member.{Member, Remains, nothing_told, tables_of, untold}
 use Rattle.bep_peer.specs.network.Network.{Network, IsNetwork, is_between as joins, is_number, cluster_of, ends_of, numbers_of, sharing_of, member_at, between_at, peer_of, link_of}
-use Rattle.bep_core.specs.Restart.{left_by}
+use Rattle.bep_core.specs.inner.Restart.{left_by}
 use Rattle.bep_peer.proofs.Mapped.{get-changed}
 use Rattle.bep_core.specs.Counts.{IsCounted}
 use Rattle.bep_core.specs.declared.why.Why.TheVariants.{Refused}

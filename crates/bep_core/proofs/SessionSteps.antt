@@ -22,7 +22,7 @@ use Rattle.bep_core.specs.declared.why.Why.TheVariants.{Refused}
 use Rattle.bep_peer.specs.network.Network.{Network, IsNetwork, in_order, is_between, is_number, cluster_of, config_of, failed_at, link_of, member_at}
 use Rattle.bep_core.specs.Applying.{failed_by, maker_of}
 use Rattle.bep_core.specs.Counts.{AwaitsRequest, IsCounted, IsRequest, TellsFault}
-use Rattle.bep_core.specs.Over.{TellsOver, row_of, shares_of, step_of}
+use Rattle.bep_core.specs.inner.Over.{TellsOver, row_of, shares_of, step_of}
 use Rattle.bep_core.specs.declared.session_steps.Over.{Over}
 use Rattle.bep_core.specs.declared.session_steps.Over.TheVariants.{Begin, Deliver, Announce, Ask}
 use Rattle.bep_core.specs.Unhidden.{HidesNone}

@@ -35,8 +35,8 @@ abbrev pub AnswersFault : Option ℕ → Result Moved Why → Type 0
 AnswersFault failed (Err (Refused StoreFault)) = IsSome failed
 AnswersFault failed result = failed ≡ None
 
--- A delivery reads a store only to answer a request. Where that one read failed, the response says so by its code, as the
--- step has it. (Where memory is wanting for the response, the failure is told all the same.)
+-- A delivery reads a store only to answer a request. If that one read failed, the response says so by its code, as the step
+-- has it. (If memory is wanting for the response, the failure is told all the same.)
 abbrev pub TellsRead : Type 0 → Option ℕ → Result Moved Why → Type 0
 TellsRead requested failed (Ok Changed) = (failed ≡ None) ⊎ ((failed ≡ Some 1) × requested)
 TellsRead requested failed (Err Memory) = (failed ≡ None) ⊎ (failed ≡ Some 1)

@@ -2,9 +2,6 @@ pub mod Applying
 pub mod Begin
 pub mod Counts
 pub mod Reached
-pub mod Restart
 pub mod Unhidden
 pub mod Why
-pub mod Within
-pub mod Over
-pub mod Between
+pub mod inner

@@ -6,7 +6,8 @@ use Rattle.bep_machine.specs.Laws.{AreSound}
 use Rattle.bep_machine.specs.Sound.{IsSound}
 use Rattle.bep_machine.specs.Steps.{Event, IsRun}
 
--- A run leads to the cluster from one that is sound and has no gap, where all links are down; so from one that begins.
+-- A run leads to the cluster from one that is sound and has no gap, and whose links are all down. A cluster that begins is
+-- such a one.
 pub record IsReached (cluster : Cluster) : Type 0 where
   pub from : Cluster
   pub events : List Event

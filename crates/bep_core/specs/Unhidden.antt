@@ -11,8 +11,8 @@ use Rattle.bep_core.specs.declared.folder_steps.Within.TheVariants as within
 use Rattle.bep_core.specs.declared.why.Why.{Why}
 use Rattle.bep_core.specs.declared.why.Why.TheVariants.{Memory}
 
--- A step that tests all that may refuse it before anything is allocated. (The others read a store first, whose answer takes
--- memory, or take none at all; an override makes the new version first.)
+-- A step that tests all that may refuse it before it allocates anything. (The others read a store first, whose answer takes
+-- memory, or take no memory at all; an override makes the new version first.)
 abbrev pub TestsFirst : Step → Type 0
 TestsFirst (Edit device folder name node) = ⊥
 TestsFirst (Remove device folder name) = ⊥

@@ -30,6 +30,7 @@ pub struct Cluster<S: Store> {
     pub(crate) alloc: Global,
 }
 
+// By hand: a caller's proof then sees one call where it lets go of one, and not each field (docs/developing.md).
 impl<S: Store> Drop for Cluster<S> {
     fn drop(self) {
         let Cluster {
@@ -90,8 +91,8 @@ impl<S: Store> Cluster<S> {
         Ok(made)
     }
 
-    /// The cluster is sound, whatever was called of it: its devices and links are by their types, and they agree on who
-    /// shares what. So what is proved of every sound cluster is true of it, without a word on how it came about. It changes
+    /// The cluster is sound, whatever calls made it. Its devices and links are sound by their types, and they agree on
+    /// who shares what. So all that is proved of every sound cluster is true of it, however it came about. It changes
     /// nothing, and takes no memory.
     pub fn cluster_is_sound(&self)
         ensures { IsSound (cluster_of self.now) }

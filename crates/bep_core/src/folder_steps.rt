@@ -10,16 +10,14 @@ ghost use Rattle.bep_peer.specs.declared.error.PeerError.TheVariants.{Stale};
 ghost use Rattle.bep_peer.specs.network.Network.{cluster_of, failed_at, is_number};
 ghost use Rattle.bep_core.specs.Counts.{IsCounted};
 ghost use Rattle.bep_core.specs.Unhidden.{HidesNone, TestsWithin};
-ghost use Rattle.bep_core.specs.Within.{row_of, step_of};
+ghost use Rattle.bep_core.specs.inner.Within.{row_of, step_of};
 ghost use Rattle.bep_core.specs.Why.{Gives, answer_of};
 
-use crate::scanning::scan_at;
 use crate::{Cluster, Why};
 use bep_machine::{Moved, Refusal};
 use bep_peer::{Peer, PeerError};
 use bep_record::{DeviceId, FolderName, Name, Node};
 use bep_store::Store;
-use std::alloc::Global;
 
 // What a device does within a folder.
 #[derive(Drop)]
@@ -62,17 +60,12 @@ impl<S: Store> Cluster<S> {
         let Some(place) = self.device_place(device) else {
             return Err(Why::Refused(Refusal::NotShared));
         };
-        answered(make(self.alloc, &mut self.peers[place], &folder, step))
+        answered(make(&mut self.peers[place], &folder, step))
     }
 }
 
 // The device makes the step.
-fn make<S: Store>(
-    alloc: Global,
-    peer: &mut Peer<S>,
-    folder: &FolderName,
-    step: Within,
-) -> Result<Moved, PeerError>
+fn make<S: Store>(peer: &mut Peer<S>, folder: &FolderName, step: Within) -> Result<Moved, PeerError>
     ensures step { GivesThere (StepWithin folder.now (row_of step peer.old.number peer.new.trace.failed) peer.old) peer.new result }
     ensures unhidden { IsErrOf result PeerError.Memory → TestsWithin step → IsUnrefusedWithin folder.now (row_of step peer.old.number peer.new.trace.failed) peer.old }
     ensures rest { Remains peer.old peer.new }
@@ -81,7 +74,7 @@ fn make<S: Store>(
     match step {
         Within::Edit(name, node) => peer.edit(folder, &name, &node),
         Within::Remove(name) => peer.remove(folder, &name),
-        Within::Scan(name) => scan_at(alloc, peer, folder, name),
+        Within::Scan(name) => peer.scan(folder, &name),
         Within::Override(name) => peer.override_one(folder, &name),
         Within::Revert(name) => peer.revert_one(folder, &name),
         Within::Pull(name) => peer.pull(folder, &name),

@@ -3,8 +3,8 @@ ghost use Rattle.bep_core.specs.Reached.{ReachedIsGapless};
 
 use bep_machine::{runs_are_gapless, steps_keep_sound};
 
-/// Whatever was lost, and whenever devices were restarted: in a cluster that was begun with stores that hold nodes, and to
-/// which only steps were applied, no view under the id of the other device's own index has a gap, and all is well formed.
+/// A cluster began with stores that hold nodes, and only steps were applied to it. Then all is well formed, and no view
+/// under the id of the other device's own index has a gap, whatever was lost and whenever devices were restarted.
 pub fn reached_is_gapless()
     ensures { ReachedIsGapless }
 {

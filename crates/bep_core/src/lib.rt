@@ -17,7 +17,6 @@ mod laws;
 mod link_steps;
 mod others;
 mod restarting;
-mod scanning;
 mod session_steps;
 mod why;
 

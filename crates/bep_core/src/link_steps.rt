@@ -2,7 +2,7 @@
 ghost use Rattle.std.specs.Prelude.{◌≡◌, None};
 ghost use Rattle.std.specs.List.{position};
 ghost use Rattle.bep_machine.specs.Steps.{IsStep};
-ghost use Rattle.bep_core.specs.Between.{row_of, step_of};
+ghost use Rattle.bep_core.specs.inner.Between.{row_of, step_of};
 ghost use Rattle.bep_core.specs.Counts.{IsCounted};
 ghost use Rattle.bep_peer.specs.network.Network.{cluster_of, is_between};
 ghost use Rattle.bep_core.specs.Why.{Gives};

@@ -6,7 +6,7 @@ ghost use Rattle.bep_machine.specs.Steps.{IsStep};
 ghost use Rattle.bep_peer.specs.network.Network.{cluster_of, failed_at};
 ghost use Rattle.bep_core.specs.Counts.{IsCounted};
 ghost use Rattle.bep_core.specs.Why.{Gives};
-ghost use Rattle.bep_core.specs.Restart.{left_by};
+ghost use Rattle.bep_core.specs.inner.Restart.{left_by};
 
 use crate::{Cluster, Why};
 use bep_links::Link;

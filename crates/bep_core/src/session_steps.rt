@@ -9,7 +9,7 @@ ghost use Rattle.bep_peer.specs.PeerError.{Gives as GivesThere};
 ghost use Rattle.bep_peer.specs.Unhidden.{IsUnrefused};
 ghost use Rattle.bep_peer.specs.network.Network.{cluster_of, failed_at, in_order, is_between, is_number, member_at};
 ghost use Rattle.bep_core.specs.Counts.{IsCounted};
-ghost use Rattle.bep_core.specs.Over.{TellsOver, row_of, shares_of, step_of};
+ghost use Rattle.bep_core.specs.inner.Over.{TellsOver, row_of, shares_of, step_of};
 ghost use Rattle.bep_core.specs.Unhidden.{HidesNone};
 ghost use Rattle.bep_core.specs.Why.{Gives};
 

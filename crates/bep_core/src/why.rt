@@ -21,7 +21,7 @@ pub enum Why {
 }
 
 impl Why {
-    /// The number that the product prints; want of memory has none.
+    /// The number that the product prints; `Memory` has none.
     pub fn number(self) -> Option<u32>
         ensures { result ≡ number_of self }
     {
@@ -32,7 +32,7 @@ impl Why {
         }
     }
 
-    /// The name that the product prints; want of memory has none.
+    /// The name that the product prints; `Memory` has none.
     pub fn name(self) -> Option<&'static str>
         ensures { option_map (λ name. name.now) result ≡ name_of self }
     {

@@ -27,7 +27,7 @@ use Rattle.bep_tables.specs.declared.link.LinkState.{LinkState}
 use Rattle.bep_tables.specs.declared.cut.CutParts.{CutParts}
 use Rattle.bep_tables.specs.Cut.{AreViews, ArePulls, AreShares, IsFlight, IsLink, IsCut, devices_of, index_of, known_of}
 use Rattle.bep_cut_document.specs.Trees.{folder_tree, link_tree}
-use Rattle.bep_cut_document.specs.Told.{folder_parts, link_parts, AreInRange, IsIndexInRange, IsViewInRange, IsShareInRange, IsFlightInRange, IsLinkInRange, IsFolderTold, IsLinkTold}
+use Rattle.bep_cut_document.specs.inner.Told.{folder_parts, link_parts, AreInRange, IsIndexInRange, IsViewInRange, IsShareInRange, IsFlightInRange, IsLinkInRange, IsFolderTold, IsLinkTold}
 use Rattle.bep_tables.proofs.Found.{all_from_each}
 use Rattle.bep_cut_document.proofs.ToldFacts.{each_told, few_read}
 

@@ -31,7 +31,7 @@ use Rattle.bep_tables.specs.declared.share.PeerView.{PeerView}
 use Rattle.bep_tables.specs.declared.share.SharedFolder.{SharedFolder}
 use Rattle.bep_tables.specs.declared.link.LinkState.{LinkState}
 use Rattle.bep_cut_document.specs.Trees.{name_of_kind, view_tree, share_tree, folder_tree, flight_tree, link_tree, row_tree}
-use Rattle.bep_cut_document.specs.Told.{node_parts, view_parts, share_parts, flight_parts, AreInRange, IsViewInRange, IsShareInRange, IsFlightInRange, IsRecordTold, IsNodeTold, IsViewTold, IsShareTold, IsFolderTold, IsFlightTold, IsLinkTold, IsRowTold}
+use Rattle.bep_cut_document.specs.inner.Told.{node_parts, view_parts, share_parts, flight_parts, AreInRange, IsViewInRange, IsShareInRange, IsFlightInRange, IsRecordTold, IsNodeTold, IsViewTold, IsShareTold, IsFolderTold, IsFlightTold, IsLinkTold, IsRowTold}
 
 where_true : {A : Type 0} {b : Bool} (x y : A) → b ≡ true → (if b then x else y) ≡ x
 where_true x y e = ap (λ c. if c then x else y) e

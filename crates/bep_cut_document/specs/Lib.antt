@@ -4,4 +4,4 @@ pub mod Written
 pub mod AsWritten
 pub mod Trees
 pub mod Told
-pub mod Sound
+pub mod inner

@@ -104,5 +104,5 @@ check_tree cut rows =
     (member (codes "version") (whole 1) no_members)))
 
 -- its text: JSON without spaces
-unfoldable pub check_text : CutParts → List Row → List ℕ
-check_text cut rows = compact_text (check_tree cut rows)
+unfoldable pub check_document_text : CutParts → List Row → List ℕ
+check_document_text cut rows = compact_text (check_tree cut rows)

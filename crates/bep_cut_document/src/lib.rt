@@ -5,8 +5,8 @@
 //!         for (name, _) in cut.known_names(alloc, &shared.folder)?.iter() { .. }
 //!     }
 //!
-//! What a document lists and why it is refused stands below (`bep_document`), what a cut is in `bep_tables`, which knows of
-//! no documents.
+//! `bep_document` says what a document lists and why it is refused. `bep_tables` says what a cut is, and knows of no
+//! documents.
 #![tactic(auto)]
 
 mod laws;

@@ -10,8 +10,8 @@ ghost use Rattle.bep_json.specs.Says.{Says};
 ghost use Rattle.bep_json.specs.Written.{whole, list_of, record_written};
 ghost use Rattle.bep_cut_document.specs.Trees.{name_of_kind, records_tree, nodes_tree, view_tree, share_tree, folder_tree, flight_tree, link_tree, row_tree};
 ghost use Rattle.bep_record.specs.Entry.{IsWellFormed};
-ghost use Rattle.bep_cut_document.specs.Sound.{AreRecords, AreNodes, IsViewSound, IsShareSound, IsFolderSound, IsFlightSound, IsLinkSound};
-ghost use Rattle.bep_cut_document.specs.Told.{IsRecordTold, IsNodeTold, IsViewTold, IsShareTold, IsFolderTold, IsFlightTold, IsLinkTold, IsRowTold};
+ghost use Rattle.bep_cut_document.specs.inner.Sound.{AreRecords, AreNodes, IsViewSound, IsShareSound, IsFolderSound, IsFlightSound, IsLinkSound};
+ghost use Rattle.bep_cut_document.specs.inner.Told.{IsRecordTold, IsNodeTold, IsViewTold, IsShareTold, IsFolderTold, IsFlightTold, IsLinkTold, IsRowTold};
 
 use bep_index::IndexId;
 use bep_json::{Members, node_value, record_value, texts_are_told};
@@ -27,7 +27,7 @@ pub(crate) trait Written {
     /// What is written of it.
     ghost tree_of: { Self → Data };
 
-    /// That this is read again, where it is in range.
+    /// This is read again, if it is in range: a law.
     ghost is_told: { Self → Type 0 };
 
     /// That its records and nodes are ones.
@@ -102,7 +102,7 @@ fn name_of_kind(kind: FolderKind) -> &'static str
     }
 }
 
-// That numbers, devices, index ids and folder names are read again.
+// Numbers, devices, index ids and folder names are read again: a law, which does nothing when it runs.
 fn number_is_told(number: u64)
     ensures { Says is_whole (read_number 0 greatest_id) number (whole number) }
 {}

@@ -13,8 +13,8 @@ use bep_tables::Cut;
 use serde_json::Value;
 use std::alloc::{AllocError, Global};
 
-/// What is read from a JSON tree and written as one. With it in scope a caller writes `Cut::from_value` and
-/// `cut.to_value`: `Cut` stands in a crate that knows of no JSON.
+/// What is read from a JSON tree and written as one. A caller that has it in scope writes `Cut::from_value` and
+/// `cut.to_value`: the crate of `Cut` knows of no JSON.
 pub trait CutValue: Drop {
     /// What a tree says by itself, or the fault for which it is refused.
     ghost of_tree: { Data → Reading Self };

@@ -3,8 +3,9 @@ ghost use Rattle.std.specs.Prelude.{◌≡◌, ◌≤◌, length, map, IfOk, OnO
 ghost use Rattle.serde_json.specs.View.{view};
 ghost use Rattle.bep_json.specs.Written.{list_of};
 ghost use Rattle.bep_document.specs.Reading.{Read, most_bytes};
-ghost use Rattle.bep_cut_document.specs.Trees.{folder_tree, link_tree, cut_tree, row_tree, check_tree, check_text};
-ghost use Rattle.bep_cut_document.specs.Told.{IsCutTold, AreRowsInRange};
+ghost use Rattle.bep_cut_document.specs.Trees.{folder_tree, link_tree, cut_tree, row_tree, check_tree, check_document_text};
+ghost use Rattle.bep_cut_document.specs.Told.{AreRowsInRange};
+ghost use Rattle.bep_cut_document.specs.inner.Told.{IsCutTold};
 ghost use Rattle.bep_cut_document.specs.Written.{check_of, check_of_tree};
 
 use crate::trees::list_tree;
@@ -67,8 +68,8 @@ fn check_members(
 /// are read as the very cut and rows, where they aren't more than a document may have and the sequences of the rows' records
 /// are at most 9223372036854775807.
 pub fn check_document(alloc: Global, cut: &Cut, rows: &[Row]) -> Result<String, AllocError>
-    ensures text { IfOk result (λ text. string_bytes text ≡ check_text cut.now rows.now) }
-    ensures read_back { OnOk result (length (check_text cut.now rows.now) ≤ most_bytes → AreRowsInRange rows.now → check_of (check_text cut.now rows.now) ≡ Read (cut.now, rows.now)) }
+    ensures text { IfOk result (λ text. string_bytes text ≡ check_document_text cut.now rows.now) }
+    ensures read_back { OnOk result (length (check_document_text cut.now rows.now) ≤ most_bytes → AreRowsInRange rows.now → check_of (check_document_text cut.now rows.now) ≡ Read (cut.now, rows.now)) }
 {
     let tree = check_value(alloc, cut, rows)?;
     let text = tree.to_string(alloc)?;

@@ -14,7 +14,7 @@ use Rattle.bep_document.specs.declared.parts.FlightParts.{FlightParts}
 use Rattle.bep_document.specs.declared.parts.LinkParts.{LinkParts}
 use Rattle.bep_document.specs.declared.parts.CheckParts.{CheckParts}
 use Rattle.bep_json.specs.Tree.{has_only, names_of}
-use Rattle.bep_document.specs.read.Checks.{is_cut, read_cut, has_version, check_members, is_check, read_check}
+use Rattle.bep_document.specs.read.Checks.{is_cut, read_cut, has_version, check_members, is_check, read_check_parts}
 use Rattle.bep_document.specs.read.Devices.{is_one_of, with_devices}
 use Rattle.bep_document.specs.Reading.{Read, first_fault, reading_of_tree, reading_of, without_rows, reading_of_cut, reading_of_cut_in, reading_of_cut_document}
 use Rattle.bep_document.specs.Faultless.{IsFaultlessIndex, IsFaultlessShare, IsFaultlessFolder, IsFaultlessFlight, IsFaultlessLink, IsFaultless}
@@ -122,7 +122,7 @@ tree_faultless : (tree : Data) (parts : CheckParts) → reading_of_tree tree ≡
 unfolding reading_of_tree
 tree_faultless tree parts e =
     let unshaped = passed_and VersionBad has_version tree _ e in
-    let found = of_shape_and is_check read_check first_fault tree unshaped in
+    let found = of_shape_and is_check read_check_parts first_fault tree unshaped in
     faultless parts (check_in_range tree parts found.0) (has_no_fault parts found.1)
 
 pub reading_faultless : (bytes : List ℕ) (parts : CheckParts) → reading_of bytes ≡ Read parts → IsFaultless parts

@@ -21,7 +21,7 @@ use Rattle.bep_document.specs.faults.Records.{first_bad}
 use Rattle.bep_document.specs.faults.Sequences.{first_bad_sequence}
 use Rattle.bep_document.specs.faults.Links.{first_bad_link}
 use Rattle.bep_json.specs.Tree.{has_only, names_of}
-use Rattle.bep_document.specs.read.Checks.{is_cut, read_cut, has_version, check_members, is_check, read_check}
+use Rattle.bep_document.specs.read.Checks.{is_cut, read_cut, has_version, check_members, is_check, read_check_parts}
 
 -- a thing, or the fault in place of it
 pub data Reading (T : Type 0) : Type 0 where
@@ -103,7 +103,7 @@ first_fault parts =
 
 -- what the tree of a document says
 unfoldable pub reading_of_tree : Data → Reading CheckParts
-reading_of_tree tree = passed VersionBad has_version tree >>= of_shape is_check read_check first_fault
+reading_of_tree tree = passed VersionBad has_version tree >>= of_shape is_check read_check_parts first_fault
 
 -- what the bytes of a document say
 unfoldable pub reading_of : List ℕ → Reading CheckParts

@@ -73,6 +73,7 @@ pub struct DocFault {
     pub name: Option<Name>,
 }
 
+// By hand: a caller's proof then sees one call where it lets go of one, and not each field (docs/developing.md).
 impl Drop for DocFault {
     fn drop(self) {
         let DocFault {
@@ -160,7 +161,7 @@ impl DocFault {
         })
     }
 
-    /// Whether the fault is at some place, rather than of the whole document.
+    /// Whether the fault is at some place and not of the whole document.
     pub fn has_place(&self) -> bool
         ensures { result ≡ has_place self.now.fault }
     {

@@ -9,7 +9,7 @@ mod shares;
 mod views;
 
 pub use checks::has_version;
-pub(crate) use checks::{CutLists, is_check, read_check};
+pub(crate) use checks::{CutLists, is_check, read_check_parts};
 pub use devices::has_few_devices;
 pub use few::Few;
 pub use shares::{IndexNumber, index_id_of};

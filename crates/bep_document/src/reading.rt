@@ -6,7 +6,7 @@ ghost use Rattle.bep_document.specs.Fault.{nowhere};
 ghost use Rattle.bep_document.specs.declared.fault.Fault.TheVariants.{NotJson};
 
 use crate::faults::fault_of;
-use crate::read::{CutLists, has_version, is_check, read_check};
+use crate::read::{CutLists, has_version, is_check, read_check_parts};
 use crate::{CheckParts, DocError, DocFault, Fault};
 use bep_json::{ReadError, Readable, has_only};
 use bep_record::Items;
@@ -71,7 +71,7 @@ fn parts_of(alloc: Global, tree: Value) -> Result<CheckParts, DocError>
     if !is_check(&tree) {
         return Err(refused(Fault::Shape));
     }
-    match read_check(alloc, tree) {
+    match read_check_parts(alloc, tree) {
         Ok(parts) => judged(alloc, parts),
         Err(ReadError::Range) => Err(refused(Fault::Range)),
         Err(ReadError::Memory) => Err(DocError::Memory),

@@ -6,7 +6,7 @@ use Rattle.std.proofs.lemmas.List.Elements.{Contains-append_left, Contains-appen
 use Rattle.bep_facts.specs.Decided.{OrNot}
 use Rattle.bep_facts.specs.Members.{Contains-first, Contains-one, not_in_none}
 use Rattle.bep_facts.specs.Places.{done_with}
-use Rattle.bep_explain.specs.Adding.{AddsFailing, Each}
+use Rattle.bep_explain.specs.inner.Adding.{AddsFailing, Each}
 
 module _ {X : Type 0} where
   -- nothing comes where all holds

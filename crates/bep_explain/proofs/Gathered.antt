@@ -27,9 +27,9 @@ use Rattle.bep_audit.specs.declared.checkers.TheConstants.{REASONS}
 use Rattle.bep_audit.specs.Group.{IsGroupOf, GroupIsKnown}
 use Rattle.bep_audit.specs.Grouped.{same_group_same}
 use Rattle.bep_audit.specs.Walk.{Failure}
-use Rattle.bep_explain.specs.Adding.{Each}
+use Rattle.bep_explain.specs.inner.Adding.{Each}
 use Rattle.bep_explain.specs.Found.{IsMet}
-use Rattle.bep_explain.specs.Says.{failure_at, NameHasRow, SaysOrder, SaysEntry, SaysHasRow, SaysAtRow}
+use Rattle.bep_explain.specs.inner.Says.{failure_at, NameHasRow, SaysOrder, SaysEntry, SaysHasRow, SaysAtRow}
 
 -- each reason is one of all
 is_a_reason : (reason : Reason) → Contains REASONS reason

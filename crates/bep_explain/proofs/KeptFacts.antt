@@ -8,8 +8,8 @@ use Rattle.std.specs.List.Sorted.{IsStrictlySortedBy, IsSorted, IsPermutation}
 use Rattle.std.proofs.lemmas.Cmp.{on_total}
 use Rattle.std.proofs.lemmas.List.Sorted.{Contains-permutation, IsPermutation-sym}
 use Rattle.bep_facts.specs.Members.{Contains-first, Contains-image, Contains-from_image, not_in_none}
-use Rattle.bep_explain.specs.Adding.{AddsFailing}
-use Rattle.bep_explain.specs.Distinct.{distinct}
+use Rattle.bep_explain.specs.inner.Adding.{AddsFailing}
+use Rattle.bep_explain.specs.inner.Distinct.{distinct}
 use Rattle.bep_explain.proofs.DistinctFacts.{distinct_shown, lent, Steps, steps_from_sorted, distinct_rises, kept_in_distinct, distinct_from}
 
 -- all that fails stands in the list, and nothing else

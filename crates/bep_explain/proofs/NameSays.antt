@@ -23,9 +23,9 @@ use Rattle.bep_tables.specs.Listed.{Listed}
 use Rattle.bep_audit.specs.Candidates.{FindsWinner}
 use Rattle.bep_audit.specs.Group.{AsksBeside, GroupIsAsked, IsGroupOf}
 use Rattle.bep_audit.specs.Walk.{Failure}
-use Rattle.bep_explain.specs.Adding.{Each}
-use Rattle.bep_explain.specs.Rows.{AreAbout}
-use Rattle.bep_explain.specs.Says.{failure_at, AsksBoth, AsksOtherBeside, SaysName, SaysAtRow}
+use Rattle.bep_explain.specs.inner.Adding.{Each}
+use Rattle.bep_explain.specs.inner.Rows.{AreAbout}
+use Rattle.bep_explain.specs.inner.Says.{failure_at, AsksBoth, AsksOtherBeside, SaysName, SaysAtRow}
 use Rattle.bep_explain.proofs.TwoContents.{same_content_suffices, two_contents_suffice}
 
 -- of these rows this is one of another content than the row's; or none is

@@ -3,7 +3,7 @@ use Rattle.std.proofs.Common.{◌≡◌, ◌↔◌, ◌<◌, ℕ, zero, suc, Boo
 use Rattle.std.specs.Prelude.{if◌then◌else◌}
 use Rattle.bep_model.specs.Laws.{NumbersDiffer}
 use Rattle.bep_audit.specs.Walk.{Failure}
-use Rattle.bep_explain.specs.Adding.{AddsFailing}
+use Rattle.bep_explain.specs.inner.Adding.{AddsFailing}
 use Rattle.bep_explain.proofs.AddFacts.{adds_unless}
 use Rattle.bep_explain.proofs.FailureFacts.{same_or_not}
 

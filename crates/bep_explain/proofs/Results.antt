@@ -18,8 +18,8 @@ use Rattle.bep_model.specs.Laws.{NumbersDiffer, SettledIsFaultless}
 use Rattle.bep_audit.specs.declared.failure.Failure as lends
 use Rattle.bep_audit.specs.FailureOrder.{failure_total, lent_cmp}
 use Rattle.bep_audit.specs.Walk.{Failure, failure_cmp, failure_shown}
-use Rattle.bep_explain.specs.Adding.{AddsFailing}
-use Rattle.bep_explain.specs.Distinct.{distinct}
+use Rattle.bep_explain.specs.inner.Adding.{AddsFailing}
+use Rattle.bep_explain.specs.inner.Distinct.{distinct}
 use Rattle.bep_explain.specs.Found.{IsMet, AreFailures, verdict_of}
 use Rattle.bep_explain.proofs.KeptFacts as kept
 use Rattle.bep_explain.proofs.FailureFacts.{failure_exact}

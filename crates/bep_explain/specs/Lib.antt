@@ -1,10 +1,7 @@
-pub mod Adding
 pub mod Annotated
-pub mod Distinct
 pub mod document
 pub mod FirmTold
 pub mod Found
 pub mod Loose
-pub mod Rows
-pub mod Says
 pub mod Told
+pub mod inner

@@ -23,7 +23,7 @@ use std::alloc::{AllocError, Global};
 pub struct Annotated<'a> {
     /// The reason, and where it fails.
     pub failure: Failure<'a>,
-    /// What a person asks next, as a list: no promise is made of it.
+    /// What a person asks next, as a list. No contract speaks of it.
     pub details: Value,
 }
 

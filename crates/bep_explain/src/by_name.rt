@@ -27,7 +27,7 @@ impl OfName for TableEntry<'_> {
     }
 }
 
-/// Those of the items that are about this name, found by halving, if the items are sorted by folder and name.
+/// The items about this name, found by halving, if the items are sorted by folder and name.
 pub(crate) fn about<'s, T: OfName>(items: &'s [T], folder: &FolderName, name: &Name) -> &'s [T]
     ensures { IsSortedByKey T.key key_cmp items.now → (one : T) →
         Contains result.now one ↔ (Contains items.now one × (T.key one ≡ (folder.now, name.now))) }

@@ -7,9 +7,9 @@ ghost use Rattle.bep_tables.specs.Cut.{tables_of, shares_of};
 ghost use Rattle.bep_tables.specs.Listed.{IsGrouped, cut_listed, listed};
 ghost use Rattle.bep_audit.specs.Group.{AsksBeside, IsGroupOf};
 ghost use Rattle.bep_audit.specs.Walk.{failure_shown};
-ghost use Rattle.bep_explain.specs.Adding.{AddsFailing, Each};
-ghost use Rattle.bep_explain.specs.Rows.{AreAbout, AreAlike, row_shown};
-ghost use Rattle.bep_explain.specs.Says.{failure_at, AreWon, SaysOrder, AsksOtherBeside, SaysAtRow, SaysBoth};
+ghost use Rattle.bep_explain.specs.inner.Adding.{AddsFailing, Each};
+ghost use Rattle.bep_explain.specs.inner.Rows.{AreAbout, AreAlike, row_shown};
+ghost use Rattle.bep_explain.specs.inner.Says.{failure_at, AreWon, SaysOrder, AsksOtherBeside, SaysAtRow, SaysBoth};
 
 use crate::by_name::about;
 use crate::rows::{NamedRow, alike_at, other_content};
@@ -52,7 +52,7 @@ pub(crate) fn copy_of<'a>(one: &Failure<'a>) -> Failure<'a>
     }
 }
 
-// That the reason fails at the row's name as a whole.
+// The failure of the reason at the row's name as a whole.
 fn at_row<'a>(reason: Reason, row: &'a Row) -> Failure<'a>
     ensures { failure_shown result ≡ failure_at reason (key_of row.now) None }
 {
@@ -257,7 +257,7 @@ fn meets_both(
         && meets_other(reason, other, group, device, own, node)
 }
 
-// Whether it does beside the other row, if there is one.
+// Whether the device meets it beside the other row, if there is one.
 fn meets_other(
     reason: Reason,
     other: Option<&Row>,

@@ -1,10 +1,10 @@
-//! At which block the files differ of which the details of one failure tell. No contract speaks of it.
+//! The first block at which the files of a failure's details differ. No contract speaks of it.
 use crate::detail::Detail;
 use bep_blocks::blocks;
 use bep_record::{Block, BlockSize, Items, Kind, Node};
 use std::alloc::{AllocError, Global};
 
-/// The blocks of what a detail tells is stored; none where that is no file.
+/// The blocks of the stored file that a detail tells of; none if what is stored is no file.
 pub(crate) fn stored_blocks(
     alloc: Global,
     detail: &Detail<'_>,
@@ -26,8 +26,8 @@ fn blocks_of_node(alloc: Global, node: &Node) -> Result<Items<Block>, AllocError
     }
 }
 
-/// The first block at which one of these files differs from the first of them that has several blocks; 0 where none does.
-/// `stored` has what the same detail tells is stored.
+/// The first block at which one of these files differs from the first of them that has several blocks; 0 if none does.
+/// `stored` has, for each detail, the blocks of the stored file that it tells of.
 pub(crate) fn first_difference(details: &[Detail<'_>], stored: &[Items<Block>]) -> usize {
     let Some(first) = first_of_several(details, stored) else {
         return 0;

@@ -31,7 +31,7 @@ pub struct ExplainedLoose<'a> {
 pub struct AnnotatedLoose<'a> {
     /// The reason, and where it fails.
     pub loose: Looseness<'a>,
-    /// What a person asks next, as a list: no promise is made of it.
+    /// What a person asks next, as a list. No contract speaks of it.
     pub details: Value,
 }
 

@@ -6,10 +6,10 @@ ghost use Rattle.bep_tables.specs.Cut.{tables_of};
 ghost use Rattle.bep_tables.specs.Listed.{listed};
 ghost use Rattle.bep_audit.specs.Loose.{loose_shown, AsksEntry, MeetsFirm};
 ghost use Rattle.bep_audit.specs.LooseOrder.{loose_lent_cmp};
-ghost use Rattle.bep_explain.specs.Adding.{AddsFailing, Each};
-ghost use Rattle.bep_explain.specs.Distinct.{is_below_next, distinct};
+ghost use Rattle.bep_explain.specs.inner.Adding.{AddsFailing, Each};
+ghost use Rattle.bep_explain.specs.inner.Distinct.{is_below_next, distinct};
 ghost use Rattle.bep_explain.specs.Loose.{AreLoosenings, IsFirmlyMet, IsTight};
-ghost use Rattle.bep_explain.specs.Rows.{named_key, row_shown};
+ghost use Rattle.bep_explain.specs.inner.Rows.{named_key, row_shown};
 ghost use Rattle.bep_explain.specs.declared.rows.NamedRow.{NamedRow};
 
 use crate::by_name::about;

@@ -5,9 +5,9 @@ ghost use Rattle.bep_model.specs.Settled.{key_cmp};
 ghost use Rattle.bep_model.specs.declared.reason.Reason.TheVariants.{NameMissing};
 ghost use Rattle.bep_tables.specs.Listed.{key_at, listed};
 ghost use Rattle.bep_audit.specs.Walk.{failure_shown};
-ghost use Rattle.bep_explain.specs.Adding.{AddsFailing, Each};
-ghost use Rattle.bep_explain.specs.Rows.{named_key, row_shown};
-ghost use Rattle.bep_explain.specs.Says.{failure_at, SaysHasRow};
+ghost use Rattle.bep_explain.specs.inner.Adding.{AddsFailing, Each};
+ghost use Rattle.bep_explain.specs.inner.Rows.{named_key, row_shown};
+ghost use Rattle.bep_explain.specs.inner.Says.{failure_at, SaysHasRow};
 
 use crate::collect::add_unless;
 use crate::rows::{NamedRow, has_row};

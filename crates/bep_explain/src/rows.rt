@@ -8,7 +8,7 @@ ghost use Rattle.std.proofs.Common.{rules};
 ghost use Rattle.bep_record.specs.Content.{content_of};
 ghost use Rattle.bep_model.specs.declared.row.Row.{Row};
 ghost use Rattle.bep_model.specs.Settled.{key_cmp, HasRow};
-ghost use Rattle.bep_explain.specs.Rows.{AreAlike, AreSorted, named_cmp, named_key, named_total, row_shown};
+ghost use Rattle.bep_explain.specs.inner.Rows.{AreAlike, AreSorted, named_cmp, named_key, named_total, row_shown};
 
 use crate::by_name::{OfName, about};
 use bep_audit::{compare_row, compare_rows};

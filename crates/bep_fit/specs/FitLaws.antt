@@ -70,7 +70,7 @@ pub record IsOneRun (logs : List ObjectLog) (merged : List Stamped) (bases prese
   pub run : IsRun bases events present
   pub sound : IsSound present
 
--- so it is of a sound cluster whose devices and links are what fitting logs make of their bases
+-- the same of a sound cluster whose devices and links are what fitting logs make of their bases
 abbrev pub FittingLogsAreOneRun : Type 0
 FittingLogsAreOneRun = (logs : List ObjectLog) (bases present : Cluster) (count : ℕ) →
     IsSound bases → AreReplayed logs bases present → AreSoundLogs logs → Fits logs count →

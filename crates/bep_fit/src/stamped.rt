@@ -14,6 +14,7 @@ pub struct Stamped {
     pub event: Logged,
 }
 
+// By hand: a caller's proof then sees one call where it lets go of one, and not each field (docs/developing.md).
 impl Drop for Stamped {
     fn drop(self) {
         let Stamped {

@@ -11,12 +11,13 @@ use Rattle.bep_machine.specs.Pull.{EndsWith, IsConflictDue, timed, written}
 use Rattle.bep_machine.specs.Replica.{HasContentOf, Pull, Replica, own_at, node_at, pull_at}
 use Rattle.bep_folder.specs.declared.error.FolderError.{FolderError}
 use Rattle.bep_folder.specs.declared.error.FolderError.TheVariants as errors
-use Rattle.bep_folder.specs.Calls.{CallsIf, CallsInFinish, CallsSince, CallsToWrite, after_copy}
-use Rattle.bep_folder.specs.Ending.{CallsIn, EndsIn, LacksRoom, Stores, WroteCopy}
-use Rattle.bep_folder.specs.Finish.{IfPulled, Looks}
+use Rattle.bep_folder.specs.Calls.{CallsIf, CallsInFinish}
+use Rattle.bep_folder.specs.inner.Calls.{CallsSince, CallsToWrite, after_copy}
+use Rattle.bep_folder.specs.inner.Ending.{CallsIn, EndsIn, LacksRoom, Stores, WroteCopy}
+use Rattle.bep_folder.specs.inner.Finish.{IfPulled, Looks}
 use Rattle.bep_folder.specs.Held.{Held}
-use Rattle.bep_folder.specs.Kept.{IsKeptAt}
-use Rattle.bep_folder.specs.Revert.{after_removal}
+use Rattle.bep_folder.specs.inner.Conflict.{IsKeptAt}
+use Rattle.bep_folder.specs.inner.Reverting.{after_removal}
 use Rattle.bep_folder.specs.Trace.{CountsCall, TracedStore, next_call}
 
 -- ---- one call

@@ -15,7 +15,8 @@ use Rattle.bep_machine.specs.declared.moved.Moved.TheVariants.{Changed, Unchange
 use Rattle.bep_machine.specs.declared.refusal.Refusal.TheVariants as refusals
 use Rattle.bep_machine.specs.Local.{Fails, Finds, FoundRow, PutRow, ScanRow}
 use Rattle.bep_machine.specs.Replica.{Replica, own_at, node_at, version_of}
-use Rattle.bep_folder.specs.Commit.{CanRaise, Commits, IsFresh, IsFound, IsCounterFull, IsNotPut, IsVersionFull, PutsFound, Records}
+use Rattle.bep_folder.specs.Commit.{Commits, IsFresh}
+use Rattle.bep_folder.specs.inner.Found.{CanRaise, IsFound, IsCounterFull, IsNotPut, IsVersionFull, PutsFound, Records}
 use Rattle.bep_folder.specs.Held.{Held}
 use Rattle.bep_folder.specs.Makes.{CountsFaults}
 use Rattle.bep_folder.specs.ScanResult.{Scanned}

@@ -18,7 +18,7 @@ use Rattle.bep_machine.specs.Local.{Fails}
 use Rattle.bep_machine.specs.Replica.{Pull, node_at}
 use Rattle.bep_folder.specs.declared.error.FolderError.{FolderError}
 use Rattle.bep_folder.specs.declared.error.FolderError.TheVariants as errors
-use Rattle.bep_folder.specs.Ending.{PutsAndWrites, Stores, WritesAll, WroteCopy, stored, with_copy}
+use Rattle.bep_folder.specs.inner.Ending.{PutsAndWrites, Stores, WritesAll, WroteCopy, stored, with_copy}
 use Rattle.bep_folder.specs.Held.{Held}
 use Rattle.bep_folder.specs.Trace.{TracedStore, next_call}
 

@@ -15,10 +15,10 @@ use Rattle.bep_machine.specs.Replica.{Pull, Replica, own_at, node_at, pull_at, w
 use Rattle.bep_machine.specs.Pull.{CopyingRow, EndingRow, FinishRow, RoomRow, SettlingRow, IsStillWanted, IsConflictDue, IsCopy, copy_name}
 use Rattle.bep_folder.specs.declared.error.FolderError.{FolderError}
 use Rattle.bep_folder.specs.declared.error.FolderError.TheVariants as errors
-use Rattle.bep_folder.specs.Ending.{CleanRow, IsIncomplete, PulledRow, RoomyRow, WritingRow}
-use Rattle.bep_folder.specs.Finish.{FailsLater, IfPulled, Looks}
+use Rattle.bep_folder.specs.inner.Ending.{CleanRow, IsIncomplete, PulledRow, RoomyRow, WritingRow}
+use Rattle.bep_folder.specs.inner.Finish.{FailsLater, IfPulled, Looks}
 use Rattle.bep_folder.specs.Held.{Held}
-use Rattle.bep_folder.specs.Kept.{IsKeptAt}
+use Rattle.bep_folder.specs.inner.Conflict.{IsKeptAt}
 use Rattle.bep_folder.specs.Makes.{Makes}
 use Rattle.bep_folder.specs.Trace.{next_call}
 

@@ -17,7 +17,7 @@ use Rattle.bep_record.specs.declared.limits.TheConstants.{MAX_FILE_SIZE}
 use Rattle.bep_machine.specs.Pull.{written}
 use Rattle.bep_machine.specs.Replica.{Pull}
 use Rattle.bep_machine.specs.Sound.{AreReceived}
-use Rattle.bep_folder.specs.Pulled.{node_of, bytes_in, with_file, sized}
+use Rattle.bep_folder.specs.PullNode.{node_of, bytes_in, with_file, sized}
 use Rattle.bep_folder.specs.Pull.{AreOfBlockAt, IsKept, IsPull, received_of, received_with}
 use Rattle.bep_folder.proofs.BlockFacts.{cut_block}
 use Rattle.bep_folder.proofs.PullFacts.{received_paste, unflagged, whole_of}

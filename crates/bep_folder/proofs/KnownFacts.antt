@@ -24,7 +24,7 @@ use Rattle.bep_model.specs.Winner.{beside}
 use Rattle.bep_machine.specs.Replica.{ByDevice, Replica, viewed_by, candidates, own_at, Chooses}
 use Rattle.bep_machine.specs.Pull.{ChoosesNone}
 use Rattle.bep_folder.specs.Held.{Held}
-use Rattle.bep_folder.specs.Known.{AreNamed, IsOf, IsOwn, record_in, viewed_among, known_by}
+use Rattle.bep_folder.specs.inner.Chosen.{AreNamed, IsOf, IsOwn, record_in, viewed_among, known_by}
 
 -- ---- a device at its place among the others
 

@@ -13,7 +13,8 @@ mod NamesFacts
 mod OverrideFacts
 mod PullFacts
 mod RevertFacts
-mod SettleFacts
+mod ScanFacts
+mod AdoptFacts
 mod SoundFacts
 mod StartPullFacts
 mod StoredFacts

@@ -11,7 +11,7 @@ use Rattle.bep_machine.specs.Local.{CanOverride, IsOverridable, OverrideRow, Put
 use Rattle.bep_machine.specs.Replica.{Chooses, Replica, own_at, with_record}
 use Rattle.bep_folder.specs.Held.{Held}
 use Rattle.bep_folder.specs.Makes.{Makes}
-use Rattle.bep_folder.specs.Override.{IsOverriding, Overrides, WinsOver, WinsOverChosen}
+use Rattle.bep_folder.specs.inner.Overriding.{IsOverriding, Overrides, WinsOver, WinsOverChosen}
 use Rattle.bep_folder.specs.declared.error.FolderError.{FolderError}
 use Rattle.bep_folder.specs.declared.error.FolderError.TheVariants as errors
 

@@ -17,11 +17,12 @@ use Rattle.bep_machine.specs.declared.moved.Moved.TheVariants.{Changed}
 use Rattle.bep_machine.specs.declared.refusal.Refusal.TheVariants as refusals
 use Rattle.bep_machine.specs.Local.{Fails, IsLocalOnly, RevertRow, RevertedRow, deletion_of}
 use Rattle.bep_machine.specs.Replica.{Replica, own_at, node_at}
-use Rattle.bep_folder.specs.Ending.{Stores}
+use Rattle.bep_folder.specs.inner.Ending.{Stores}
 use Rattle.bep_folder.specs.FolderError.{of_index}
 use Rattle.bep_folder.specs.Held.{Held}
 use Rattle.bep_folder.specs.Makes.{CountsFaults, Makes}
-use Rattle.bep_folder.specs.Revert.{CallsInRevert, GivesUp, IsGone, IsStillThere, PutsAndRemoves, after_removal, calls_of}
+use Rattle.bep_folder.specs.Reverting.{CallsInRevert, calls_of}
+use Rattle.bep_folder.specs.inner.Reverting.{GivesUp, IsGone, IsStillThere, PutsAndRemoves, after_removal}
 use Rattle.bep_folder.specs.Trace.{TracedStore, next_call, no_trace}
 use Rattle.bep_folder.specs.declared.error.FolderError.{FolderError}
 use Rattle.bep_folder.specs.declared.error.FolderError.TheVariants as errors

@@ -16,7 +16,7 @@ use Rattle.bep_map.specs.NameMap.{ByName}
 use Rattle.bep_model.specs.Tables.{Device, FileName}
 use Rattle.bep_store.specs.Store.{AreNodes}
 use Rattle.bep_folder.specs.Held.{IsHeld}
-use Rattle.bep_folder.specs.Sound.{IsGoodPull, IsGoodView}
+use Rattle.bep_folder.specs.inner.Sound.{IsGoodPull, IsGoodView}
 
 view_found : (views : ByDevice Listing) → AllByRecursion IsGoodView (values views) → (other : Device) (view : Listing) → get views other ≡ Some view → IsGoodView view
 view_found views all other view is =

@@ -7,7 +7,7 @@ use Rattle.bep_machine.specs.declared.refusal.Refusal.{Refusal}
 use Rattle.bep_machine.specs.Answer.{Answer, Done, Refused}
 use Rattle.bep_machine.specs.Replica.{Replica, Chooses, with_pull}
 use Rattle.bep_machine.specs.Pull.{ChosenRow, StartPullRow, new_pull}
-use Rattle.bep_folder.specs.StartPull.{MayPull}
+use Rattle.bep_folder.specs.inner.Start.{MayPull}
 use Rattle.bep_folder.specs.Unhidden.{RefusesNone}
 
 -- the row of the record that is chosen

@@ -13,7 +13,7 @@ use Rattle.bep_model.specs.Tables.{FileName}
 use Rattle.bep_folder.specs.declared.error.FolderError.{FolderError}
 use Rattle.bep_folder.specs.declared.error.FolderError.TheVariants as errors
 use Rattle.bep_folder.specs.Trace.{TracedStore}
-use Rattle.bep_folder.specs.Ending.{stored, Stores}
+use Rattle.bep_folder.specs.inner.Ending.{stored, Stores}
 
 remove-absent : (m : ByName NodeParts) (n : FileName) → get m n ≡ None → remove m n ≡ m
 remove-absent m n absent = same_map nat_list_cmp_total exact_bytes _ _ (λ q. get-remove nat_list_cmp_total m n q ∙ there q (eq_by_cmp (slice_cmp nat_cmp) q n) refl) where

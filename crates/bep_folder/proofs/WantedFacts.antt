@@ -21,8 +21,9 @@ use Rattle.bep_choice.specs.Need.{NeedsBeside, IsNeeded}
 use Rattle.bep_model.specs.Tables.{Device, FileName}
 use Rattle.bep_model.specs.Winner.{beside}
 use Rattle.bep_machine.specs.Replica.{ByDevice, Replica, Wants, own_at}
-use Rattle.bep_folder.specs.Known.{record_in, viewed_among, known_by}
-use Rattle.bep_folder.specs.Wanted.{AddsWanted, IsRecorded, IsViewedOf, IsWantedName}
+use Rattle.bep_folder.specs.inner.Chosen.{record_in, viewed_among, known_by}
+use Rattle.bep_folder.specs.Wanted.{IsWantedName}
+use Rattle.bep_folder.specs.inner.Wanted.{AddsWanted, IsRecorded, IsViewedOf}
 use Rattle.bep_folder.proofs.KnownFacts.{candidates_known}
 
 -- ---- what is wanted is another's record

@@ -9,7 +9,7 @@ use Rattle.bep_blocks.specs.Plain.{hash_of}
 use Rattle.bep_index.specs.declared.limits.TheConstants.{MAX_SEQUENCE}
 use Rattle.bep_machine.specs.Replica.{Pull}
 use Rattle.bep_machine.specs.Sound.{AreReceived}
-use Rattle.bep_folder.specs.Pulled.{node_of, bytes_in}
+use Rattle.bep_folder.specs.PullNode.{node_of, bytes_in}
 
 -- a pull is stored as its parts, by the code of an entry
 abbrev pub pull_code : Coded Entry → Coded Pull

@@ -1,27 +1,8 @@
 -- The names of which a device wants a record.
-use Rattle.std.specs.Prelude.{◌⊎◌, IsSome}
-use Rattle.std.specs.FinMap.{get}
-use Rattle.bep_map.specs.NameMap.{ByName}
 use Rattle.bep_record.specs.declared.entry.Entry.{Entry}
-use Rattle.bep_index.specs.Listing.{Listing}
 use Rattle.bep_model.specs.Tables.{Device, FileName}
-use Rattle.bep_machine.specs.Replica.{ByDevice, Replica, Wants}
-use Rattle.bep_folder.specs.Known.{record_in}
+use Rattle.bep_machine.specs.Replica.{Replica, Wants}
 
 -- the device wants some record of the name
 abbrev pub IsWantedName : Device → Replica → FileName → Type 0
 IsWantedName device replica name = (entry : Entry) × Wants device replica name entry
-
--- of the names that were looked at, those were added of which the device wants a record
-pub record AddsWanted (device : Device) (replica : Replica) (old new : ByName (Unit {0})) (IsLookedAt : FileName → Type 0) : Type 0 where
-  pub kept : (name : FileName) → IsSome (get old name) → IsSome (get new name)
-  pub wanted : (name : FileName) → IsSome (get new name) → IsSome (get old name) ⊎ IsWantedName device replica name
-  pub each : (name : FileName) → IsLookedAt name → IsWantedName device replica name → IsSome (get new name)
-
--- the name has a record
-abbrev pub IsRecorded : ByName Entry → FileName → Type 0
-IsRecorded records name = IsSome (get records name)
-
--- it has one in the view of this device
-abbrev pub IsViewedOf : ByDevice Listing → Device → FileName → Type 0
-IsViewedOf views other name = IsSome (record_in views name other)

@@ -1,4 +1,4 @@
-//! How a record, or a store's node, stands to the own record.
+//! How a record or a store's node compares with the own record.
 ghost use Rattle.std.specs.Prelude.{◌≡◌, ◌↔◌, IsTrue};
 ghost use Rattle.std.specs.Option.{option_copied};
 ghost use Rattle.bep_record.specs.Node.{IsClean};

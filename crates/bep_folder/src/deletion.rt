@@ -1,4 +1,4 @@
-//! A record that says that nothing is there any more.
+//! Records of deletions.
 ghost use Rattle.std.specs.Prelude.{◌≡◌};
 ghost use Rattle.bep_machine.specs.Local.{deletion_of};
 

@@ -68,7 +68,7 @@ pub enum FolderError {
 }
 
 impl FolderError {
-    /// The number that the product prints; want of memory has none.
+    /// The number that the product prints; `Memory` has none.
     pub fn number(self) -> Option<u32>
         ensures { result ≡ number_of self }
     {
@@ -95,7 +95,7 @@ impl FolderError {
     }
 }
 
-// The refusal of an index or a view, which is given a batch or a record, and so never finds that there is none.
+// The refusal of an index or a view. A record or a batch was given to it, so it never answers `BatchBad`.
 pub(crate) fn index_error(error: IndexError) -> FolderError
     requires { error ≢ IndexError.BatchBad }
     ensures { result ≡ of_index error }

@@ -12,38 +12,21 @@
 //! ```
 #![tactic(auto)]
 
-mod add_block;
-mod adopt;
-mod asked;
 mod beside;
-mod chosen;
-mod commit;
-mod conflict;
-mod contents;
 mod deletion;
-mod edit;
-mod ending;
 mod error;
-mod finish;
-mod found;
-mod names;
-mod overriding;
 mod pull;
-mod pulled;
-mod readers;
+mod reading;
 mod record_of;
 mod replica;
-mod reverting;
+mod scan;
 mod scan_result;
-mod settle;
 mod sound;
-mod start_pull;
 mod traced;
+mod user;
 mod views;
-mod wanted;
 
-pub use asked::is_about;
 pub use error::FolderError;
-pub use pull::Pull;
+pub use pull::{Pull, is_about};
 pub use replica::{Replica, are_others};
 pub use scan_result::ScanResult;

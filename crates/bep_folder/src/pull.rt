@@ -5,13 +5,28 @@ ghost use Rattle.bep_record.specs.Entry.{IsWellFormed};
 ghost use Rattle.bep_index.specs.declared.limits.TheConstants.{MAX_SEQUENCE};
 ghost use Rattle.bep_machine.specs.Pull.{new_pull, written, IsMissingBlocks};
 ghost use Rattle.bep_folder.specs.Pull.{AreOf, AreOfBlockAt, IsPull, IsReceivedAt, with_bytes};
-ghost use Rattle.bep_folder.specs.Pulled.{node_of};
+ghost use Rattle.bep_folder.specs.PullNode.{node_of};
 
-use crate::pulled::{copy_node, empty_node, put_bytes};
+mod adopt;
+mod asked;
+mod chosen;
+mod conflict;
+mod finish;
+mod node;
+mod receive;
+mod record;
+mod start;
+mod wanted;
+mod writes;
+
+pub use asked::is_about;
 use bep_blocks::matches;
 use bep_record::{BASE_BLOCK_SIZE, Block, Duplicate, Entry, Node, Record};
+use node::{copy_node, empty_node, put_bytes};
+pub(crate) use record::merged;
 use std::alloc::{AllocError, Global};
 use std::marker::Model;
+pub(crate) use writes::remove_node;
 
 /// A record that is being pulled, with the bytes of each of its blocks that were received.
 ///
@@ -23,6 +38,7 @@ pub struct Pull {
     alloc: Global,
 }
 
+// By hand: a caller's proof then sees one call where it lets go of one, and not each field (docs/developing.md).
 impl Drop for Pull {
     fn drop(self) {
         let Pull {
@@ -44,7 +60,7 @@ impl Model for Pull {
     ghost coded = { pull_code entry.the_row.coded };
 
     ghost use Rattle.bep_record.specs.Block.{base_block_size};
-    ghost use Rattle.bep_folder.specs.Pulled.{bytes_in};
+    ghost use Rattle.bep_folder.specs.PullNode.{bytes_in};
     ghost use Rattle.bep_folder.specs.Pull.{received_of, IsKept};
 
     ghost view = { λ pull. record { target = pull.target; received = received_of base_block_size pull.arrived.items (bytes_in pull.node) } };
@@ -102,8 +118,8 @@ impl Pull {
         }
     }
 
-    /// Receives the block at this place, or answers want of memory and is as before. A block that was received stays
-    /// as it is. The caller sees to it that the bytes are the block's, as `is_block` tells.
+    /// Receives the block at this place. If memory is wanting, it answers so and stays as before. A block that was
+    /// received stays as it is. The caller sees to it that the bytes are the block's, as `is_block` tells.
     pub(crate) fn add(&mut self, place: usize, bytes: &[u8]) -> Result<(), AllocError>
         requires { AreOfBlockAt self.old.target.blocks place bytes.now }
         ensures ok { OnOk result (self.new ≡ with_bytes self.old place bytes.now) }
@@ -146,7 +162,7 @@ impl Duplicate for Pull {
     }
 }
 
-// The node of the record without bytes, and for each of its blocks that it wasn't received.
+// The node of the record without bytes, and a flag for each of its blocks: none was received.
 fn nothing_received(alloc: Global, target: &Entry) -> Result<(Option<Node>, Vec<bool>), AllocError>
     requires { IsWellFormed target.now }
     ensures node { IfOk result (λ made. made.0 ≡ node_of target.now []) }
@@ -171,14 +187,14 @@ fn copy_received(
     Ok((node, arrived))
 }
 
-// Whether one of the blocks hasn't its flag.
+// Whether a block's flag isn't set.
 fn is_any_missing(flags: &[bool]) -> bool
     ensures { IsTrue result ↔ Contains flags.now false }
 {
     flags.contains(&false)
 }
 
-// Whether there is a block at the place, and it has its flag.
+// Whether there is a block at the place, and its flag is set.
 fn is_set(flags: &[bool], place: usize) -> bool
     ensures { IsTrue result ↔ (slice_get flags.now place ≡ Some true) }
 {

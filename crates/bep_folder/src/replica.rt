@@ -28,6 +28,7 @@ pub struct Replica<S: Store> {
     pub(crate) alloc: Global,
 }
 
+// By hand: a caller's proof then sees one call where it lets go of one, and not each field (docs/developing.md).
 impl<S: Store> Drop for Replica<S> {
     fn drop(self) {
         let Replica {

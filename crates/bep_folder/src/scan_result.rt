@@ -22,6 +22,7 @@ pub struct ScanResult {
     blocks: Items<Block>,
 }
 
+// By hand: a caller's proof then sees one call where it lets go of one, and not each field (docs/developing.md).
 impl Drop for ScanResult {
     fn drop(self) {
         let ScanResult {

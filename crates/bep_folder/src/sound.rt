@@ -2,7 +2,7 @@
 ghost use Rattle.std.specs.List.{AllByRecursion};
 ghost use Rattle.std.specs.FinMap as map;
 ghost use Rattle.bep_machine.specs.Sound.{IsSoundReplica};
-ghost use Rattle.bep_folder.specs.Sound.{IsGoodPull, IsGoodView};
+ghost use Rattle.bep_folder.specs.inner.Sound.{IsGoodPull, IsGoodView};
 
 use crate::{Pull, Replica};
 use bep_index::{View, record_is_good};

@@ -1,5 +1,6 @@
 //! A store whose calls are counted: which one of the current action failed, and whether it wrote a conflict copy.
-ghost use Rattle.std.specs.Prelude.{◌≡◌, ◌↔◌, true, None, IsTrue, IfOk, IfErr, OnOk, OnErr};
+ghost use Rattle.std.specs.Prelude.{◌≡◌, ◌↔◌, true, None, Some, IsTrue, IfOk, IfErr, IfSome, OnOk, OnErr};
+ghost use Rattle.std.specs.Option.{option_copied};
 ghost use Rattle.std.specs.FinMap as map;
 ghost use Rattle.bep_store.specs.Store.{AreNodes, after_set_time};
 ghost use Rattle.bep_store.specs.Sure.{NeverFails};
@@ -22,6 +23,7 @@ pub(crate) struct Traced<S: Store> {
     copied: bool,
 }
 
+// By hand: a caller's proof then sees one call where it lets go of one, and not each field (docs/developing.md).
 impl<S: Store> Drop for Traced<S> {
     fn drop(self) {
         let Traced {
@@ -129,6 +131,13 @@ impl<S: Store> Traced<S> {
             Ok(node) => Ok(node),
             Err(error) => Err(self.noted(error)),
         }
+    }
+
+    // The name's node, lent, where the store has it at hand. It is no call of the store.
+    pub(crate) fn at_hand(&self, name: &Name) -> Option<&Node>
+        ensures { IfSome (option_copied result) (λ node. map.get self.now.contents name.now ≡ Some node) }
+    {
+        self.store.at_hand(name)
     }
 
     // Whether the name has no node.

@@ -7,7 +7,7 @@ use Rattle.bep_record.specs.declared.entry.Entry.{Entry}
 use Rattle.bep_index.specs.Listing.{IsRecord}
 use Rattle.bep_index.specs.Batch.{Rises, HasNo, NamesDiffer, IsBatch, last_sequence, with_all}
 use Rattle.bep_index.specs.Order.{AreInOrder, count_up_to}
-use Rattle.bep_index.specs.After.{IsAmong, AreRecords, IsRun, IsAfter}
+use Rattle.bep_index.specs.After.{IsAmong, AreRecords, IsStretch, IsAfter}
 use Rattle.bep_index.specs.declared.limits.TheConstants.{MAX_RECORDS}
 use Rattle.bep_index.proofs.LawFacts.{among_above, last_from, from_leb_true, from_leb_false}
 use Rattle.bep_index.proofs.MadeFacts.{is_in_all, records_are_found}
@@ -164,8 +164,8 @@ Rises-zero : (low : ℕ) (es : List Entry) → Rises low es → Rises 0 es
 Rises-zero low [] h = tt
 Rises-zero low (e ∷ es) h = (let above = h.0 in omega arith, h.1, h.2)
 
-pub IsBatch-run : (m : ByName Entry) (low : ℕ) (es : List Entry) → IsRun m low es → length es ≤ MAX_RECORDS → IsBatch es
-IsBatch-run m low es run few = record {
+pub IsBatch-stretch : (m : ByName Entry) (low : ℕ) (es : List Entry) → IsStretch m low es → length es ≤ MAX_RECORDS → IsBatch es
+IsBatch-stretch m low es run few = record {
   few = few;
   rises = Rises-zero low es run.rises;
   names = NamesDiffer-run m low es run.rises run.recorded;

@@ -10,7 +10,7 @@ use Rattle.bep_record.specs.declared.entry.Entry.{Entry}
 use Rattle.bep_index.specs.Listing.{Listing}
 use Rattle.bep_index.specs.Index.{AreNumbered, HaveOwnNumbers}
 use Rattle.bep_index.specs.Batch.{Rises, HasNo, NamesDiffer, IsBatch, last_sequence, with_all}
-use Rattle.bep_index.specs.Count.{new_names}
+use Rattle.bep_index.specs.inner.Count.{new_names}
 use Rattle.bep_index.specs.View.{IsView, IsOld, cleared, replaced, amended}
 use Rattle.bep_index.specs.declared.limits.TheConstants.{MAX_NAMES, MAX_SEQUENCE}
 use Rattle.bep_index.proofs.RecordsFacts.{AreNumbered-insert, HaveOwnNumbers-insert}

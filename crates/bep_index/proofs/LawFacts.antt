@@ -11,7 +11,7 @@ use Rattle.bep_index.specs.Listing.{Listing, IsRecord}
 use Rattle.bep_index.specs.Index.{AreNumbered, IsIndex}
 use Rattle.bep_index.specs.Batch.{Rises, last_sequence, with_all}
 use Rattle.bep_index.specs.View.{replaced, amended}
-use Rattle.bep_index.specs.After.{IsAmong, IsRun}
+use Rattle.bep_index.specs.After.{IsAmong, IsStretch}
 use Rattle.bep_index.specs.Laws.{FollowInOrder, after_each, up_to, HoldsUpTo, BatchesBringTheIndex, SamePointSameIndex}
 use Rattle.bep_index.proofs.RecordsFacts.{same_name, equal_from_same_name, clash}
 
@@ -28,8 +28,8 @@ pub last_from : (low : ℕ) (es : List Entry) → Rises low es → low ≤ last_
 last_from low [] h = omega arith
 last_from low (e ∷ es) h = let above = h.0 in let later = last_from e.sequence es h.2 in omega arith
 
-IsRun-tail : (records : ByName Entry) (low : ℕ) (e : Entry) (es : List Entry) → IsRun records low (e ∷ es) → IsRun records e.sequence es
-IsRun-tail records low e es run = record {
+IsStretch-tail : (records : ByName Entry) (low : ℕ) (e : Entry) (es : List Entry) → IsStretch records low (e ∷ es) → IsStretch records e.sequence es
+IsStretch-tail records low e es run = record {
   rises = run.rises.2;
   recorded = run.recorded.1;
   whole = λ x is above below. later x above (run.whole x is (let first = run.rises.0 in omega arith) below);
@@ -39,7 +39,7 @@ IsRun-tail records low e es run = record {
   later x above (inr there) = there
 
 -- the first of a run is the only record up to its sequence
-only_first : (records : ByName Entry) (low : ℕ) (e : Entry) (es : List Entry) → IsRun records low (e ∷ es) → (x : Entry) → IsRecord records x → low < x.sequence → x.sequence ≤ e.sequence → x ≡ e
+only_first : (records : ByName Entry) (low : ℕ) (e : Entry) (es : List Entry) → IsStretch records low (e ∷ es) → (x : Entry) → IsRecord records x → low < x.sequence → x.sequence ≤ e.sequence → x ≡ e
 only_first records low e es run x is above below = first (run.whole x is above (let l = last_from e.sequence es run.rises.2 in omega arith)) where
   first : IsAmong x (e ∷ es) → x ≡ e
   first (inl q) = q
@@ -63,7 +63,7 @@ up_to_within low e h = ap (λ b. cond b (Some e) None) (leb_true e.sequence low 
 up_to_above : (low : ℕ) (e : Entry) → low < e.sequence → up_to low (Some e) ≡ None
 up_to_above low e h = ap (λ b. cond b (Some e) None) (leb_false e.sequence low h)
 
-holds_one : (records : ByName Entry) (top low : ℕ) (m : ByName Entry) (e : Entry) (es : List Entry) → AreNumbered top records → IsRun records low (e ∷ es) → Holds records low m → Holds records e.sequence (insert m e.name e)
+holds_one : (records : ByName Entry) (top low : ℕ) (m : ByName Entry) (e : Entry) (es : List Entry) → AreNumbered top records → IsStretch records low (e ∷ es) → Holds records low m → Holds records e.sequence (insert m e.name e)
 holds_one records top low m e es numbered run holds name = get-insert nat_list_cmp_total m e.name e name ∙ cases (same_name name e.name) refl where
   other : (o : Option Entry) → get records name ≡ o → same_name name e.name ≡ false → up_to low o ≡ up_to e.sequence o
   other None is apart = refl
@@ -81,10 +81,10 @@ holds_one records top low m e es numbered run holds name = get-insert nat_list_c
   cases true t = sym (ap (λ n. up_to e.sequence (get records n)) (equal_from_same_name name e.name t) ∙ ap (up_to e.sequence) run.recorded.0 ∙ up_to_within e.sequence e (omega arith))
   cases false t = holds name ∙ other (get records name) refl t
 
-holds_all : (records : ByName Entry) (top low : ℕ) (m : ByName Entry) (es : List Entry) → AreNumbered top records → IsRun records low es → Holds records low m → Holds records (last_sequence low es) (with_all m es)
+holds_all : (records : ByName Entry) (top low : ℕ) (m : ByName Entry) (es : List Entry) → AreNumbered top records → IsStretch records low es → Holds records low m → Holds records (last_sequence low es) (with_all m es)
 holds_all records top low m [] numbered run holds = holds
 holds_all records top low m (e ∷ es) numbered run holds =
-    holds_all records top e.sequence (insert m e.name e) es numbered (IsRun-tail records low e es run) (holds_one records top low m e es numbered run holds)
+    holds_all records top e.sequence (insert m e.name e) es numbered (IsStretch-tail records low e es run) (holds_one records top low m e es numbered run holds)
 
 holds_nothing : (records : ByName Entry) (top : ℕ) → AreNumbered top records → Holds records 0 empty
 holds_nothing records top numbered name = get-empty (slice_cmp nat_cmp) name ∙ none (get records name) refl where

@@ -9,7 +9,7 @@ use Rattle.std.proofs.lemmas.Option.{same_Some, none-some}
 use Rattle.bep_record.specs.declared.entry.Entry.{Entry}
 use Rattle.bep_index.specs.Batch.{Rises, HasNo, NamesDiffer, with_all}
 use Rattle.bep_index.specs.After.{IsAmong}
-use Rattle.bep_index.specs.Count.{new_names}
+use Rattle.bep_index.specs.inner.Count.{new_names}
 use Rattle.bep_index.specs.Order.{AreInOrder, IsAt, count_up_to, is_up_to, named}
 use Rattle.bep_index.proofs.LawFacts.{from_leb_false}
 use Rattle.bep_index.proofs.BatchFacts.{len-with_all}

@@ -16,7 +16,7 @@ AreRecords records [] = Unit {0}
 AreRecords records (entry ∷ more) = IsRecord records entry × AreRecords records more
 
 -- these are, by rising sequence, all records from above `sequence` up to the last of them: none is left out
-pub record IsRun (records : ByName Entry) (sequence : ℕ) (found : List Entry) : Type 0 where
+pub record IsStretch (records : ByName Entry) (sequence : ℕ) (found : List Entry) : Type 0 where
   pub rises : Rises sequence found
   pub recorded : AreRecords records found
   pub whole : (entry : Entry) → IsRecord records entry → sequence < entry.sequence → entry.sequence ≤ last_sequence sequence found → IsAmong entry found
@@ -24,6 +24,6 @@ pub record IsRun (records : ByName Entry) (sequence : ℕ) (found : List Entry) 
 -- the beginning, of at most `limit` records, of all records above `sequence` by rising sequence; fewer only where no
 -- more are there
 pub record IsAfter (records : ByName Entry) (sequence limit : ℕ) (found : List Entry) : Type 0 where
-  pub run : IsRun records sequence found
+  pub run : IsStretch records sequence found
   pub at_most : length found ≤ limit
   pub ended : length found < limit → (entry : Entry) → IsRecord records entry → entry.sequence ≤ last_sequence sequence found

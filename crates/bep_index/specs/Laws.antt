@@ -8,7 +8,7 @@ use Rattle.bep_index.specs.Index.{IsIndex, IsSequenceFull, IsIndexFull, after_pu
 use Rattle.bep_map.specs.NameMap.{ByName}
 use Rattle.bep_index.specs.Batch.{HasNo, NamesDiffer, IsBatch, last_sequence, with_all}
 use Rattle.bep_index.specs.Change.{Change, IsLastChange}
-use Rattle.bep_index.specs.After.{IsAmong, IsRun}
+use Rattle.bep_index.specs.After.{IsAmong, IsStretch}
 use Rattle.bep_index.specs.View.{IsView, IsOld, cleared, replaced, amended}
 use Rattle.bep_index.specs.declared.limits.TheConstants.{MAX_NAMES, MAX_SEQUENCE}
 
@@ -17,7 +17,7 @@ use Rattle.bep_index.specs.declared.limits.TheConstants.{MAX_NAMES, MAX_SEQUENCE
 abbrev pub FollowInOrder : Listing → ℕ → List (List Entry) → Type 0
 FollowInOrder index sequence [] = Unit {0}
 FollowInOrder index sequence (batch ∷ more) =
-    IsRun index.records sequence batch × FollowInOrder index (last_sequence sequence batch) more
+    IsStretch index.records sequence batch × FollowInOrder index (last_sequence sequence batch) more
 
 -- the view after each of the batches was added
 abbrev pub after_each : Listing → List (List Entry) → Listing
@@ -41,7 +41,7 @@ BatchesBringTheIndex =
     (index view : Listing) (first : List Entry) (more : List (List Entry)) → IsIndex index → FollowInOrder index 0 (first ∷ more)
     → HoldsUpTo index (after_each (replaced view first) more)
 
--- so it is the index once it is at the index's point
+-- so, at the index's point, it is the index
 abbrev pub SamePointSameIndex : Type 0
 SamePointSameIndex =
     (index view : Listing) → IsIndex index → HoldsUpTo index view → view.id ≡ index.id → view.sequence ≡ index.sequence → view ≡ index
@@ -87,7 +87,7 @@ OthersAreKept =
 abbrev pub AmongIsContained : Type 0
 AmongIsContained = (entry : Entry) (entries : List Entry) → IsAmong entry entries ↔ Contains entries entry
 
--- no change of an index is its last one any more after another record was put
+-- once another record was put, no earlier change is the index's last one
 abbrev pub EarlierChangesDontFit : Type 0
 EarlierChangesDontFit =
     (change : Change) (index : Listing) (entry : Entry) → IsLastChange change index → ¬ IsLastChange change (after_put index entry)

@@ -1,7 +1,6 @@
 pub mod After
 pub mod Batch
 pub mod Change
-pub mod Count
 pub mod Good
 pub mod Index
 pub mod IndexError
@@ -9,3 +8,4 @@ pub mod Laws
 pub mod Listing
 pub mod Order
 pub mod View
+pub mod inner

@@ -9,7 +9,7 @@ use Rattle.bep_index.specs.Batch.{Rises, NamesDiffer, last_sequence}
 use Rattle.bep_index.specs.After.{IsAmong}
 use Rattle.bep_index.specs.declared.limits.TheConstants.{MAX_SEQUENCE}
 
--- each of these with its sequence
+-- each record beside its sequence
 abbrev pub with_sequences : List Entry → List (ℕ × Entry)
 with_sequences entries = map (λ entry. (entry.sequence, entry)) entries
 

@@ -4,7 +4,7 @@ ghost use Rattle.std.specs.FinMap as finite;
 ghost use Rattle.std.specs.Vec.Iter.{into_iter_items};
 ghost use Rattle.bep_index.specs.Batch.{IsBatch, last_sequence, with_all};
 ghost use Rattle.bep_index.specs.Change.{given_back};
-ghost use Rattle.bep_index.specs.Count.{new_names};
+ghost use Rattle.bep_index.specs.inner.Count.{new_names};
 ghost use Rattle.bep_index.specs.Good.{AllGood};
 
 use crate::Batch;
@@ -54,8 +54,8 @@ pub(crate) fn put_batch(
     put_all(map, alloc, &mut batch.into_vec().into_iter())
 }
 
-// Puts each of the records at its name. Without memory the map is as before: each call takes its own record out again, so that
-// no copy of the map is made. The calls stand in one another as deep as there are records, at most 1000 in a batch.
+// Puts each of the records at its name. Without memory the map is as before: each call takes its own record out again,
+// so that no copy of the map is made. It calls itself once for each record, at most 1000 deep.
 fn put_all(
     map: &mut NameMap<Record>,
     alloc: Global,

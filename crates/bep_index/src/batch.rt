@@ -18,6 +18,7 @@ pub struct Batch {
     records: Items<Record>,
 }
 
+// By hand: a caller's proof then sees one call where it lets go of one, and not each field (docs/developing.md).
 impl Drop for Batch {
     fn drop(self) {
         let Batch { records: _ } = self;

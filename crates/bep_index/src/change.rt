@@ -3,10 +3,10 @@ use crate::IndexId;
 use bep_record::{Name, Record};
 use std::marker::Model;
 
-/// How the last change of an index is taken back. It fits until the index gives another number.
+/// How the last change of an index is taken back. It is valid until the index gives another number.
 ///
-/// It knows the index by its id, the number that was given and the name that got it. A copy of the index that gave this
-/// name the same number by another change isn't told apart: it may fit there too. This project's profile.
+/// It knows the index by its id, the number that was given and the name that got it. It can't tell apart a copy of the
+/// index that gave this name the same number by another change: it may be valid there too. This project's profile.
 #[derive(Debug, Drop)]
 pub struct Undo {
     pub(crate) id: IndexId,

@@ -3,8 +3,8 @@ ghost use Rattle.std.specs.Prelude.{◌≡◌, ℕ, ◌≤◌, SomeIff};
 
 use std::marker::Model;
 
-/// The id of an index, a 64-bit number other than 0. An index that is made anew has another one, by which others notice
-/// that what they know is of no use any more.
+/// The id of an index, a 64-bit number other than 0. An index that is made anew gets another id. So others notice that
+/// what they know of the old one is of no use any more.
 ///
 /// BEP v1, 'Fields (ClusterConfig)', field 'index_id'.
 #[derive(Clone, Copy, Debug, PartialEq, Eq, PartialOrd, Ord, Hash)]

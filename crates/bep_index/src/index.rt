@@ -1,5 +1,5 @@
 //! A device's own index of a folder.
-ghost use Rattle.std.specs.Prelude.{◌≡◌, ◌↔◌, ◌+◌, ◌≤◌, ℕ, take, drop, slice_get, IfOk, IfErr, OnOk, OnErr, IsErrOf};
+ghost use Rattle.std.specs.Prelude.{◌≡◌, ◌⊎◌, ◌↔◌, ◌+◌, ◌≤◌, ℕ, take, drop, slice_get, IfOk, IfErr, OnOk, OnErr, IsErrOf};
 ghost use Rattle.std.specs.Option.{option_copied};
 ghost use Rattle.std.specs.FinMap as map;
 ghost use Rattle.bep_index.specs.Good.{AreGood};
@@ -29,6 +29,7 @@ pub struct Index {
     alloc: Global,
 }
 
+// By hand: a caller's proof then sees one call where it lets go of one, and not each field (docs/developing.md).
 impl Drop for Index {
     fn drop(self) {
         let Index {
@@ -179,6 +180,21 @@ impl Index {
         })
     }
 
+    /// Refuses what `put` of a record of this name would refuse, and takes no memory.
+    pub fn must_have_room(&self, name: &Name) -> Result<(), IndexError>
+        ensures sequence_full { IsErrOf result IndexError.SequenceFull ↔ IsSequenceFull self.now }
+        ensures index_full { IsErrOf result IndexError.IndexFull ↔ ((¬ IsSequenceFull self.now) × IsIndexFull self.now name.now) }
+        ensures only { IfErr result (λ e. (e ≡ IndexError.SequenceFull) ⊎ (e ≡ IndexError.IndexFull)) }
+    {
+        if self.sequence == MAX_SEQUENCE {
+            return Err(IndexError::SequenceFull);
+        }
+        if self.records.len() >= MAX_NAMES && self.records.get(name).is_none() {
+            return Err(IndexError::IndexFull);
+        }
+        Ok(())
+    }
+
     // The record under the next number, with a copy of its name before it. Refuses what `put` refuses.
     fn next_record(&self, entry: Record) -> Result<(Name, Record), IndexError>
         ensures name { IfOk result (λ next. next.0 ≡ entry.name) }
@@ -201,12 +217,7 @@ impl Index {
         ensures index_full { IsErrOf result IndexError.IndexFull ↔ ((¬ IsSequenceFull self.now) × IsIndexFull self.now name.now) }
         ensures only { IfErr result IsPutError }
     {
-        if self.sequence == MAX_SEQUENCE {
-            return Err(IndexError::SequenceFull);
-        }
-        if self.records.len() >= MAX_NAMES && self.records.get(name).is_none() {
-            return Err(IndexError::IndexFull);
-        }
+        self.must_have_room(name)?;
         Ok(name.copy(self.alloc)?)
     }
 

@@ -2,9 +2,9 @@
 //! law.
 ghost use Rattle.bep_index.specs.Laws.{BatchesBringTheIndex, SamePointSameIndex, RecordsMakeAnIndex, RecordsAreFound, FoundIsOfBatchOrBefore, BatchIsFound, OthersAreKept, AmongIsContained, EarlierChangesDontFit, LastChangesAgree, PutsKeepAnIndex, ClearedIsView, ReplacedIsView, AmendedIsView};
 
-/// Of an index that doesn't change meanwhile: a view that takes the beginning of what is after 0 in place of all that it
-/// had, and adds the batches that follow, in order and without a gap, holds after each batch exactly the sender's
-/// records up to that batch's last sequence. So a view that comes to the index's point in this way is the index.
+/// The index doesn't change meanwhile. A view takes the first records after 0 in place of all that it had, and adds the
+/// batches that follow, in order and without a gap. Then it holds after each batch exactly the sender's records up to
+/// that batch's last sequence. So it is the index, once it is at the index's point.
 pub fn batches_bring_the_index()
     ensures up_to { BatchesBringTheIndex }
     ensures whole { SamePointSameIndex }
@@ -25,18 +25,18 @@ pub fn batch_records_are_found()
     ensures among { AmongIsContained }
 {}
 
-/// How a change is taken back fits only until the index gives another number; what fits then is of that change's name.
+/// An `Undo` is valid only until the index gives another number. All valid ones of an index are of one name.
 pub fn undo_fits_the_last_change()
     ensures earlier { EarlierChangesDontFit }
     ensures one { LastChangesAgree }
 {}
 
-/// An index stays one when a record is put that isn't refused.
+/// An index stays an index when a record is put and isn't refused.
 pub fn puts_keep_an_index()
     ensures { PutsKeepAnIndex }
 {}
 
-/// A view stays one when all is forgotten, and when it takes a batch that isn't refused.
+/// A view stays a view when all is forgotten, and when it takes a batch and isn't refused.
 pub fn changes_keep_a_view()
     ensures cleared { ClearedIsView }
     ensures replaced { ReplacedIsView }

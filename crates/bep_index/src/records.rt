@@ -16,6 +16,7 @@ pub struct Records {
     entries: IndexMap<Name, Slot>,
 }
 
+// By hand: a caller's proof then sees one call where it lets go of one, and not each field (docs/developing.md).
 impl Drop for Records {
     fn drop(self) {
         let Records { entries: _ } = self;

@@ -11,6 +11,7 @@ pub struct Slot {
     held: Box<Record>,
 }
 
+// By hand: a caller's proof then sees one call where it lets go of one, and not each field (docs/developing.md).
 impl Drop for Slot {
     fn drop(self) {
         let Slot { held: _ } = self;

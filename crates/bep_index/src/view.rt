@@ -26,6 +26,7 @@ pub struct View {
     alloc: Global,
 }
 
+// By hand: a caller's proof then sees one call where it lets go of one, and not each field (docs/developing.md).
 impl Drop for View {
     fn drop(self) {
         let View {

@@ -1,3 +1,4 @@
+pub mod DigitFacts
 mod TreeFacts
 pub mod TextFacts
 pub mod ListFacts

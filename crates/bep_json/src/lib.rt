@@ -8,6 +8,7 @@
 //!     let records = member::<Items<Entry>>(alloc, tree, "records")?;
 #![tactic(auto)]
 
+mod digits;
 mod error;
 mod laws;
 mod lists;

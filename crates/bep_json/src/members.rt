@@ -8,8 +8,8 @@ ghost use Rattle.bep_json.specs.Written.{whole, signed};
 use serde_json::{Map, Value, put};
 use std::alloc::{AllocError, Global};
 
-/// The members of an object in the making. What adds one takes them all and hands them back, so that its caller has none
-/// to let go of where memory runs out.
+/// The members of an object that is being made. A call that adds one takes them all and hands them back. So its caller
+/// has none to let go of if memory runs out.
 #[derive(Drop)]
 pub struct Members {
     alloc: Global,

@@ -63,7 +63,7 @@ fn has_node_members(value: &Value) -> bool
         may_have "text": TextBytes, may_have "hex": HexBytes, may_have "target": Target)
 }
 
-// Whether the bytes are written in one way at most.
+// Whether the bytes are written at most once, as a text or in digits.
 #[tactic(auto, unfolding(crate::specs::Nodes::has_one_body))]
 fn has_one_body(value: &Value) -> bool
     ensures { result ≡ has_one_body (view value.now) }

@@ -73,8 +73,8 @@ pub fn member_or<T: Readable>(
     }
 }
 
-/// Whether the value is an object with these members, each of its thing's shape, and no others. A member behind `has` must
-/// be there, one behind `may_have` may be left out.
+/// Whether the value is an object with these members, each of its thing's shape, and no others. A member after `has`
+/// must be there, one after `may_have` may be left out.
 ///
 ///     is_object!(value; has "folders": Items<FolderParts>, may_have "links": Items<LinkParts>)
 #[macro_export]

@@ -4,9 +4,9 @@ ghost use Rattle.serde_json.specs.View.{view};
 ghost use Rattle.bep_json.specs.Reading.{Gives};
 ghost use Rattle.bep_json.specs.Texts.{is_text, read_name, read_target, read_folder_name, read_folder_kind, read_hash, fits_file, read_text_bytes, read_hex_bytes};
 
+use crate::digits::{bytes_of, hash_of};
 use crate::{ReadError, Readable};
 use bep_record::{FolderKind, FolderName, Items, MAX_FILE_SIZE, Name, RecordError, Target};
-use hex::{FromHex, FromHexError};
 use serde_json::Value;
 use std::alloc::Global;
 use std::marker::Model;
@@ -112,9 +112,9 @@ impl Readable for [u8; 32] {
         let Some(text) = value.as_str() else {
             return Err(ReadError::Range);
         };
-        match <[u8; 32] as FromHex>::from_hex(text) {
-            Ok(hash) => Ok(hash),
-            Err(_) => Err(ReadError::Range),
+        match hash_of(text.as_bytes()) {
+            Some(hash) => Ok(hash),
+            None => Err(ReadError::Range),
         }
     }
 }
@@ -207,10 +207,8 @@ impl Readable for HexBytes {
         let Some(text) = value.as_str() else {
             return Err(ReadError::Range);
         };
-        let bytes = match hex::decode(alloc, text) {
-            Ok(bytes) => bytes,
-            Err(FromHexError::OutOfMemory) => return Err(ReadError::Memory),
-            Err(_) => return Err(ReadError::Range),
+        let Some(bytes) = bytes_of(alloc, text.as_bytes())? else {
+            return Err(ReadError::Range);
         };
         if !fits_file(bytes.as_slice()) {
             return Err(ReadError::Range);

@@ -60,7 +60,7 @@ fn record_tree(
     Ok(members.into_value())
 }
 
-// That what is written of a record's fields is read again.
+// What is written of a record's fields is read again: a law, which does nothing when it runs.
 fn fields_are_told(entry: &Entry)
     ensures name { IsName entry.now.name }
     ensures target { IsTarget entry.now.target }

@@ -27,7 +27,7 @@ pub enum LinkError {
 }
 
 impl LinkError {
-    /// The number that the product prints; want of memory has none.
+    /// The number that the product prints; `Memory` has none.
     pub fn number(self) -> Option<u32>
         ensures { result ≡ number_of self }
     {

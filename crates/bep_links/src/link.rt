@@ -30,6 +30,7 @@ pub struct Link {
     to_upper: Queue,
 }
 
+// By hand: a caller's proof then sees one call where it lets go of one, and not each field (docs/developing.md).
 impl Drop for Link {
     fn drop(self) {
         let Link {

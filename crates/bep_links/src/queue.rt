@@ -18,6 +18,7 @@ pub(crate) struct Queue {
     messages: VecDeque<Message>,
 }
 
+// By hand: a caller's proof then sees one call where it lets go of one, and not each field (docs/developing.md).
 impl Drop for Queue {
     fn drop(self) {
         let Queue { messages: _ } = self;

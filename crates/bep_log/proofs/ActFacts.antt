@@ -15,7 +15,7 @@ use Rattle.bep_fit.specs.declared.stamped.Stamped.{Stamped}
 use Rattle.bep_log.specs.Acts.{MayGain}
 use Rattle.bep_log.specs.Event.{event_of, event_told}
 use Rattle.bep_log.specs.History.{with_events}
-use Rattle.bep_log.specs.Local.{KeepsUncopied, copies, does_of, row_of, step_of}
+use Rattle.bep_log.specs.inner.Local.{KeepsUncopied, copies, does_of, row_of, step_of}
 use Rattle.bep_log.specs.LoggedPeer.{IsReplayed}
 use Rattle.bep_log.proofs.LocalFacts.{AreTold, Fails, Leaves, Makes, done_of, fails_of, local_is_told, local_touches, never_keeps}
 use Rattle.bep_log.proofs.LogFacts.{goes_on_replayed, stays_replayed}

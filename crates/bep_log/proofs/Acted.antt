@@ -14,7 +14,7 @@ use Rattle.bep_fit.specs.declared.stamped.Stamped.{Stamped}
 use Rattle.bep_log.specs.Acts.{ActsIn, LogsIn, MayGain}
 use Rattle.bep_log.specs.Event.{event_told}
 use Rattle.bep_log.specs.History.{History, MayLog, last_with, with_events}
-use Rattle.bep_log.specs.Local.{KeepsUncopied, copies, does_of, step_of}
+use Rattle.bep_log.specs.inner.Local.{KeepsUncopied, copies, does_of, step_of}
 use Rattle.bep_log.specs.LogError.{answer_of}
 use Rattle.bep_log.specs.LoggedPeer.{IsReplayed, LoggedMember}
 use Rattle.bep_log.specs.Ticket.{UnderTicket}

@@ -13,7 +13,7 @@ use Rattle.bep_peer.specs.Member.{Member, tables_of}
 use Rattle.bep_peer.specs.Within.{StepWithin}
 use Rattle.bep_log.specs.declared.local.Local.{Local}
 use Rattle.bep_log.specs.declared.local.Local.TheVariants.{Edit, Remove, Commit, Pull, Finish, Override, Revert}
-use Rattle.bep_log.specs.Local.{copies, does_of, row_of, step_of}
+use Rattle.bep_log.specs.inner.Local.{copies, does_of, row_of, step_of}
 
 -- what is logged of the actions in a folder makes what they did
 pub record AreTold : Type 0 where

@@ -5,9 +5,9 @@ pub mod LoggedPeer
 pub mod LoggedLink
 pub mod Ticket
 pub mod Acts
-pub mod Local
 pub mod Restart
 pub mod Over
 pub mod ActsOver
 pub mod Copies
 pub mod Laws
+pub mod inner

@@ -1,6 +1,6 @@
 //! What a device does in one of its folders, under a ticket.
 ghost use Rattle.bep_log.specs.Acts.{LogsIn};
-ghost use Rattle.bep_log.specs.Local.{copies, does_of, step_of};
+ghost use Rattle.bep_log.specs.inner.Local.{copies, does_of, step_of};
 
 use crate::error::answered;
 use crate::event::event_told;

@@ -20,6 +20,7 @@ pub struct PeerCopy {
     logged: LoggedPeer<MemStore>,
 }
 
+// By hand: a caller's proof then sees one call where it lets go of one, and not each field (docs/developing.md).
 impl Drop for PeerCopy {
     fn drop(self) {
         let PeerCopy { logged: _ } = self;
@@ -60,6 +61,7 @@ pub struct LinkCopy {
     logged: LoggedLink,
 }
 
+// By hand: a caller's proof then sees one call where it lets go of one, and not each field (docs/developing.md).
 impl Drop for LinkCopy {
     fn drop(self) {
         let LinkCopy { logged: _ } = self;

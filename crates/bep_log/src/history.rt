@@ -17,6 +17,7 @@ pub(crate) struct History {
     last: u64,
 }
 
+// By hand: a caller's proof then sees one call where it lets go of one, and not each field (docs/developing.md).
 impl Drop for History {
     fn drop(self) {
         let History {

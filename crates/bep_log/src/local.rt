@@ -1,7 +1,7 @@
 //! What a device does with one of its folders alone, as a step.
 ghost use Rattle.std.specs.Prelude.{◌≡◌, IfOk};
 ghost use Rattle.bep_log.specs.Acts.{MayGain};
-ghost use Rattle.bep_log.specs.Local.{KeepsUncopied, copies, does_of, step_of};
+ghost use Rattle.bep_log.specs.inner.Local.{KeepsUncopied, copies, does_of, step_of};
 ghost use Rattle.bep_peer.specs.Member.{Remains};
 
 use bep_folder::ScanResult;

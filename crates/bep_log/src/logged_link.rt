@@ -25,6 +25,7 @@ pub struct LoggedLink {
     pub(crate) alloc: Global,
 }
 
+// By hand: a caller's proof then sees one call where it lets go of one, and not each field (docs/developing.md).
 impl Drop for LoggedLink {
     fn drop(self) {
         let LoggedLink {

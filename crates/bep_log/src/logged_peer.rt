@@ -26,6 +26,7 @@ pub struct LoggedPeer<S: Store> {
     pub(crate) alloc: Global,
 }
 
+// By hand: a caller's proof then sees one call where it lets go of one, and not each field (docs/developing.md).
 impl<S: Store> Drop for LoggedPeer<S> {
     fn drop(self) {
         let LoggedPeer {

@@ -15,6 +15,7 @@ pub(crate) struct Ready {
     pub(crate) taken: Option<Message>,
 }
 
+// By hand: a caller's proof then sees one call where it lets go of one, and not each field (docs/developing.md).
 impl Drop for Ready {
     fn drop(self) {
         let Ready {

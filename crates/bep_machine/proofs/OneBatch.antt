@@ -4,7 +4,7 @@ use Rattle.bep_map.specs.NameMap.{ByName}
 use Rattle.bep_record.specs.declared.entry.Entry.{Entry}
 use Rattle.bep_index.specs.Listing.{IsRecord}
 use Rattle.bep_index.specs.Batch.{Rises, last_sequence}
-use Rattle.bep_index.specs.After.{IsRun, IsAfter}
+use Rattle.bep_index.specs.After.{IsStretch, IsAfter}
 use Rattle.bep_machine.proofs.GapFacts.{above_low, above_or_not}
 
 -- what rises ends no lower than it begins
@@ -20,7 +20,7 @@ module _ (records : ByName Entry) where
   abbrev EndsBefore : ℕ → List Entry → List Entry → Type 0
   EndsBefore low one other = length one < length other → (entry : Entry) → IsRecord records entry → entry.sequence ≤ last_sequence low one
 
-  rest_of_run : (low : ℕ) (first : Entry) (more : List Entry) → IsRun records low (first ∷ more) → IsRun records first.sequence more
+  rest_of_run : (low : ℕ) (first : Entry) (more : List Entry) → IsStretch records low (first ∷ more) → IsStretch records first.sequence more
   rest_of_run low first more run = record {
     rises = run.rises.2;
     recorded = run.recorded.1;
@@ -33,7 +33,7 @@ module _ (records : ByName Entry) where
   }
 
   -- the first of two runs isn't left out of the other
-  first_is : (low : ℕ) (first next : Entry) (more rest : List Entry) → IsRun records low (first ∷ more) → IsRun records low (next ∷ rest) → first.sequence ≤ next.sequence → first ≡ next
+  first_is : (low : ℕ) (first next : Entry) (more rest : List Entry) → IsStretch records low (first ∷ more) → IsStretch records low (next ∷ rest) → first.sequence ≤ next.sequence → first ≡ next
   first_is low first next more rest run other below =
       let last = last_above next.sequence rest other.rises.2 in
       ⊎_elim
@@ -41,14 +41,14 @@ module _ (records : ByName Entry) where
       (λ later. let above = above_low next.sequence rest other.rises.2 first later in absurd (omega (arith, above, below)))
       (other.whole first run.recorded.0 run.rises.0 (omega (arith, last, below)))
 
-  same_first : (low : ℕ) (first next : Entry) (more rest : List Entry) → IsRun records low (first ∷ more) → IsRun records low (next ∷ rest) → first ≡ next
+  same_first : (low : ℕ) (first next : Entry) (more rest : List Entry) → IsStretch records low (first ∷ more) → IsStretch records low (next ∷ rest) → first ≡ next
   same_first low first next more rest run again =
       ⊎_elim
       (λ above. sym (first_is low next first rest more again run (omega (arith, above))))
       (λ below. first_is low first next more rest run again below)
       (above_or_not first.sequence next.sequence)
 
-  one_run : (low : ℕ) (one other : List Entry) → IsRun records low one → IsRun records low other → EndsBefore low one other → EndsBefore low other one → one ≡ other
+  one_run : (low : ℕ) (one other : List Entry) → IsStretch records low one → IsStretch records low other → EndsBefore low one other → EndsBefore low other one → one ≡ other
   one_run low [] [] run again short short_too = refl
   one_run low [] (next ∷ rest) run again short short_too =
       let below = short (omega arith) next again.recorded.0 in
@@ -62,7 +62,7 @@ module _ (records : ByName Entry) where
       let same = same_first low first next more rest run again in
       let tails =
       one_run first.sequence more rest (rest_of_run low first more run)
-      (subst (λ (e : Entry). IsRun records e.sequence rest) (sym same) (rest_of_run low next rest again))
+      (subst (λ (e : Entry). IsStretch records e.sequence rest) (sym same) (rest_of_run low next rest again))
       (λ less. short (omega (arith, less)))
       (λ less. subst (λ (e : Entry). (entry : Entry) → IsRecord records entry → entry.sequence ≤ last_sequence e.sequence rest) (sym same) (short_too (omega (arith, less)))) in
       λ i. same i ∷ tails i

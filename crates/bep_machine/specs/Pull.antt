@@ -25,7 +25,7 @@ use Rattle.bep_machine.specs.Local.{Fails}
 
 -- ---- beginning a pull
 
--- a send and receive folder would need the chosen record, were the own one not local-only
+-- a send and receive folder would need the chosen record, if the own one weren't local-only
 abbrev pub IsNeededAnyway : Option Entry → Entry → Type 0
 IsNeededAnyway None chosen = IsNeeded SendReceive None chosen
 IsNeededAnyway (Some own) chosen = NeedsBeside false SendReceive own chosen

@@ -1,5 +1,5 @@
--- What a step leaves that isn't done: all as before, save that the end of a pull may have kept a conflict copy (this
--- project's profile); the function of src/undone.rt has this as its contract.
+-- What a step that isn't done leaves: all as before, save that the end of a pull may have kept a conflict copy (this
+-- project's profile). The function of src/undone.rt has this as its contract.
 use Rattle.std.specs.Prelude.{◌≡◌, ◌⊎◌, ℕ, Option, Some, None}
 use Rattle.std.specs.FinMap.{get}
 use Rattle.bep_model.specs.Tables.{Device, FileName}

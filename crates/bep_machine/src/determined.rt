@@ -6,8 +6,8 @@ use crate::steps_keep_sound;
 use bep_choice::laws::choice_is_unique;
 use bep_record::{bump_exists, merge_exists};
 
-/// A step of a sound cluster leads to one cluster, with one answer, where the same call of a store fails, if any, and memory
-/// isn't wanting: whatever record, version or batch its definition lets it guess.
+/// A step of a sound cluster leads to one cluster, with one answer, whatever record, version or batch its definition
+/// lets it guess. The call of a store that fails is the same, if any, and memory isn't wanting.
 pub fn steps_are_determined()
     ensures { StepsAreDetermined }
 {
@@ -16,8 +16,8 @@ pub fn steps_are_determined()
     bump_exists();
 }
 
-/// Two runs of the same steps from a sound cluster, whose edits put nodes, in which the same calls of the stores fail and
-/// memory is wanting in none, lead to one cluster, and each step has the same answer in both.
+/// Two runs from a sound cluster make the same steps, whose edits put nodes; the same calls of the stores fail in both,
+/// and memory is wanting in none. Then they lead to one cluster, and each step has the same answer in both.
 pub fn runs_are_determined()
     ensures { RunsAreDetermined }
 {
@@ -25,8 +25,8 @@ pub fn runs_are_determined()
     steps_keep_sound();
 }
 
-/// Two replays of one base by one list of events end in one state: of a device that isn't among the others with which it
-/// shares its folders, and of a link.
+/// Two replays of one base by one list of events end in one state. This holds of a link, and of a device that isn't
+/// among the others with which it shares its folders.
 pub fn replays_are_determined()
     ensures devices { DevicesReplayOneWay }
     ensures links { LinksReplayOneWay }

@@ -15,10 +15,10 @@ pub fn step_has_halves()
     ensures { StepHasHalves }
 {}
 
-/// What is logged of an action makes of the device, and of the link that it was lent, what the action did. So it is of a
-/// step in a folder that is done, or that fails and yet changed something; of a step over a link that is done; of a link
-/// that comes up or is lost; and of a restart, at the device and at each of its links. No other traffic tells what was done
-/// to a link.
+/// What is logged of an action makes of the device, and of the link that it was lent, what the action did. This holds
+/// of a step in a folder that is done, or that fails and yet changed something; of a step over a link that is done; of
+/// a link that comes up or is lost; and of a restart, at the device and at each of its links. What was done to a link
+/// tells its traffic: no other traffic would.
 pub fn actions_are_told()
     ensures edit { EditIsTold }
     ensures remove { RemoveIsTold }
@@ -49,7 +49,7 @@ pub fn replays_keep_folders()
     ensures ids { ReplaysKeepIds }
 {}
 
-/// Of every run there is a log that tells of all its steps that were done, and that each device and each link replays.
+/// Every run has a log of all its steps that were done. Each device and each link replays it.
 pub fn run_replays()
     ensures { RunReplays }
 {

@@ -1,4 +1,4 @@
-//! What is settled stays put: after every list of steps that no user makes. Each function does nothing; its contract is
+//! What is settled stays put after every list of steps that no user makes. Each function does nothing; its contract is
 //! the law.
 ghost use Rattle.bep_machine.specs.Laws.{SettledStaysPut, SettledStaysSettled};
 

@@ -42,6 +42,7 @@ pub struct Traffic {
     pub done: Exchanged,
 }
 
+// By hand: a caller's proof then sees one call where it lets go of one, and not each field (docs/developing.md).
 impl Drop for Traffic {
     fn drop(self) {
         let Traffic { epoch: _, done: _ } = self;
@@ -75,6 +76,7 @@ pub struct Logged {
     pub traffic: Option<Traffic>,
 }
 
+// By hand: a caller's proof then sees one call where it lets go of one, and not each field (docs/developing.md).
 impl Drop for Logged {
     fn drop(self) {
         let Logged {

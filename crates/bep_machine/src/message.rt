@@ -22,6 +22,7 @@ pub struct Announced {
     pub known_sequence: u64,
 }
 
+// By hand: a caller's proof then sees one call where it lets go of one, and not each field (docs/developing.md).
 impl Drop for Announced {
     fn drop(self) {
         let Announced {
@@ -74,6 +75,7 @@ pub struct Request {
     pub hash: [u8; 32],
 }
 
+// By hand: a caller's proof then sees one call where it lets go of one, and not each field (docs/developing.md).
 impl Drop for Request {
     fn drop(self) {
         let Request {
@@ -131,6 +133,7 @@ pub struct Response {
     pub bytes: Items<u8>,
 }
 
+// By hand: a caller's proof then sees one call where it lets go of one, and not each field (docs/developing.md).
 impl Drop for Response {
     fn drop(self) {
         let Response {

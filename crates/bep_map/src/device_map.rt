@@ -17,6 +17,7 @@ pub struct DeviceMap<V> {
     entries: BTreeMap<DeviceId, V>,
 }
 
+// By hand: a caller's proof then sees one call where it lets go of one, and not each field (docs/developing.md).
 impl<V: Drop> Drop for DeviceMap<V> {
     fn drop(self) {
         let DeviceMap { entries: _ } = self;

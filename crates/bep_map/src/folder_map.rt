@@ -19,6 +19,7 @@ pub struct FolderMap<V> {
     entries: BTreeMap<FolderName, V>,
 }
 
+// By hand: a caller's proof then sees one call where it lets go of one, and not each field (docs/developing.md).
 impl<V: Drop> Drop for FolderMap<V> {
     fn drop(self) {
         let FolderMap { entries: _ } = self;

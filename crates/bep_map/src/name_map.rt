@@ -17,6 +17,7 @@ pub struct NameMap<V> {
     entries: BTreeMap<Name, V>,
 }
 
+// By hand: a caller's proof then sees one call where it lets go of one, and not each field (docs/developing.md).
 impl<V: Drop> Drop for NameMap<V> {
     fn drop(self) {
         let NameMap { entries: _ } = self;

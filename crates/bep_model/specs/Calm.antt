@@ -1,5 +1,5 @@
--- What holds of every cluster with a settled cut, and goes on holding: without a certificate and without winners,
--- since versions go on changing while contents stand (this project's profile).
+-- What holds of every cluster with a settled cut, and goes on holding. It names no certificate and no winners, since
+-- versions go on changing while contents stay (this project's profile).
 use Rattle.std.specs.Prelude.{◌≡◌, false, List, [], ◌∷◌, ⊤, Option, Some, None, unwrap_or, if◌then◌else◌}
 use Rattle.std.specs.Ordering.{is_eq}
 use Rattle.bep_record.specs.declared.entry.Entry.{Entry}
@@ -24,7 +24,7 @@ contents_of [] folder name = None
 contents_of (row ∷ more) folder name =
     if is_eq (key_cmp (key_of row) (folder, name)) then Some (content_of row.entry) else contents_of more folder name
 
--- The parts of calm at a name of this content. Settled asks the same today, in words of its own.
+-- The parts of calm at a name of this content. Settled asks the same, in its own words.
 
 -- the own record isn't local-only and has the content; or there is none, and the content is Deleted
 abbrev pub OwnIsCalm : Option Entry → Content → Type 0

@@ -1,6 +1,6 @@
 -- What peers may do that are free to choose: which record they pull, which version the pulled record gets, how a conflict
--- copy is named, what they announce, and when. A table changes only by a leave that stands here (BEP v1; which leaves a
--- peer has is this project's profile).
+-- copy is named, what they announce, and when. A table changes only as a definition here permits (BEP v1; what is permitted
+-- is this project's profile).
 use Rattle.std.specs.Prelude.{◌≡◌, ◌⊎◌, true, false, List, [], ◌∷◌, Option, Some, None, Contains}
 use Rattle.bep_record.specs.declared.entry.Entry.{Entry}
 use Rattle.bep_record.specs.Node.{IsClean}
@@ -41,9 +41,9 @@ abbrev pub CarriesOwn : Tables → Device → Flight → Type 0
 CarriesOwn t sender flight =
     (entry : Entry) → Contains flight.records entry → entry.invalid ≡ false → t.own sender flight.folder entry.name ≡ Some entry
 
--- What may become of a cluster in one step: each sharing device's records and files stay, or it had leave to change them;
--- it has nothing from elsewhere but what it had, or was on its way to it; and what is on its way was so before, or is sent.
--- Records may be forgotten, pulls given up, and messages lost, at any time.
+-- What one step may make of a cluster. Each sharing device's records and files stay, or it was permitted to change them. It
+-- has nothing from elsewhere but what it had, or what was on its way to it. What is on its way was so before, or is sent.
+-- Records may be forgotten, pulls given up and messages lost at any time.
 pub record MayBecome (old new : Tables) : Type 0 where
   pub sharing : (folder : Folder) → new.sharing folder ≡ old.sharing folder
   pub own : (device : Device) (folder : Folder) (name : FileName) → Shares old device folder →

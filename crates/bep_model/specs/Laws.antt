@@ -83,7 +83,7 @@ SettledIsCalm = (t : Tables) (rows : List Row) → IsSettled t rows → IsCalm t
 abbrev pub CalmStays : Type 0
 CalmStays = (t later : Tables) (rows : List Row) → IsSettled t rows → SameShares t later → IsCalm later (contents_of rows) → Kept t later → Stays t rows later
 
--- and it is settled, for its own winners, where no record went away
+-- and it is settled for its own winners, if no record went away
 abbrev pub CalmIsSettledAgain : Type 0
 CalmIsSettledAgain =
     (t later : Tables) (rows : List Row) → IsSettled t rows → SameShares t later → KeepsRecords t later → RecordsAreNamed later → IsCalm later (contents_of rows) →

@@ -1,4 +1,4 @@
--- The record that each name's sharing devices would choose, were all their own records known (this project's profile).
+-- The record that each name's sharing devices would choose if all their own records were known (this project's profile).
 use Rattle.std.specs.Prelude.{min, List, [], ◌∷◌, ◌++◌, Option, Some, None}
 use Rattle.bep_record.specs.declared.entry.Entry.{Entry}
 use Rattle.bep_record.specs.declared.folder_kind.FolderKind.{FolderKind}

@@ -47,7 +47,7 @@ pub fn old_version_is_known()
     ensures beside_a_concurrent_record { ¬ IsHarmless (Some (deletion by_two)) Deleted (link 1 98 by_one) }
 {}
 
-/// So an old version on its way is no fault at a device that has the deletion, and one at a device without a record.
+/// An old version on its way is no fault at a device that has the deletion. At a device without a record it is one.
 pub fn old_version_flies()
     ensures to_a_device_with_the_deletion { Asks
         (old_link_flies (Some (deletion twice_by_one)))
@@ -61,8 +61,8 @@ pub fn old_version_flies()
         (place_of 2) }
 {}
 
-/// A local-only record, which is invalid, doesn't win even where no other record is, so that its name is without
-/// winner; a valid one does.
+/// A local-only record is invalid and doesn't win, even if there is no other record: its name has no winner then. A
+/// valid one wins.
 pub fn local_only_record_is_no_candidate()
     ensures local_only { (one : Candidate) → ¬ IsWinner
         (two_devices SendReceive (Some (record (link 1 98 by_one) { invalid = true })) None)
@@ -75,7 +75,7 @@ pub fn local_only_record_is_no_candidate()
         folder_f name_a (1, link 1 98 by_one) }
 {}
 
-/// Of two concurrent records of one time, that of the smaller `modified_by` wins, whichever device has it; a row with
+/// Two concurrent records have one time: the one of the smaller `modified_by` wins, whichever device has it. A row with
 /// the other one is at fault.
 pub fn tie_goes_to_the_smaller_author()
     ensures smaller { IsWinner crossed_links folder_f name_a (2, link 1 98 by_one) }
@@ -132,8 +132,7 @@ pub fn local_change_of_a_receive_only_folder()
         (place_of 2) }
 {}
 
-/// Where the name is deleted, a device may still see or pull an older record, but not one that the deletion isn't newer
-/// than.
+/// Where the name is deleted, a device may still see or pull a record that is older than the deletion, and no other.
 pub fn another_record_is_seen_or_pulled()
     ensures older_in_a_view { Asks (deletion_viewing (link 1 98 by_one)) (row_of 1 (deletion twice_by_one) ∷ []) ViewAhead (place_of 2) }
     ensures concurrent_in_a_view { ¬ Asks (deletion_viewing (link 2 98 by_two)) (row_of 1 (deletion twice_by_one) ∷ []) ViewAhead (place_of 2) }

@@ -39,8 +39,8 @@ pub fn verdict_exists()
     choice_is_unique();
 }
 
-/// The rows of a settled cut are the winners of the known names, in order. A cut has one such list at most, so it is
-/// settled for one list of rows at most, and for a list of winners wherever for any.
+/// The rows of a settled cut are the winners of the known names, in order. A cut has at most one such list. So it is
+/// settled for at most one list of rows; if it is settled for any list, it is for the list of winners.
 pub fn certificate_is_unique()
     ensures winners { SettledIsListOfWinners }
     ensures one_list { ListOfWinnersIsUnique }
@@ -50,9 +50,9 @@ pub fn certificate_is_unique()
     choice_is_unique();
 }
 
-/// No cut has a list of winners and a known name that has no winner, nor two such names that come first.
+/// No cut has both a list of winners and a known name without a winner. At most one such name comes first.
 ///
-/// It has the one or the other where finitely many names are known, and each own record has the name that it stands at.
+/// A cut has the one or the other if finitely many names are known, and each own record has the name that it stands at.
 pub fn winners_or_first_without()
     ensures not_both { WinnersLeaveNoneOut }
     ensures one_first { FirstWithoutIsUnique }
@@ -73,7 +73,7 @@ pub fn calm_stays()
     choice_is_unique();
 }
 
-/// Such a cut is settled for its own winners, whose names and contents are the certificate's, where no record went away.
+/// If no record went away, such a cut is settled for its own winners. Their names and contents are the certificate's.
 pub fn calm_is_settled_again()
     ensures { CalmIsSettledAgain }
 {

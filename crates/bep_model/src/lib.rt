@@ -1,7 +1,7 @@
 //! What a cut means: which names are known, who wins them, when the cut is settled, and what then stays as it is.
 //!
-//! Nearly all of this crate is definitions, in `specs/`, and the laws that follow from them. A law is a function that does
-//! nothing: who calls it has its contract.
+//! Nearly all of this crate is definitions, in `specs/`, and the laws that follow from them. A law is a function that
+//! does nothing: whoever calls it has its contract.
 //!
 //! ```rust
 //! pub fn settled_is_told_once()

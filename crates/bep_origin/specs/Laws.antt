@@ -3,6 +3,6 @@ use Rattle.bep_tables.specs.declared.cut.CutParts.{CutParts}
 use Rattle.bep_tables.specs.Cut.{IsCut, tables_of}
 use Rattle.bep_origin.specs.FromCut.{HasCluster, IsGoodCut}
 
--- so it is where the cut's parts are what their types keep
+-- every cut whose parts are what their types keep is of a sound cluster
 abbrev pub CutsHaveClusters : Type 0
 CutsHaveClusters = (cut : CutParts) → IsCut cut → IsGoodCut cut → HasCluster (tables_of cut)

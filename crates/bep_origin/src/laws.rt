@@ -3,7 +3,7 @@ ghost use Rattle.bep_origin.specs.Laws.{CutsHaveClusters};
 
 use bep_index::batch_records_are_found;
 
-/// Every cut is of a sound cluster, where its parts are what their types keep; the cluster has no session, and its links
+/// Every cut whose parts are what their types keep is of a sound cluster. That cluster has no session, and its links
 /// carry the cut's messages alone.
 pub fn cuts_have_clusters()
     ensures { CutsHaveClusters }

@@ -23,7 +23,7 @@ use Rattle.bep_machine.specs.Peer.{Session, Peer, idle, with_session}
 use Rattle.bep_machine.specs.Replica.{ByDevice}
 use Rattle.bep_folder.specs.Held.{Held}
 use Rattle.bep_peer.specs.declared.error.PeerError.{PeerError}
-use Rattle.bep_peer.specs.InSession.{IsNextAnnounced, IsOver, MayRefuse, with_sent}
+use Rattle.bep_peer.specs.inner.InSession.{IsNextAnnounced, IsOver, MayRefuse, with_sent}
 use Rattle.bep_peer.specs.Member.{Member, NameShared, tables_of}
 use Rattle.bep_peer.proofs.SharingFacts.{tables_held}
 use Rattle.bep_peer.proofs.StepFacts.{in_session, refused_in_session}

@@ -23,7 +23,7 @@ use Rattle.bep_machine.specs.Replica.{ByDevice, Replica, viewed_at}
 use Rattle.bep_machine.specs.Sound.{AreReceived}
 use Rattle.bep_folder.specs.Held.{Held}
 use Rattle.bep_folder.specs.Pull.{IsReceivedAt}
-use Rattle.bep_peer.specs.InSession.{IsNextAsked, IsOver}
+use Rattle.bep_peer.specs.inner.InSession.{IsNextAsked, IsOver}
 use Rattle.bep_peer.specs.Member.{NameShared}
 use Rattle.bep_peer.specs.Session.{with_request}
 use Rattle.bep_peer.proofs.StepFacts.{in_session}

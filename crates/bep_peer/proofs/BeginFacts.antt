@@ -20,8 +20,8 @@ use Rattle.bep_links.specs.Link.{LinkBetween}
 use Rattle.bep_folder.specs.Held.{Held}
 use Rattle.bep_peer.specs.declared.error.PeerError.{PeerError}
 use Rattle.bep_peer.specs.declared.error.PeerError.TheVariants.{Refused, Stale, Memory}
-use Rattle.bep_peer.specs.Config.{said_of, config_of}
-use Rattle.bep_peer.specs.InSession.{MayRefuse}
+use Rattle.bep_peer.specs.inner.ClusterConfig.{said_of, config_of}
+use Rattle.bep_peer.specs.inner.InSession.{MayRefuse}
 use Rattle.bep_peer.specs.Lent.{Lent, Joins, NamesNone, StepOver, IsOpenTo, with_before}
 use Rattle.bep_peer.specs.Member.{Member, tables_of, untold}
 use Rattle.bep_peer.specs.PeerError.{Gives}

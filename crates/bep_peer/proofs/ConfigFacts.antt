@@ -18,8 +18,8 @@ use Rattle.bep_machine.specs.Peer.{Session, is_shared_with}
 use Rattle.bep_machine.specs.Replica.{ByDevice, Replica}
 use Rattle.bep_folder.specs.Held.{Held}
 use Rattle.bep_peer.specs.Member.{Member, IsMember, tables_in, tables_of}
-use Rattle.bep_peer.specs.Renewed.{AreFramed, AreSharedBy}
-use Rattle.bep_peer.specs.Viewing.{IsSharedBy}
+use Rattle.bep_peer.specs.inner.Renew.{AreFramed, AreSharedBy}
+use Rattle.bep_peer.specs.inner.Index.{IsSharedBy}
 use Rattle.bep_peer.proofs.MemberFacts.{get-tables}
 use Rattle.bep_peer.proofs.RenewFacts.{member_framed, shared_framed}
 

@@ -8,7 +8,7 @@ use Rattle.bep_folder.specs.declared.error.FolderError.TheVariants as errors
 use Rattle.bep_folder.specs.Held.{Held}
 use Rattle.bep_folder.specs.Makes.{Stays, CountsFaults}
 use Rattle.bep_peer.specs.declared.error.PeerError.{PeerError}
-use Rattle.bep_peer.specs.Call.{AnswersAt, IsRead}
+use Rattle.bep_peer.specs.inner.Call.{AnswersAt, IsRead}
 use Rattle.bep_peer.specs.Contents.{IsReadIn, ReadsIn}
 use Rattle.bep_peer.specs.Member.{Member, tables_of}
 use Rattle.bep_peer.specs.Within.{answer_of, with_folder}

@@ -18,7 +18,7 @@ use Rattle.bep_folder.specs.declared.error.FolderError.TheVariants as errors
 use Rattle.bep_machine.specs.declared.refusal.Refusal.TheVariants.{StoreFault}
 use Rattle.bep_peer.specs.declared.error.PeerError.{PeerError}
 use Rattle.bep_peer.specs.declared.error.PeerError.TheVariants.{Memory, Refused}
-use Rattle.bep_peer.specs.Call.{AnswersAt, IsRead}
+use Rattle.bep_peer.specs.inner.Call.{AnswersAt, IsRead}
 use Rattle.bep_peer.specs.Copied.{IsReread, folders_copied, member_copied, uncalled}
 use Rattle.bep_peer.specs.Member.{AreOwn, HasFailed, IsMember, Member, NameShared, Remains, tables_in, tables_of, untold}
 use Rattle.bep_peer.specs.Within.{answer_of, error_of, with_folder}

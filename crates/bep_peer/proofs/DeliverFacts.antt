@@ -12,14 +12,14 @@ use Rattle.bep_machine.specs.Exchange.{DeliverRow, SessionRow, WaitingRow}
 use Rattle.bep_machine.specs.Link.{End, Link, Sight, end_of, sight_of, after_deed}
 use Rattle.bep_machine.specs.Peer.{Session, Peer, Acted, idle}
 use Rattle.bep_links.specs.Link.{LinkBetween}
-use Rattle.bep_peer.specs.declared.effect.Effect.{Effect}
-use Rattle.bep_peer.specs.declared.effect.Effect.TheVariants.{Taken, Answered, Lost}
+use Rattle.bep_peer.specs.declared.taking.effect.Effect.{Effect}
+use Rattle.bep_peer.specs.declared.taking.effect.Effect.TheVariants.{Taken, Answered, Lost}
 use Rattle.bep_peer.specs.declared.error.PeerError.{PeerError}
 use Rattle.bep_peer.specs.declared.error.PeerError.TheVariants.{Refused, Stale, Memory}
 use Rattle.bep_peer.specs.declared.trace.Trace.{Trace}
 use Rattle.bep_peer.specs.Delivered.{TellsRead, failure_sent}
-use Rattle.bep_peer.specs.Effect.{TellsAnswer, Takes, deed_of, failure_answered, moved_of}
-use Rattle.bep_peer.specs.InSession.{IsOver, NothingDone}
+use Rattle.bep_peer.specs.inner.Effect.{TellsAnswer, Takes, deed_of, failure_answered, moved_of}
+use Rattle.bep_peer.specs.inner.InSession.{IsOver, NothingDone}
 use Rattle.bep_peer.specs.Lent.{Lent, Joins, NamesNone, StepOver, twice}
 use Rattle.bep_peer.specs.Member.{Member, HasFailed, Remains, nothing_told, tables_of, untold}
 use Rattle.bep_peer.specs.PeerError.{Gives}

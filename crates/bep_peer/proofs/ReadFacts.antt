@@ -14,7 +14,7 @@ use Rattle.bep_folder.specs.declared.error.FolderError.TheVariants.{StoreFault, 
 use Rattle.bep_folder.specs.Held.{Held}
 use Rattle.bep_folder.specs.Makes.{CountsFaults}
 use Rattle.bep_peer.specs.Member.{Member, IsMember, Remains, tables_in}
-use Rattle.bep_peer.specs.Read.{ReadsFrom, IsNodeAt, failed_by}
+use Rattle.bep_peer.specs.inner.Request.{ReadsFrom, IsNodeAt, failed_by}
 use Rattle.bep_peer.proofs.MemberFacts.{tables-same, own_kept, named_kept, rose_here}
 
 pub read_tables : (old new : ByName Held) (folder : Folder) (name : FileName) (result : Result (Option NodeParts) FolderError) → ReadsFrom folder name old new result → tables_in new ≡ tables_in old

@@ -19,8 +19,8 @@ use Rattle.bep_machine.specs.Replica.{ByDevice, Replica, with_view}
 use Rattle.bep_folder.specs.Held.{Held}
 use Rattle.bep_folder.specs.Views.{exchanged, unchanged, with_exchanged}
 use Rattle.bep_peer.specs.Member.{IsMember, tables_in}
-use Rattle.bep_peer.specs.Renewed.{AreFramed, AreSharedBy, IsUnder, frame_of}
-use Rattle.bep_peer.specs.Viewing.{IsSharedBy}
+use Rattle.bep_peer.specs.inner.Renew.{AreFramed, AreSharedBy, IsUnder, frame_of}
+use Rattle.bep_peer.specs.inner.Index.{IsSharedBy}
 use Rattle.bep_peer.proofs.MemberFacts.{has_tables, tables-given, tables-same}
 
 -- the parts of a folder that no change of a view touches

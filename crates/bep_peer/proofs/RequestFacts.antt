@@ -13,11 +13,11 @@ use Rattle.bep_machine.specs.Peer.{Session, Peer, Acted}
 use Rattle.bep_machine.specs.Replica.{node_at}
 use Rattle.bep_folder.specs.declared.error.FolderError.{FolderError}
 use Rattle.bep_folder.specs.Held.{Held}
-use Rattle.bep_peer.specs.declared.effect.Effect.TheVariants.{Answered}
+use Rattle.bep_peer.specs.declared.taking.effect.Effect.TheVariants.{Answered}
 use Rattle.bep_peer.specs.declared.error.PeerError.TheVariants.{Refused}
-use Rattle.bep_peer.specs.Effect.{Takes, deed_of}
+use Rattle.bep_peer.specs.inner.Effect.{Takes, deed_of}
 use Rattle.bep_peer.specs.Member.{Member, tables_of}
-use Rattle.bep_peer.specs.Read.{IsNodeAt}
+use Rattle.bep_peer.specs.inner.Request.{IsNodeAt}
 use Rattle.bep_peer.proofs.MemberFacts.{has_tables}
 
 pub request_waits : (other : Device) (failed : Option ℕ) (full : Bool) (session : Session) (request : Request) (member : Member) (held : Held) →

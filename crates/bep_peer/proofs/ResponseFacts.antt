@@ -16,10 +16,10 @@ use Rattle.bep_machine.specs.Replica.{ByDevice, Pull, Replica, pull_at}
 use Rattle.bep_folder.specs.Held.{Held}
 use Rattle.bep_folder.specs.Makes.{Stays}
 use Rattle.bep_folder.specs.Views.{unchanged}
-use Rattle.bep_peer.specs.declared.effect.Effect.TheVariants.{Taken}
-use Rattle.bep_peer.specs.Effect.{Takes}
+use Rattle.bep_peer.specs.declared.taking.effect.Effect.TheVariants.{Taken}
+use Rattle.bep_peer.specs.inner.Effect.{Takes}
 use Rattle.bep_peer.specs.Member.{Member, IsMember, AreOwn, NameShared, Remains, HasFailed, tables_in, tables_of, nothing_told}
-use Rattle.bep_peer.specs.Received.{Brings, answered_by, changed_at, received_by}
+use Rattle.bep_peer.specs.inner.Response.{Brings, answered_by, changed_at, received_by}
 use Rattle.bep_peer.proofs.MemberFacts.{get-tables, tables-given, tables-same, own_kept, named_kept, named_later, rose_here}
 
 -- ---- folders

@@ -16,7 +16,7 @@ use Rattle.bep_folder.specs.Held.{Held}
 use Rattle.bep_folder.specs.Makes.{CountsFaults, Makes}
 use Rattle.bep_folder.specs.ScanResult.{Scanned}
 use Rattle.bep_peer.specs.declared.error.PeerError.{PeerError}
-use Rattle.bep_peer.specs.Call.{AnswersAt, IsCommitted, IsLooked}
+use Rattle.bep_peer.specs.inner.Call.{AnswersAt, IsCommitted, IsLooked}
 use Rattle.bep_peer.specs.Faults.{HaveSameFaults}
 use Rattle.bep_peer.specs.Member.{Member, tables_of}
 use Rattle.bep_peer.specs.PeerError.{Gives}

@@ -14,7 +14,7 @@ use Rattle.bep_folder.specs.Held.{Held}
 use Rattle.bep_links.specs.Link.{LinkBetween}
 use Rattle.bep_peer.specs.declared.error.PeerError.{PeerError}
 use Rattle.bep_peer.specs.declared.error.PeerError.TheVariants.{Refused, Stale, Memory}
-use Rattle.bep_peer.specs.InSession.{IsOver, MayRefuse, NothingDone}
+use Rattle.bep_peer.specs.inner.InSession.{IsOver, MayRefuse, NothingDone}
 use Rattle.bep_peer.specs.Lent.{Lent, Joins, IsAtHand, OnlySessions, StepOver, twice, untold_over}
 use Rattle.bep_peer.specs.Member.{Member, Remains, nothing_told, tables_of, untold}
 use Rattle.bep_peer.specs.PeerError.{Gives}

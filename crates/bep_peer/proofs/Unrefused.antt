@@ -31,16 +31,16 @@ use Rattle.bep_folder.specs.declared.error.FolderError.{FolderError}
 use Rattle.bep_folder.specs.declared.error.FolderError.TheVariants as folder_errors
 use Rattle.bep_folder.specs.Held.{Held}
 use Rattle.bep_folder.specs.Unhidden.{RefusesNone}
-use Rattle.bep_peer.specs.declared.effect.Effect.{Effect}
+use Rattle.bep_peer.specs.declared.taking.effect.Effect.{Effect}
 use Rattle.bep_peer.specs.declared.error.PeerError.{PeerError}
 use Rattle.bep_peer.specs.declared.error.PeerError.TheVariants as errors
-use Rattle.bep_peer.specs.declared.local.Step.TheVariants.{Pull}
-use Rattle.bep_peer.specs.Call.{AnswersAt, IsStepped}
-use Rattle.bep_peer.specs.InSession.{IsOver}
+use Rattle.bep_peer.specs.declared.within.steps.Step.TheVariants.{Pull}
+use Rattle.bep_peer.specs.inner.Call.{AnswersAt, IsStepped}
+use Rattle.bep_peer.specs.inner.InSession.{IsOver}
 use Rattle.bep_peer.specs.Lent.{IsOpenTo, Joins, Lent, NamesNone}
 use Rattle.bep_peer.specs.Member.{Member, tables_of, untold}
 use Rattle.bep_peer.specs.Unhidden.{GoesOn, IsUnrefused, IsUnrefusedWithin}
-use Rattle.bep_peer.specs.Viewing.{HasTooMany, TakesInView}
+use Rattle.bep_peer.specs.inner.Index.{HasTooMany, TakesInView}
 use Rattle.bep_peer.specs.Within.{answer_of, error_of}
 use Rattle.bep_peer.proofs.StepFacts.{begun_with}
 

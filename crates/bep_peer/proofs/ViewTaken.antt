@@ -21,13 +21,13 @@ use Rattle.bep_machine.specs.Replica.{ByDevice, Replica, view_of, with_view}
 use Rattle.bep_folder.specs.Held.{Held}
 use Rattle.bep_folder.specs.Makes.{Stays}
 use Rattle.bep_folder.specs.Views.{unchanged, with_viewed}
-use Rattle.bep_peer.specs.declared.effect.Effect.{Effect}
+use Rattle.bep_peer.specs.declared.taking.effect.Effect.{Effect}
 use Rattle.bep_peer.specs.declared.error.PeerError.{PeerError}
 use Rattle.bep_peer.specs.declared.error.PeerError.TheVariants.{Refused, Stale, Memory}
 use Rattle.bep_peer.specs.declared.trace.Trace.{Trace}
-use Rattle.bep_peer.specs.Effect.{SendsNone, Takes}
+use Rattle.bep_peer.specs.inner.Effect.{SendsNone, Takes}
 use Rattle.bep_peer.specs.Member.{Member, IsMember, Remains, tables_in, tables_of, nothing_told}
-use Rattle.bep_peer.specs.Viewing.{IsAsBefore, TakesInView}
+use Rattle.bep_peer.specs.inner.Index.{IsAsBefore, TakesInView}
 use Rattle.bep_peer.proofs.MemberFacts.{has_tables, tables-given, tables-same, own_kept, named_kept, rose_here}
 
 -- ---- a batch has no more names than a view may have

@@ -19,10 +19,10 @@ use Rattle.bep_folder.specs.Makes.{Makes, Stays, CountsFaults}
 use Rattle.bep_folder.specs.Trace.{Trace as HeldTrace}
 use Rattle.bep_peer.specs.declared.error.PeerError.{PeerError}
 use Rattle.bep_peer.specs.declared.error.PeerError.TheVariants.{Refused}
-use Rattle.bep_peer.specs.declared.local.Step.{Step}
-use Rattle.bep_peer.specs.declared.local.Step.TheVariants.{Finish}
+use Rattle.bep_peer.specs.declared.within.steps.Step.{Step}
+use Rattle.bep_peer.specs.declared.within.steps.Step.TheVariants.{Finish}
 use Rattle.bep_peer.specs.declared.trace.Trace.{Trace}
-use Rattle.bep_peer.specs.Call.{AnswersAt, IsCalled, IsSteady, IsStepped, row_of}
+use Rattle.bep_peer.specs.inner.Call.{AnswersAt, IsCalled, IsSteady, IsStepped, row_of}
 use Rattle.bep_peer.specs.Member.{Member, AreOwn, IsMember, HasFailed, Remains, tables_of, untold}
 use Rattle.bep_peer.specs.PeerError.{Gives}
 use Rattle.bep_peer.specs.Within.{GainsCopyIn, OnlyFolder, StepWithin, told_of, with_folder, answer_of, error_of}

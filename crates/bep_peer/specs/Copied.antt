@@ -16,7 +16,7 @@ folders_copied folders = from_entries (map (λ one. (one.0, copied_out one.1)) (
 abbrev pub member_copied : Member → Member
 member_copied member = record member { folders = folders_copied member.folders; trace = nothing_told }
 
--- the folder but for which calls of its store were made
+-- the folder, without the trace of the calls of its store
 abbrev pub uncalled : Held → Held
 uncalled held = record held { made = 0; trace = no_trace }
 

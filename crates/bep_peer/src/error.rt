@@ -41,7 +41,7 @@ impl<T: Drop> From<AllocFailed<T>> for PeerError {
 }
 
 impl PeerError {
-    /// The number that the product prints; want of memory has none.
+    /// The number that the product prints; `Memory` has none.
     pub fn number(self) -> Option<u32>
         ensures { result ≡ number_of self }
     {

@@ -31,6 +31,7 @@ pub struct Peer<S: Store> {
     pub(crate) alloc: Global,
 }
 
+// By hand: a caller's proof then sees one call where it lets go of one, and not each field (docs/developing.md).
 impl<S: Store> Drop for Peer<S> {
     fn drop(self) {
         let Peer {
@@ -138,8 +139,8 @@ impl<S: Store> Peer<S> {
         self.sessions.get(other)
     }
 
-    /// Which call of a folder's store failed in the last action, counted from 1, until that is taken. None did where no
-    /// store of the kind ever fails.
+    /// Which call of a folder's store failed in the last action, counted from 1, until the trace is taken. None did if
+    /// no store of the kind ever fails.
     pub fn failed(&self) -> Option<u32>
         ensures value { result ≡ self.now.trace.failed }
         ensures sure { NeverFails S.faults → result ≡ None }

@@ -1,4 +1,4 @@
-//! Where a request stands among others, and whether bytes are the same.
+//! Where a request stands in a list, and whether bytes are the same.
 ghost use Rattle.std.specs.Prelude.{◌≡◌, ◌<◌, ◌+◌, ◌++◌, length, take, drop, slice_get, Some, None, IfSome, IfNone};
 ghost use Rattle.bep_machine.specs.Exchange.{asked_for, without, same_bytes};
 

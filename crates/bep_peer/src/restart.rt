@@ -8,8 +8,8 @@ use bep_map::DeviceMap;
 use bep_store::Store;
 
 impl<S: Store> Peer<S> {
-    /// Starts again, as a device does that was switched off and on: its sessions and its pulls go; its indexes, its views
-    /// and its stores stay. It takes no memory and never fails. What it had on its links is the caller's to take away.
+    /// Starts again, as a device does that was switched off and on: its sessions and its pulls go; its indexes, its
+    /// views and its stores stay. It takes no memory and never fails. The caller takes away what was on its links.
     pub fn restart(&mut self)
         ensures step { tables_of self.new ≡ restarted (tables_of self.old) }
         ensures rest { Remains self.old self.new }

@@ -28,6 +28,7 @@ pub struct Session {
     next: u32,
 }
 
+// By hand: a caller's proof then sees one call where it lets go of one, and not each field (docs/developing.md).
 impl Drop for Session {
     fn drop(self) {
         let Session {

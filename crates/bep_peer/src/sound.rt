@@ -10,8 +10,8 @@ use bep_map::{DeviceMap, FolderMap};
 use bep_store::Store;
 
 impl<S: Store> Peer<S> {
-    /// The device is sound, whatever was called of it: what it has of each folder is (`Replica::tables_are_sound`), and so
-    /// is each session. A session names only folders that both devices share, and none before the ClusterConfig came, and
+    /// The device is sound, whatever calls made it. So is what it has of each folder (`Replica::tables_are_sound`), and
+    /// each session. A session names only folders that both devices share, and none before the ClusterConfig came, and
     /// at most 64 of its requests are outstanding. It changes nothing, and takes no memory.
     pub fn member_is_sound(&self)
         ensures { IsSoundMember self.now }

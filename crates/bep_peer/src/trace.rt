@@ -16,6 +16,7 @@ pub struct Trace {
     pub put: Option<(Message, Message)>,
 }
 
+// By hand: a caller's proof then sees one call where it lets go of one, and not each field (docs/developing.md).
 impl Drop for Trace {
     fn drop(self) {
         let Trace {

@@ -1,4 +1,4 @@
--- The name under which a file is kept that lost against a concurrent one (this project's profile).
+-- The name under which a file that lost against a concurrent one is kept (this project's profile).
 use Rattle.std.specs.Prelude.{◌==◌, ◌+◌, ◌-◌, ◌/◌, ◌%◌, ℕ, zero, suc, ℤ, List, [], ◌∷◌, ◌++◌, length, take, drop, not, nat_lt, codes, if◌then◌else◌}
 use Rattle.std.specs.List.{suffix_len}
 use Rattle.std.specs.Char.{digit_char}
@@ -9,19 +9,20 @@ use Rattle.bep_record.specs.Name.{slash}
 abbrev pub dot : ℕ
 dot = 46
 
--- how many bytes follow the last such byte; all of them, where there is none
+-- how many bytes follow the last one with this value; all of them, if there is none
 abbrev pub len_after_last : ℕ → List ℕ → ℕ
 len_after_last byte bytes = suffix_len (λ b. not (b == byte)) bytes
 
--- how long a name's extension is: its last part from the last dot on; nothing where that part has no dot, or none but its first character
+-- how long a name's extension is: it begins at the last dot of the name's last part; that part may have no dot, or one as
+-- its first character alone, and then there is no extension
 abbrev pub extension_len : List ℕ → ℕ
 extension_len name = let from_dot = len_after_last dot name + 1 in if nat_lt from_dot (len_after_last slash name) then from_dot else 0
 
--- how long the stem is, which is what stands before the extension
+-- how long the stem is: the stem is what stands before the extension
 abbrev pub stem_len : List ℕ → ℕ
 stem_len name = length name - extension_len name
 
--- the last hexadecimal digits of a number, in lower case, so many of them
+-- the last `count` hexadecimal digits of a number, in lower case
 unfoldable pub hex_digits : ℕ → ℕ → List ℕ
 hex_digits zero n = []
 hex_digits (suc count) n = hex_digits count (n / 16) ++ digit_char (n % 16) ∷ []

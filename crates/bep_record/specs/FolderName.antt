@@ -1,4 +1,4 @@
--- What bytes are the name of a folder (BEP v1, 'Folder', field 'id'; the limits are this project's profile).
+-- Which bytes are the name of a folder (BEP v1, 'Folder', field 'id'; the limits are this project's profile).
 use Rattle.std.specs.Prelude.{◌≡◌, ◌⊎◌, ℕ, ◌≤◌, List, All, length}
 use Rattle.bep_record.specs.declared.limits.TheConstants.{MAX_FOLDER_NAME_LEN}
 

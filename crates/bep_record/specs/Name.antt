@@ -1,4 +1,4 @@
--- What bytes are the name of a file in a folder (BEP v1, 'FileInfo', field 'name'; the limits are this project's profile).
+-- Which bytes are the name of a file in a folder (BEP v1, 'FileInfo', field 'name'; the limits are this project's profile).
 use Rattle.std.specs.Prelude.{◌≢◌, ◌==◌, ◌≤◌, ℕ, List, [], All, codes, length}
 use Rattle.std.specs.List.{slice_split}
 use Rattle.bep_record.specs.Text.{IsPlainText}

@@ -6,7 +6,7 @@ use Rattle.bep_record.specs.declared.entry.Entry.{Entry}
 use Rattle.bep_record.specs.declared.node.NodeParts.{NodeParts}
 use Rattle.bep_record.specs.declared.limits.TheConstants.{MAX_FILE_SIZE, MAX_NANOSECONDS}
 
--- bytes stand in a file alone, a target in a symlink alone
+-- only a file has bytes, and only a symlink has a target
 abbrev pub FitsKind : Kind → NodeParts → Type 0
 FitsKind File node = node.target ≡ []
 FitsKind Directory node = (node.bytes ≡ []) × (node.target ≡ [])

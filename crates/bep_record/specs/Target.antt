@@ -1,4 +1,4 @@
--- What bytes are the target of a symlink (BEP v1, 'FileInfo', field 'symlink_target'; the limit is this project's profile).
+-- Which bytes are the target of a symlink (BEP v1, 'FileInfo', field 'symlink_target'; the limit is this project's profile).
 use Rattle.std.specs.Prelude.{◌≤◌, ℕ, List, length}
 use Rattle.bep_record.specs.Text.{IsPlainText}
 use Rattle.bep_record.specs.declared.limits.TheConstants.{MAX_TARGET_LEN}

@@ -17,7 +17,7 @@ use std::alloc::{AllocError, Global};
 // The bytes of a conflict name beside those of the name and of the time: `.sync-conflict-`, `-` and 16 digits.
 const FIXED_LEN: usize = 32;
 
-// How many bytes follow the last such byte.
+// How many bytes follow the last one with this value.
 fn len_after_last(bytes: &[u8], byte: u8) -> usize
     ensures value { result ≡ spec.len_after_last byte bytes.now }
     ensures bound { result ≤ length bytes.now }

@@ -6,8 +6,8 @@ use crate::{Block, Target};
 
 /// What a name is, apart from its times and its history, lent from a record.
 ///
-/// BEP v1, 'FileInfo'. Files of equal content have equal block lists, and so equal hashes of their bytes; that bytes of
-/// equal hashes are equal is said nowhere.
+/// BEP v1, 'FileInfo'. Files of equal content have equal block lists, so the hashes of their bytes are equal. Nothing
+/// says that bytes of equal hashes are equal.
 #[derive(Clone, Copy, Debug)]
 pub enum Content<'a> {
     /// Nothing is there.

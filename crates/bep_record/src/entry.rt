@@ -41,6 +41,7 @@ pub struct Entry {
     pub target: Target,
 }
 
+// By hand: a caller's proof then sees one call where it lets go of one, and not each field (docs/developing.md).
 impl Drop for Entry {
     fn drop(self) {
         let Entry {

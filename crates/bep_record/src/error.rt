@@ -30,7 +30,7 @@ pub enum RecordError {
 }
 
 impl RecordError {
-    /// The number that the product prints; want of memory has none.
+    /// The number that the product prints; `Memory` has none.
     pub fn number(self) -> Option<u32>
         ensures { result ≡ number_of self }
     {

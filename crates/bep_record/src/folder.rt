@@ -16,6 +16,7 @@ pub struct FolderName {
     name: Name,
 }
 
+// By hand: a caller's proof then sees one call where it lets go of one, and not each field (docs/developing.md).
 impl Drop for FolderName {
     fn drop(self) {
         let FolderName { name: _ } = self;

@@ -10,6 +10,7 @@ pub struct Items<T> {
     items: Vec<T>,
 }
 
+// By hand: a caller's proof then sees one call where it lets go of one, and not each field (docs/developing.md).
 impl<T: Drop> Drop for Items<T> {
     fn drop(self) {
         let Items { items: _ } = self;

@@ -2,15 +2,15 @@
 //! the law.
 ghost use Rattle.bep_record.specs.Laws.{MergeExists, MergeIsUnique, MergeIsCounted, BumpExists, BumpIsUnique, BumpIsCounted, CutIsOfOneLength};
 
-/// Well-formed vectors have one well-formed merge, with as many counters as ids have one in either.
+/// Two well-formed vectors have one well-formed merge. It has a counter for each id that has one in either.
 pub fn merge_exists()
     ensures exists { MergeExists }
     ensures unique { MergeIsUnique }
     ensures counted { MergeIsCounted }
 {}
 
-/// A counter below its greatest value can be raised by 1 in one way, by which the vector grows exactly where the id had
-/// no counter.
+/// A counter below its greatest value can be raised by 1, in one way only. The vector gets one more counter exactly if
+/// the id had none.
 pub fn bump_exists()
     ensures exists { BumpExists }
     ensures unique { BumpIsUnique }

@@ -26,6 +26,7 @@ pub struct Name {
     text: String,
 }
 
+// By hand: a caller's proof then sees one call where it lets go of one, and not each field (docs/developing.md).
 impl Drop for Name {
     fn drop(self) {
         let Name { text: _ } = self;

@@ -45,7 +45,7 @@ impl NodeParts {
             && self.fits_kind()
     }
 
-    // Whether bytes and target stand only where the kind has them.
+    // Whether only a file has bytes, and only a symlink a target.
     fn fits_kind(&self) -> bool
         ensures { IsTrue result ↔ FitsKind self.now.kind self.now }
     {
@@ -65,6 +65,7 @@ pub struct Node {
     parts: NodeParts,
 }
 
+// By hand: a caller's proof then sees one call where it lets go of one, and not each field (docs/developing.md).
 impl Drop for Node {
     fn drop(self) {
         let Node { parts: _ } = self;

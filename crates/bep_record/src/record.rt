@@ -15,6 +15,7 @@ pub struct Record {
     entry: Entry,
 }
 
+// By hand: a caller's proof then sees one call where it lets go of one, and not each field (docs/developing.md).
 impl Drop for Record {
     fn drop(self) {
         let Record { entry: _ } = self;

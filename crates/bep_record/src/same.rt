@@ -39,7 +39,7 @@ impl<T: Same> Same for Items<T> {
     }
 }
 
-// Whether there are as many, each the same as the one at its place.
+// Whether both lists have one length and the same elements at each place.
 fn are_same<T: Same>(items: &[T], others: &[T]) -> bool
     ensures { IsTrue result ↔ (items.now ≡ others.now) }
 {

@@ -19,6 +19,7 @@ pub struct Target {
     text: String,
 }
 
+// By hand: a caller's proof then sees one call where it lets go of one, and not each field (docs/developing.md).
 impl Drop for Target {
     fn drop(self) {
         let Target { text: _ } = self;

@@ -22,7 +22,8 @@ pub enum Order {
     Concurrent,
 }
 
-/// A version vector: for each device that changed an item a counter, a pair of its short id and a value.
+/// A version vector: a counter for each device that changed an item. A counter is a pair of the device's short id and a
+/// value.
 ///
 /// The ids rise and aren't 0, the values are 1 to 9223372036854775807, and there are at most 16 counters. A missing
 /// counter counts as 0. A vector takes no memory from an allocator. BEP v1, 'Vector'; the limits are this project's
@@ -152,7 +153,7 @@ impl Vector {
         Ok(())
     }
 
-    /// Takes over the greater of each counter from the other vector.
+    /// Raises each counter to the other vector's, if that one is greater.
     ///
     /// Refused with `TooManyCounters` where more than 16 devices have a counter in one of the two; the vector is then
     /// as before.
@@ -179,7 +180,7 @@ impl Vector {
         ensures { (u v : List (ℕ × ℕ)) → IsVersion u → IsVersion v → IsAtMost u v → IsAtMost v u → u ≡ v }
     {}
 
-    /// To be at most is an order.
+    /// *At most* is an order.
     pub fn at_most_is_an_order()
         ensures reflexive { (u : List (ℕ × ℕ)) → IsAtMost u u }
         ensures transitive { (u v w : List (ℕ × ℕ)) → IsAtMost u v → IsAtMost v w → IsAtMost u w }

@@ -2,7 +2,7 @@
 use Rattle.std.specs.Prelude.{◌≡◌, ◌<◌, ◌≤◌, ℕ, List, Option, IfSome, length, take}
 use Rattle.std.specs.Io.KnownBytes.{Consumes, IsAtEnd}
 
--- the most bytes that are read: one more than the greatest document has, so that a longer one is told from it
+-- the most bytes that are read: one more than the greatest document has, so that a longer one is noticed
 unfoldable pub most_read : ℕ
 most_read = 67108865
 

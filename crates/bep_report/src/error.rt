@@ -5,7 +5,7 @@ ghost use Rattle.bep_report.specs.declared.error.ReportError.TheVariants.{Memory
 use std::alloc::{AllocError, AllocFailed};
 use thiserror::Error;
 
-/// Why the program stops without an answer. Printed, each is the words that the program writes on standard error.
+/// Why the program stops without an answer. Each prints as the words that the program writes on standard error.
 #[derive(Clone, Copy, Debug, Error, PartialEq, Eq)]
 pub enum ReportError {
     /// Memory ran out.

@@ -62,8 +62,8 @@ fn read_up_to<R: Read>(alloc: Global, reader: &mut R, most: usize) -> Result<Vec
 
 /// The reader's bytes, as far as 67108865 of them, which is one more than the greatest document has.
 ///
-/// Refuses `Read` where the reader answers an error, whichever: an interrupted read isn't tried again. `Memory` may come
-/// in place of the bytes.
+/// Refuses `Read` if the reader answers any error: an interrupted read isn't tried again. `Memory` may come in place of
+/// the bytes.
 #[tactic(auto, unfolding(crate::specs::Input::most_read))]
 pub fn read_document<R: Read>(alloc: Global, reader: &mut R) -> Result<Vec<u8>, ReportError>
     ensures read { IfOk result (λ bytes. IsRead (R.remaining reader.old) (R.remaining reader.new) bytes.items) }

@@ -1,7 +1,7 @@
-//! The report on a cut, and the bytes that come in and go out. The lines of which it is made are those of `bep_lines`,
-//! which needs no auditor; all its names but one are given on here.
+//! The report on a cut, and the bytes that come in and go out. Its lines are those of `bep_lines`, which needs no
+//! auditor. All names of that crate but one are given on here.
 //!
-//! A text is made in memory and then written, so that no line stands half printed where memory runs out:
+//! A text is made in memory and then written. So no line is half printed if memory runs out:
 //!
 //!     let mut text = Vec::new(alloc);
 //!     push_report(alloc, &mut text, &cut, &check_plain(&cut, &certificate))?;

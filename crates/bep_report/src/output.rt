@@ -8,7 +8,7 @@ use std::io::Write;
 
 /// Writes these bytes. After an error a beginning of them is written.
 ///
-/// Refuses `Write` where the writer answers an error, whichever, or takes nothing: an interrupted write isn't tried again.
+/// Refuses `Write` if the writer answers any error, or takes nothing: an interrupted write isn't tried again.
 pub fn write_all<W: Write>(writer: &mut W, bytes: &[u8]) -> Result<(), ReportError>
     ensures ok { OnOk result (Appends (W.contents writer.old) (W.contents writer.new) bytes.now) }
     ensures err { OnErr result (AppendsBeginning (W.contents writer.old) (W.contents writer.new) bytes.now) }

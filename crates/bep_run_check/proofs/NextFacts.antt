@@ -4,7 +4,7 @@ use Rattle.std.proofs.lemmas.Bool.{cases_Bool}
 use Rattle.bep_facts.specs.Members.{Contains-cons_cases, Contains-first, Contains-more, not_in_none}
 use Rattle.bep_fit.specs.declared.stamped.Stamped.{Stamped}
 use Rattle.bep_fit.specs.Walk.{IsNext, Left}
-use Rattle.bep_run_check.specs.Next.{first_of, lesser, next_of}
+use Rattle.bep_run_check.specs.inner.Next.{first_of, lesser, next_of}
 
 some_is : (one other : Stamped) → Some one ≡ Some other → one ≡ other
 some_is one other is = cc

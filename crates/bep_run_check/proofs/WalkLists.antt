@@ -15,8 +15,8 @@ use Rattle.bep_fit.specs.Logs.{HasLog, ObjectLog, named_by, touches}
 use Rattle.bep_fit.specs.Walk.{AgreesNext, ComesNext, IsAt, IsFirstAt, Left, after, past, start}
 use Rattle.bep_run_check.specs.declared.guards.Guards.{Guards}
 use Rattle.bep_run_check.specs.declared.rest.Rest.{Rest}
-use Rattle.bep_run_check.specs.Guards.{HaveLogs, is_same, meant}
-use Rattle.bep_run_check.specs.Rest.{Agrees, IsSomeAt, is_at, left_of, lefts, whole}
+use Rattle.bep_run_check.specs.inner.Guards.{HaveLogs, is_same, meant}
+use Rattle.bep_run_check.specs.inner.Rest.{Agrees, IsSomeAt, is_at, left_of, lefts, whole}
 use Rattle.bep_run_check.proofs.ListDone.{all_done, changed_next, done}
 
 -- ---- past a ticket

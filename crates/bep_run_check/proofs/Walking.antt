@@ -12,8 +12,8 @@ use Rattle.bep_fit.specs.Fit.{AreOfOneRound, IsRunVerdict}
 use Rattle.bep_fit.specs.Logs.{ObjectLog}
 use Rattle.bep_fit.specs.Walk.{AgreesNext, AllRise, IsAt, IsNext, IsWalked, Left, WalkBegins, WalkEnds, WalkFails, WalkGoesOn, after, past, start}
 use Rattle.bep_run_check.specs.Log.{IsLogged}
-use Rattle.bep_run_check.specs.Next.{next_of}
-use Rattle.bep_run_check.specs.Rest.{IsMisfitAt, IsSomeAt, whole}
+use Rattle.bep_run_check.specs.inner.Next.{next_of}
+use Rattle.bep_run_check.specs.inner.Rest.{IsMisfitAt, IsSomeAt, whole}
 use Rattle.bep_run_check.proofs.NextFacts.{next_is, none_left}
 
 -- So many events are done, and the walk is past them. Since tickets begin at 1 and rise, the count is below each ticket that

@@ -1,4 +1,2 @@
 pub mod Log
-pub mod Guards
-pub mod Rest
-pub mod Next
+pub mod inner

@@ -2,7 +2,7 @@
 ghost use Rattle.std.specs.Prelude.{◌≡◌, ◌<◌, ◌≤◌, length, set, take};
 ghost use Rattle.bep_fit.specs.Fit.{AreOfOneRound, IsRunVerdict};
 ghost use Rattle.bep_fit.specs.Walk.{start};
-ghost use Rattle.bep_run_check.specs.Rest.{lefts, whole};
+ghost use Rattle.bep_run_check.specs.inner.Rest.{lefts, whole};
 ghost use Rattle.bep_run_check.specs.declared.limits.TheConstants.{MAX_OBJECTS};
 
 use crate::rest::Rest;

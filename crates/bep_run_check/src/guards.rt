@@ -2,7 +2,7 @@
 ghost use Rattle.std.specs.Prelude.{◌≡◌, ◌&&◌};
 ghost use Rattle.bep_fit.specs.Logs.{touches, touches_object};
 ghost use Rattle.bep_machine.specs.Halves.{guards_of, touches_device, touches_link};
-ghost use Rattle.bep_run_check.specs.Guards.{meant};
+ghost use Rattle.bep_run_check.specs.inner.Guards.{meant};
 
 use crate::ObjectLog;
 use bep_fit::{Object, Stamped};

@@ -17,6 +17,7 @@ pub struct ObjectLog {
     events: Vec<Stamped>,
 }
 
+// By hand: a caller's proof then sees one call where it lets go of one, and not each field (docs/developing.md).
 impl Drop for ObjectLog {
     fn drop(self) {
         let ObjectLog {

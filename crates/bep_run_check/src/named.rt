@@ -1,7 +1,7 @@
 //! Whether what an event names has a log.
 ghost use Rattle.std.specs.Prelude.{◌≡◌, ◌↔◌, [], ◌∷◌, IsTrue};
 ghost use Rattle.bep_fit.specs.Logs.{HasLog, ObjectLog as LogOf, link_of, named_by};
-ghost use Rattle.bep_run_check.specs.Guards.{HaveLogs, is_device, is_link, is_same, meant};
+ghost use Rattle.bep_run_check.specs.inner.Guards.{HaveLogs, is_device, is_link, is_same, meant};
 ghost use Rattle.std.specs.List.{list_any};
 
 use crate::ObjectLog;

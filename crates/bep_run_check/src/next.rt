@@ -1,8 +1,8 @@
 //! Which event comes next.
 ghost use Rattle.std.specs.Prelude.{◌≡◌};
 ghost use Rattle.std.specs.Option.{option_copied};
-ghost use Rattle.bep_run_check.specs.Next.{first_of, lesser, next_of};
-ghost use Rattle.bep_run_check.specs.Rest.{lefts};
+ghost use Rattle.bep_run_check.specs.inner.Next.{first_of, lesser, next_of};
+ghost use Rattle.bep_run_check.specs.inner.Rest.{lefts};
 
 use crate::rest::Rest;
 use bep_fit::Stamped;

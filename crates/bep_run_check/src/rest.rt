@@ -2,7 +2,7 @@
 ghost use Rattle.std.specs.Prelude.{◌≡◌, ◌↔◌, IsTrue};
 ghost use Rattle.bep_fit.specs.Logs.{touches};
 ghost use Rattle.bep_fit.specs.Walk.{ComesNext, past};
-ghost use Rattle.bep_run_check.specs.Rest.{is_at, left_of};
+ghost use Rattle.bep_run_check.specs.inner.Rest.{is_at, left_of};
 
 use crate::ObjectLog;
 use crate::guards::touches;

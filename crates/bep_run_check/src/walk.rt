@@ -5,7 +5,7 @@ ghost use Rattle.std.specs.Option.{option_copied};
 ghost use Rattle.bep_fit.specs.Fit.{AreOfOneRound, IsRunVerdict};
 ghost use Rattle.bep_fit.specs.Walk.{AgreesNext, after, start};
 ghost use Rattle.bep_run_check.specs.Log.{IsLogged};
-ghost use Rattle.bep_run_check.specs.Rest.{Agrees, IsMisfitAt, IsSomeAt, is_at, lefts};
+ghost use Rattle.bep_run_check.specs.inner.Rest.{Agrees, IsMisfitAt, IsSomeAt, is_at, lefts};
 ghost use Rattle.bep_run_check.specs.declared.rest.Rest.{Rest as RestOf};
 
 use crate::ObjectLog;

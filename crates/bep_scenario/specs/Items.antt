@@ -8,7 +8,7 @@ use Rattle.bep_json.specs.Reading.{◌>>=◌}
 abbrev pub has_item : ℕ → (Data → Bool) → Data → Bool
 has_item place shape d = unwrap_or (option_map shape (at place d)) false
 
--- a list, if it is one, has no more items than so many
+-- if it is a list, it has at most this many items
 abbrev pub ends_at : ℕ → Data → Bool
 ends_at count d = not (is_some (at count d))
 

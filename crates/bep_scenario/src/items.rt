@@ -18,7 +18,7 @@ pub(crate) fn has_item<T: Readable>(value: &Value, place: usize) -> bool
     }
 }
 
-// Whether the value, if it is a list, has no more items than so many.
+// Whether the value, if it is a list, has at most this many items.
 pub(crate) fn ends_at(value: &Value, count: usize) -> bool
     ensures { result ≡ ends_at count (view value.now) }
 {
@@ -35,7 +35,7 @@ pub(crate) fn item<T: Readable>(alloc: Global, value: &Value, place: usize) -> R
     }
 }
 
-// Whether the value, if it is a list, has things of these shapes at these places, and no more items than so many.
+// Whether the value, if it is a list, has things of these shapes at these places, and at most this many items.
 macro_rules! has_items {
     ($value:expr; $($place:literal: $thing:ty),+; $count:literal) => {
         $(has_item::<$thing>($value, $place) &&)+ ends_at($value, $count)

@@ -44,7 +44,7 @@ fn first_word(value: &Value) -> Option<Word>
     }
 }
 
-// Whether what belongs to the word stands behind it.
+// Whether what belongs to the word comes after it.
 fn has_form(word: Option<Word>, value: &Value) -> bool
     ensures { result ≡ has_form word (view value.now) }
 {

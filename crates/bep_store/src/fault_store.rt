@@ -16,6 +16,7 @@ pub struct FaultStore<S> {
     failed: bool,
 }
 
+// By hand: a caller's proof then sees one call where it lets go of one, and not each field (docs/developing.md).
 impl<S: Drop> Drop for FaultStore<S> {
     fn drop(self) {
         let FaultStore {

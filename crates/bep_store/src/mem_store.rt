@@ -1,5 +1,6 @@
 //! A store in memory.
 ghost use Rattle.std.specs.Prelude.{◌≡◌, ◌≤◌, [], IfOk, OnOk, OnErr};
+ghost use Rattle.std.specs.Option.{option_copied};
 ghost use Rattle.std.specs.FinMap as map;
 ghost use Rattle.bep_store.specs.Store.{at_time, with_time};
 
@@ -15,6 +16,7 @@ pub struct MemStore {
     alloc: Global,
 }
 
+// By hand: a caller's proof then sees one call where it lets go of one, and not each field (docs/developing.md).
 impl Drop for MemStore {
     fn drop(self) {
         let MemStore { nodes: _, alloc: _ } = self;
@@ -85,6 +87,13 @@ impl Store for MemStore {
             Some(node) => Ok(Some(node.copy(alloc)?)),
             None => Ok(None),
         }
+    }
+
+    /// Every node is at hand.
+    fn at_hand(&self, name: &Name) -> Option<&Node>
+        ensures exact { option_copied result ≡ map.get self.now name.now }
+    {
+        self.nodes.get(name)
     }
 
     fn write(&mut self, name: &Name, node: &Node) -> Result<(), StoreError> {

@@ -1,5 +1,6 @@
 //! What every store promises.
-ghost use Rattle.std.specs.Prelude.{◌≡◌, ◌<◌, ℕ, min, IfOk, OnOk, OnErr};
+ghost use Rattle.std.specs.Prelude.{◌≡◌, ◌<◌, ℕ, min, IfOk, IfSome, OnOk, OnErr, Some};
+ghost use Rattle.std.specs.Option.{option_copied};
 ghost use Rattle.std.specs.FinMap as map;
 ghost use Rattle.bep_map.specs.NameMap.{ByName};
 ghost use Rattle.bep_record.specs.declared.node.NodeParts.{NodeParts};
@@ -53,8 +54,16 @@ pub trait Store: Drop {
         ensures steady { OnOk result (faults self.new ≡ faults self.old) }
         ensures risen { OnErr result (faults self.old < faults self.new) };
 
-    /// How often the store has failed; 18446744073709551615 where it was more often than that. And what each store holds
-    /// are nodes: this is the one call that changes no store, so a store says it here.
+    /// The node of the name, lent, where the store has it at hand: this is no call that may fail, and makes no copy. `None`
+    /// says nothing; a store that has no nodes in memory answers nothing else.
+    fn at_hand(&self, _name: &Name) -> Option<&Node>
+        ensures lent { IfSome (option_copied result) (λ node. map.get (contents self.now) _name.now ≡ Some node) }
+    {
+        None
+    }
+
+    /// How often the store has failed, at most 18446744073709551615. It also says that all that the store holds are
+    /// nodes, since it is the one call that changes no store.
     fn faults(&self) -> u64
         ensures count { result ≡ min (faults self.now) u64.MAX }
         ensures nodes { AreNodes (contents self.now) };

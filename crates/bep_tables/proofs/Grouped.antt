@@ -14,7 +14,7 @@ use Rattle.bep_model.specs.Tables.{Folder, FileName}
 use Rattle.bep_model.specs.Settled.{key_cmp}
 use Rattle.bep_tables.specs.declared.table.entry.TableEntry.{TableEntry}
 use Rattle.bep_tables.specs.Listed.{Listed, key_at, listed, is_of, group_of, AreInOrder, IsGrouped}
-use Rattle.bep_tables.specs.TableOrder.{entry_cmp, entry_total}
+use Rattle.bep_tables.specs.inner.TableOrder.{entry_cmp, entry_total}
 
 abbrev lt : TableEntry → TableEntry → Bool
 lt one other = is_lt (entry_cmp one other)

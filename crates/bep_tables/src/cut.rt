@@ -16,6 +16,7 @@ pub struct CutParts {
     pub links: Items<LinkState>,
 }
 
+// By hand: a caller's proof then sees one call where it lets go of one, and not each field (docs/developing.md).
 impl Drop for CutParts {
     fn drop(self) {
         let CutParts {
@@ -35,6 +36,7 @@ pub struct Cut {
     parts: CutParts,
 }
 
+// By hand: a caller's proof then sees one call where it lets go of one, and not each field (docs/developing.md).
 impl Drop for Cut {
     fn drop(self) {
         let Cut { parts: _ } = self;
@@ -57,8 +59,8 @@ impl Model for Cut {
 }
 
 impl Cut {
-    /// The cut of these parts. The caller sees to it that they are those of one: all that is said of a cut above holds of
-    /// them.
+    /// The cut of these parts. The caller sees to it that they are the parts of a cut: all that is said of a cut above
+    /// holds of them.
     pub fn of(parts: CutParts) -> Self
         requires { IsCut parts }
         ensures { result ≡ parts }
@@ -82,7 +84,7 @@ impl Cut {
         self.parts.links.as_slice()
     }
 
-    /// What each device has that shares the folder, devices rising; nothing where there is no such folder.
+    /// What each device that shares the folder has of it, devices rising; nothing if there is no such folder.
     pub fn shares(&self, folder: &FolderName) -> &[Share]
         ensures value { result.now ≡ shares_of folder.now self.now.folders }
         ensures a_cut { IsCut self.now }

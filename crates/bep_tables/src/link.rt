@@ -19,6 +19,7 @@ pub struct LinkState {
     pub to_b: Items<Flight>,
 }
 
+// By hand: a caller's proof then sees one call where it lets go of one, and not each field (docs/developing.md).
 impl Drop for LinkState {
     fn drop(self) {
         let LinkState {

@@ -23,6 +23,7 @@ pub struct Share {
     pub pulls: NameMap<Record>,
 }
 
+// By hand: a caller's proof then sees one call where it lets go of one, and not each field (docs/developing.md).
 impl Drop for Share {
     fn drop(self) {
         let Share {
@@ -50,6 +51,7 @@ pub struct PeerView {
     pub records: NameMap<Record>,
 }
 
+// By hand: a caller's proof then sees one call where it lets go of one, and not each field (docs/developing.md).
 impl Drop for PeerView {
     fn drop(self) {
         let PeerView {
@@ -69,6 +71,7 @@ pub struct SharedFolder {
     pub shares: Items<Share>,
 }
 
+// By hand: a caller's proof then sees one call where it lets go of one, and not each field (docs/developing.md).
 impl Drop for SharedFolder {
     fn drop(self) {
         let SharedFolder {

@@ -14,7 +14,7 @@ use std::marker::Model;
 
 /// A cut grouped by folder and name: all its entries, each lent from the cut, in the order of their folders and names.
 /// What the cut has of a name stands together: the devices' own records, nodes, views and pulls by rising device, and
-/// then what is on its way. Of the records that a device has from elsewhere no invalid one stands there.
+/// then what is on its way. Invalid records that a device has from elsewhere aren't there.
 #[derive(Drop)]
 pub struct Table<'a> {
     entries: Vec<TableEntry<'a>>,

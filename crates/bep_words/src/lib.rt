@@ -1,6 +1,6 @@
 //! What the words of the command line ask the program for.
 //!
-//! The program's one use of clap stands apart from what is done of the words, so that neither waits for the other to be
+//! The program's one use of clap stands apart from what the program does then. So neither waits for the other to be
 //! proved:
 //!
 //!     match mode_of(alloc, &words)? {

@@ -19,7 +19,7 @@ pub enum Unfollowed {
     Memory,
 }
 
-/// What the words ask for. Where they aren't followed for what they are, clap's text tells why on standard error.
+/// What the words ask for. If clap refuses them, its text tells why on standard error.
 ///
 /// Words in which nothing is at fault aren't followed only where memory runs out.
 pub fn mode_told<P: AllocGlobal + Eprint, S: AsStr>(rt: &P, words: &[S]) -> Result<Mode, Unfollowed>
@@ -29,7 +29,7 @@ pub fn mode_told<P: AllocGlobal + Eprint, S: AsStr>(rt: &P, words: &[S]) -> Resu
     tell(rt, mode_of(rt.alloc(), words))
 }
 
-/// Why the words with this error aren't followed: memory only where the error is want of it.
+/// Why the words with this error aren't followed. It is memory only if the error is want of memory.
 pub fn why_of(error: &Error) -> Unfollowed
     ensures { result ≡ spec.why_of error.now }
 {

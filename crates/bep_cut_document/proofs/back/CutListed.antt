@@ -11,8 +11,8 @@ use Rattle.bep_tables.specs.declared.share.SharedFolder.{SharedFolder}
 use Rattle.bep_tables.specs.declared.cut.CutParts.{CutParts}
 use Rattle.bep_tables.specs.Cut.{IsLink, IsCut}
 use Rattle.bep_tables.specs.Cut as cuts
-use Rattle.bep_cut_document.specs.Sound.{IsFolderSound, IsLinkSound}
-use Rattle.bep_cut_document.specs.Told.{folder_parts, link_parts, parts_of}
+use Rattle.bep_cut_document.specs.inner.Sound.{IsFolderSound, IsLinkSound}
+use Rattle.bep_cut_document.specs.inner.Told.{folder_parts, link_parts, parts_of}
 use Rattle.bep_tables.proofs.Tables.{ends_total}
 use Rattle.bep_cut_document.proofs.WrittenFacts.{differ_written}
 use Rattle.bep_cut_document.proofs.back.FewDevices.{few_devices}

@@ -17,7 +17,7 @@ use Rattle.bep_tables.specs.declared.share.Share.{Share}
 use Rattle.bep_tables.specs.declared.share.SharedFolder.{SharedFolder}
 use Rattle.bep_tables.specs.declared.cut.CutParts.{CutParts}
 use Rattle.bep_tables.specs.Cut.{HasDevice, IsCut, devices_of}
-use Rattle.bep_cut_document.specs.Told.{share_parts, folder_parts}
+use Rattle.bep_cut_document.specs.inner.Told.{share_parts, folder_parts}
 use Rattle.bep_tables.proofs.Found.{all_from_each, any_tied, one_tied}
 use Rattle.bep_cut_document.proofs.back.Parts.{each_part}
 use Rattle.bep_cut_document.proofs.back.PutAgain.{keys_rise}

@@ -20,8 +20,8 @@ use Rattle.bep_tables.specs.declared.share.PeerView.{PeerView}
 use Rattle.bep_tables.specs.declared.share.SharedFolder.{SharedFolder}
 use Rattle.bep_tables.specs.declared.cut.CutParts.{CutParts}
 use Rattle.bep_tables.specs.Cut.{AreViews, ArePulls, AreShares, HasDevice, IsCut, devices_of, index_of, known_of}
-use Rattle.bep_cut_document.specs.Sound.{IsViewSound, IsShareSound, IsFolderSound}
-use Rattle.bep_cut_document.specs.Told.{node_parts, view_parts, share_parts, folder_parts}
+use Rattle.bep_cut_document.specs.inner.Sound.{IsViewSound, IsShareSound, IsFolderSound}
+use Rattle.bep_cut_document.specs.inner.Told.{node_parts, view_parts, share_parts, folder_parts}
 use Rattle.bep_tables.proofs.Found.{all_from_each}
 use Rattle.bep_cut_document.proofs.WrittenFacts.{differ_written}
 use Rattle.bep_cut_document.proofs.back.InOrder.{differ_where_rising}

@@ -12,8 +12,8 @@ use Rattle.bep_tables.specs.declared.share.Share.{Share}
 use Rattle.bep_tables.specs.declared.link.LinkState.{LinkState}
 use Rattle.bep_tables.specs.declared.cut.CutParts.{CutParts}
 use Rattle.bep_tables.specs.Cut.{HasDevice, IsFlight, IsLink, IsCut, devices_of, shares_of}
-use Rattle.bep_cut_document.specs.Sound.{IsFlightSound, IsLinkSound}
-use Rattle.bep_cut_document.specs.Told.{folder_parts, flight_parts, link_parts}
+use Rattle.bep_cut_document.specs.inner.Sound.{IsFlightSound, IsLinkSound}
+use Rattle.bep_cut_document.specs.inner.Told.{folder_parts, flight_parts, link_parts}
 use Rattle.bep_tables.proofs.Tables.{folder_is_found, share_has_folder}
 use Rattle.bep_cut_document.proofs.back.FoldersListed.{shared_by}
 use Rattle.bep_cut_document.proofs.back.Parts.{each_part, any_part}

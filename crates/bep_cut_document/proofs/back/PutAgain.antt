@@ -20,7 +20,7 @@ use Rattle.bep_record.specs.declared.entry.Entry.{Entry}
 use Rattle.bep_record.specs.declared.node.NodeParts.{NodeParts}
 use Rattle.bep_index.specs.Batch.{with_all}
 use Rattle.bep_model.specs.Tables.{FileName}
-use Rattle.bep_cut_document.specs.Told.{node_parts}
+use Rattle.bep_cut_document.specs.inner.Told.{node_parts}
 use Rattle.bep_cut_document.specs.Written.{with_nodes}
 use Rattle.bep_tables.proofs.Found.{all_from_each}
 

@@ -15,13 +15,14 @@ use Rattle.bep_document.specs.declared.parts.CheckParts.{CheckParts}
 use Rattle.bep_document.specs.Fault.{nowhere}
 use Rattle.bep_document.specs.Faultless.{IsFaultless, FaultlessHasNoFault, FaultlessHasFewDevices}
 use Rattle.bep_document.specs.Reading.{Reading, Read, Refused, ◌>>=◌, given, passed, unless, reading_of_tree, reading_of_cut}
-use Rattle.bep_document.specs.read.Checks.{is_cut, if_few_devices, read_cut, has_version, is_check, read_check}
+use Rattle.bep_document.specs.read.Checks.{is_cut, if_few_devices, read_cut, has_version, is_check, read_check_parts}
 use Rattle.bep_document.specs.read.Devices.{has_few_devices}
 use Rattle.bep_document.specs.read.Folders.{is_row, read_row}
 use Rattle.bep_tables.specs.declared.cut.CutParts.{CutParts}
 use Rattle.bep_tables.specs.Cut.{IsCut}
-use Rattle.bep_cut_document.specs.Sound.{IsFolderSound, IsLinkSound}
-use Rattle.bep_cut_document.specs.Told.{folder_parts, link_parts, row_parts, parts_of, AreRowsInRange, IsFolderTold, IsLinkTold, IsRowTold, IsCutTold}
+use Rattle.bep_cut_document.specs.inner.Sound.{IsFolderSound, IsLinkSound}
+use Rattle.bep_cut_document.specs.Told.{AreRowsInRange}
+use Rattle.bep_cut_document.specs.inner.Told.{folder_parts, link_parts, row_parts, parts_of, IsFolderTold, IsLinkTold, IsRowTold, IsCutTold}
 use Rattle.bep_cut_document.specs.Trees.{cut_tree, row_tree, check_tree}
 use Rattle.bep_cut_document.specs.Written.{row_written, cut_written, cut_of_tree, check_of_tree}
 use Rattle.bep_cut_document.proofs.RangeTold.{IsReadAgain, cut_says}
@@ -76,8 +77,8 @@ rows_say rows told range =
     list_says is_row read_row row_parts row_tree rows
     (each_told (λ (row : Row). row.entry.sequence ≤ MAX_SEQUENCE) (λ (row : Row). Says is_row read_row (row_parts row) (row_tree row)) rows told range)
 
-check_says : (cut : CutParts) (rows : List Row) → IsCutTold cut → Says (is_list is_row) (read_list read_row) (map row_parts rows) (list_of (map row_tree rows)) → Says is_check read_check (parts_of cut rows) (check_tree cut rows)
-unfolding is_check read_check check_tree
+check_says : (cut : CutParts) (rows : List Row) → IsCutTold cut → Says (is_list is_row) (read_list read_row) (map row_parts rows) (list_of (map row_tree rows)) → Says is_check read_check_parts (parts_of cut rows) (check_tree cut rows)
+unfolding is_check read_check_parts check_tree
 check_says cut rows told said = (
   both_are refl (both_are refl (both_are told.lists.0 said.0)),
   then_read _ told.lists.1 (then_read _ said.1 refl),
@@ -111,7 +112,7 @@ check_read no_fault cut rows told rows_told rows_sound range =
     ap (λ reading. reading >>= made)
     (passes VersionBad has_version (check_tree cut rows) _ (has_its_version cut rows)
     ∙ passes Shape is_check (check_tree cut rows) _ said.0
-    ∙ gives Range (read_check (check_tree cut rows)) _ _ said.1
+    ∙ gives Range (read_check_parts (check_tree cut rows)) _ _ said.1
     ∙ ap (λ fault. unless fault (parts_of cut rows)) (no_fault (parts_of cut rows) (with_rows cut rows told rows_sound)))
     ∙ λ i. Read (told.same i, rows_again rows i)
   where

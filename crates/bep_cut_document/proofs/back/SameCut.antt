@@ -16,7 +16,7 @@ use Rattle.bep_tables.specs.declared.link.LinkState.{LinkState}
 use Rattle.bep_tables.specs.declared.cut.CutParts.{CutParts}
 use Rattle.bep_tables.specs.Cut.{HasPoint, AreViews, ArePulls, AreShares, IsCut, devices_of, ends_of, index_of, known_of}
 use Rattle.bep_cut_document.specs.Sorting.{in_order}
-use Rattle.bep_cut_document.specs.Told.{view_parts, share_parts, folder_parts, flight_parts, link_parts}
+use Rattle.bep_cut_document.specs.inner.Told.{view_parts, share_parts, folder_parts, flight_parts, link_parts}
 use Rattle.bep_cut_document.specs.Written.{by_viewed, by_device, by_folder, by_ends, has_point, view_written, share_written, folder_written, flight_written, link_written, cut_written}
 use Rattle.bep_tables.proofs.Tables.{ends_total}
 use Rattle.bep_cut_document.proofs.RangeTold.{all_three}

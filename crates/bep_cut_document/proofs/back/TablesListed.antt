@@ -17,7 +17,7 @@ use Rattle.bep_model.specs.Tables.{FileName}
 use Rattle.bep_document.specs.Faultless.{HasNoKey, KeysDiffer, IsNumbered, IsFaultlessIndex}
 use Rattle.bep_document.specs.Faultless as listed
 use Rattle.bep_tables.specs.Cut.{ArePulls}
-use Rattle.bep_cut_document.specs.Sound.{AreRecords}
+use Rattle.bep_cut_document.specs.inner.Sound.{AreRecords}
 use Rattle.bep_cut_document.proofs.RangeTold.{each_of, few_values}
 use Rattle.bep_cut_document.proofs.back.InOrder.{differ_where_rising}
 use Rattle.bep_cut_document.proofs.back.PutAgain.{AreAtNames, keys_rise, named_entries}

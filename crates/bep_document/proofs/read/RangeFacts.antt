@@ -15,7 +15,7 @@ use Rattle.bep_document.specs.declared.parts.ViewParts.{ViewParts}
 use Rattle.bep_document.specs.declared.parts.FolderParts.{FolderParts}
 use Rattle.bep_document.specs.declared.parts.FlightParts.{FlightParts}
 use Rattle.bep_document.specs.declared.parts.LinkParts.{LinkParts}
-use Rattle.bep_document.specs.read.Checks.{read_folders, read_cut, read_check}
+use Rattle.bep_document.specs.read.Checks.{read_folders, read_cut, read_check_parts}
 use Rattle.bep_document.specs.read.Devices.{has_few_devices}
 use Rattle.bep_document.specs.read.Folders.{read_folder, read_row}
 use Rattle.bep_document.specs.read.Links.{read_flight, read_link}
@@ -146,8 +146,8 @@ cut_in_range d =
     keep (member_or_read (list_read link_in_range) tt (codes "links") d) (λ links within.
     made (λ cut. IsCutInRange cut.0 cut.1) _ (record { few = range.1; few_devices = range.0; shares = range.2; links_in_range = within })))
 
-pub check_in_range : Reads (λ parts. IsCutInRange parts.folders parts.links) read_check
-unfolding read_check
+pub check_in_range : Reads (λ parts. IsCutInRange parts.folders parts.links) read_check_parts
+unfolding read_check_parts
 check_in_range d =
     keep (member_read cut_in_range (codes "cut") d) (λ cut in_range.
     skip (read_member (codes "certificate") (read_list read_row) d) (λ certificate.

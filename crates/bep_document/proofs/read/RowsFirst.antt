@@ -9,7 +9,7 @@ use Rattle.bep_json.specs.Lists.{read_list}
 use Rattle.bep_document.specs.declared.parts.FolderParts.{FolderParts}
 use Rattle.bep_document.specs.declared.parts.LinkParts.{LinkParts}
 use Rattle.bep_document.specs.declared.parts.RowParts.{RowParts}
-use Rattle.bep_document.specs.read.Checks.{read_cut, with_rows, read_check}
+use Rattle.bep_document.specs.read.Checks.{read_cut, with_rows, read_check_parts}
 use Rattle.bep_document.specs.read.Folders.{read_row}
 
 no_rows : (cut : Option (List FolderParts × List LinkParts)) → with_rows cut None ≡ None
@@ -23,15 +23,15 @@ module _ (d : Data) where
   abbrev rows_read : Option (List RowParts)
   rows_read = read_member (codes "certificate") (read_list read_row) d
 
-  pub rows_fail : (error : ReadError) → Fails error rows_read → Fails error (read_check d)
-  unfolding read_check
+  pub rows_fail : (error : ReadError) → Fails error rows_read → Fails error (read_check_parts d)
+  unfolding read_check_parts
   rows_fail Range none = ap (with_rows cut_read) none ∙ no_rows cut_read
   rows_fail Memory any = tt
 
-  pub cut_fails : None ≡ get (codes "cut") d → read_check d ≡ None
-  unfolding read_check
+  pub cut_fails : None ≡ get (codes "cut") d → read_check_parts d ≡ None
+  unfolding read_check_parts
   cut_fails none = ap (λ found. with_rows (found >>= read_cut) rows_read) (sym none)
 
-  pub both_read : (cut : Data) (rows : List RowParts) → Some cut ≡ get (codes "cut") d → rows_read ≡ Some rows → read_check d ≡ with_rows (read_cut cut) (Some rows)
-  unfolding read_check
+  pub both_read : (cut : Data) (rows : List RowParts) → Some cut ≡ get (codes "cut") d → rows_read ≡ Some rows → read_check_parts d ≡ with_rows (read_cut cut) (Some rows)
+  unfolding read_check_parts
   both_read cut rows there read = ap (λ found. with_rows (found >>= read_cut) rows_read) (sym there) ∙ ap (with_rows (read_cut cut)) read

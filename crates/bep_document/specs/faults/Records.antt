@@ -53,7 +53,7 @@ unfoldable pub is_well_formed : Entry → Bool
 is_well_formed entry =
     nat_le entry.modified_ns MAX_NANOSECONDS && (entry.no_permissions && has_body entry.deleted entry.kind entry)
 
--- bytes stand in a file alone, a target in a symlink alone, as a test
+-- only a file has bytes, and only a symlink has a target, as a test
 abbrev pub fits_kind : Kind → NodeParts → Bool
 fits_kind File node = is_empty node.target
 fits_kind Directory node = is_empty node.bytes && is_empty node.target

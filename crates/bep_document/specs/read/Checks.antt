@@ -61,5 +61,5 @@ with_rows read_cut read_rows = do
   Some (record { folders = cut.0; links = cut.1; certificate = certificate })
 
 -- the folders, the links and the rows
-unfoldable pub read_check : Data → Option CheckParts
-read_check d = with_rows (read_member (codes "cut") read_cut d) (read_member (codes "certificate") (read_list read_row) d)
+unfoldable pub read_check_parts : Data → Option CheckParts
+read_check_parts d = with_rows (read_member (codes "cut") read_cut d) (read_member (codes "certificate") (read_list read_row) d)

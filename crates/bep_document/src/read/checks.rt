@@ -5,7 +5,7 @@ ghost use Rattle.serde_json.specs.Find.{get};
 ghost use Rattle.bep_json.specs.Reading.{Gives, GivesBy};
 ghost use Rattle.bep_json.specs.Lists.{read_items, read_list};
 ghost use Rattle.bep_document.specs.read.Links.{read_link};
-ghost use Rattle.bep_document.specs.read.Checks.{is_cut, read_folders, read_cut, is_one, has_version, is_check, with_rows, read_check};
+ghost use Rattle.bep_document.specs.read.Checks.{is_cut, read_folders, read_cut, is_one, has_version, is_check, with_rows, read_check_parts};
 
 use crate::read::devices::has_few_devices;
 use crate::read::few::Few;
@@ -94,8 +94,8 @@ pub(crate) fn is_check(value: &Value) -> bool
 
 // What the tree of a check document says. The tree is given up as it is read, rows first, so that the cut is read in the
 // memory that they took. `Range` where something is out of range; `Memory` may come in place of any answer.
-pub(crate) fn read_check(alloc: Global, tree: Value) -> Result<CheckParts, ReadError>
-    ensures { Gives result (read_check (view tree)) }
+pub(crate) fn read_check_parts(alloc: Global, tree: Value) -> Result<CheckParts, ReadError>
+    ensures { Gives result (read_check_parts (view tree)) }
 {
     let rows = match member::<Items<RowParts>>(alloc, &tree, "certificate") {
         Ok(rows) => rows,

@@ -9,7 +9,7 @@ use bep_record::{DeviceId, Entry, Items};
 use serde_json::Value;
 use std::alloc::Global;
 
-// The number of an index's id, 0 where none is known.
+// The number of an index's id, 0 if no index is known.
 type AnyIndexNumber = Whole<0, 18446744073709551615>;
 
 // A device's view of another device's index.

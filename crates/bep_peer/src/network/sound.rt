@@ -7,7 +7,7 @@ use crate::Peer;
 use bep_links::Link;
 use bep_store::Store;
 
-/// Devices and links that agree on who shares what are a sound cluster, whatever was called of each; so is what a
+/// Devices and links that agree on who shares what are a sound cluster, whatever calls made them. So is what a
 /// `Cluster` keeps. It changes nothing, and takes no memory.
 pub fn agreed_is_sound<S: Store>(peers: &[Peer<S>], links: &[Link])
     ensures agreed { AreSoundWhereAgreed (network_of peers.now links.now) }

@@ -6,7 +6,7 @@ ghost use Rattle.std.specs.Cmp.Rules.{comparing};
 ghost use Rattle.std.proofs.Common.{rules};
 ghost use Rattle.bep_model.specs.Settled.{key_cmp};
 ghost use Rattle.bep_tables.specs.Listed.{listed, key_at};
-ghost use Rattle.bep_tables.specs.TableOrder.{entry_cmp, entry_total};
+ghost use Rattle.bep_tables.specs.inner.TableOrder.{entry_cmp, entry_total};
 
 use bep_record::{DeviceId, FolderName, Name, Node, Record};
 use std::cmp::Ordering;
@@ -49,7 +49,7 @@ pub struct TableEntry<'a> {
 }
 
 impl<'a> TableEntry<'a> {
-    /// How the entry's folder and name stand to these.
+    /// How the entry's folder and name compare with these.
     pub fn compare(&self, folder: &FolderName, name: &Name) -> Ordering
         ensures { result ≡ key_cmp (key_at (listed self.now)) (folder.now, name.now) }
     {

@@ -1,7 +1,7 @@
 use Rattle.std.proofs.Common.{◌≡◌, ◌≤◌, List, [], length, take, drop, map, Some, None, sym, ap, subst, arith}
 use Rattle.bep_model.specs.Reasons.{Place}
 use Rattle.bep_audit.specs.Shown.{place_shown}
-use Rattle.bep_audit.specs.Walk.{count_at}
+use Rattle.bep_audit.specs.inner.Walk.{count_at}
 use Rattle.bep_audit.proofs.GroupWalk.{group_at, within_at, rest_is, next_at}
 use Rattle.bep_audit.proofs.WonWalk.{Won, won_starts, won_ends, won_goes_on_at, won_shorter_at}
 use Rattle.bep_audit.proofs.certifier.winners_among.Goals as goal

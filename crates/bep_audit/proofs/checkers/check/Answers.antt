@@ -4,9 +4,10 @@ use Rattle.bep_model.specs.declared.row.Row.{Row}
 use Rattle.bep_model.specs.declared.reason.Reason.TheVariants.{CertificateOrder}
 use Rattle.bep_model.specs.Reasons.{first_disordered}
 use Rattle.bep_tables.specs.Cut.{tables_of}
-use Rattle.bep_audit.specs.Search.{FindsFailing}
+use Rattle.bep_audit.specs.inner.Search.{FindsFailing}
 use Rattle.bep_audit.specs.Shown.{verdict_shown, place_shown}
-use Rattle.bep_audit.specs.Walk.{FindsLeast, failure_shown}
+use Rattle.bep_audit.specs.Walk.{failure_shown}
+use Rattle.bep_audit.specs.inner.Walk.{FindsLeast}
 use Rattle.bep_audit.proofs.ReasonWalk.{reasons_start, first_failing_at, failing_is_verdict, failing_is_not_settled}
 use Rattle.bep_audit.proofs.FailingRow.{finds_disordered}
 use Rattle.bep_audit.proofs.LeastWalk.{least_is_first, none_is_settled}

@@ -2,7 +2,7 @@ use Rattle.std.proofs.Common.{List, Some, None, subst, sym, refl}
 use Rattle.bep_model.specs.declared.row.Row.{Row}
 use Rattle.bep_model.specs.Settled.{Rise}
 use Rattle.bep_tables.specs.Cut.{tables_of}
-use Rattle.bep_audit.specs.Search.{FindsFailing}
+use Rattle.bep_audit.specs.inner.Search.{FindsFailing}
 use Rattle.bep_audit.specs.Shown.{verdict_shown, place_shown}
 use Rattle.bep_audit.proofs.ReasonWalk.{reason_at, reasons_start, reasons_go_on, rows_rise, first_failing_at, settled_at_last, failing_is_verdict, failing_is_not_settled, calm_of_none}
 use Rattle.bep_audit.proofs.checkers.check_plain.Goals as goal

@@ -2,7 +2,7 @@ use Rattle.std.proofs.Common.{◌↔◌, [], ◌∷◌, IsTrue, option_map, subs
 use Rattle.bep_record.specs.declared.entry.Entry.{Entry}
 use Rattle.bep_model.specs.Foreign.{IsKnown}
 use Rattle.bep_tables.specs.Cut.{tables_of}
-use Rattle.bep_audit.specs.Search.{FindsFailing}
+use Rattle.bep_audit.specs.inner.Search.{FindsFailing}
 use Rattle.bep_audit.specs.Shown.{place_shown}
 use Rattle.bep_audit.proofs.AskedAtRow.{of_devices_else}
 use Rattle.bep_audit.proofs.FailingRow.{finds_unknown, finds_loser}

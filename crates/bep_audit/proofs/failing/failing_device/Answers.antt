@@ -1,6 +1,6 @@
 use Rattle.std.proofs.Common.{Some, None, [], ◌∷◌, subst, sym}
 use Rattle.bep_tables.specs.Cut.{tables_of}
-use Rattle.bep_audit.specs.Search.{FindsFailing}
+use Rattle.bep_audit.specs.inner.Search.{FindsFailing}
 use Rattle.bep_audit.proofs.CutFacts.{devices_rise}
 use Rattle.bep_audit.proofs.FailingDevice.{finds_device}
 use Rattle.bep_audit.proofs.failing.failing_device.Goals as goal

@@ -1,6 +1,6 @@
 use Rattle.std.proofs.Common.{option_map, subst, sym}
 use Rattle.bep_tables.specs.Cut.{tables_of}
-use Rattle.bep_audit.specs.Search.{FindsFailing}
+use Rattle.bep_audit.specs.inner.Search.{FindsFailing}
 use Rattle.bep_audit.specs.Shown.{place_shown}
 use Rattle.bep_audit.proofs.failing.first_failing.Goals as goal
 

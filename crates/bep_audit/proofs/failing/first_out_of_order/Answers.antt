@@ -1,6 +1,6 @@
 use Rattle.std.proofs.Common.{Some, subst, sym}
 use Rattle.bep_model.specs.declared.reason.Reason.TheVariants.{CertificateOrder}
-use Rattle.bep_audit.specs.Search.{FindsFailing}
+use Rattle.bep_audit.specs.inner.Search.{FindsFailing}
 use Rattle.bep_audit.proofs.FailingRow.{finds_disordered}
 use Rattle.bep_audit.proofs.failing.first_out_of_order.Goals as goal
 

@@ -1,6 +1,6 @@
 use Rattle.std.proofs.Common.{◌∙◌, sym, true≢false}
 use Rattle.std.specs.Ordering.{nat_cmp}
-use Rattle.bep_audit.specs.Held.{AsksOf}
+use Rattle.bep_audit.specs.inner.Held.{AsksOf}
 use Rattle.bep_audit.proofs.UnmetFacts.{MeetsAs, devices_in_order, meets, fails_first}
 use Rattle.bep_audit.proofs.WalkFacts.{walk_starts, walk_goes_on, walk_stops, walk_ends}
 use Rattle.bep_audit.proofs.failing.first_unmet.Goals as goal

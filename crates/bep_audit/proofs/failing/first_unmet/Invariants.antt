@@ -1,5 +1,5 @@
 use Rattle.std.specs.Ordering.{nat_cmp}
-use Rattle.bep_audit.specs.Held.{AsksOf}
+use Rattle.bep_audit.specs.inner.Held.{AsksOf}
 use Rattle.bep_audit.proofs.UnmetFacts.{MeetsAs}
 use Rattle.bep_audit.proofs.WalkFacts.{IsLeftFrom}
 use Rattle.bep_audit.proofs.failing.first_unmet.Given as goal

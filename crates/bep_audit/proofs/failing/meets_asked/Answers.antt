@@ -1,6 +1,6 @@
 use Rattle.std.proofs.Common.{◌↔◌, List, IsTrue, subst}
 use Rattle.bep_tables.specs.declared.link.LinkState.{LinkState}
-use Rattle.bep_audit.specs.Held.{AsksOf}
+use Rattle.bep_audit.specs.inner.Held.{AsksOf}
 use Rattle.bep_audit.proofs.FailingDevice.{share_asked}
 use Rattle.bep_audit.proofs.failing.meets_asked.Goals as goal
 

@@ -2,7 +2,7 @@ use Rattle.std.proofs.Common.{rules, tests, map}
 use Rattle.std.proofs.lemmas.Iterator.{YieldsList-from_slice, cases_from_all}
 use Rattle.bep_tables.specs.declared.share.Share.{Share}
 use Rattle.bep_tables.specs.Listed.{listed}
-use Rattle.bep_audit.specs.Faultless.{AsksAll}
+use Rattle.bep_audit.specs.inner.Faultless.{AsksAll}
 use Rattle.bep_audit.proofs.ListFacts.{each_exactly}
 use Rattle.bep_audit.proofs.faultless.are_met.Goals as goal
 

@@ -1,5 +1,5 @@
 use Rattle.std.proofs.Common.{◌∙◌, sym, true≢false}
-use Rattle.bep_audit.specs.Faultless.{AsksAllElsewhere}
+use Rattle.bep_audit.specs.inner.Faultless.{AsksAllElsewhere}
 use Rattle.bep_audit.proofs.faultless.meets_elsewhere.Goals as goal
 
 pub returns-then-not-all_pass : goal.returns-then-not-all_pass

@@ -1,6 +1,6 @@
 use Rattle.std.proofs.Common.{option_map, take}
 use Rattle.bep_audit.specs.Loose.{loose_cmp, loose_shown}
-use Rattle.bep_audit.specs.Search.{FindsFirst}
+use Rattle.bep_audit.specs.inner.Search.{FindsFirst}
 use Rattle.bep_audit.proofs.LooseFacts.{AsksLent}
 use Rattle.bep_audit.proofs.firm.least_loose.Given as goal
 

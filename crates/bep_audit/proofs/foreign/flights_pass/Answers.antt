@@ -2,7 +2,7 @@ use Rattle.std.proofs.Common.{rules, tests}
 use Rattle.std.proofs.lemmas.Iterator.{YieldsList-from_slice, cases_from_all}
 use Rattle.std.specs.Option.{option_copied}
 use Rattle.bep_model.specs.declared.flight.Flight.{Flight}
-use Rattle.bep_audit.specs.Foreign.{FlightPasses}
+use Rattle.bep_audit.specs.inner.Foreign.{FlightPasses}
 use Rattle.bep_audit.proofs.ListFacts.{each_exactly}
 use Rattle.bep_audit.proofs.foreign.flights_pass.Goals as goal
 

@@ -1,7 +1,7 @@
 use Rattle.std.proofs.Common.{List, ◌∙◌, sym, subst, true≢false}
 use Rattle.std.specs.Option.{option_copied}
 use Rattle.bep_model.specs.declared.flight.Flight.{Flight}
-use Rattle.bep_audit.specs.Foreign.{EndPasses, LinkPasses}
+use Rattle.bep_audit.specs.inner.Foreign.{EndPasses, LinkPasses}
 use Rattle.bep_audit.proofs.foreign.link_passes.Goals as goal
 
 pub returns-then-end_passes : goal.returns-then-end_passes

@@ -2,7 +2,7 @@ use Rattle.std.proofs.Common.{rules, tests}
 use Rattle.std.proofs.lemmas.Iterator.{YieldsList-from_slice, cases_from_all}
 use Rattle.std.specs.Option.{option_copied}
 use Rattle.bep_tables.specs.declared.link.LinkState.{LinkState}
-use Rattle.bep_audit.specs.Foreign.{LinkPasses}
+use Rattle.bep_audit.specs.inner.Foreign.{LinkPasses}
 use Rattle.bep_audit.proofs.ListFacts.{each_exactly}
 use Rattle.bep_audit.proofs.foreign.links_pass.Goals as goal
 

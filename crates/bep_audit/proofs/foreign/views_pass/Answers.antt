@@ -3,7 +3,7 @@ use Rattle.std.proofs.lemmas.Iterator.{YieldsList-from_slice, cases_from_all}
 use Rattle.std.specs.Option.{option_copied}
 use Rattle.std.specs.FinMap.{get}
 use Rattle.bep_tables.specs.declared.share.PeerView.{PeerView}
-use Rattle.bep_audit.specs.Foreign.{PassesIfThere}
+use Rattle.bep_audit.specs.inner.Foreign.{PassesIfThere}
 use Rattle.bep_audit.proofs.ListFacts.{each_exactly}
 use Rattle.bep_audit.proofs.foreign.views_pass.Goals as goal
 

@@ -1,7 +1,7 @@
 use Rattle.std.proofs.Common.{Some, None, [], ◌∷◌, map, subst, sym}
 use Rattle.bep_tables.specs.Cut.{tables_of}
 use Rattle.bep_tables.specs.Listed.{listed}
-use Rattle.bep_audit.specs.Search.{FindsFailing}
+use Rattle.bep_audit.specs.inner.Search.{FindsFailing}
 use Rattle.bep_audit.proofs.CutFacts.{devices_rise}
 use Rattle.bep_audit.proofs.FailingDevice.{finds_by_group}
 use Rattle.bep_audit.proofs.group_row.failing_device_in.Goals as goal

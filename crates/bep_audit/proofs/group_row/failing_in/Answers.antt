@@ -5,7 +5,7 @@ use Rattle.bep_model.specs.Settled.{key_of}
 use Rattle.bep_tables.specs.Cut.{tables_of}
 use Rattle.bep_tables.specs.Listed.{listed}
 use Rattle.bep_audit.specs.Shown.{place_shown}
-use Rattle.bep_audit.specs.Walk.{FindsHere}
+use Rattle.bep_audit.specs.inner.Walk.{FindsHere}
 use Rattle.bep_audit.proofs.AskedAtRow.{of_rows_else}
 use Rattle.bep_audit.proofs.FailingRow.{finds_unknown, finds_loser}
 use Rattle.bep_audit.proofs.GroupFacts.{known_by_group}

@@ -2,7 +2,8 @@ use Rattle.std.proofs.Common.{◌≡◌, [], ◌∷◌, map, option_map, sym, su
 use Rattle.bep_tables.specs.Cut.{tables_of}
 use Rattle.bep_tables.specs.Listed.{listed}
 use Rattle.bep_audit.specs.Group.{IsGroupOf}
-use Rattle.bep_audit.specs.Walk.{FindsLeast, failure_shown}
+use Rattle.bep_audit.specs.Walk.{failure_shown}
+use Rattle.bep_audit.specs.inner.Walk.{FindsLeast}
 use Rattle.bep_audit.proofs.GroupRow.{none_is, one_is, one_member}
 use Rattle.bep_audit.proofs.group_row.failure_at.Goals as goal
 

@@ -2,7 +2,7 @@ use Rattle.std.proofs.Common.{◌≡◌, [], map, Some, sym, subst, ◌∙◌, t
 use Rattle.bep_model.specs.declared.reason.Reason.TheVariants.{NameMissing}
 use Rattle.bep_tables.specs.Cut.{tables_of}
 use Rattle.bep_tables.specs.Listed.{listed}
-use Rattle.bep_audit.specs.Walk.{FindsLeast}
+use Rattle.bep_audit.specs.inner.Walk.{FindsLeast}
 use Rattle.bep_audit.proofs.GroupFacts.{known_by_group}
 use Rattle.bep_audit.proofs.GroupRow.{known_fails, unknown_holds}
 use Rattle.bep_audit.proofs.group_row.failure_without_row.Goals as goal

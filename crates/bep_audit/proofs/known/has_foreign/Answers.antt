@@ -1,6 +1,6 @@
 use Rattle.std.proofs.Common.{List, ◌∙◌, sym, subst, inr, ⊎_elim, true≢false}
 use Rattle.bep_tables.specs.declared.share.PeerView.{PeerView}
-use Rattle.bep_audit.specs.Known.{IsViewedIn}
+use Rattle.bep_audit.specs.inner.Known.{IsViewedIn}
 use Rattle.bep_audit.proofs.known.has_foreign.Goals as goal
 
 pub returns-else-contains : goal.returns-else-contains

@@ -1,7 +1,7 @@
 use Rattle.std.proofs.Common.{rules, tests}
 use Rattle.std.proofs.lemmas.Iterator.{YieldsList-from_slice, cases_from_any}
 use Rattle.bep_record.specs.declared.entry.Entry.{Entry}
-use Rattle.bep_audit.specs.Known.{IsValidOf}
+use Rattle.bep_audit.specs.inner.Known.{IsValidOf}
 use Rattle.bep_audit.proofs.ListFacts.{some_exactly}
 use Rattle.bep_audit.proofs.known.has_valid_of.Goals as goal
 

@@ -1,7 +1,7 @@
 use Rattle.std.proofs.Common.{rules, tests}
 use Rattle.std.proofs.lemmas.Iterator.{YieldsList-from_slice, cases_from_any}
 use Rattle.bep_model.specs.declared.flight.Flight.{Flight}
-use Rattle.bep_audit.specs.Known.{Brings}
+use Rattle.bep_audit.specs.inner.Known.{Brings}
 use Rattle.bep_audit.proofs.ListFacts.{some_exactly}
 use Rattle.bep_audit.proofs.known.is_brought.Goals as goal
 

@@ -1,7 +1,7 @@
 use Rattle.std.proofs.Common.{rules, tests}
 use Rattle.std.proofs.lemmas.Iterator.{YieldsList-from_slice, cases_from_any}
 use Rattle.bep_tables.specs.declared.share.Share.{Share}
-use Rattle.bep_audit.specs.Known.{HasName}
+use Rattle.bep_audit.specs.inner.Known.{HasName}
 use Rattle.bep_audit.proofs.ListFacts.{some_exactly}
 use Rattle.bep_audit.proofs.known.is_held.Goals as goal
 

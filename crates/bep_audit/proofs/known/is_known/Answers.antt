@@ -2,7 +2,7 @@ use Rattle.std.proofs.Common.{List, ◌∙◌, sym, subst, inl, inr, ⊎_elim, t
 use Rattle.bep_tables.specs.Cut.{shares_of}
 use Rattle.bep_tables.specs.declared.link.LinkState.{LinkState}
 use Rattle.bep_tables.specs.declared.share.Share.{Share}
-use Rattle.bep_audit.specs.Known.{IsHeldIn, IsOnItsWay}
+use Rattle.bep_audit.specs.inner.Known.{IsHeldIn, IsOnItsWay}
 use Rattle.bep_audit.proofs.CutFacts.{known_exactly}
 use Rattle.bep_audit.proofs.known.is_known.Goals as goal
 

@@ -1,7 +1,7 @@
 use Rattle.std.proofs.Common.{rules, tests}
 use Rattle.std.proofs.lemmas.Iterator.{YieldsList-from_slice, cases_from_any}
 use Rattle.bep_tables.specs.declared.link.LinkState.{LinkState}
-use Rattle.bep_audit.specs.Known.{IsOver}
+use Rattle.bep_audit.specs.inner.Known.{IsOver}
 use Rattle.bep_audit.proofs.ListFacts.{some_exactly}
 use Rattle.bep_audit.proofs.known.is_on_its_way.Goals as goal
 

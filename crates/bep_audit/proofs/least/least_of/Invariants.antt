@@ -1,6 +1,6 @@
 use Rattle.std.proofs.Common.{take}
 use Rattle.std.specs.Option.{option_copied}
-use Rattle.bep_audit.specs.Missing.{FindsMissing, OneHas}
+use Rattle.bep_audit.specs.inner.Missing.{FindsMissing, OneHas}
 use Rattle.bep_audit.proofs.least.least_of.Given as goal
 
 abbrev pub invariant-loop-one : goal.invariant-loop-one

@@ -3,7 +3,7 @@ use Rattle.bep_tables.specs.declared.share.SharedFolder.{SharedFolder}
 use Rattle.bep_model.specs.declared.reason.Reason.TheVariants.{NameMissing}
 use Rattle.bep_model.specs.Reasons.{place_cmp}
 use Rattle.bep_tables.specs.Cut.{tables_of}
-use Rattle.bep_audit.specs.Search.{FindsFailing}
+use Rattle.bep_audit.specs.inner.Search.{FindsFailing}
 use Rattle.bep_audit.proofs.FolderWalk.{AsksFolder, folders_in_order, folder_has_rows, folder_lacks_row, found_in_folders}
 use Rattle.bep_audit.proofs.WalkFacts.{walk_starts, walk_goes_on, walk_stops, walk_ends}
 use Rattle.bep_audit.proofs.missing.first_missing.Goals as goal

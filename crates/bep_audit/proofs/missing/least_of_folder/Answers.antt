@@ -1,8 +1,8 @@
 use Rattle.std.proofs.Common.{List, subst}
 use Rattle.std.specs.Option.{option_copied}
 use Rattle.bep_tables.specs.declared.share.Share.{Share}
-use Rattle.bep_audit.specs.Known.{IsHeldIn, IsOnItsWay}
-use Rattle.bep_audit.specs.Missing.{FindsMissing}
+use Rattle.bep_audit.specs.inner.Known.{IsHeldIn, IsOnItsWay}
+use Rattle.bep_audit.specs.inner.Missing.{FindsMissing}
 use Rattle.bep_audit.proofs.MissingFacts.{least_of_two}
 use Rattle.bep_audit.proofs.missing.least_of_folder.Goals as goal
 

@@ -2,8 +2,8 @@ use Rattle.std.proofs.Common.{List, IsTrue, subst}
 use Rattle.std.specs.FinMap.{contains_key}
 use Rattle.std.specs.Option.{option_copied}
 use Rattle.bep_tables.specs.declared.share.PeerView.{PeerView}
-use Rattle.bep_audit.specs.Known.{IsViewedIn}
-use Rattle.bep_audit.specs.Missing.{FindsMissing}
+use Rattle.bep_audit.specs.inner.Known.{IsViewedIn}
+use Rattle.bep_audit.specs.inner.Missing.{FindsMissing}
 use Rattle.bep_audit.proofs.MissingFacts.{least_of_two}
 use Rattle.bep_audit.proofs.missing_held.least_of_foreign.Goals as goal
 

@@ -1,5 +1,5 @@
 use Rattle.std.proofs.Common.{◌≡◌, ◌+◌, drop}
-use Rattle.bep_audit.specs.Walk.{count_at}
+use Rattle.bep_audit.specs.inner.Walk.{count_at}
 use Rattle.bep_audit.proofs.walk.count_of.Given as goal
 
 -- the entries so far count, and those that are left

@@ -1,6 +1,7 @@
 use Rattle.std.proofs.Common.{◌≡◌, ◌≤◌, cond, option_map, length, take, drop, Some, None, sym, ap, subst, ◌∙◌, arith}
 use Rattle.std.proofs.lemmas.Bool.{cond-true, cond-false}
-use Rattle.bep_audit.specs.Walk.{failure_shown, count_at, rows_about, replaces}
+use Rattle.bep_audit.specs.Walk.{failure_shown}
+use Rattle.bep_audit.specs.inner.Walk.{count_at, rows_about, replaces}
 use Rattle.bep_audit.proofs.GroupWalk.{group_at, about_at, smaller_at, within_at, rest_is, next_at}
 use Rattle.bep_audit.proofs.LeastWalk.{least_starts, least_ends, goes_on_at}
 use Rattle.bep_audit.proofs.walk.least_failure.Goals as goal

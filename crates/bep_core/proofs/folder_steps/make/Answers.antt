@@ -7,7 +7,7 @@ use Rattle.bep_peer.specs.PeerError.{Gives}
 use Rattle.bep_peer.specs.Unhidden.{IsUnrefusedWithin}
 use Rattle.bep_peer.specs.Within.{StepWithin}
 use Rattle.bep_core.specs.Unhidden.{TestsWithin}
-use Rattle.bep_core.specs.Within.{row_of}
+use Rattle.bep_core.specs.inner.Within.{row_of}
 use Rattle.bep_core.specs.declared.folder_steps.Within.{Within}
 use Rattle.bep_core.proofs.folder_steps.make.Goals as goal
 
@@ -23,7 +23,7 @@ pub returns-in-Remove-clause-step : goal.returns-in-Remove-clause-step
 returns-in-Remove-clause-step g c = as_asked c.args.folder.now c.args.peer.now c.remove.new.self c.remove.result c.in-Remove.is c.remove.ensures.step
 
 pub returns-in-Scan-clause-step : goal.returns-in-Scan-clause-step
-returns-in-Scan-clause-step g c = as_asked c.args.folder.now c.args.peer.now c.scan_at.new.peer c.scan_at.result c.in-Scan.is c.scan_at.ensures.step
+returns-in-Scan-clause-step g c = as_asked c.args.folder.now c.args.peer.now c.scan.new.self c.scan.result c.in-Scan.is c.scan.ensures.step
 
 pub returns-in-Override-clause-step : goal.returns-in-Override-clause-step
 returns-in-Override-clause-step g c = as_asked c.args.folder.now c.args.peer.now c.override_one.new.self c.override_one.result c.in-Override.is c.override_one.ensures.step

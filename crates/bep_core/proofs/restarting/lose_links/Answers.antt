@@ -1,5 +1,5 @@
 use Rattle.std.proofs.Common.{◌≤◌, ◌<◌, ◌∙◌, length, get_or, sym, ap, arith}
-use Rattle.bep_core.specs.Restart.{left_by}
+use Rattle.bep_core.specs.inner.Restart.{left_by}
 use Rattle.bep_core.proofs.ListDone.{all_done, changed_next, whole}
 use Rattle.bep_core.proofs.restarting.lose_links.Goals as goal
 

@@ -1,5 +1,5 @@
 use Rattle.std.proofs.Common.{◌≡◌}
-use Rattle.bep_core.specs.Restart.{left_by}
+use Rattle.bep_core.specs.inner.Restart.{left_by}
 use Rattle.bep_core.proofs.ListDone.{done}
 use Rattle.bep_core.proofs.restarting.lose_links.Given as goal
 

@@ -6,7 +6,7 @@ use Rattle.bep_peer.specs.Lent.{Lent, StepOver}
 use Rattle.bep_peer.specs.Member.{Member}
 use Rattle.bep_peer.specs.PeerError.{Gives}
 use Rattle.bep_peer.specs.Unhidden.{IsUnrefused}
-use Rattle.bep_core.specs.Over.{TellsOver, row_of, shares_of}
+use Rattle.bep_core.specs.inner.Over.{TellsOver, row_of, shares_of}
 use Rattle.bep_core.specs.declared.session_steps.Over.{Over}
 use Rattle.bep_core.proofs.session_steps.act.Goals as goal
 

@@ -4,7 +4,7 @@ use Rattle.std.specs.List.{AllByRecursion}
 use Rattle.serde_json.specs.View.{view}
 use Rattle.bep_json.specs.Written.{node_written}
 use Rattle.bep_record.specs.Node.{IsNode}
-use Rattle.bep_cut_document.specs.Told.{IsNodeTold}
+use Rattle.bep_cut_document.specs.inner.Told.{IsNodeTold}
 use Rattle.bep_cut_document.proofs.trees.nodes_tree.Given as goal
 
 -- the trees so far with those of the nodes that are left are all of them; where those are told and sound, all are

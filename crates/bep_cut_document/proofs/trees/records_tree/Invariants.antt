@@ -4,7 +4,7 @@ use Rattle.std.specs.List.{AllByRecursion}
 use Rattle.serde_json.specs.View.{view}
 use Rattle.bep_json.specs.Written.{record_written}
 use Rattle.bep_record.specs.Entry.{IsWellFormed}
-use Rattle.bep_cut_document.specs.Told.{IsRecordTold}
+use Rattle.bep_cut_document.specs.inner.Told.{IsRecordTold}
 use Rattle.bep_cut_document.proofs.trees.records_tree.Given as goal
 
 -- the trees so far with those of the records that are left are all of them; where those are told and sound, all are

@@ -5,21 +5,21 @@ use Rattle.std.specs.String.{string_bytes}
 use Rattle.serde_json.specs.Data.{Data, depth}
 use Rattle.serde_json.specs.Read.{max_depth, read}
 use Rattle.serde_json.specs.Written.{has_float, compact_text}
-use Rattle.bep_cut_document.specs.Trees.{check_text, check_tree}
+use Rattle.bep_cut_document.specs.Trees.{check_document_text, check_tree}
 use Rattle.bep_cut_document.proofs.ReadAgain.{read_again}
 use Rattle.bep_cut_document.proofs.Shallow.{check_shallow}
 use Rattle.bep_cut_document.proofs.WholeNumbers.{check_whole}
 use Rattle.bep_cut_document.proofs.whole.check_document.Goals as goal
 
 pub returns-clause-text : goal.returns-clause-text
-unfolding check_text
+unfolding check_document_text
 returns-clause-text c =
     let tree = c.in_ok-tree.ensures.value in
     let whole = ap has_float tree ∙ check_whole c.args.cut.now c.args.rows.now in
     c.in_ok-text.ensures.text whole ∙ ap compact_text tree
 
 pub returns-clause-read_back : goal.returns-clause-read_back
-unfolding check_text
+unfolding check_document_text
 returns-clause-read_back c = λ few in_range.
     let tree = c.in_ok-tree.ensures.value in
     let whole = ap has_float tree ∙ check_whole c.args.cut.now c.args.rows.now in

@@ -1,7 +1,7 @@
 use Rattle.std.proofs.Common.{subst}
 use Rattle.std.specs.List.{AllByRecursion}
-use Rattle.bep_cut_document.specs.Sound.{IsFolderSound, IsLinkSound}
-use Rattle.bep_cut_document.specs.Told.{IsFolderTold, IsLinkTold}
+use Rattle.bep_cut_document.specs.inner.Sound.{IsFolderSound, IsLinkSound}
+use Rattle.bep_cut_document.specs.inner.Told.{IsFolderTold, IsLinkTold}
 use Rattle.bep_cut_document.proofs.back.ReadBack.{cut_is_told}
 use Rattle.bep_cut_document.proofs.whole.cut_tree.Goals as goal
 

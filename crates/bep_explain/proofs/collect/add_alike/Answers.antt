@@ -3,7 +3,7 @@ use Rattle.bep_facts.specs.Members.{Contains-image}
 use Rattle.bep_record.specs.declared.entry.Entry.{Entry}
 use Rattle.bep_tables.specs.Listed.{listed}
 use Rattle.bep_audit.specs.Group.{IsGroupOf}
-use Rattle.bep_explain.specs.Rows.{row_shown}
+use Rattle.bep_explain.specs.inner.Rows.{row_shown}
 use Rattle.bep_explain.proofs.GroupFound.{table_is_sorted, group_found}
 use Rattle.bep_explain.proofs.RowLists.{item_is_there}
 use Rattle.bep_explain.proofs.collect.add_alike.Goals as goal

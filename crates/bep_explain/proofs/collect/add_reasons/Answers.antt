@@ -6,7 +6,7 @@ use Rattle.bep_tables.specs.Cut.{tables_of}
 use Rattle.bep_tables.specs.Listed.{listed}
 use Rattle.bep_audit.specs.declared.checkers.TheConstants.{REASONS}
 use Rattle.bep_audit.specs.Walk.{failure_shown}
-use Rattle.bep_explain.specs.Says.{failure_at, AsksBoth, SaysReasonBoth}
+use Rattle.bep_explain.specs.inner.Says.{failure_at, AsksBoth, SaysReasonBoth}
 use Rattle.bep_explain.proofs.AddFacts.{each_goes_on, each_ends}
 use Rattle.bep_explain.proofs.NameSays.{both_asked}
 use Rattle.bep_explain.proofs.OneFact.{adds_at, same_item}

@@ -1,8 +1,8 @@
 use Rattle.std.proofs.Common.{◌≤◌, ◌-◌, length, map, take}
 use Rattle.bep_audit.specs.Walk.{failure_shown}
-use Rattle.bep_explain.specs.Adding.{AddsFailing, Each}
-use Rattle.bep_explain.specs.Rows.{row_shown}
-use Rattle.bep_explain.specs.Says.{SaysAtRow}
+use Rattle.bep_explain.specs.inner.Adding.{AddsFailing, Each}
+use Rattle.bep_explain.specs.inner.Rows.{row_shown}
+use Rattle.bep_explain.specs.inner.Says.{SaysAtRow}
 use Rattle.bep_explain.proofs.collect.add_rows.Given as goal
 
 -- what fails at the rows so far is there

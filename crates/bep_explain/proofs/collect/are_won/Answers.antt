@@ -4,7 +4,7 @@ use Rattle.bep_facts.specs.Members.{Contains-image}
 use Rattle.bep_model.specs.declared.row.Row.{Row}
 use Rattle.bep_model.specs.Winner.{IsWinner}
 use Rattle.bep_tables.specs.Cut.{tables_of}
-use Rattle.bep_explain.specs.Rows.{row_shown}
+use Rattle.bep_explain.specs.inner.Rows.{row_shown}
 use Rattle.bep_explain.specs.declared.rows.NamedRow.{NamedRow}
 use Rattle.bep_explain.proofs.NameSays.{won_exactly}
 use Rattle.bep_explain.proofs.RowLists.{item_is_there, so_far_goes_on, so_far_ends, of_each_row}

@@ -2,7 +2,7 @@ use Rattle.std.proofs.Common.{take, Contains}
 use Rattle.bep_model.specs.Settled.{key_of}
 use Rattle.bep_model.specs.Winner.{IsWinner}
 use Rattle.bep_tables.specs.Cut.{tables_of}
-use Rattle.bep_explain.specs.Rows.{row_shown}
+use Rattle.bep_explain.specs.inner.Rows.{row_shown}
 use Rattle.bep_explain.specs.declared.rows.NamedRow.{NamedRow}
 use Rattle.bep_explain.proofs.collect.are_won.Given as goal
 

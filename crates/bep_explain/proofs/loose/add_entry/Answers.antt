@@ -1,7 +1,7 @@
 use Rattle.std.proofs.Common.{◌∙◌, map, option_map, sym, ap}
 use Rattle.bep_tables.specs.Listed.{listed}
 use Rattle.bep_audit.specs.Loose.{loose_shown}
-use Rattle.bep_explain.specs.Rows.{row_shown}
+use Rattle.bep_explain.specs.inner.Rows.{row_shown}
 use Rattle.bep_explain.proofs.LooseFacts.{adds_nothing, adds_one}
 use Rattle.bep_explain.proofs.loose.add_entry.Goals as goal
 

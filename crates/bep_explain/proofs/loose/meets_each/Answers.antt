@@ -1,7 +1,7 @@
 use Rattle.std.proofs.Common.{[], ◌∷◌, true≢false, refl, sym, ◌∙◌}
 use Rattle.bep_tables.specs.Listed.{listed}
 use Rattle.bep_audit.specs.Loose.{MeetsFirm}
-use Rattle.bep_explain.specs.Rows.{row_shown}
+use Rattle.bep_explain.specs.inner.Rows.{row_shown}
 use Rattle.bep_explain.specs.declared.rows.NamedRow.{NamedRow}
 use Rattle.bep_explain.proofs.RowLists.{item_is_there, so_far_goes_on, so_far_ends}
 use Rattle.bep_explain.proofs.loose.meets_each.Goals as goal

@@ -1,7 +1,7 @@
 use Rattle.std.proofs.Common.{[], ◌∷◌, take, Contains}
 use Rattle.bep_tables.specs.Listed.{listed}
 use Rattle.bep_audit.specs.Loose.{MeetsFirm}
-use Rattle.bep_explain.specs.Rows.{row_shown}
+use Rattle.bep_explain.specs.inner.Rows.{row_shown}
 use Rattle.bep_explain.specs.declared.rows.NamedRow.{NamedRow}
 use Rattle.bep_explain.proofs.loose.meets_each.Given as goal
 

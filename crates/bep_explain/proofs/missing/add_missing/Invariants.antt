@@ -1,8 +1,8 @@
 use Rattle.std.proofs.Common.{map, take}
 use Rattle.bep_audit.specs.Walk.{failure_shown}
-use Rattle.bep_explain.specs.Adding.{AddsFailing, Each}
-use Rattle.bep_explain.specs.Rows.{row_shown}
-use Rattle.bep_explain.specs.Says.{SaysHasRow}
+use Rattle.bep_explain.specs.inner.Adding.{AddsFailing, Each}
+use Rattle.bep_explain.specs.inner.Rows.{row_shown}
+use Rattle.bep_explain.specs.inner.Says.{SaysHasRow}
 use Rattle.bep_explain.proofs.missing.add_missing.Given as goal
 
 -- the names of the entries so far that have no row are there

@@ -1,7 +1,7 @@
 use Rattle.std.proofs.Common.{◌≡◌, sym, subst, arith}
 use Rattle.bep_facts.specs.Orders.{texts_exact}
 use Rattle.bep_model.specs.Settled.{key_cmp}
-use Rattle.bep_explain.specs.Rows.{named_key}
+use Rattle.bep_explain.specs.inner.Rows.{named_key}
 use Rattle.bep_explain.specs.declared.rows.NamedRow.{NamedRow}
 use Rattle.bep_explain.proofs.RowFacts.{tied_from_test}
 use Rattle.bep_explain.proofs.RowLists.{SoFar, so_far_goes_on}

@@ -1,5 +1,5 @@
 use Rattle.std.proofs.Common.{◌≡◌, take, Contains}
-use Rattle.bep_explain.specs.Rows.{named_key}
+use Rattle.bep_explain.specs.inner.Rows.{named_key}
 use Rattle.bep_explain.specs.declared.rows.NamedRow.{NamedRow}
 use Rattle.bep_explain.proofs.rows.count_alike.Given as goal
 

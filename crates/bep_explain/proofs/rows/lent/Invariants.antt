@@ -1,5 +1,5 @@
 use Rattle.std.proofs.Common.{◌≡◌, ◌++◌, drop, map}
-use Rattle.bep_explain.specs.Rows.{row_shown}
+use Rattle.bep_explain.specs.inner.Rows.{row_shown}
 use Rattle.bep_explain.proofs.rows.lent.Given as goal
 
 -- those that are lent, with those that are left, are all

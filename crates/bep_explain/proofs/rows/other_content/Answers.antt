@@ -1,7 +1,7 @@
 use Rattle.std.proofs.Common.{◌≡◌}
 use Rattle.bep_record.specs.Content.{content_of}
 use Rattle.bep_model.specs.declared.row.Row.{Row}
-use Rattle.bep_explain.specs.Rows.{row_shown}
+use Rattle.bep_explain.specs.inner.Rows.{row_shown}
 use Rattle.bep_explain.specs.declared.rows.NamedRow.{NamedRow}
 use Rattle.bep_explain.proofs.RowLists.{so_far_goes_on, so_far_ends, of_each_row}
 use Rattle.bep_explain.proofs.rows.other_content.Goals as goal

@@ -1,6 +1,6 @@
 use Rattle.std.proofs.Common.{◌≡◌, take, Contains}
 use Rattle.bep_record.specs.Content.{content_of}
-use Rattle.bep_explain.specs.Rows.{row_shown}
+use Rattle.bep_explain.specs.inner.Rows.{row_shown}
 use Rattle.bep_explain.specs.declared.rows.NamedRow.{NamedRow}
 use Rattle.bep_explain.proofs.rows.other_content.Given as goal
 

@@ -1,6 +1,6 @@
 use Rattle.std.specs.FinMap.{values}
 use Rattle.std.specs.List.{AllByRecursion}
-use Rattle.bep_folder.specs.Sound.{IsGoodPull}
+use Rattle.bep_folder.specs.inner.Sound.{IsGoodPull}
 use Rattle.bep_folder.proofs.sound.pulls_are_sound.Given as goal
 
 -- where those that are left are good, all are

@@ -1,5 +1,5 @@
 use Rattle.std.proofs.Common.{◌≡◌, ◌≤◌, ◌+◌, drop}
-use Rattle.bep_index.specs.Count.{new_names}
+use Rattle.bep_index.specs.inner.Count.{new_names}
 use Rattle.bep_index.proofs.all.count_new.Given as goal
 
 abbrev pub invariant-loop-entry : goal.invariant-loop-entry

@@ -2,7 +2,7 @@ use Rattle.std.proofs.Common.{◌≡◌, ◌+◌, ap, ◌∙◌, arith}
 use Rattle.std.specs.FinMap.{len}
 use Rattle.std.proofs.lemmas.Bool.Decides.{nat_tests}
 use Rattle.bep_index.specs.Batch.{with_all}
-use Rattle.bep_index.specs.Count.{new_names}
+use Rattle.bep_index.specs.inner.Count.{new_names}
 use Rattle.bep_index.proofs.BatchFacts.{len-with_all}
 use Rattle.bep_index.proofs.view.has_room.Goals as goal
 

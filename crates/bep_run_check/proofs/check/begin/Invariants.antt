@@ -1,6 +1,6 @@
 use Rattle.std.proofs.Common.{◌≡◌, length, take}
 use Rattle.bep_fit.specs.Walk.{start}
-use Rattle.bep_run_check.specs.Rest.{lefts}
+use Rattle.bep_run_check.specs.inner.Rest.{lefts}
 use Rattle.bep_run_check.proofs.check.begin.Given as goal
 
 -- before this place all of each log is left

@@ -1,7 +1,7 @@
 use Rattle.std.proofs.Common.{◌≡◌, drop}
 use Rattle.std.specs.Option.{option_copied}
-use Rattle.bep_run_check.specs.Next.{next_of}
-use Rattle.bep_run_check.specs.Rest.{lefts}
+use Rattle.bep_run_check.specs.inner.Next.{next_of}
+use Rattle.bep_run_check.specs.inner.Rest.{lefts}
 use Rattle.bep_run_check.proofs.NextFacts.{least_from}
 use Rattle.bep_run_check.proofs.next.next_event.Given as goal
 

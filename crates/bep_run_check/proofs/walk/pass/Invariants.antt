@@ -1,5 +1,5 @@
 use Rattle.std.proofs.Common.{◌≡◌}
-use Rattle.bep_run_check.specs.Rest.{lefts}
+use Rattle.bep_run_check.specs.inner.Rest.{lefts}
 use Rattle.bep_run_check.proofs.ListDone.{done}
 use Rattle.bep_run_check.proofs.WalkLists.{moved}
 use Rattle.bep_run_check.proofs.walk.pass.Given as goal

@@ -1,6 +1,6 @@
 use Rattle.std.proofs.Common.{◌<◌, ◌+◌, List, refl, sym, subst, arith}
 use Rattle.bep_fit.specs.Walk.{Left}
-use Rattle.bep_run_check.specs.Rest.{lefts}
+use Rattle.bep_run_check.specs.inner.Rest.{lefts}
 use Rattle.bep_run_check.proofs.Walking.{Walked, all_rise, begins, count_below, ends, fails, goes_down, goes_on, left_in, some_at}
 use Rattle.bep_run_check.proofs.walk.walk_along.Goals as goal
 

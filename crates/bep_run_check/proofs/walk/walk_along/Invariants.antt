@@ -1,4 +1,4 @@
-use Rattle.bep_run_check.specs.Rest.{lefts}
+use Rattle.bep_run_check.specs.inner.Rest.{lefts}
 use Rattle.bep_run_check.proofs.Walking.{Walked, left_in}
 use Rattle.bep_run_check.proofs.walk.walk_along.Given as goal
 

@@ -1,7 +1,7 @@
 use Rattle.std.proofs.Common.{◌⊎◌, IsTrue}
 use Rattle.std.specs.FinMap.{contains_key}
 use Rattle.std.specs.Option.{option_copied}
-use Rattle.bep_audit.specs.Known.{HasForeign}
+use Rattle.bep_audit.specs.inner.Known.{HasForeign}
 use Rattle.bep_audit.proofs.MissingFacts.{least_of_two}
 use Rattle.bep_audit.proofs.missing_held.ShareHasNames.least_missing.Goals as goal
 

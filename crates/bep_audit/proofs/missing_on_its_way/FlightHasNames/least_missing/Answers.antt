@@ -1,8 +1,8 @@
 use Rattle.std.proofs.Common.{List, subst, rules}
 use Rattle.std.specs.Option.{option_copied}
 use Rattle.bep_record.specs.declared.entry.Entry.{Entry}
-use Rattle.bep_audit.specs.Known.{HasValidOf}
-use Rattle.bep_audit.specs.Missing.{FindsMissing}
+use Rattle.bep_audit.specs.inner.Known.{HasValidOf}
+use Rattle.bep_audit.specs.inner.Missing.{FindsMissing}
 use Rattle.bep_audit.proofs.MissingFacts.{brought_if_of_folder}
 use Rattle.bep_audit.proofs.missing_on_its_way.FlightHasNames.least_missing.Goals as goal
 

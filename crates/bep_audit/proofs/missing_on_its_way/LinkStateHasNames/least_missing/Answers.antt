@@ -1,8 +1,8 @@
 use Rattle.std.proofs.Common.{List, subst}
 use Rattle.std.specs.Option.{option_copied}
 use Rattle.bep_model.specs.declared.flight.Flight.{Flight}
-use Rattle.bep_audit.specs.Known.{IsBroughtBy}
-use Rattle.bep_audit.specs.Missing.{FindsMissing}
+use Rattle.bep_audit.specs.inner.Known.{IsBroughtBy}
+use Rattle.bep_audit.specs.inner.Missing.{FindsMissing}
 use Rattle.bep_audit.proofs.MissingFacts.{least_of_two}
 use Rattle.bep_audit.proofs.missing_on_its_way.LinkStateHasNames.least_missing.Goals as goal
 

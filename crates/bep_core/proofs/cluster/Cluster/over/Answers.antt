@@ -4,7 +4,7 @@ use Rattle.bep_machine.specs.Answer.{Refused}
 use Rattle.bep_machine.specs.Cluster.{Cluster}
 use Rattle.bep_machine.specs.Steps.{IsStep}
 use Rattle.bep_peer.specs.network.Network.{cluster_of, failed_at}
-use Rattle.bep_core.specs.Over.{step_of}
+use Rattle.bep_core.specs.inner.Over.{step_of}
 use Rattle.bep_core.proofs.SessionSteps.{none_over, none_over_counts, over_counts, over_hides, over_made, over_rules}
 use Rattle.bep_core.proofs.cluster.Cluster.over.Goals as goal
 

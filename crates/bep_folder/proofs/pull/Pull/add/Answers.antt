@@ -5,7 +5,7 @@ use Rattle.bep_record.specs.Block.{base_block_size}
 use Rattle.bep_record.specs.declared.entry.Entry.{Entry}
 use Rattle.bep_record.specs.declared.node.NodeParts.{NodeParts}
 use Rattle.bep_machine.specs.Replica.{Pull}
-use Rattle.bep_folder.specs.Pulled.{bytes_in, sized, with_file}
+use Rattle.bep_folder.specs.PullNode.{bytes_in, sized, with_file}
 use Rattle.bep_folder.specs.Pull.{AreOfBlockAt, IsKept, received_of, with_bytes}
 use Rattle.bep_folder.proofs.PullFacts.{flag_missing, received_again}
 use Rattle.bep_folder.proofs.KeptFacts.{IsPiece, is_piece, kept_after, piece_in, received_after}

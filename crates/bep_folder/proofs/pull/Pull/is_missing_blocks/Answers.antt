@@ -2,7 +2,7 @@ use Rattle.std.proofs.Common.{◌↔◌, subst, IsTrue}
 use Rattle.bep_record.specs.Block.{base_block_size}
 use Rattle.bep_machine.specs.Replica.{Pull}
 use Rattle.bep_machine.specs.Pull.{IsMissingBlocks}
-use Rattle.bep_folder.specs.Pulled.{bytes_in}
+use Rattle.bep_folder.specs.PullNode.{bytes_in}
 use Rattle.bep_folder.proofs.PullFacts.{missing_from, missing_to}
 use Rattle.bep_folder.proofs.pull.Pull.is_missing_blocks.Goals as goal
 

@@ -1,7 +1,7 @@
 use Rattle.std.proofs.Common.{◌↔◌, subst, IsTrue}
 use Rattle.bep_record.specs.Block.{base_block_size}
 use Rattle.bep_machine.specs.Replica.{Pull}
-use Rattle.bep_folder.specs.Pulled.{bytes_in}
+use Rattle.bep_folder.specs.PullNode.{bytes_in}
 use Rattle.bep_folder.specs.Pull.{IsReceivedAt}
 use Rattle.bep_folder.proofs.PullFacts.{flag_of_received, received_at_flag}
 use Rattle.bep_folder.proofs.pull.Pull.is_received.Goals as goal

@@ -1,7 +1,7 @@
 use Rattle.std.proofs.Common.{◌≡◌, ◌∙◌, false, length, replicate, ap}
 use Rattle.bep_record.specs.Block.{base_block_size}
 use Rattle.bep_record.specs.declared.entry.Entry.{Entry}
-use Rattle.bep_folder.specs.Pulled.{bytes_in}
+use Rattle.bep_folder.specs.PullNode.{bytes_in}
 use Rattle.bep_folder.specs.Pull.{received_of}
 use Rattle.bep_folder.proofs.PullFacts.{none_received}
 use Rattle.bep_folder.proofs.pull.Pull.new.Goals as goal

@@ -3,7 +3,7 @@ use Rattle.std.specs.Option.{option_copied}
 use Rattle.bep_machine.specs.Replica.{Pull}
 use Rattle.bep_machine.specs.Pull.{written, IsMissingBlocks}
 use Rattle.bep_record.specs.Block.{base_block_size}
-use Rattle.bep_folder.specs.Pulled.{bytes_in}
+use Rattle.bep_folder.specs.PullNode.{bytes_in}
 use Rattle.bep_folder.proofs.PullFacts.{missing_from}
 use Rattle.bep_folder.proofs.KeptFacts.{kept_written}
 use Rattle.bep_folder.proofs.pull.Pull.node.Goals as goal

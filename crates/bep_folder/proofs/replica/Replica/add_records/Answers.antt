@@ -4,7 +4,7 @@ use Rattle.std.specs.Map.Iter.{deref}
 use Rattle.std.proofs.lemmas.List.{map-append}
 use Rattle.std.proofs.lemmas.Map.Iter.{iter_end}
 use Rattle.bep_record.specs.declared.entry.Entry.{Entry}
-use Rattle.bep_folder.specs.Wanted.{AddsWanted}
+use Rattle.bep_folder.specs.inner.Wanted.{AddsWanted}
 use Rattle.bep_folder.proofs.WantedFacts.{IsNameOf, adds_all, adds_next}
 use Rattle.bep_folder.proofs.replica.Replica.add_records.Goals as goal
 

@@ -1,6 +1,6 @@
 use Rattle.std.proofs.Common.{map}
 use Rattle.std.specs.Map.Iter.{deref}
-use Rattle.bep_folder.specs.Wanted.{AddsWanted}
+use Rattle.bep_folder.specs.inner.Wanted.{AddsWanted}
 use Rattle.bep_folder.proofs.WantedFacts.{IsNameOf}
 use Rattle.bep_folder.proofs.replica.Replica.add_records.Given as goal
 

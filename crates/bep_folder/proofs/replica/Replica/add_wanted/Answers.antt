@@ -1,7 +1,7 @@
 use Rattle.std.proofs.Common.{rules, ◌≡◌, false, is_none, subst, sym}
 use Rattle.std.specs.FinMap.{insert}
 use Rattle.bep_map.specs.NameMap.{ByName}
-use Rattle.bep_folder.specs.Wanted.{AddsWanted}
+use Rattle.bep_folder.specs.inner.Wanted.{AddsWanted}
 use Rattle.bep_folder.proofs.WantedFacts.{found_wanted, adds_one}
 use Rattle.bep_folder.proofs.replica.Replica.add_wanted.Goals as goal
 

@@ -1,5 +1,5 @@
 use Rattle.std.proofs.Common.{rules, subst}
-use Rattle.bep_folder.specs.Commit.{Records}
+use Rattle.bep_folder.specs.inner.Found.{Records}
 use Rattle.bep_folder.specs.Held.{Held}
 use Rattle.bep_folder.proofs.CommitFacts.{IsReadAgain, IsRecorded, recorded}
 use Rattle.bep_folder.proofs.HeldFacts.{held_of}

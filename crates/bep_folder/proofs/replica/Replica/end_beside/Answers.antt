@@ -24,28 +24,28 @@ returns-in_err-kept-clause-made g c =
 pub returns-then-kept-clause-made : goal.returns-then-kept-clause-made
 returns-then-kept-clause-made g c =
     let found = kept_there c.in_ok-copy.copy (option_copied c.args.node) c.args.self.now c.is_kept.new.self c.in_ok-kept.kept c.if-kept.true c.in_ok-kept.ensures in
-    let beside : Beside c.args.name.now c.in_ok-copy.copy c.args.self.now c.is_kept.new.self c.settle.new.self = record {
+    let beside : Beside c.args.name.now c.in_ok-copy.copy c.args.self.now c.is_kept.new.self c.adopt.new.self = record {
       named = c.in_ok-copy.ensures.ok;
       short = λ over. (let bad = c.in_ok-copy.ensures.bad.1 (subst (λ n. max_name_len < length n) c.in_ok-copy.ensures.ok over) in absurd (cc));
       same = ap (λ (h : Held). h.tables) found.0;
       two = ap (λ (h : Held). h.made) found.0 ∙ ap next_call c.requires.second;
-      later = c.settle.ensures.later;
+      later = c.adopt.ensures.later;
     } in
-    ends_without c.args.name.now c.in_ok-copy.copy c.args.self.now c.is_kept.new.self c.settle.new.self beside c.settle.result found.1
-    (subst (λ (n : Option NodeParts). IsCopy (node_at c.args.self.now.tables c.in_ok-copy.copy) n) (sym c.requires.node) found.2) c.settle.ensures.made
+    ends_without c.args.name.now c.in_ok-copy.copy c.args.self.now c.is_kept.new.self c.adopt.new.self beside c.adopt.result found.1
+    (subst (λ (n : Option NodeParts). IsCopy (node_at c.args.self.now.tables c.in_ok-copy.copy) n) (sym c.requires.node) found.2) c.adopt.ensures.made
 
 pub returns-clause-made : goal.returns-clause-made
 returns-clause-made g c =
     let found = nothing_there c.in_ok-copy.copy (option_copied c.args.node) c.args.self.now c.is_kept.new.self c.in_ok-kept.kept c.if-kept.false c.in_ok-kept.ensures in
-    let beside : Beside c.args.name.now c.in_ok-copy.copy c.args.self.now c.is_kept.new.self c.settle-2.new.self = record {
+    let beside : Beside c.args.name.now c.in_ok-copy.copy c.args.self.now c.is_kept.new.self c.adopt-2.new.self = record {
       named = c.in_ok-copy.ensures.ok;
       short = λ over. (let bad = c.in_ok-copy.ensures.bad.1 (subst (λ n. max_name_len < length n) c.in_ok-copy.ensures.ok over) in absurd (cc));
       same = ap (λ (h : Held). h.tables) found.0;
       two = ap (λ (h : Held). h.made) found.0 ∙ ap next_call c.requires.second;
-      later = c.settle-2.ensures.later;
+      later = c.adopt-2.ensures.later;
     } in
-    ends_with_copy c.args.name.now c.in_ok-copy.copy c.args.self.now c.is_kept.new.self c.settle-2.new.self beside c.settle-2.result
-    found.1 c.settle-2.ensures.made
+    ends_with_copy c.args.name.now c.in_ok-copy.copy c.args.self.now c.is_kept.new.self c.adopt-2.new.self beside c.adopt-2.result
+    found.1 c.adopt-2.ensures.made
 
 pub returns-in_err-copy-clause-called : goal.returns-in_err-copy-clause-called
 returns-in_err-copy-clause-called g c =
@@ -62,13 +62,13 @@ returns-in_err-kept-clause-called g c =
 pub returns-then-kept-clause-called : goal.returns-then-kept-clause-called
 returns-then-kept-clause-called g c =
     let found = kept_there c.in_ok-copy.copy (option_copied c.args.node) c.args.self.now c.is_kept.new.self c.in_ok-kept.kept c.if-kept.true c.in_ok-kept.ensures in
-    calls_without c.args.name.now c.args.self.now.tables c.is_kept.new.self c.settle.new.self c.settle.result (ap (λ (h : Held). h.tables) found.0) c.requires.pulled
-    2 (ap (λ (h : Held). h.made) found.0 ∙ ap next_call c.requires.second) (λ pull is. inl (c.requires.due pull is, refl)) c.settle.ensures.changed
-    (ap (λ (h : Held). h.trace.copied) found.0 ∙ c.requires.uncopied) c.settle.ensures.copied c.settle.ensures.called
+    calls_without c.args.name.now c.args.self.now.tables c.is_kept.new.self c.adopt.new.self c.adopt.result (ap (λ (h : Held). h.tables) found.0) c.requires.pulled
+    2 (ap (λ (h : Held). h.made) found.0 ∙ ap next_call c.requires.second) (λ pull is. inl (c.requires.due pull is, refl)) c.adopt.ensures.changed
+    (ap (λ (h : Held). h.trace.copied) found.0 ∙ c.requires.uncopied) c.adopt.ensures.copied c.adopt.ensures.called
 
 pub returns-clause-called : goal.returns-clause-called
 returns-clause-called g c =
     let found = nothing_there c.in_ok-copy.copy (option_copied c.args.node) c.args.self.now c.is_kept.new.self c.in_ok-kept.kept c.if-kept.false c.in_ok-kept.ensures in
-    calls_copying c.args.name.now c.args.self.now.tables c.is_kept.new.self c.settle-2.new.self c.settle-2.result (ap (λ (h : Held). h.tables) found.0) c.requires.pulled
-    2 (ap (λ (h : Held). h.made) found.0 ∙ ap next_call c.requires.second) (λ pull is. inl (c.requires.due pull is, refl)) c.settle-2.ensures.changed
-    c.in_ok-copy.copy c.settle-2.ensures.copied c.settle-2.ensures.called
+    calls_copying c.args.name.now c.args.self.now.tables c.is_kept.new.self c.adopt-2.new.self c.adopt-2.result (ap (λ (h : Held). h.tables) found.0) c.requires.pulled
+    2 (ap (λ (h : Held). h.made) found.0 ∙ ap next_call c.requires.second) (λ pull is. inl (c.requires.due pull is, refl)) c.adopt-2.ensures.changed
+    c.in_ok-copy.copy c.adopt-2.ensures.copied c.adopt-2.ensures.called

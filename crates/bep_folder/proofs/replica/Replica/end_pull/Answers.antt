@@ -4,8 +4,8 @@ use Rattle.bep_record.specs.declared.node.NodeParts.{NodeParts}
 use Rattle.bep_machine.specs.Local.{Fails}
 use Rattle.bep_machine.specs.Replica.{Replica, own_at}
 use Rattle.bep_machine.specs.Pull.{EndingRow}
-use Rattle.bep_folder.specs.Ending.{IsIncomplete, PulledRow}
-use Rattle.bep_folder.specs.Finish.{IfPulled}
+use Rattle.bep_folder.specs.inner.Ending.{IsIncomplete, PulledRow}
+use Rattle.bep_folder.specs.inner.Finish.{IfPulled}
 use Rattle.bep_folder.specs.Held.{Held}
 use Rattle.bep_folder.specs.Trace.{next_call}
 use Rattle.bep_folder.specs.Calls.{CallsInFinish}

@@ -2,7 +2,7 @@ use Rattle.std.proofs.Common.{◌≡◌, IsSome, true, inr, refl, sym, subst}
 use Rattle.bep_record.specs.Node.{IsClean}
 use Rattle.bep_machine.specs.Replica.{own_at, node_at}
 use Rattle.bep_machine.specs.Pull.{IsConflictDue}
-use Rattle.bep_folder.specs.Finish.{IfPulled}
+use Rattle.bep_folder.specs.inner.Finish.{IfPulled}
 use Rattle.bep_folder.proofs.CallFacts.{ends_without as calls_without}
 use Rattle.bep_folder.proofs.FinishFacts.{ends_copying, ends_plain, file_there}
 use Rattle.bep_folder.proofs.replica.Replica.end_with.Goals as goal
@@ -30,7 +30,7 @@ returns-clause-made g c =
     subst (λ n. IsClean n (own_at tables c.args.name.now)) (sym c.requires.node) (c.is_scanned.ensures.0 c.if-not-is_scanned.false) in
     let apart : IfPulled c.args.name.now tables (λ pull. ¬ IsConflictDue (own_at tables c.args.name.now) pull.target) =
     λ pull is due. absurd (let yes : c.needs_copy.result ≡ true = (c.needs_copy.ensures pull is).1 due in let no = c.if-needs_copy.false in cc) in
-    ends_plain c.args.name.now c.args.self.now c.settle.new.self c.settle.result c.requires.second clean apart c.settle.ensures.made
+    ends_plain c.args.name.now c.args.self.now c.adopt.new.self c.adopt.result c.requires.second clean apart c.adopt.ensures.made
 
 pub returns-clause-called : goal.returns-clause-called
 returns-clause-called g c =
@@ -38,5 +38,5 @@ returns-clause-called g c =
     let name = c.args.name.now in
     let apart : IfPulled name tables (λ pull. ¬ IsConflictDue (own_at tables name) pull.target) =
     λ pull is due. absurd (let yes : c.needs_copy.result ≡ true = (c.needs_copy.ensures pull is).1 due in let no = c.if-needs_copy.false in cc) in
-    calls_without name tables c.args.self.now c.settle.new.self c.settle.result refl c.requires.pulled 1 c.requires.second (λ pull is. inr (apart pull is, refl)) c.settle.ensures.changed
-    c.requires.uncopied c.settle.ensures.copied c.settle.ensures.called
+    calls_without name tables c.args.self.now c.adopt.new.self c.adopt.result refl c.requires.pulled 1 c.requires.second (λ pull is. inr (apart pull is, refl)) c.adopt.ensures.changed
+    c.requires.uncopied c.adopt.ensures.copied c.adopt.ensures.called

@@ -2,7 +2,7 @@ use Rattle.std.proofs.Common.{◌≡◌, ◌∙◌, true, sym, ap, subst}
 use Rattle.std.specs.Prelude.{IsSome}
 use Rattle.bep_machine.specs.Replica.{Replica, pull_at, without_pull}
 use Rattle.bep_machine.specs.Pull.{IsStillWanted}
-use Rattle.bep_folder.specs.Finish.{IfPulled}
+use Rattle.bep_folder.specs.inner.Finish.{IfPulled}
 use Rattle.bep_folder.specs.Held.{Held}
 use Rattle.bep_folder.specs.Calls.{CallsInFinish}
 use Rattle.bep_folder.proofs.FinishFacts.{ends_dropped, ends_wanted}

@@ -1,7 +1,7 @@
 use Rattle.std.proofs.Common.{rules, subst}
 use Rattle.std.specs.Option.{option_copied}
 use Rattle.bep_folder.specs.Held.{Held}
-use Rattle.bep_folder.specs.Revert.{GivesUp}
+use Rattle.bep_folder.specs.inner.Reverting.{GivesUp}
 use Rattle.bep_folder.proofs.HeldFacts.{held_of}
 use Rattle.bep_folder.proofs.RevertFacts.{IsLeft, IsReverted, Reverting, given_up}
 use Rattle.bep_folder.proofs.replica.Replica.revert_one.Given.{Over}

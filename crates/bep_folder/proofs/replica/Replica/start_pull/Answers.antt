@@ -4,7 +4,7 @@ use Rattle.bep_machine.specs.Pull.{StartPullRow, new_pull}
 use Rattle.bep_machine.specs.Replica.{Pull, with_pull}
 use Rattle.bep_folder.specs.Held.{Held}
 use Rattle.bep_folder.specs.Makes.{Makes}
-use Rattle.bep_folder.specs.StartPull.{MayPull}
+use Rattle.bep_folder.specs.inner.Start.{MayPull}
 use Rattle.bep_folder.specs.Views.{unchanged}
 use Rattle.bep_folder.proofs.FinishFacts.{makes_from}
 use Rattle.bep_folder.proofs.StartPullFacts.{begins, unrefused}

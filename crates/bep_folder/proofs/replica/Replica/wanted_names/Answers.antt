@@ -4,7 +4,7 @@ use Rattle.std.proofs.lemmas.List.{take_all}
 use Rattle.bep_facts.specs.Places.{done_with}
 use Rattle.bep_model.specs.Tables.{Device}
 use Rattle.bep_folder.specs.Held.{Held}
-use Rattle.bep_folder.specs.Wanted.{AddsWanted}
+use Rattle.bep_folder.specs.inner.Wanted.{AddsWanted}
 use Rattle.bep_folder.proofs.WantedFacts.{IsViewedAmong, adds_next_view, exactly_wanted}
 use Rattle.bep_folder.proofs.replica.Replica.wanted_names.Goals as goal
 

@@ -1,6 +1,6 @@
 use Rattle.std.proofs.Common.{take}
 use Rattle.std.specs.FinMap.{empty}
-use Rattle.bep_folder.specs.Wanted.{AddsWanted}
+use Rattle.bep_folder.specs.inner.Wanted.{AddsWanted}
 use Rattle.bep_folder.proofs.WantedFacts.{IsViewedAmong}
 use Rattle.bep_folder.proofs.replica.Replica.wanted_names.Given as goal
 

@@ -6,7 +6,7 @@ use Rattle.bep_index.specs.Listing.{Listing}
 use Rattle.bep_index.specs.Batch.{with_all}
 use Rattle.bep_index.specs.Order.{count_up_to}
 use Rattle.bep_index.specs.After.{IsAfter}
-use Rattle.bep_index.proofs.AfterFacts.{IsAfter-place, IsBatch-run}
+use Rattle.bep_index.proofs.AfterFacts.{IsAfter-place, IsBatch-stretch}
 use Rattle.bep_index.proofs.index.Index.after.Goals as goal
 
 -- what is found is what is after the sequence
@@ -22,5 +22,5 @@ returns-clause-found c =
 pub returns-clause-batch : goal.returns-clause-batch
 returns-clause-batch c =
     IfOk-weaker c.after.result _ _
-    (λ found same few. let after = is_after c found.items same in let most = after.at_most in IsBatch-run _ c.args.sequence found.items after.run (omega arith))
+    (λ found same few. let after = is_after c found.items same in let most = after.at_most in IsBatch-stretch _ c.args.sequence found.items after.run (omega arith))
     c.after.ensures

@@ -5,7 +5,7 @@ use Rattle.bep_index.specs.Listing.{Listing}
 use Rattle.bep_index.specs.Batch.{IsBatch, with_all}
 use Rattle.bep_index.specs.Order.{in_order, count_up_to}
 use Rattle.bep_index.specs.After.{IsAfter}
-use Rattle.bep_index.proofs.AfterFacts.{IsAfter-place, IsBatch-run}
+use Rattle.bep_index.proofs.AfterFacts.{IsAfter-place, IsBatch-stretch}
 use Rattle.bep_index.proofs.OrderFacts.{in_order-with_all}
 use Rattle.bep_index.proofs.PlaceFacts.{len-records}
 use Rattle.bep_index.proofs.index.Index.place_above.Goals as goal
@@ -32,7 +32,7 @@ returns-clause-after c =
 pub returns-clause-batch : goal.returns-clause-batch
 returns-clause-batch c limit few =
     subst (λ (index : Listing). IsBatch (from_place c (in_order index.records) limit)) c.self.view_is
-    (let after = is_after c limit in let most = after.at_most in IsBatch-run _ c.args.sequence _ after.run (omega arith))
+    (let after = is_after c limit in let most = after.at_most in IsBatch-stretch _ c.args.sequence _ after.run (omega arith))
 
 pub returns-clause-small : goal.returns-clause-small
 returns-clause-small c =

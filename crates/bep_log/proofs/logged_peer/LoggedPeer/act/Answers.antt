@@ -1,6 +1,6 @@
 use Rattle.std.proofs.Common.{subst}
 use Rattle.bep_log.specs.Acts.{LogsIn}
-use Rattle.bep_log.specs.Local.{copies, does_of, step_of}
+use Rattle.bep_log.specs.inner.Local.{copies, does_of, step_of}
 use Rattle.bep_log.specs.LoggedPeer.{LoggedMember}
 use Rattle.bep_log.proofs.Acted.{act_logs, act_replayed}
 use Rattle.bep_log.proofs.LocalFacts.{AreTold}

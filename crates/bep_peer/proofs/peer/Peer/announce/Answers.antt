@@ -3,7 +3,7 @@ use Rattle.std.proofs.lemmas.Result.{err_from_is_err_and}
 use Rattle.std.specs.FinMap as map
 use Rattle.bep_machine.specs.Exchange.{AnnounceRow, IsNamed}
 use Rattle.bep_machine.specs.Peer.{Session}
-use Rattle.bep_peer.specs.InSession.{with_sent}
+use Rattle.bep_peer.specs.inner.InSession.{with_sent}
 use Rattle.bep_peer.specs.Lent.{NamesFolder}
 use Rattle.bep_peer.specs.Member.{Member}
 use Rattle.bep_peer.specs.declared.error.PeerError.{PeerError}

@@ -2,7 +2,7 @@ use Rattle.std.proofs.Common.{rules, ◌≡◌, true, false, List, subst}
 use Rattle.bep_record.specs.declared.entry.Entry.{Entry}
 use Rattle.bep_index.specs.View.{replaced}
 use Rattle.bep_peer.specs.Member.{Member, tables_of}
-use Rattle.bep_peer.specs.Viewing.{TakesInView}
+use Rattle.bep_peer.specs.inner.Index.{TakesInView}
 use Rattle.bep_peer.proofs.Unrefused.{index_lost, index_unrefused}
 use Rattle.bep_peer.proofs.ViewTaken.{changes_one, member_kept, member_remains, same_on_error, sends_none, index_taken, index_full}
 use Rattle.bep_peer.proofs.peer.Peer.take_index.Goals as goal

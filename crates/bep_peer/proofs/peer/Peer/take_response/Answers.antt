@@ -2,8 +2,8 @@ use Rattle.std.proofs.Common.{◌≡◌, ◌∙◌, Some, Ok, ap, sym, subst, re
 use Rattle.bep_machine.specs.Exchange.{ResponseRow}
 use Rattle.bep_machine.specs.Peer.{Session}
 use Rattle.bep_machine.specs.Replica.{ByDevice}
-use Rattle.bep_peer.specs.declared.effect.Effect.TheVariants.{Taken}
-use Rattle.bep_peer.specs.Effect.{Takes}
+use Rattle.bep_peer.specs.declared.taking.effect.Effect.TheVariants.{Taken}
+use Rattle.bep_peer.specs.inner.Effect.{Takes}
 use Rattle.bep_peer.specs.Member.{Member, IsMember, tables_of}
 use Rattle.bep_peer.proofs.MemberFacts.{member_of}
 use Rattle.bep_peer.proofs.ResponseFacts.{brought_member, brought_remains, response_taken, unchanged_member, unchanged_peer, unchanged_remains}

@@ -1,0 +1,5 @@
+-- What only private contracts say: no public contract rests on it.
+pub mod Adding
+pub mod Distinct
+pub mod Rows
+pub mod Says

@@ -1,6 +1,0 @@
-use Rattle.std.proofs.Common.{◌≡◌, [], take}
-use Rattle.bep_folder.specs.Known.{viewed_among}
-use Rattle.bep_folder.proofs.chosen.any_viewed.Given as goal
-
-abbrev pub invariant-loop-other : goal.invariant-loop-other
-invariant-loop-other l = viewed_among l.views l.name (take l.other-index l.others) ≡ []

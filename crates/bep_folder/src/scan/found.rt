@@ -1,0 +1,132 @@
+//! The record that a scan makes of what it found.
+ghost use Rattle.std.specs.Prelude.{◌≡◌, ◌⊎◌, ◌↔◌, true, IfOk, IfErr, IsErrOf};
+ghost use Rattle.std.specs.Option.{option_copied};
+ghost use Rattle.bep_record.specs.Node.{IsClean};
+ghost use Rattle.bep_record.specs.Vector.{counter_of, greatest_counter};
+ghost use Rattle.bep_machine.specs.Local.{Finds, IsCrowded, IsRaised, block_size_of_kind, blocks_of_kind, record_of_node};
+ghost use Rattle.bep_folder.specs.inner.Found.{IsFound, IsCounterFull, IsVersionFull};
+ghost use Rattle.bep_folder.specs.declared.error.FolderError.TheVariants.{CounterFull, TooManyCounters};
+
+use crate::beside::version_of;
+use crate::deletion::deletion;
+use crate::record_of::record_of;
+use crate::{FolderError, ScanResult};
+use bep_blocks::plain_blocks_match;
+use bep_record::{
+    BASE_BLOCK_SIZE, Block, DeviceId, Entry, FolderKind, Items, Kind, Name, Node, Record,
+    RecordError, Vector,
+};
+use std::alloc::Global;
+
+/// The record of what was found, beside the own record of the name, which it will replace. Refuses `CounterFull` and
+/// `TooManyCounters` exactly where the version has to be raised and can't be. Takes no memory.
+pub(crate) fn found(
+    alloc: Global,
+    kind: FolderKind,
+    device: DeviceId,
+    scan: ScanResult,
+    own: Option<&Record>,
+) -> Result<Record, FolderError>
+    requires { ¬ IsClean scan.node (option_copied own) }
+    ensures found { IfOk result (λ entry. IsFound kind device scan.name scan.node (option_copied own.entry) entry) }
+
+    ensures counter_full { IsErrOf result CounterFull ↔ IsCounterFull kind device (option_copied own.entry) }
+    ensures version_full { IsErrOf result TooManyCounters ↔ IsVersionFull kind device (option_copied own.entry) }
+    ensures only { IfErr result (λ e. (e ≡ CounterFull) ⊎ (e ≡ TooManyCounters)) }
+{
+    let version = version_of(own);
+    match kind {
+        FolderKind::ReceiveOnly => Ok(local_only(found_with(alloc, device, scan, own, version))),
+        FolderKind::SendReceive | FolderKind::SendOnly => {
+            let raised = raised(version, device)?;
+            Ok(found_with(alloc, device, scan, own, raised))
+        }
+    }
+}
+
+// The version with the device's counter raised.
+fn raised(mut version: Vector, device: DeviceId) -> Result<Vector, FolderError>
+    ensures raised { IfOk result (λ raised. IsRaised device version raised) }
+    ensures counter_full { IsErrOf result CounterFull ↔ (counter_of version device ≡ greatest_counter) }
+    ensures version_full { IsErrOf result TooManyCounters ↔ IsCrowded device version }
+    ensures only { IfErr result (λ e. (e ≡ CounterFull) ⊎ (e ≡ TooManyCounters)) }
+{
+    match version.bump(device) {
+        Ok(()) => {
+            let _counters = version.counters();
+            Ok(version)
+        }
+        Err(RecordError::CounterFull) => Err(FolderError::CounterFull),
+        Err(RecordError::TooManyCounters) => Err(FolderError::TooManyCounters),
+        Err(_) => unreachable!(),
+    }
+}
+
+// The record of what was found, under this version. Takes no memory.
+fn found_with(
+    alloc: Global,
+    device: DeviceId,
+    scan: ScanResult,
+    own: Option<&Record>,
+    version: Vector,
+) -> Record
+    requires { ¬ IsClean scan.node (option_copied own) }
+    ensures { Finds device scan.name scan.node (option_copied own.entry) version result }
+{
+    let (name, node, blocks) = scan.into_parts();
+    match (node, own) {
+        (Some(node), _) => of_node(device, name, node, blocks, version),
+        (None, Some(own)) => deletion(alloc, device, name, own, version),
+        (None, None) => unreachable!(),
+    }
+}
+
+// The record of a node with these blocks.
+fn of_node(
+    device: DeviceId,
+    name: Name,
+    node: Node,
+    blocks: Items<Block>,
+    version: Vector,
+) -> Record
+    requires { blocks ≡ blocks_of_kind node.kind node.bytes }
+    ensures { result ≡ record_of_node device name node version }
+{
+    plain_blocks_match();
+    let parts = node.into_parts();
+    record_of(Entry {
+        name,
+        kind: parts.kind,
+        size: parts.bytes.as_slice().len() as u64,
+        modified_s: parts.modified_s,
+        modified_ns: parts.modified_ns,
+        modified_by: device,
+        deleted: false,
+        invalid: false,
+        no_permissions: true,
+        version,
+        sequence: 0,
+        block_size: block_size_of(parts.kind),
+        blocks,
+        target: parts.target,
+    })
+}
+
+// The number of bytes in each block but the last.
+fn block_size_of(kind: Kind) -> u32
+    ensures { result ≡ block_size_of_kind kind }
+{
+    match kind {
+        Kind::File => BASE_BLOCK_SIZE,
+        Kind::Directory | Kind::Symlink => 0,
+    }
+}
+
+// The record with the mark of a local change in a receive-only folder.
+fn local_only(found: Record) -> Record
+    ensures { result ≡ record found { invalid = true } }
+{
+    let mut entry = found.into_entry();
+    entry.invalid = true;
+    record_of(entry)
+}

@@ -1,0 +1,91 @@
+//! Bytes that are written in hexadecimal digits.
+ghost use Rattle.std.specs.Prelude.{◌≡◌, ◌*◌, ◌<◌, ℕ, length, Some, None, IfOk, IfSome, option_map, if◌then◌else◌};
+ghost use Rattle.std.specs.Result.{result_ok};
+ghost use Rattle.hex.specs.Hex.{decode_of, decode_pairs, decode_sized, hex_digit_value, pair_value};
+
+use std::alloc::{AllocError, Global};
+
+// The value of each byte as a digit of either case; 255 where it is none. The crate `hex` decides by ranges, which takes
+// several times as long, since a processor can't foresee whether a digit is a letter.
+const VALUES: [u8; 256] = [
+    255, 255, 255, 255, 255, 255, 255, 255, 255, 255, 255, 255, 255, 255, 255, 255, 255, 255, 255,
+    255, 255, 255, 255, 255, 255, 255, 255, 255, 255, 255, 255, 255, 255, 255, 255, 255, 255, 255,
+    255, 255, 255, 255, 255, 255, 255, 255, 255, 255, 0, 1, 2, 3, 4, 5, 6, 7, 8, 9, 255, 255, 255,
+    255, 255, 255, 255, 10, 11, 12, 13, 14, 15, 255, 255, 255, 255, 255, 255, 255, 255, 255, 255,
+    255, 255, 255, 255, 255, 255, 255, 255, 255, 255, 255, 255, 255, 255, 255, 255, 10, 11, 12, 13,
+    14, 15, 255, 255, 255, 255, 255, 255, 255, 255, 255, 255, 255, 255, 255, 255, 255, 255, 255,
+    255, 255, 255, 255, 255, 255, 255, 255, 255, 255, 255, 255, 255, 255, 255, 255, 255, 255, 255,
+    255, 255, 255, 255, 255, 255, 255, 255, 255, 255, 255, 255, 255, 255, 255, 255, 255, 255, 255,
+    255, 255, 255, 255, 255, 255, 255, 255, 255, 255, 255, 255, 255, 255, 255, 255, 255, 255, 255,
+    255, 255, 255, 255, 255, 255, 255, 255, 255, 255, 255, 255, 255, 255, 255, 255, 255, 255, 255,
+    255, 255, 255, 255, 255, 255, 255, 255, 255, 255, 255, 255, 255, 255, 255, 255, 255, 255, 255,
+    255, 255, 255, 255, 255, 255, 255, 255, 255, 255, 255, 255, 255, 255, 255, 255, 255, 255, 255,
+    255, 255, 255, 255, 255, 255, 255, 255, 255, 255, 255, 255, 255, 255, 255, 255, 255, 255, 255,
+    255, 255, 255,
+];
+
+/// The bytes of these digits, of either case. None where their number is odd, or one of them is no digit.
+pub(crate) fn bytes_of(alloc: Global, digits: &[u8]) -> Result<Option<Vec<u8>>, AllocError>
+    ensures { IfOk result (λ found. option_map (λ bytes. bytes.items) found ≡ result_ok (decode_of digits.now)) }
+{
+    if digits.len() % 2 != 0 {
+        return Ok(None);
+    }
+    let mut bytes = vec![in alloc; 0u8; digits.len() / 2]?;
+    if fill(bytes.as_mut_slice(), digits) {
+        Ok(Some(bytes))
+    } else {
+        Ok(None)
+    }
+}
+
+/// The hash of 64 digits, of either case. None where there are more or fewer, or one of them is no digit.
+pub(crate) fn hash_of(digits: &[u8]) -> Option<[u8; 32]>
+    ensures { result ≡ result_ok (decode_sized digits.now 32) }
+{
+    if digits.len() != 64 {
+        return None;
+    }
+    let mut hash = [0u8; 32];
+    if fill(&mut hash, digits) {
+        Some(hash)
+    } else {
+        None
+    }
+}
+
+// Fills the slice with the bytes of these digits. Whether all are digits; else the slice holds anything.
+fn fill(out: &mut [u8], digits: &[u8]) -> bool
+    requires { length digits.now ≡ 2 * length out.old }
+    ensures { (if result then Some out.new else None) ≡ result_ok (decode_pairs 0 digits.now) }
+{
+    'bytes: for i in 0..out.len() {
+        match pair(digits[2 * i], digits[2 * i + 1]) {
+            Some(byte) => out[i] = byte,
+            None => return false,
+        }
+    }
+    true
+}
+
+// The byte of two digits.
+fn pair(high: u8, low: u8) -> Option<u8>
+    ensures { (place : ℕ) → result ≡ result_ok (pair_value high low place) }
+{
+    match (value(high), value(low)) {
+        (Some(high), Some(low)) => Some(high * 16 + low),
+        _ => None,
+    }
+}
+
+// The value of a digit.
+fn value(digit: u8) -> Option<u8>
+    ensures value { result ≡ hex_digit_value digit }
+    ensures small { IfSome result (λ v. v < 16) }
+{
+    let value = VALUES[usize::from(digit)];
+    if value > 15 {
+        return None;
+    }
+    Some(value)
+}

@@ -1,0 +1,10 @@
+use Rattle.std.proofs.Common.{◌≡◌, ◌++◌, length, map}
+use Rattle.std.specs.FinMap.{keys}
+use Rattle.bep_peer.proofs.within.copy.names_of.Given as goal
+
+-- the names so far with those that are left are all of them
+abbrev pub invariant-loop-folder : goal.invariant-loop-folder
+invariant-loop-folder g l = l.names.items ++ map (λ e. e.0) l.folder-iterator ≡ keys l.folders
+
+abbrev pub decreases-loop-folder : goal.decreases-loop-folder
+decreases-loop-folder g l = length l.folder-iterator

@@ -1,0 +1,67 @@
+"""What stands in the wrong place of specs/: `inner/` has what private contracts alone name. No public contract, no other
+definition and no other crate names anything of it; and what none of these names stands there."""
+
+import re
+
+from reading import WORD, is_used
+from rust import items, program_names, public_names
+
+USE = re.compile(r"^(\s*)(?:ghost )?use Rattle\.(\w+)\.specs\.([\w.]+)(?:\.\{([^}]*)\}| as (\w+));?$", re.MULTILINE)
+DEFINES = re.compile(r"^(?:abbrev |unfoldable |opaque )*pub (?!mod |use )", re.MULTILINE)
+INNER = "inner."
+
+
+def uses(text):
+    """The files of specs/ that a file names: of each its crate, its module, the names, and whether a block alone has them."""
+    for indent, crate, module, names, alias in USE.findall(text):
+        yield crate, module, [alias] if alias else [name.split(" as ")[-1].strip() for name in names.split(",")], bool(indent)
+
+
+def clause_words(text, names):
+    """The words in the clauses of a source file's public calls; `names` are those that the crate gives on."""
+    lines, words = text.splitlines(), set()
+    for item in items(text):
+        if item.kind != "fn" or not item.is_public or (item.owner or item.name) not in names:
+            continue
+        start = next(number for number, line in enumerate(lines) if re.search(rf"\bfn {item.name}\b", line))
+        for line in lines[start:]:
+            if re.match(r"\s*(requires|ensures)\b", line):
+                words |= set(WORD.findall(line))
+            elif re.match(r"\s*\{\}?$", line):
+                break
+    return words
+
+
+def named(crate):
+    """The modules of specs/ that a crate's public contracts and its types name."""
+    folder = crate / "src"
+    names = public_names(folder) or program_names(folder)
+    for file in folder.rglob("*.rt"):
+        text = file.read_text()
+        words = clause_words(text, names)
+        for of, module, imported, is_of_block in uses(text):
+            if of == crate.name and (is_of_block or any(is_used(name, words) for name in imported)):
+                yield of, module
+
+
+def public_modules(crates):
+    """The modules of all crates' specs/ that a public contract, another crate, or a definition outside inner/ names."""
+    public = set()
+    for crate in crates:
+        public.update(named(crate))
+        for file in [*crate.rglob("*.rt"), *crate.rglob("*.antt")]:
+            is_open = file.is_relative_to(crate / "specs") and file.parent.name != "inner"
+            public.update((of, module) for of, module, *_ in uses(file.read_text()) if of != crate.name or is_open)
+    return public
+
+
+def misplaced(crates):
+    """The files of specs/ that stand in the wrong place, each with its crate and why."""
+    public = public_modules(crates)
+    for crate in crates:
+        for file in sorted((crate / "specs").rglob("*.antt")):
+            module = file.relative_to(crate / "specs").with_suffix("").as_posix().replace("/", ".")
+            if module.startswith(INNER) and (crate.name, module) in public:
+                yield crate.name, module, "it is inner, and more than private contracts name it"
+            if not module.startswith(INNER) and (crate.name, module) not in public and DEFINES.search(file.read_text()):
+                yield crate.name, module, "private contracts alone name it, and it isn't inner"
