@@ -1,3 +1,4 @@
 pub mod PlainFacts
 pub mod MatchingFacts
 pub mod HashesFacts
+mod WorkersFacts

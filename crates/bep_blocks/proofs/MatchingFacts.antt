@@ -5,9 +5,9 @@ use Rattle.std.proofs.lemmas.List.{drop-drop, drop_all, length-drop, length-take
 use Rattle.std.proofs.lemmas.Nat.{div-add-mod', mod_below}
 use Rattle.bep_record.specs.Block.{block_count, cut_at, CutWhole}
 use Rattle.bep_record.specs.declared.block.Block.{Block}
-use Rattle.bep_blocks.specs.Plain.{block_of, piece_at, plain_block, plain_blocks}
+use Rattle.bep_blocks.specs.Plain.{block_of, blocks_from, piece_at, plain_block, plain_blocks}
 use Rattle.bep_blocks.specs.Matching.{BeginsRest, Matches, MatchesRest}
-use Rattle.bep_blocks.proofs.PlainFacts.{blocks_from, length-piece_at, plain_blocks-nil}
+use Rattle.bep_blocks.proofs.PlainFacts.{length-piece_at, plain_blocks-nil}
 
 -- ---- walking along the blocks
 

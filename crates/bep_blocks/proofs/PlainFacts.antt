@@ -1,23 +1,19 @@
 -- Plain block lists: one block more, no bytes, and how a plain list cuts its file.
-use Rattle.std.proofs.Common.{◌≡◌, ℕ, zero, suc, ◌+◌, ◌-◌, ◌*◌, min, List, [], ◌∷◌, ◌++◌, length, take, drop, map, refl, ap, ◌∙◌, arith}
+use Rattle.std.proofs.Common.{◌≡◌, ℕ, zero, suc, ◌+◌, ◌-◌, ◌*◌, min, List, [], ◌∷◌, ◌++◌, length, take, drop, map, Result, Ok, Err, IfOk, refl, ap, ◌∙◌, arith}
 use Rattle.std.specs.List.{range_with_len}
 use Rattle.std.proofs.lemmas.List.{drop_all, length-drop, length-take, take_all}
 use Rattle.std.proofs.lemmas.List.FromFn.{map-range_with_len_more}
 use Rattle.std.proofs.Math.Nat.{zero-div}
 use Rattle.bep_record.specs.Block.{block_count, cut_at, CutWhole}
 use Rattle.bep_record.specs.declared.block.Block.{Block}
-use Rattle.bep_blocks.specs.Plain.{block_of, piece_at, plain_block, plain_blocks}
-
--- the plain blocks of n pieces, the first of which is piece k
-abbrev pub blocks_from : ℕ → List ℕ → ℕ → ℕ → List Block
-blocks_from block_size bytes k n = map (λ j. plain_block block_size bytes j) (range_with_len k n)
+use Rattle.bep_blocks.specs.Plain.{block_of, blocks_from, piece_at, plain_block, plain_blocks}
 
 -- pushing the next block
-pub plain-more : (block_size : ℕ) (bytes : List ℕ) (k : ℕ) (list : List Block) (block : Block) →
-    list ≡ blocks_from block_size bytes 0 k → block ≡ plain_block block_size bytes k →
-    list ++ block ∷ [] ≡ blocks_from block_size bytes 0 (k + 1)
-plain-more block_size bytes k list block before here =
-    let more = map-range_with_len_more (λ j. plain_block block_size bytes j) 0 k k (omega arith) in
+pub plain-more : (block_size : ℕ) (bytes : List ℕ) (first n k : ℕ) (list : List Block) (block : Block) → first + n ≡ k →
+    list ≡ blocks_from block_size bytes first n → block ≡ plain_block block_size bytes k →
+    list ++ block ∷ [] ≡ blocks_from block_size bytes first (n + 1)
+plain-more block_size bytes first n k list block next before here =
+    let more = map-range_with_len_more (λ j. plain_block block_size bytes j) first n k next in
     cc
 
 plain_block-nil : (block_size : ℕ) → plain_block block_size [] 0 ≡ block_of 0 []
@@ -48,3 +44,16 @@ cuts_from block_size bytes k (suc n) =
 pub CutWhole-plain_blocks : (block_size : ℕ) (bytes : List ℕ) → CutWhole block_size (length bytes) (plain_blocks block_size bytes)
 unfolding plain_blocks
 CutWhole-plain_blocks block_size bytes = cuts_from block_size bytes 0 (block_count block_size (length bytes))
+
+-- the blocks of all pieces are the plain list
+pub is-plain : (size block_size n : ℕ) (bytes : List ℕ) (list : List Block) → block_size ≡ size → n ≡ block_count size (length bytes) →
+    list ≡ blocks_from block_size bytes 0 n → list ≡ plain_blocks size bytes
+unfolding plain_blocks
+is-plain size block_size n bytes list same all is =
+    is ∙ ap (λ m. blocks_from block_size bytes 0 m) all ∙ ap (λ s. blocks_from s bytes 0 (block_count size (length bytes))) same
+
+pub IfOk-plain : {X E : Type 0} (made : Result X E) (items : X → List Block) (size block_size n : ℕ) (bytes : List ℕ) →
+    block_size ≡ size → n ≡ block_count size (length bytes) →
+    IfOk made (λ list. items list ≡ blocks_from block_size bytes 0 (n - 0)) → IfOk made (λ list. items list ≡ plain_blocks size bytes)
+IfOk-plain (Ok list) items size block_size n bytes same all is = is-plain size block_size (n - 0) bytes (items list) same (omega (arith, all)) is
+IfOk-plain (Err e) items size block_size n bytes same all is = is

@@ -25,3 +25,7 @@ plain_block block_size bytes k = block_of (k * block_size) (piece_at block_size 
 unfoldable pub plain_blocks : ℕ → List ℕ → List Block
 plain_blocks block_size bytes =
     map (λ k. plain_block block_size bytes k) (range_with_len 0 (block_count block_size (length bytes)))
+
+-- the plain blocks of n pieces, the first of which is piece k
+abbrev pub blocks_from : ℕ → List ℕ → ℕ → ℕ → List Block
+blocks_from block_size bytes k n = map (λ j. plain_block block_size bytes j) (range_with_len k n)

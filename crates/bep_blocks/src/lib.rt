@@ -3,17 +3,23 @@
 //! ```rust
 //! let list = blocks(alloc, bytes, BlockSize::base())?;
 //! let same = matches(bytes, list.as_slice()); // true
+//!
+//! let by_four = blocks_by(&rt, alloc, &OpenGate, bytes, BlockSize::base(), 4)?; // the same list
 //! ```
 #![tactic(auto)]
 
 mod error;
+mod gate;
 mod hashes;
 mod laws;
 mod matching;
 mod plain;
+mod workers;
 
 pub use error::BlocksError;
+pub use gate::{Gate, OpenGate, Place};
 pub use hashes::blocks_of_hashes;
 pub use laws::{hashes_tell_blocks, plain_blocks_match};
 pub use matching::matches;
 pub use plain::blocks;
+pub use workers::{MAX_WORKERS, blocks_by, is_worker_count};

@@ -1,7 +1,7 @@
 //! The block list of bytes, made piece by piece.
-ghost use Rattle.std.specs.Prelude.{◌≡◌, ◌≢◌, ◌*◌, ◌+◌, ◌<◌, ◌≤◌, ◌↔◌, ◌^◌, length, IfOk, IfErr, IsErrOf};
+ghost use Rattle.std.specs.Prelude.{◌≡◌, ◌≢◌, ◌*◌, ◌-◌, ◌+◌, ◌<◌, ◌≤◌, ◌↔◌, ◌^◌, length, IfOk, IfErr, IsErrOf};
 ghost use Rattle.bep_record.specs.Block.{block_count};
-ghost use Rattle.bep_blocks.specs.Plain.{block_of, hash_of, piece_at, plain_block, plain_blocks};
+ghost use Rattle.bep_blocks.specs.Plain.{block_of, blocks_from, hash_of, piece_at, plain_block, plain_blocks};
 
 use crate::error::BlocksError;
 use bep_record::{Block, BlockSize, Items, MAX_FILE_SIZE};
@@ -38,8 +38,24 @@ fn cut(alloc: Global, bytes: &[u8], size: BlockSize) -> Result<Vec<Block>, Alloc
 {
     let block_size = bytes_of(size);
     let count = size.block_count(bytes.len() as u64) as usize;
-    let mut list = Vec::with_capacity(alloc, count)?;
-    for k in 0..count {
+    cut_run(alloc, bytes, block_size, 0, count)
+}
+
+/// The blocks of pieces `first` to `next`, without the last.
+pub(crate) fn cut_run(
+    alloc: Global,
+    bytes: &[u8],
+    block_size: usize,
+    first: usize,
+    next: usize,
+) -> Result<Vec<Block>, AllocError>
+    requires small { block_size < 2 ^ 32 }
+    requires order { first ≤ next }
+    requires within { next ≤ block_count block_size (length bytes.now) }
+    ensures { IfOk result (λ list. list.items ≡ blocks_from block_size bytes.now first (next - first)) }
+{
+    let mut list = Vec::with_capacity(alloc, next - first)?;
+    for k in first..next {
         list.push(block_at(bytes, block_size, k))?;
     }
     Ok(list)

@@ -1,16 +1,18 @@
 //! What a scan found at a name, with its blocks.
-ghost use Rattle.std.specs.Prelude.{◌≡◌, IfOk, IfErr};
+ghost use Rattle.std.specs.Prelude.{◌≡◌, ◌≢◌, ◌↔◌, IfOk, IfErr, IsErrOf};
 ghost use Rattle.std.specs.Option.{option_copied};
 ghost use Rattle.bep_record.specs.Block.{base_block_size};
 ghost use Rattle.bep_blocks.specs.Plain.{plain_blocks};
+ghost use Rattle.bep_blocks.specs.Workers.{IsWorkerCount};
 ghost use Rattle.bep_folder.specs.ScanResult.{blocks_found};
 ghost use Rattle.bep_folder.specs.declared.error.FolderError.TheVariants.{Memory};
 
 use crate::FolderError;
-use bep_blocks::{BlocksError, blocks};
+use bep_blocks::{BlocksError, Gate, blocks, blocks_by, is_worker_count};
 use bep_record::{Block, BlockSize, Items, Kind, Name, Node};
 use std::alloc::Global;
 use std::marker::Model;
+use std::thread::Threads;
 
 /// What a scan found at a name: the node, if there was one, with the block list of its bytes.
 ///
@@ -54,6 +56,28 @@ impl ScanResult {
         Ok(ScanResult { name, node, blocks })
     }
 
+    /// What was found, its bytes hashed by this many workers, as `blocks_by` does, in threads of their own where these can
+    /// be made. Its refusals are that call's: `WorkersBad` where there are no workers or more than 8, whatever was found, and
+    /// else only want of memory. All workers have ended when the call answers.
+    pub fn hash<R: Threads + Sync, G: Gate + Sync>(
+        rt: &R,
+        alloc: Global,
+        gate: &G,
+        name: Name,
+        node: Option<Node>,
+        workers: u32,
+    ) -> Result<Self, BlocksError>
+        ensures found { IfOk result (λ scan. scan ≡ record { name = name; node = node }) }
+        ensures workers_bad { IsErrOf result BlocksError.WorkersBad ↔ (¬ IsWorkerCount workers) }
+        ensures or_memory { IfErr result (λ e. e ≢ BlocksError.WorkersBad → e ≡ BlocksError.Memory) }
+    {
+        if !is_worker_count(workers) {
+            return Err(BlocksError::WorkersBad);
+        }
+        let blocks = hashed(rt, alloc, gate, node.as_ref(), workers)?;
+        Ok(ScanResult { name, node, blocks })
+    }
+
     /// The name.
     pub fn name(&self) -> &Name
         ensures { result.now ≡ self.now.name }
@@ -94,6 +118,30 @@ fn blocks_of(alloc: Global, node: Option<&Node>) -> Result<Items<Block>, FolderE
     };
     match node.parts().kind {
         Kind::File => file_blocks(alloc, node),
+        Kind::Directory | Kind::Symlink => Ok(Items::new(Vec::new(alloc))),
+    }
+}
+
+// The blocks of what was found, by so many workers.
+fn hashed<R: Threads + Sync, G: Gate + Sync>(
+    rt: &R,
+    alloc: Global,
+    gate: &G,
+    node: Option<&Node>,
+    workers: u32,
+) -> Result<Items<Block>, BlocksError>
+    requires { IsWorkerCount workers }
+    ensures blocks { IfOk result (λ list. list ≡ blocks_found (option_copied node.entry)) }
+    ensures memory { IfErr result (λ e. e ≡ BlocksError.Memory) }
+{
+    let Some(node) = node else {
+        return Ok(Items::new(Vec::new(alloc)));
+    };
+    match node.parts().kind {
+        Kind::File => {
+            let bytes = node.parts().bytes.as_slice();
+            blocks_by(rt, alloc, gate, bytes, BlockSize::base(), workers)
+        }
         Kind::Directory | Kind::Symlink => Ok(Items::new(Vec::new(alloc))),
     }
 }

@@ -6,3 +6,4 @@ mod links;
 mod made;
 mod record;
 mod vector;
+mod workers;

@@ -1,0 +1,105 @@
+//! What a user does at a device, and what happens to links: each under its guards, and under a ticket of its own.
+//!
+//! Each call may wait. It refuses `NotShared` where the device, or the link, isn't there, and then what the call of `bep_log`
+//! refuses that it makes.
+
+use crate::Shared;
+use bep_log::{LogError, LoggedLink};
+use bep_machine::Moved;
+use bep_record::{DeviceId, FolderName, Name, Node};
+use bep_store::Store;
+use std::sync::{MutexGuard, Wait};
+
+impl<S: Store> Shared<S> {
+    /// Gives the name this node in the device's folder, as `LoggedPeer::edit` does.
+    pub fn edit<R: Wait>(
+        &self,
+        rt: &R,
+        device: DeviceId,
+        folder: &FolderName,
+        name: &Name,
+        node: &Node,
+    ) -> Result<Moved, LogError> {
+        let mut peer = self.device(device)?.peer.lock(rt);
+        peer.edit(self.draw(), folder, name, node)
+    }
+
+    /// Takes the name's node away in the device's folder, as `LoggedPeer::remove` does.
+    pub fn remove<R: Wait>(
+        &self,
+        rt: &R,
+        device: DeviceId,
+        folder: &FolderName,
+        name: &Name,
+    ) -> Result<Moved, LogError> {
+        let mut peer = self.device(device)?.peer.lock(rt);
+        peer.remove(self.draw(), folder, name)
+    }
+
+    /// Lets the device's own record win, as `LoggedPeer::override_one` does.
+    pub fn override_one<R: Wait>(
+        &self,
+        rt: &R,
+        device: DeviceId,
+        folder: &FolderName,
+        name: &Name,
+    ) -> Result<Moved, LogError> {
+        let mut peer = self.device(device)?.peer.lock(rt);
+        peer.override_one(self.draw(), folder, name)
+    }
+
+    /// Gives up the device's own change, as `LoggedPeer::revert_one` does.
+    pub fn revert_one<R: Wait>(
+        &self,
+        rt: &R,
+        device: DeviceId,
+        folder: &FolderName,
+        name: &Name,
+    ) -> Result<Moved, LogError> {
+        let mut peer = self.device(device)?.peer.lock(rt);
+        peer.revert_one(self.draw(), folder, name)
+    }
+
+    /// The link between the two devices, the smaller first, comes up.
+    pub fn connect<R: Wait>(
+        &self,
+        rt: &R,
+        lower: DeviceId,
+        upper: DeviceId,
+    ) -> Result<(), LogError> {
+        let mut link = self.link(lower, upper)?.link.lock(rt);
+        link.connect(self.draw())
+    }
+
+    /// The link between the two devices, the smaller first, goes down.
+    pub fn lose<R: Wait>(&self, rt: &R, lower: DeviceId, upper: DeviceId) -> Result<(), LogError> {
+        let mut link = self.link(lower, upper)?.link.lock(rt);
+        link.lose(self.draw())
+    }
+
+    /// The device starts again, and each of its links is lost, under one ticket and all of their guards. Where a part is
+    /// refused, for want of memory or of room in its log, those before it were made all the same.
+    pub fn restart<R: Wait>(&self, rt: &R, device: DeviceId) -> Result<(), LogError> {
+        let mut peer = self.device(device)?.peer.lock(rt);
+        let mut links = self.guards_of(rt, device)?;
+        let ticket = self.draw();
+        peer.restart(ticket)?;
+        for link in links.iter_mut() {
+            link.restart(ticket, device)?;
+        }
+        Ok(())
+    }
+
+    // The guards of the device's links, rising.
+    fn guards_of<R: Wait>(
+        &self,
+        rt: &R,
+        device: DeviceId,
+    ) -> Result<Vec<MutexGuard<'_, LoggedLink>>, LogError> {
+        let mut guards = Vec::with_capacity(self.alloc, self.links.len())?;
+        for joint in self.links.iter().filter(|joint| joint.is_of(device)) {
+            guards.push(joint.link.lock(rt))?;
+        }
+        Ok(guards)
+    }
+}

@@ -1,0 +1,25 @@
+//! A running cluster: a lock round each device and each link, the actions and turns that take them, and threads that make
+//! turns.
+//!
+//! What a call does under a lock is a call of `bep_log`, and what it decides is decided by functions that take no lock. No
+//! contract here says what happened under a lock: the logs do, and tests show it.
+//!
+//! ```rust
+//! let shared = Shared::new(alloc, cluster)?;
+//! shared.connect(&rt, one, two)?;
+//! run_workers(&rt, &shared, &OpenGate, 100)?; // each device scans and pulls, each end of a link exchanges, in threads
+//! ```
+#![tactic(auto)]
+
+mod actions;
+mod over;
+mod pulling;
+mod scanning;
+mod sessions;
+mod shared;
+mod starting;
+mod tally;
+mod workers;
+
+pub use shared::Shared;
+pub use workers::run_workers;

@@ -1,0 +1,90 @@
+//! A puller's turn.
+
+use crate::Shared;
+use crate::shared::Held;
+use crate::starting::has_no_pull;
+use crate::tally::tally;
+use bep_log::LogError;
+use bep_machine::Moved;
+use bep_map::NameMap;
+use bep_record::{DeviceId, FolderName, Name};
+use bep_store::Store;
+use std::sync::Wait;
+
+impl<S: Store> Shared<S> {
+    /// Takes each name that the device wants one step on, and answers how many actions answered Ok: a pull is begun where
+    /// there is none, the next block is asked for over each link, and the pull is ended if it can be. What is refused is
+    /// passed over. Refuses `NotShared` where the device isn't there; else only for want of memory, which ends the turn. May
+    /// wait.
+    pub fn puller_turn<R: Wait>(&self, rt: &R, device: DeviceId) -> Result<u64, LogError> {
+        let held = self.device(device)?;
+        let mut done = 0;
+        for folder in held.folders.as_slice() {
+            let names = self.wanted(rt, held, folder)?;
+            for (name, _) in names.iter() {
+                done = self.pull_on(rt, held, folder, name, done)?;
+            }
+        }
+        Ok(done)
+    }
+
+    // The names that the device wants in the folder.
+    fn wanted<R: Wait>(
+        &self,
+        rt: &R,
+        held: &Held<S>,
+        folder: &FolderName,
+    ) -> Result<NameMap<()>, LogError> {
+        let peer = held.peer.lock(rt);
+        match peer.peer().replica(folder) {
+            Some(replica) => Ok(replica.wanted_names()?),
+            None => Ok(NameMap::new(self.alloc)),
+        }
+    }
+
+    // Takes the name's pull a step on.
+    fn pull_on<R: Wait>(
+        &self,
+        rt: &R,
+        held: &Held<S>,
+        folder: &FolderName,
+        name: &Name,
+        before: u64,
+    ) -> Result<u64, LogError> {
+        let mut done = before;
+        if let Some(began) = self.begin_pull(rt, held, folder, name) {
+            done = tally(done, began)?;
+        }
+        for joint in self.links.iter().filter(|joint| joint.is_of(held.number)) {
+            done = tally(done, self.ask(rt, held, joint, folder, name))?;
+        }
+        tally(done, self.finish(rt, held, folder, name))
+    }
+
+    // Begins a pull of the name, if there is none.
+    fn begin_pull<R: Wait>(
+        &self,
+        rt: &R,
+        held: &Held<S>,
+        folder: &FolderName,
+        name: &Name,
+    ) -> Option<Result<Moved, LogError>> {
+        let mut peer = held.peer.lock(rt);
+        if !has_no_pull(peer.peer(), folder, name) {
+            return None;
+        }
+        Some(peer.pull(self.draw(), folder, name))
+    }
+
+    // Ends the name's pull, if it can be ended.
+    fn finish<R: Wait>(
+        &self,
+        rt: &R,
+        held: &Held<S>,
+        folder: &FolderName,
+        name: &Name,
+    ) -> Result<Moved, LogError> {
+        let mut peer = held.peer.lock(rt);
+        peer.finish(self.draw(), folder, name)
+    }
+}

@@ -1,0 +1,112 @@
+//! A scanner's turn.
+
+use crate::Shared;
+use crate::shared::Held;
+use crate::tally::{read_or_pass, tally};
+use bep_blocks::{BlocksError, Gate, Place};
+use bep_folder::ScanResult;
+use bep_log::LogError;
+use bep_machine::Moved;
+use bep_map::NameMap;
+use bep_record::{DeviceId, FolderName, Name, Node};
+use bep_store::Store;
+use std::sync::Wait;
+use std::thread::Threads;
+
+// How many workers hash what a scanner found.
+const WORKERS: u32 = 2;
+
+impl<S: Store> Shared<S> {
+    /// Scans each name of the device's stores and own records once, and answers how many scans were recorded, those among
+    /// them that found no change. What is found at a name is hashed under no lock, by two workers, and the gate passed at
+    /// `Hashed` before it is recorded. A name that is refused is passed over, and so is a folder whose store can't list its
+    /// names. Refuses `NotShared` where the device isn't there; else only for want of memory, which ends the turn. May wait.
+    pub fn scanner_turn<R: Threads + Wait + Sync, G: Gate + Sync>(
+        &self,
+        rt: &R,
+        device: DeviceId,
+        gate: &G,
+    ) -> Result<u64, LogError> {
+        let held = self.device(device)?;
+        let mut done = 0;
+        for folder in held.folders.as_slice() {
+            done = self.scan_folder(rt, gate, held, folder, done)?;
+        }
+        Ok(done)
+    }
+
+    // Scans the folder's names.
+    fn scan_folder<R: Threads + Wait + Sync, G: Gate + Sync>(
+        &self,
+        rt: &R,
+        gate: &G,
+        held: &Held<S>,
+        folder: &FolderName,
+        before: u64,
+    ) -> Result<u64, LogError> {
+        let Some(names) = read_or_pass(self.names(rt, held, folder))? else {
+            return Ok(before);
+        };
+        let mut done = before;
+        for (name, _) in names.iter() {
+            let Some(node) = read_or_pass(self.look(rt, held, folder, name))? else {
+                continue;
+            };
+            let scan = self.hash(rt, gate, name, node)?;
+            gate.pass(Place::Hashed(held.number));
+            done = tally(done, self.commit(rt, held, folder, scan))?;
+        }
+        Ok(done)
+    }
+
+    // The names of the folder's store and of the own records.
+    fn names<R: Wait>(
+        &self,
+        rt: &R,
+        held: &Held<S>,
+        folder: &FolderName,
+    ) -> Result<NameMap<()>, LogError> {
+        let mut peer = held.peer.lock(rt);
+        Ok(peer.names(folder)?)
+    }
+
+    // What the folder's store has at the name.
+    fn look<R: Wait>(
+        &self,
+        rt: &R,
+        held: &Held<S>,
+        folder: &FolderName,
+        name: &Name,
+    ) -> Result<Option<Node>, LogError> {
+        let mut peer = held.peer.lock(rt);
+        Ok(peer.look(folder, name)?)
+    }
+
+    // What was found, hashed. No lock is held here.
+    fn hash<R: Threads + Sync, G: Gate + Sync>(
+        &self,
+        rt: &R,
+        gate: &G,
+        name: &Name,
+        node: Option<Node>,
+    ) -> Result<ScanResult, LogError> {
+        let name = name.copy(self.alloc)?;
+        match ScanResult::hash(rt, self.alloc, gate, name, node, WORKERS) {
+            Ok(scan) => Ok(scan),
+            Err(BlocksError::Memory) => Err(LogError::Memory),
+            Err(BlocksError::FileTooLarge | BlocksError::WorkersBad) => unreachable!(),
+        }
+    }
+
+    // Records what the scan found.
+    fn commit<R: Wait>(
+        &self,
+        rt: &R,
+        held: &Held<S>,
+        folder: &FolderName,
+        scan: ScanResult,
+    ) -> Result<Moved, LogError> {
+        let mut peer = held.peer.lock(rt);
+        peer.scan_commit(self.draw(), folder, scan)
+    }
+}

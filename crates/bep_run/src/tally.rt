@@ -1,0 +1,27 @@
+//! What a turn counts.
+ghost use Rattle.std.specs.Prelude.{◌≡◌};
+ghost use Rattle.bep_run.specs.Tally.{passed_over, tally_of};
+
+use bep_log::LogError;
+
+/// How many actions answered Ok once this one has answered too. A refused one is passed over; want of memory ends the turn.
+pub(crate) fn tally<T: Drop>(done: u64, answer: Result<T, LogError>) -> Result<u64, LogError>
+    ensures { result ≡ tally_of done answer }
+{
+    match answer {
+        Ok(_) => Ok(done.saturating_add(1)),
+        Err(LogError::Memory) => Err(LogError::Memory),
+        Err(_) => Ok(done),
+    }
+}
+
+/// What was read, or None where the reading was refused. Want of memory ends the turn.
+pub(crate) fn read_or_pass<T: Drop>(answer: Result<T, LogError>) -> Result<Option<T>, LogError>
+    ensures { result ≡ passed_over answer }
+{
+    match answer {
+        Ok(found) => Ok(Some(found)),
+        Err(LogError::Memory) => Err(LogError::Memory),
+        Err(_) => Ok(None),
+    }
+}

@@ -1,0 +1,82 @@
+//! Threads that make turns.
+
+use crate::Shared;
+use bep_blocks::Gate;
+use bep_log::LogError;
+use bep_record::DeviceId;
+use bep_store::Store;
+use std::alloc::AllocError;
+use std::sync::Wait;
+use std::thread;
+use std::thread::Threads;
+
+// What a thread does over and over.
+#[derive(Clone, Copy, Debug, PartialEq, Eq)]
+pub(crate) enum Job {
+    Scan(DeviceId),
+    Pull(DeviceId),
+    Exchange(DeviceId, DeviceId),
+}
+
+/// Runs the cluster: for each device a scanner and a puller, and for each end of a link a session, each in a thread of its
+/// own where one can be made and else in the caller's. Each makes this many turns. All have ended when the call answers how
+/// many actions answered Ok. Fails only for want of memory, which ends the worker that met it alone. May wait.
+pub fn run_workers<R: Threads + Wait + Sync, S: Store + Send, G: Gate + Sync>(
+    rt: &R,
+    shared: &Shared<S>,
+    gate: &G,
+    turns: u32,
+) -> Result<u64, LogError> {
+    let jobs = shared.jobs()?;
+    let answers = thread::map_vec(rt, jobs, &|job| shared.make_turns(rt, gate, job, turns))?;
+    let mut done = 0u64;
+    for answer in answers {
+        done = done.saturating_add(answer?);
+    }
+    Ok(done)
+}
+
+impl<S: Store> Shared<S> {
+    // A job for each device's scanner and puller, and for each end of each link.
+    fn jobs(&self) -> Result<Vec<Job>, AllocError> {
+        let mut jobs = Vec::new(self.alloc);
+        for held in self.devices.iter() {
+            jobs.push(Job::Scan(held.number))?;
+            jobs.push(Job::Pull(held.number))?;
+        }
+        for joint in self.links.iter() {
+            jobs.push(Job::Exchange(joint.lower, joint.upper))?;
+            jobs.push(Job::Exchange(joint.upper, joint.lower))?;
+        }
+        Ok(jobs)
+    }
+
+    // Makes the job's turns.
+    fn make_turns<R: Threads + Wait + Sync, G: Gate + Sync>(
+        &self,
+        rt: &R,
+        gate: &G,
+        job: Job,
+        turns: u32,
+    ) -> Result<u64, LogError> {
+        let mut done = 0u64;
+        for _ in 0..turns {
+            done = done.saturating_add(self.make_turn(rt, gate, job)?);
+        }
+        Ok(done)
+    }
+
+    // Makes one turn.
+    fn make_turn<R: Threads + Wait + Sync, G: Gate + Sync>(
+        &self,
+        rt: &R,
+        gate: &G,
+        job: Job,
+    ) -> Result<u64, LogError> {
+        match job {
+            Job::Scan(device) => self.scanner_turn(rt, device, gate),
+            Job::Pull(device) => self.puller_turn(rt, device),
+            Job::Exchange(device, other) => self.session_turn(rt, device, other, gate),
+        }
+    }
+}
