@@ -1,4 +1,4 @@
 pub mod Played
 pub mod Told
-pub mod Beside
 pub mod Laws
+pub mod inner

@@ -1,6 +1,6 @@
 //! Whether a pull is begun.
 ghost use Rattle.std.specs.Prelude.{◌↔◌, IsTrue};
-ghost use Rattle.bep_run.specs.Starting.{HasNoPull};
+ghost use Rattle.bep_run.specs.inner.Starting.{HasNoPull};
 
 use bep_peer::Peer;
 use bep_record::{FolderName, Name};

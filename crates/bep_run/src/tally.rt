@@ -1,6 +1,6 @@
 //! What a turn counts.
 ghost use Rattle.std.specs.Prelude.{◌≡◌};
-ghost use Rattle.bep_run.specs.Tally.{passed_over, tally_of};
+ghost use Rattle.bep_run.specs.inner.Tally.{passed_over, tally_of};
 
 use bep_log::LogError;
 
