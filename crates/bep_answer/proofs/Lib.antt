@@ -1,3 +1,4 @@
 pub mod SettledSaid
 pub mod FirmSaid
+pub mod Statuses
 mod OneAnswer

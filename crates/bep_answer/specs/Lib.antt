@@ -1,5 +1,6 @@
 pub mod Answer
 pub mod Certified
+pub mod Beside
 pub mod Exchange
 pub mod Firm
 pub mod Partial

@@ -4,16 +4,14 @@ ghost use Rattle.bep_answer.specs.Answer.{IsAnswerOfBytes, SaysSettled};
 ghost use Rattle.bep_answer.specs.Certified.{IsCertifiedOfBytes};
 ghost use Rattle.bep_answer.specs.Exchange.{IsEndedEarly, IsWhole};
 ghost use Rattle.bep_answer.specs.Firm.{IsFirmAnswerOfBytes, SaysFirm};
-ghost use Rattle.bep_answer.specs.Partial.{IsPartlyOfBytes};
 ghost use Rattle.bep_answer.specs.declared.outcome.Firmness.TheVariants as firmness;
 ghost use Rattle.bep_answer.specs.declared.outcome.Outcome.TheVariants as outcomes;
 
 use crate::certify::CertificateOfCut;
 use crate::check::AuditOfCut;
-use crate::exchanging::{Hinted, exchange};
+use crate::exchanging::exchange;
 use crate::firm::FirmnessOfCut;
-use crate::outcome::{Certified, Firmness, Outcome, Partial};
-use crate::partial::PartOfCut;
+use crate::outcome::{Certified, Firmness, Outcome};
 use bep_machine::{firm_stays_put, settled_stays_put, settled_stays_settled};
 use bep_model::firm_stays_firm;
 use bep_report::ReportError;
@@ -35,23 +33,10 @@ pub fn check_text<R: Read, W: Write>(
     ensures err { IfErr result (IsEndedEarly IsAnswerOfBytes (R.remaining reader.old) (R.remaining reader.new) (W.contents writer.old) (W.contents writer.new)) }
     ensures settled { IfOk result (λ outcome. outcome ≡ outcomes.Settled → SaysSettled (R.remaining reader.old) (R.remaining reader.new)) }
 {
-    let (outcome, _) = checked(alloc, reader, writer)?;
-    Ok(outcome)
-}
-
-/// The same, with a hint on where a refused document is at fault.
-pub fn checked<R: Read, W: Write>(
-    alloc: Global,
-    reader: &mut R,
-    writer: &mut W,
-) -> Result<Hinted<Outcome>, ReportError>
-    ensures ok { IfOk result (λ told. IsWhole IsAnswerOfBytes (R.remaining reader.old) (R.remaining reader.new) (W.contents writer.old) (W.contents writer.new) told.0) }
-    ensures err { IfErr result (IsEndedEarly IsAnswerOfBytes (R.remaining reader.old) (R.remaining reader.new) (W.contents writer.old) (W.contents writer.new)) }
-    ensures settled { IfOk result (λ told. told.0 ≡ outcomes.Settled → SaysSettled (R.remaining reader.old) (R.remaining reader.new)) }
-{
     settled_stays_put();
     settled_stays_settled();
-    exchange(alloc, AuditOfCut, reader, writer)
+    let (outcome, _) = exchange(alloc, AuditOfCut, reader, writer)?;
+    Ok(outcome)
 }
 
 /// Reads a check document, asks whether it is firm, and writes the report, or the line of the fault for which it is refused.
@@ -69,25 +54,12 @@ pub fn firm_text<R: Read, W: Write>(
     ensures err { IfErr result (IsEndedEarly IsFirmAnswerOfBytes (R.remaining reader.old) (R.remaining reader.new) (W.contents writer.old) (W.contents writer.new)) }
     ensures firm { IfOk result (λ outcome. outcome ≡ firmness.Firm → SaysFirm (R.remaining reader.old) (R.remaining reader.new)) }
 {
-    let (outcome, _) = firm_checked(alloc, reader, writer)?;
-    Ok(outcome)
-}
-
-/// The same, with a hint on where a refused document is at fault.
-pub fn firm_checked<R: Read, W: Write>(
-    alloc: Global,
-    reader: &mut R,
-    writer: &mut W,
-) -> Result<Hinted<Firmness>, ReportError>
-    ensures ok { IfOk result (λ told. IsWhole IsFirmAnswerOfBytes (R.remaining reader.old) (R.remaining reader.new) (W.contents writer.old) (W.contents writer.new) told.0) }
-    ensures err { IfErr result (IsEndedEarly IsFirmAnswerOfBytes (R.remaining reader.old) (R.remaining reader.new) (W.contents writer.old) (W.contents writer.new)) }
-    ensures firm { IfOk result (λ told. told.0 ≡ firmness.Firm → SaysFirm (R.remaining reader.old) (R.remaining reader.new)) }
-{
     firm_stays_firm();
     firm_stays_put();
     settled_stays_put();
     settled_stays_settled();
-    exchange(alloc, FirmnessOfCut, reader, writer)
+    let (outcome, _) = exchange(alloc, FirmnessOfCut, reader, writer)?;
+    Ok(outcome)
 }
 
 /// Reads the cut of a check document, whose certificate may be missing and isn't looked at, and writes the check document
@@ -105,34 +77,6 @@ pub fn certify_text<R: Read, W: Write>(
     ensures ok { IfOk result (IsWhole IsCertifiedOfBytes (R.remaining reader.old) (R.remaining reader.new) (W.contents writer.old) (W.contents writer.new)) }
     ensures err { IfErr result (IsEndedEarly IsCertifiedOfBytes (R.remaining reader.old) (R.remaining reader.new) (W.contents writer.old) (W.contents writer.new)) }
 {
-    let (outcome, _) = certified(alloc, reader, writer)?;
+    let (outcome, _) = exchange(alloc, CertificateOfCut, reader, writer)?;
     Ok(outcome)
-}
-
-/// The same, with a hint on where a refused document is at fault.
-pub fn certified<R: Read, W: Write>(
-    alloc: Global,
-    reader: &mut R,
-    writer: &mut W,
-) -> Result<Hinted<Certified>, ReportError>
-    ensures ok { IfOk result (λ told. IsWhole IsCertifiedOfBytes (R.remaining reader.old) (R.remaining reader.new) (W.contents writer.old) (W.contents writer.new) told.0) }
-    ensures err { IfErr result (IsEndedEarly IsCertifiedOfBytes (R.remaining reader.old) (R.remaining reader.new) (W.contents writer.old) (W.contents writer.new)) }
-{
-    exchange(alloc, CertificateOfCut, reader, writer)
-}
-
-/// Reads the cut of a check document, as `certified` does, and writes its check document with the winners of the known names
-/// that have one, whether all have or not; or the line of the fault for which the document is refused. Beside the outcome it
-/// tells the names without, or where a refused document is at fault. At most 67108865 bytes are read.
-///
-/// Its errors are those of `certify_text`.
-pub fn partly_certified<R: Read, W: Write>(
-    alloc: Global,
-    reader: &mut R,
-    writer: &mut W,
-) -> Result<Hinted<Partial>, ReportError>
-    ensures ok { IfOk result (λ told. IsWhole IsPartlyOfBytes (R.remaining reader.old) (R.remaining reader.new) (W.contents writer.old) (W.contents writer.new) told.0) }
-    ensures err { IfErr result (IsEndedEarly IsPartlyOfBytes (R.remaining reader.old) (R.remaining reader.new) (W.contents writer.old) (W.contents writer.new)) }
-{
-    exchange(alloc, PartOfCut, reader, writer)
 }

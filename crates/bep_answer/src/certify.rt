@@ -9,14 +9,15 @@ ghost use Rattle.bep_model.specs.declared.reason.Reason.TheVariants.{NotWinner};
 ghost use Rattle.bep_model.specs.Verdict.{Not};
 ghost use Rattle.bep_cut_document.specs.Written.{check_of};
 ghost use Rattle.bep_lines.specs.Lines.{verdict_line};
+ghost use Rattle.bep_answer.specs.Beside.{TellsOfCut};
 ghost use Rattle.bep_answer.specs.Certified.{IsCertificate, IsCertifiedOfBytes, document_text};
 
 use crate::exchanging::{Answer, Question};
 use crate::outcome::Certified;
-use crate::refusing::fault_line;
+use crate::refusing::{fault_line, hint_for};
 use bep_audit::{Certificate, CertifyError, certify};
 use bep_cut_document::{DocError, check_document, read_cut, winners_are_in_range};
-use bep_hints::{Expected, hint_at};
+use bep_hints::Expected;
 use bep_lines::push_not_settled;
 use bep_model::Reason;
 use bep_record::{FolderName, Name};
@@ -26,17 +27,19 @@ use std::alloc::{AllocError, Global};
 /// The list of the winners of the document's cut, in the document of that cut, and where the document is refused, a hint
 /// on where it is at fault.
 #[derive(Drop)]
-pub(crate) struct CertificateOfCut;
+pub struct CertificateOfCut;
 
 impl Question<Certified> for CertificateOfCut {
     ghost says = { λ _. IsCertifiedOfBytes };
+
+    ghost tells = { λ _. TellsOfCut };
 
     fn answer(self, alloc: Global, bytes: &[u8]) -> Result<Answer<Certified>, AllocError> {
         match read_cut(alloc, bytes) {
             Ok(cut) => Ok((certify_cut(alloc, &cut)?, None)),
             Err(DocError::Refused(fault)) => {
                 let refused = (Certified::Refused, fault_line(alloc, &fault)?);
-                Ok((refused, hint_at(alloc, bytes, Expected::Cut)))
+                Ok((refused, hint_for(alloc, bytes, Expected::Cut)))
             }
             Err(DocError::Memory) => Err(AllocError),
         }

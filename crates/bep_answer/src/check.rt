@@ -4,13 +4,14 @@ ghost use Rattle.bep_report.specs.Report.{report_text};
 ghost use Rattle.bep_answer.specs.Answer.{IsAnswerOfBytes, IsReport};
 ghost use Rattle.bep_audit.specs.Shown.{verdict_shown};
 ghost use Rattle.bep_answer.specs.Answer as spec;
+ghost use Rattle.bep_answer.specs.Beside.{TellsOfCheck};
 
 use crate::exchanging::{Answer, Question};
 use crate::outcome::Outcome;
-use crate::refusing::refusal;
+use crate::refusing::{hint_for, refusal};
 use bep_audit::{Certificate, Verdict, check};
 use bep_cut_document::{DocError, read_check};
-use bep_hints::{Expected, hint_at};
+use bep_hints::Expected;
 use bep_report::push_report;
 use bep_tables::Cut;
 use std::alloc::{AllocError, Global};
@@ -18,17 +19,19 @@ use std::alloc::{AllocError, Global};
 /// Whether the document's cut is settled under its certificate: the report, and where the document is refused, a hint on
 /// where it is at fault.
 #[derive(Drop)]
-pub(crate) struct AuditOfCut;
+pub struct AuditOfCut;
 
 impl Question<Outcome> for AuditOfCut {
     ghost says = { λ _. IsAnswerOfBytes };
+
+    ghost tells = { λ _. TellsOfCheck };
 
     fn answer(self, alloc: Global, bytes: &[u8]) -> Result<Answer<Outcome>, AllocError> {
         match read_check(alloc, bytes) {
             Ok((cut, rows)) => Ok((report_on(alloc, &cut, &Certificate::of(rows))?, None)),
             Err(DocError::Refused(fault)) => {
                 let refused = refusal(alloc, &fault)?;
-                Ok((refused, hint_at(alloc, bytes, Expected::Check)))
+                Ok((refused, hint_for(alloc, bytes, Expected::Check)))
             }
             Err(DocError::Memory) => Err(AllocError),
         }

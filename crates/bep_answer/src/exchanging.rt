@@ -1,26 +1,42 @@
 //! A document is read and answered, and the answer written, whatever is asked of it.
-ghost use Rattle.std.specs.Prelude.{List, ℕ, IfOk, IfErr};
+ghost use Rattle.std.specs.Prelude.{List, ℕ, Option, IfOk, IfErr};
+ghost use Rattle.bep_answer.specs.Beside.{IsTelling};
 ghost use Rattle.bep_answer.specs.Exchange.{IsEndedEarly, IsWhole};
 
+use bep_hints::Hint;
 use bep_report::{ReportError, read_document, write_all};
 use std::alloc::{AllocError, Global};
 use std::io::{Read, Write};
 
-/// An answer, and beside it what a person is told, if there is anything: where a refused document is at fault, or which
-/// steps were refused. No contract speaks of that.
-pub type Hinted<T> = (T, Option<String>);
+/// What a person is told beside an answer.
+#[derive(Drop)]
+pub enum Beside {
+    /// Where a refused document is at fault.
+    Hint(Hint),
+    /// Lines, as of the steps that were refused.
+    Lines(String),
+}
+
+/// An answer, and beside it what a person is told, if there is anything.
+pub type Hinted<T> = (T, Option<Beside>);
 
 /// An outcome and the text for it, and what is told beside them.
 pub type Answer<T> = Hinted<(T, Vec<u8>)>;
 
 /// What can be asked of a document, whose answer is an outcome and a text.
 pub trait Question<T: Drop>: Drop {
+    ghost use Rattle.bep_answer.specs.declared.exchanging.Beside.{Beside};
+
     /// That this is the answer to these bytes.
     ghost says: { Self → List ℕ → T → List ℕ → Type 0 };
 
+    /// That this may be told beside it.
+    ghost tells: { Self → List ℕ → Option Beside → Type 0 };
+
     /// The answer to a document's bytes.
     fn answer(self, alloc: Global, bytes: &[u8]) -> Result<Answer<T>, AllocError>
-        ensures { IfOk result (λ told. says self bytes.now told.0.0 told.0.1.items) };
+        ensures says { IfOk result (λ told. says self bytes.now told.0.0 told.0.1.items) }
+        ensures tells { IfOk result (λ told. tells self bytes.now told.1) };
 }
 
 /// Reads a document, and writes the text of its answer. What is told beside it is for the caller to write.
@@ -32,9 +48,10 @@ pub fn exchange<T: Drop, Q: Question<T>, R: Read, W: Write>(
 ) -> Result<Hinted<T>, ReportError>
     ensures ok { IfOk result (λ told. IsWhole (Q.says question) (R.remaining reader.old) (R.remaining reader.new) (W.contents writer.old) (W.contents writer.new) told.0) }
     ensures err { IfErr result (IsEndedEarly (Q.says question) (R.remaining reader.old) (R.remaining reader.new) (W.contents writer.old) (W.contents writer.new)) }
+    ensures beside { IfOk result (λ told. IsTelling (Q.tells question) (R.remaining reader.old) (R.remaining reader.new) told.1) }
 {
     let bytes = read_document(alloc, reader)?;
-    let ((outcome, text), hint) = question.answer(alloc, bytes.as_slice())?;
+    let ((outcome, text), beside) = question.answer(alloc, bytes.as_slice())?;
     write_all(writer, text.as_slice())?;
-    Ok((outcome, hint))
+    Ok((outcome, beside))
 }

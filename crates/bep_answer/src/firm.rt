@@ -4,13 +4,14 @@ ghost use Rattle.bep_report.specs.Report.{firm_report_text};
 ghost use Rattle.bep_answer.specs.Firm.{IsFirmAnswerOfBytes, IsFirmReport};
 ghost use Rattle.bep_audit.specs.Loose.{firm_shown};
 ghost use Rattle.bep_answer.specs.Firm as spec;
+ghost use Rattle.bep_answer.specs.Beside.{TellsOfCheck};
 
 use crate::exchanging::{Answer, Question};
 use crate::outcome::Firmness;
-use crate::refusing::fault_line;
+use crate::refusing::{fault_line, hint_for};
 use bep_audit::{Certificate, FirmVerdict, firm_verdict};
 use bep_cut_document::{DocError, read_check};
-use bep_hints::{Expected, hint_at};
+use bep_hints::Expected;
 use bep_report::push_firm_report;
 use bep_tables::Cut;
 use std::alloc::{AllocError, Global};
@@ -18,17 +19,19 @@ use std::alloc::{AllocError, Global};
 /// Whether the document's cut is firm under its certificate: the report, and where the document is refused, a hint on
 /// where it is at fault.
 #[derive(Drop)]
-pub(crate) struct FirmnessOfCut;
+pub struct FirmnessOfCut;
 
 impl Question<Firmness> for FirmnessOfCut {
     ghost says = { λ _. IsFirmAnswerOfBytes };
+
+    ghost tells = { λ _. TellsOfCheck };
 
     fn answer(self, alloc: Global, bytes: &[u8]) -> Result<Answer<Firmness>, AllocError> {
         match read_check(alloc, bytes) {
             Ok((cut, rows)) => Ok((report_on(alloc, &cut, &Certificate::of(rows))?, None)),
             Err(DocError::Refused(fault)) => {
                 let refused = (Firmness::Refused, fault_line(alloc, &fault)?);
-                Ok((refused, hint_at(alloc, bytes, Expected::Check)))
+                Ok((refused, hint_for(alloc, bytes, Expected::Check)))
             }
             Err(DocError::Memory) => Err(AllocError),
         }

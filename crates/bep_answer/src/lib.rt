@@ -8,12 +8,10 @@
 //!         Outcome::Refused => ..,
 //!     }
 //!
-//! `firm_text` asks for firm in place of settled, and `certify_text` writes the document with its certificate,
-//! `partly_certified` as far as its names have winners. `checked`,
-//! `firm_checked` and `certified` are these with a hint on where a refused document is at fault; `check_and_tell`,
-//! `firm_and_tell` and `certify_and_tell` tell that on standard error, and answer the exit status. `exchange` answers
-//! whatever question, for those who ask more of a document: all that fails (`bep_explain`), or where a scenario leads
-//! (`bep_play`).
+//! `firm_text` asks for firm in place of settled, and `certify_text` writes the document with its certificate.
+//! `check_and_tell`, `firm_and_tell`, `certify_and_tell` and `certify_partly_and_tell` also tell a hint on standard error,
+//! and answer the exit status. `exchange` answers whatever question is asked of a document: these here, all that fails
+//! (`bep_explain`), or where a scenario leads (`bep_play`).
 #![tactic(auto)]
 
 mod answers;
@@ -28,16 +26,15 @@ mod refusing;
 mod status;
 mod told;
 
-pub use answers::{
-    certified, certify_text, check_text, checked, firm_checked, firm_text, partly_certified,
-};
-pub use certify::certify_cut;
-pub use check::outcome_of;
-pub use exchanging::{Answer, Hinted, Question, exchange};
-pub use firm::firmness_of;
+pub use answers::{certify_text, check_text, firm_text};
+pub use certify::{CertificateOfCut, certify_cut};
+pub use check::{AuditOfCut, outcome_of};
+pub use exchanging::{Answer, Beside, Hinted, Question, exchange};
+pub use firm::{FirmnessOfCut, firmness_of};
 pub use laws::answers_are_unique;
 pub use outcome::{Certified, Firmness, Outcome, Partial};
-pub use refusing::{fault_line, refusal};
+pub use partial::PartOfCut;
+pub use refusing::{fault_line, hint_for, refusal};
 pub use status::{USAGE, certified_status_of, firm_status_of, partial_status_of, status_of};
 pub use told::{
     certify_and_tell, certify_partly_and_tell, check_and_tell, end, end_certified, end_firm,

@@ -1,10 +1,13 @@
 //! What is answered to a document that is refused.
 ghost use Rattle.std.specs.Prelude.{◌≡◌, IfOk};
 ghost use Rattle.bep_answer.specs.Answer.{fault_text};
+ghost use Rattle.bep_answer.specs.Beside.{IsHint};
 ghost use Rattle.bep_answer.specs.declared.outcome.Outcome.TheVariants as outcomes;
 
+use crate::exchanging::Beside;
 use crate::outcome::Outcome;
 use bep_document::DocFault;
+use bep_hints::{Expected, hint_at};
 use bep_lines::push_refused;
 use std::alloc::{AllocError, Global};
 
@@ -30,4 +33,15 @@ pub fn fault_line(alloc: Global, fault: &DocFault) -> Result<Vec<u8>, AllocError
         fault.name.as_ref(),
     )?;
     Ok(text)
+}
+
+/// What is told beside the refusal: where these bytes are at fault as the document that was expected, if there is anything to
+/// say.
+pub fn hint_for(alloc: Global, bytes: &[u8], expected: Expected) -> Option<Beside>
+    ensures { IsHint expected result }
+{
+    match hint_at(alloc, bytes, expected) {
+        Some(hint) => Some(Beside::Hint(hint)),
+        None => None,
+    }
 }

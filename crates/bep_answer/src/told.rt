@@ -5,15 +5,20 @@ ghost use Rattle.bep_answer.specs.Firm.{SaysFirm};
 ghost use Rattle.bep_answer.specs.Status.{IsCertificateTold, IsFirmTold, IsPartTold, IsTold, without_hint};
 ghost use Rattle.bep_answer.specs.Status as spec;
 
-use crate::answers::{certified, checked, firm_checked, partly_certified};
-use crate::exchanging::Hinted;
+use crate::certify::CertificateOfCut;
+use crate::check::AuditOfCut;
+use crate::exchanging::{Beside, Hinted, exchange};
+use crate::firm::FirmnessOfCut;
 use crate::outcome::{Certified, Firmness, Outcome};
+use crate::partial::PartOfCut;
 use crate::status::{certified_status_of, firm_status_of, partial_status_of, status_of};
+use bep_machine::{firm_stays_put, settled_stays_put, settled_stays_settled};
+use bep_model::firm_stays_firm;
 use bep_report::ReportError;
 use std::io::{Read, Write};
 
-/// Audits a document as `checked` does, tells the hint or why there is no answer on standard error, and answers the exit
-/// status.
+/// Audits a document as `check_text` does; tells a hint on where a refused document is at fault, or why there is no answer,
+/// on standard error, and answers the exit status.
 pub fn check_and_tell<P: AllocGlobal + Eprint, R: Read, W: Write>(
     rt: &P,
     reader: &mut R,
@@ -22,10 +27,12 @@ pub fn check_and_tell<P: AllocGlobal + Eprint, R: Read, W: Write>(
     ensures told { IsTold (R.remaining reader.old) (R.remaining reader.new) (W.contents writer.old) (W.contents writer.new) result }
     ensures settled { result ≡ 0 → SaysSettled (R.remaining reader.old) (R.remaining reader.new) }
 {
-    end(rt, checked(rt.alloc(), reader, writer))
+    settled_stays_put();
+    settled_stays_settled();
+    end(rt, exchange(rt.alloc(), AuditOfCut, reader, writer))
 }
 
-/// The same where firm is asked for, as `firm_checked` does.
+/// The same where firm is asked for, as `firm_text` does.
 pub fn firm_and_tell<P: AllocGlobal + Eprint, R: Read, W: Write>(
     rt: &P,
     reader: &mut R,
@@ -34,10 +41,14 @@ pub fn firm_and_tell<P: AllocGlobal + Eprint, R: Read, W: Write>(
     ensures told { IsFirmTold (R.remaining reader.old) (R.remaining reader.new) (W.contents writer.old) (W.contents writer.new) result }
     ensures firm { result ≡ 0 → SaysFirm (R.remaining reader.old) (R.remaining reader.new) }
 {
-    end_firm(rt, firm_checked(rt.alloc(), reader, writer))
+    firm_stays_firm();
+    firm_stays_put();
+    settled_stays_put();
+    settled_stays_settled();
+    end_firm(rt, exchange(rt.alloc(), FirmnessOfCut, reader, writer))
 }
 
-/// The same for the certificate of a document's cut, as `certified` makes it.
+/// The same for the certificate of a document's cut, as `certify_text` makes it.
 pub fn certify_and_tell<P: AllocGlobal + Eprint, R: Read, W: Write>(
     rt: &P,
     reader: &mut R,
@@ -45,10 +56,11 @@ pub fn certify_and_tell<P: AllocGlobal + Eprint, R: Read, W: Write>(
 ) -> u8
     ensures { IsCertificateTold (R.remaining reader.old) (R.remaining reader.new) (W.contents writer.old) (W.contents writer.new) result }
 {
-    end_certified(rt, certified(rt.alloc(), reader, writer))
+    end_certified(rt, exchange(rt.alloc(), CertificateOfCut, reader, writer))
 }
 
-/// The same for the certificate as far as there are winners, as `partly_certified` makes it; tells the names without.
+/// The same for the certificate as far as there are winners: the check document of the cut with the winners of the known
+/// names that have one, whether all have or not. It tells the names without, too.
 pub fn certify_partly_and_tell<P: AllocGlobal + Eprint, R: Read, W: Write>(
     rt: &P,
     reader: &mut R,
@@ -56,7 +68,7 @@ pub fn certify_partly_and_tell<P: AllocGlobal + Eprint, R: Read, W: Write>(
 ) -> u8
     ensures { IsPartTold (R.remaining reader.old) (R.remaining reader.new) (W.contents writer.old) (W.contents writer.new) result }
 {
-    let answer = partly_certified(rt.alloc(), reader, writer);
+    let answer = exchange(rt.alloc(), PartOfCut, reader, writer);
     partial_status_of(tell(rt, answer))
 }
 
@@ -86,15 +98,28 @@ fn tell<P: Eprint, T>(rt: &P, answer: Result<Hinted<T>, ReportError>) -> Result<
     ensures { result ≡ without_hint answer }
 {
     match answer {
-        Ok((outcome, hint)) => {
-            if let Some(hint) = hint {
-                let _ = eprintln!(rt; "{hint}");
+        Ok((outcome, beside)) => {
+            if let Some(beside) = beside {
+                tell_beside(rt, &beside);
             }
             Ok(outcome)
         }
         Err(error) => {
             let _ = eprintln!(rt; "{error}");
             Err(error)
+        }
+    }
+}
+
+// Tells what was answered beside an outcome. Lines have their ends.
+fn tell_beside<P: Eprint>(rt: &P, beside: &Beside) {
+    match beside {
+        Beside::Hint(hint) => {
+            let sentence = hint.sentence();
+            let _ = eprintln!(rt; "{sentence}");
+        }
+        Beside::Lines(lines) => {
+            let _ = eprint!(rt; "{lines}");
         }
     }
 }

@@ -2,7 +2,7 @@
 //!
 //! A refusal tells a number and a name; this looks through the document once more, only then, for what may help: where
 //! it isn't JSON, or the first member that is missing, isn't known or isn't what it should be. No contract speaks of
-//! what is said; it takes one line.
+//! what is said, only of which document was expected; it takes one line.
 //!
 //!     if outcome == Outcome::Refused {
 //!         let hint = hint_at(alloc, bytes, Expected::Check);
@@ -17,4 +17,4 @@ mod walk;
 mod wrong;
 
 pub use members::Expected;
-pub use sentence::hint_at;
+pub use sentence::{Hint, hint_at};

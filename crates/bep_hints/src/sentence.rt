@@ -1,4 +1,6 @@
 //! What is said of a fault.
+ghost use Rattle.std.specs.Prelude.{◌≡◌, IfSome};
+
 use crate::members::Holds::Single;
 use crate::members::{Expected, Sort};
 use crate::walk::{Flaw, LEVELS, Step, look};
@@ -10,14 +12,32 @@ use serde_json::Value;
 use serde_json::error::{Category, Error};
 use std::alloc::{AllocError, Global};
 
-/// A sentence on where these bytes are at fault as a document, without a line's end: where they aren't JSON, or which
-/// member is missing, isn't known or isn't what it should be. None where there is nothing to say of that, or no memory.
-pub fn hint_at(alloc: Global, bytes: &[u8], expected: Expected) -> Option<String> {
+/// A sentence for a person on where a document is at fault.
+#[derive(Drop)]
+pub struct Hint {
+    /// Which document was expected.
+    pub expected: Expected,
+    sentence: String,
+}
+
+impl Hint {
+    /// The sentence, without a line's end.
+    pub fn sentence(&self) -> &str {
+        self.sentence.as_str()
+    }
+}
+
+/// A sentence on where these bytes are at fault as such a document: where they aren't JSON, or which member is missing,
+/// isn't known or isn't what it should be. None where there is nothing to say of that, or no memory.
+pub fn hint_at(alloc: Global, bytes: &[u8], expected: Expected) -> Option<Hint>
+    ensures { IfSome result (λ hint. hint.expected ≡ expected) }
+{
     let said = said_of(alloc, bytes, expected).ok()?;
     if said.is_empty() {
         return None;
     }
-    String::from_utf8(said).ok()
+    let sentence = String::from_utf8(said).ok()?;
+    Some(Hint { expected, sentence })
 }
 
 // The sentence, empty where there is none.

@@ -1,3 +1,4 @@
 mod PlayFacts
+mod StepText
 mod SettledEnd
 mod OneEnd

@@ -1,5 +1,5 @@
 -- Steps that are made one after another, and what is told of them.
-use Rattle.std.proofs.Common.{suc, ◌≡◌, ◌≢◌, ◌+◌, ◌++◌, ℕ, List, [], ◌∷◌, map, length, Option, None, Result, Ok, Err, refl, sym, ap, subst, ◌∙◌, arith}
+use Rattle.std.proofs.Common.{IsUtf8, suc, ◌≡◌, ◌≢◌, ◌+◌, ◌++◌, ℕ, List, [], ◌∷◌, map, length, Option, None, Result, Ok, Err, refl, sym, ap, subst, ◌∙◌, arith}
 use Rattle.std.proofs.lemmas.List.{append_assoc, append-nil}
 use Rattle.bep_machine.specs.declared.moved.Moved.{Moved}
 use Rattle.bep_machine.specs.declared.step.Step.{Step}
@@ -61,11 +61,12 @@ pub record LeadsSoFar (old : Cluster) (steps : List Step) (now : Cluster) (left 
   pub made : HadMemory events
   pub sure : AreSure events
   pub tells : told ≡ refused_lines 1 events
+  pub text : IsUtf8 told
   pub place_is : place ≡ length events
 
 module _ (old : Cluster) (steps : List Step) (now : Cluster) (step : Step) (left : List Step) (told : List ℕ) (place : ℕ) (so_far : LeadsSoFar old steps now (step ∷ left) told place) (failed : Option ℕ) (sure : failed ≡ None) (node : IsSoundStep step) (new : Cluster) where
-  one_more : (answer : Answer) (later : List ℕ) → answer ≢ OutOfMemory → IsStep step failed now new answer → later ≡ told ++ answer_line (suc place) answer → LeadsSoFar old steps new left later (suc place)
-  one_more answer later made is tells =
+  one_more : (answer : Answer) (later : List ℕ) → answer ≢ OutOfMemory → IsUtf8 later → IsStep step failed now new answer → later ≡ told ++ answer_line (suc place) answer → LeadsSoFar old steps new left later (suc place)
+  one_more answer later made text is tells =
       let event : Event = record { step = step; failed = failed; answer = answer } in
       record {
         events = so_far.events ++ event ∷ [];
@@ -82,6 +83,7 @@ module _ (old : Cluster) (steps : List Step) (now : Cluster) (step : Step) (left
             ∙ ap (λ (before : List ℕ). before ++ answer_line (suc place) answer) so_far.tells
             ∙ ap (λ (at : ℕ). refused_lines 1 so_far.events ++ answer_line at answer) (ap suc so_far.place_is ∙ next (length so_far.events))
             ∙ sym (lines_on 1 so_far.events event);
+        text = text;
         place_is = ap suc so_far.place_is ∙ sym (length_on so_far.events event);
       }
     where
@@ -89,16 +91,16 @@ module _ (old : Cluster) (steps : List Step) (now : Cluster) (step : Step) (left
       next n = omega arith
 
   -- a step was made, or refused and told
-  next_so_far : (answer : Result Moved Why) (later : List ℕ) → Gives (IsStep step failed now) new answer → IsTold (suc place) answer told later → LeadsSoFar old steps new left later (suc place)
-  next_so_far (Ok moved) later is tells = one_more (Done moved) later (λ same. absurd (cc)) is (tells ∙ sym (append-nil told))
-  next_so_far (Err (whys.Refused refusal)) later is tells = one_more (Refuses refusal) later (λ same. absurd (cc)) is tells
-  next_so_far (Err whys.ConfigBad) later is tells = absurd is
-  next_so_far (Err whys.Memory) later is tells = absurd tells
+  next_so_far : (answer : Result Moved Why) (later : List ℕ) → IsUtf8 later → Gives (IsStep step failed now) new answer → IsTold (suc place) answer told later → LeadsSoFar old steps new left later (suc place)
+  next_so_far (Ok moved) later text is tells = one_more (Done moved) later (λ same. absurd (cc)) text is (tells ∙ sym (append-nil told))
+  next_so_far (Err (whys.Refused refusal)) later text is tells = one_more (Refuses refusal) later (λ same. absurd (cc)) text is tells
+  next_so_far (Err whys.ConfigBad) later text is tells = absurd is
+  next_so_far (Err whys.Memory) later text is tells = absurd tells
 
-  pub leads_on : (answer : Result Moved Why) (later : List ℕ) → Gives (IsStep step failed now) new answer → IsTold (place + 1) answer told later → LeadsSoFar old steps new left later (place + 1)
-  leads_on answer later is tells =
+  pub leads_on : (answer : Result Moved Why) (later : List ℕ) → IsUtf8 later → Gives (IsStep step failed now) new answer → IsTold (place + 1) answer told later → LeadsSoFar old steps new left later (place + 1)
+  leads_on answer later text is tells =
       subst (LeadsSoFar old steps new left later) (sym (one_above place))
-      (next_so_far answer later is (subst (λ (at : ℕ). IsTold at answer told later) (one_above place) tells))
+      (next_so_far answer later text is (subst (λ (at : ℕ). IsTold at answer told later) (one_above place) tells))
     where
       one_above : (n : ℕ) → n + 1 ≡ suc n
       one_above n = omega arith

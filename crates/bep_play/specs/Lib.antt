@@ -1,3 +1,4 @@
 pub mod Played
 pub mod Told
 pub mod Laws
+pub mod inner

@@ -2,11 +2,10 @@
 ghost use Rattle.std.specs.Prelude.{◌≡◌, IfOk, IfErr};
 ghost use Rattle.bep_answer.specs.Exchange.{IsEndedEarly, IsWhole};
 ghost use Rattle.bep_answer.specs.declared.outcome.Outcome.TheVariants as outcomes;
-ghost use Rattle.bep_play.specs.Played.{EndsSettled, IsEndOfBytes, IsRunOfBytes};
+ghost use Rattle.bep_play.specs.Played.{EndsSettled, IsRunOfBytes};
 
-use crate::document::DocumentOfEnd;
 use crate::run::ReportOnEnd;
-use bep_answer::{Certified, Hinted, Outcome, exchange};
+use bep_answer::{Outcome, exchange};
 use bep_machine::{settled_stays_put, settled_stays_settled};
 use bep_report::ReportError;
 use std::alloc::Global;
@@ -28,41 +27,8 @@ pub fn run_text<R: Read, W: Write>(
     ensures err { IfErr result (IsEndedEarly IsRunOfBytes (R.remaining reader.old) (R.remaining reader.new) (W.contents writer.old) (W.contents writer.new)) }
     ensures settled { IfOk result (λ outcome. outcome ≡ outcomes.Settled → EndsSettled (R.remaining reader.old) (R.remaining reader.new)) }
 {
-    let (outcome, _) = ran(alloc, reader, writer)?;
-    Ok(outcome)
-}
-
-/// The same, with a hint on where a refused scenario is at fault.
-pub fn ran<R: Read, W: Write>(
-    alloc: Global,
-    reader: &mut R,
-    writer: &mut W,
-) -> Result<Hinted<Outcome>, ReportError>
-    ensures ok { IfOk result (λ told. IsWhole IsRunOfBytes (R.remaining reader.old) (R.remaining reader.new) (W.contents writer.old) (W.contents writer.new) told.0) }
-    ensures err { IfErr result (IsEndedEarly IsRunOfBytes (R.remaining reader.old) (R.remaining reader.new) (W.contents writer.old) (W.contents writer.new)) }
-    ensures settled { IfOk result (λ told. told.0 ≡ outcomes.Settled → EndsSettled (R.remaining reader.old) (R.remaining reader.new)) }
-{
     settled_stays_put();
     settled_stays_settled();
-    exchange(alloc, ReportOnEnd, reader, writer)
-}
-
-/// Reads a scenario, makes its steps, and writes the check document of the cut to which they lead, with the list of its
-/// winners, on a line; or the line of the first known name that has none; or that of the fault for which the document is
-/// refused. At most 67108865 bytes are read.
-///
-/// The lines of the steps that are refused are answered beside the outcome, without the last line's end, if there are any;
-/// or a hint on where a refused scenario is at fault. No contract speaks of them.
-///
-/// `Read` and `Write` are answered where the reader or the writer answers any error, or takes nothing; `Memory` may come
-/// in place of an answer. Only after `Write` a beginning of the text may be written, and else nothing.
-pub fn run_document<R: Read, W: Write>(
-    alloc: Global,
-    reader: &mut R,
-    writer: &mut W,
-) -> Result<Hinted<Certified>, ReportError>
-    ensures ok { IfOk result (λ told. IsWhole IsEndOfBytes (R.remaining reader.old) (R.remaining reader.new) (W.contents writer.old) (W.contents writer.new) told.0) }
-    ensures err { IfErr result (IsEndedEarly IsEndOfBytes (R.remaining reader.old) (R.remaining reader.new) (W.contents writer.old) (W.contents writer.new)) }
-{
-    exchange(alloc, DocumentOfEnd, reader, writer)
+    let (outcome, _) = exchange(alloc, ReportOnEnd, reader, writer)?;
+    Ok(outcome)
 }

@@ -6,9 +6,9 @@
 //!         Outcome::Refused => ..,
 //!     }
 //!
-//! `ran` is this with a hint on where a refused scenario is at fault, `run_document` writes the check document of the end.
-//! `run_and_tell` and `run_document_and_tell` tell what is answered beside them on standard error, and answer the exit
-//! status. What is answered to a document stands below (`bep_answer`), and needs no peers.
+//! `run_and_tell` also tells on standard error where a refused scenario is at fault, and answers the exit status;
+//! `run_document_and_tell` writes the check document of the end in place of the report. What is answered to a document
+//! stands below (`bep_answer`), and needs no peers.
 #![tactic(auto)]
 
 mod answers;
@@ -19,6 +19,8 @@ mod play;
 mod run;
 mod told;
 
-pub use answers::{ran, run_document, run_text};
+pub use answers::run_text;
+pub use document::DocumentOfEnd;
 pub use laws::ends_are_unique;
+pub use run::ReportOnEnd;
 pub use told::{run_and_tell, run_document_and_tell};

@@ -1,5 +1,6 @@
 //! The steps of a scenario, made one after another.
-ghost use Rattle.std.specs.Prelude.{IfOk, OnOk};
+ghost use Rattle.std.specs.Prelude.{◌≡◌, ◌++◌, IfOk, IsUtf8, OnOk};
+ghost use Rattle.bep_lines.specs.Lines.{step_line};
 ghost use Rattle.bep_peer.specs.network.Network.{cluster_of};
 ghost use Rattle.bep_scenario.specs.Scenario.{said};
 ghost use Rattle.bep_play.specs.Played.{EndsAt, IsTold, Leads};
@@ -18,7 +19,8 @@ pub(crate) fn played(
     alloc: Global,
     scenario: Scenario,
 ) -> Result<(Cluster<MemStore>, Vec<u8>), AllocError>
-    ensures { IfOk result (λ end. EndsAt (said scenario) end.0 end.1.items) }
+    ensures ends { IfOk result (λ end. EndsAt (said scenario) end.0 end.1.items) }
+    ensures text { IfOk result (λ end. IsUtf8 end.1.items) }
 {
     let mut cluster = Cluster::new(alloc, scenario.config)?;
     cluster.cluster_is_sound();
@@ -37,7 +39,8 @@ fn play(
     cluster: &mut Cluster<MemStore>,
     steps: Vec<Step>,
 ) -> Result<Vec<u8>, AllocError>
-    ensures { IfOk result (λ told. Leads (cluster_of cluster.old) steps.items (cluster_of cluster.new) told.items) }
+    ensures leads { IfOk result (λ told. Leads (cluster_of cluster.old) steps.items (cluster_of cluster.new) told.items) }
+    ensures text { IfOk result (λ told. IsUtf8 told.items) }
 {
     let mut told = Vec::new(alloc);
     let mut place: u64 = 0;
@@ -49,15 +52,24 @@ fn play(
     Ok(told)
 }
 
-// Appends the line of a step that was refused; want of memory ends the run.
+// Appends the line of a step that was refused, if it was; want of memory ends the run.
 fn tell(told: &mut Vec<u8>, place: u64, answer: Result<Moved, Why>) -> Result<(), AllocError>
-    ensures { OnOk result (IsTold place answer told.old.items told.new.items) }
+    ensures tells { OnOk result (IsTold place answer told.old.items told.new.items) }
+    ensures text { OnOk result (IsUtf8 told.old.items → IsUtf8 told.new.items) }
 {
     match answer {
         Ok(_moved) => Ok(()),
         Err(why) => match (why.number(), why.name()) {
-            (Some(number), Some(name)) => push_step(told, place, number, name),
+            (Some(number), Some(name)) => push_line(told, place, number, name),
             _ => Err(AllocError),
         },
     }
+}
+
+// Appends the line of a step that was refused. A text stays one.
+fn push_line(told: &mut Vec<u8>, place: u64, number: u32, word: &str) -> Result<(), AllocError>
+    ensures line { OnOk result (told.new.items ≡ told.old.items ++ step_line place number word.now) }
+    ensures text { OnOk result (IsUtf8 told.old.items → IsUtf8 told.new.items) }
+{
+    push_step(told, place, number, word)
 }

@@ -1,29 +1,32 @@
 //! A scenario's run.
 ghost use Rattle.std.specs.Prelude.{IfOk};
 ghost use Rattle.bep_scenario.specs.Scenario.{said};
+ghost use Rattle.bep_play.specs.inner.Beside.{TellsOfRun};
 ghost use Rattle.bep_play.specs.Played.{IsPlayed, IsRunOfBytes};
 
 use crate::ending::report_on_end;
 use crate::play::played;
-use bep_answer::{Answer, Outcome, Question, refusal};
+use bep_answer::{Answer, Outcome, Question, hint_for, refusal};
 use bep_document::DocError;
-use bep_hints::{Expected, hint_at};
+use bep_hints::Expected;
 use bep_scenario::{Scenario, read_scenario};
 use std::alloc::{AllocError, Global};
 
 /// The report on where the scenario leads, and where the scenario is refused, a hint on where it is at fault.
 #[derive(Drop)]
-pub(crate) struct ReportOnEnd;
+pub struct ReportOnEnd;
 
 impl Question<Outcome> for ReportOnEnd {
     ghost says = { λ _. IsRunOfBytes };
+
+    ghost tells = { λ _. TellsOfRun };
 
     fn answer(self, alloc: Global, bytes: &[u8]) -> Result<Answer<Outcome>, AllocError> {
         match read_scenario(alloc, bytes) {
             Ok(scenario) => Ok((run(alloc, scenario)?, None)),
             Err(DocError::Refused(fault)) => {
                 let refused = refusal(alloc, &fault)?;
-                Ok((refused, hint_at(alloc, bytes, Expected::Scenario)))
+                Ok((refused, hint_for(alloc, bytes, Expected::Scenario)))
             }
             Err(DocError::Memory) => Err(AllocError),
         }

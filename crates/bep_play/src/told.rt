@@ -3,12 +3,14 @@ ghost use Rattle.std.specs.Prelude.{◌≡◌};
 ghost use Rattle.bep_play.specs.Played.{EndsSettled};
 ghost use Rattle.bep_play.specs.Told.{IsEndTold, IsRunTold};
 
-use crate::answers::{ran, run_document};
-use bep_answer::{end, end_certified};
+use crate::document::DocumentOfEnd;
+use crate::run::ReportOnEnd;
+use bep_answer::{end, end_certified, exchange};
+use bep_machine::{settled_stays_put, settled_stays_settled};
 use std::io::{Read, Write};
 
-/// Makes a scenario's steps and audits where they lead, as `ran` does, tells the hint or why there is no answer on standard
-/// error, and answers the exit status.
+/// Makes a scenario's steps and audits where they lead, as `run_text` does; tells a hint on where a refused scenario is at
+/// fault, or why there is no answer, on standard error, and answers the exit status.
 pub fn run_and_tell<P: AllocGlobal + Eprint, R: Read, W: Write>(
     rt: &P,
     reader: &mut R,
@@ -17,10 +19,14 @@ pub fn run_and_tell<P: AllocGlobal + Eprint, R: Read, W: Write>(
     ensures told { IsRunTold (R.remaining reader.old) (R.remaining reader.new) (W.contents writer.old) (W.contents writer.new) result }
     ensures settled { result ≡ 0 → EndsSettled (R.remaining reader.old) (R.remaining reader.new) }
 {
-    end(rt, ran(rt.alloc(), reader, writer))
+    settled_stays_put();
+    settled_stays_settled();
+    end(rt, exchange(rt.alloc(), ReportOnEnd, reader, writer))
 }
 
-/// The same for the document of where a scenario's steps lead, as `run_document` makes it; the refused steps are told.
+/// The same for the check document of the cut to which a scenario's steps lead, with the list of its winners, on a line; or
+/// the line of the first known name that has none; or that of the fault for which the document is refused. The lines of the
+/// steps that are refused are told on standard error. At most 67108865 bytes are read.
 pub fn run_document_and_tell<P: AllocGlobal + Eprint, R: Read, W: Write>(
     rt: &P,
     reader: &mut R,
@@ -28,5 +34,5 @@ pub fn run_document_and_tell<P: AllocGlobal + Eprint, R: Read, W: Write>(
 ) -> u8
     ensures { IsEndTold (R.remaining reader.old) (R.remaining reader.new) (W.contents writer.old) (W.contents writer.new) result }
 {
-    end_certified(rt, run_document(rt.alloc(), reader, writer))
+    end_certified(rt, exchange(rt.alloc(), DocumentOfEnd, reader, writer))
 }

@@ -6,6 +6,8 @@ mod cut;
 #[cfg(test)]
 mod device;
 #[cfg(test)]
+mod faults;
+#[cfg(test)]
 mod hostile;
 #[cfg(test)]
 mod made;

@@ -58,11 +58,11 @@ pub(crate) fn cluster(alloc: Global, calls: [u64; 3]) -> Option<Cluster<FaultSto
     Cluster::new(alloc, config).ok()
 }
 
-// The steps by which the cluster is settled. A step is its first letter, the device that makes it, the other one, if there is
-// one, and a name, if there is one; an edit ends with what is put. Device 2 pulls the old bytes of `f` once more, from device
-// 1, and then overrides them by new ones; so it has a pull of an older version, and knows of no newer one of device 1. Device
-// 3 made the file of the new bytes by itself.
-const START: [&str; 50] = [
+/// The steps by which the cluster is settled. A step is its first letter, the device that makes it, the other one, if there is
+/// one, and a name, if there is one; an edit ends with what is put. Device 2 pulls the old bytes of `f` once more, from device
+/// 1, and then overrides them by new ones; so it has a pull of an older version, and knows of no newer one of device 1. Device
+/// 3 made the file of the new bytes by itself.
+pub(crate) const START: [&str; 50] = [
     "e1fo", "s1f", "e2fp", "s2f", "e2dd", "s2d", "e2ll", "s2l", "e3fg", "s3f", "c12", "c13", "c23",
     "b12", "b21", "b13", "b31", "b23", "b32", "d21", "d12", "d31", "d13", "d32", "d23", "a12",
     "d21", "a21", "d12", "p2f", "e2ff", "s2f", "o2f", "a21", "d12", "p1f", "q12f", "d21", "d12",

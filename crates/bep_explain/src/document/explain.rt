@@ -3,15 +3,16 @@ ghost use Rattle.std.specs.Prelude.{◌≡◌, IfOk, map};
 ghost use Rattle.bep_explain.specs.Found.{verdict_of};
 ghost use Rattle.bep_explain.specs.Told.{failures_of, told_of};
 ghost use Rattle.bep_answer.specs.Answer.{outcome_of};
+ghost use Rattle.bep_answer.specs.Beside.{TellsOfCheck};
 ghost use Rattle.bep_explain.specs.document.Explained.{IsExplainedOfBytes, IsExplanation, IsRefusal};
 ghost use Rattle.bep_answer.specs.declared.outcome.Outcome.TheVariants as outcomes;
 
 use crate::document::json::{explain_in_json, refusal_json};
 use crate::{Explained, explain, explanation};
-use bep_answer::{Answer, Outcome, Question, fault_line};
+use bep_answer::{Answer, Outcome, Question, fault_line, hint_for};
 use bep_audit::Certificate;
 use bep_cut_document::{DocError, DocFault, read_check};
-use bep_hints::{Expected, hint_at};
+use bep_hints::Expected;
 use bep_lines::Form;
 use bep_tables::Cut;
 use std::alloc::{AllocError, Global};
@@ -27,6 +28,8 @@ pub struct ReasonsOfCut {
 impl Question<Outcome> for ReasonsOfCut {
     ghost says = { λ asked. IsExplainedOfBytes asked.form };
 
+    ghost tells = { λ _. TellsOfCheck };
+
     fn answer(self, alloc: Global, bytes: &[u8]) -> Result<Answer<Outcome>, AllocError> {
         let form = self.form;
         match read_check(alloc, bytes) {
@@ -36,7 +39,7 @@ impl Question<Outcome> for ReasonsOfCut {
             )),
             Err(DocError::Refused(fault)) => {
                 let refused = refusal_in(alloc, form, &fault)?;
-                Ok((refused, hint_at(alloc, bytes, Expected::Check)))
+                Ok((refused, hint_for(alloc, bytes, Expected::Check)))
             }
             Err(DocError::Memory) => Err(AllocError),
         }

@@ -3,6 +3,7 @@ ghost use Rattle.std.specs.Prelude.{◌≡◌, IfOk, map};
 ghost use Rattle.bep_explain.specs.Annotated.{annotated_of, failures_in};
 ghost use Rattle.bep_explain.specs.FirmTold.{loose_annotated_of, loose_told_of, loosenings_in, loosenings_of};
 ghost use Rattle.bep_explain.specs.Told.{failures_of, told_of};
+ghost use Rattle.bep_answer.specs.Beside.{TellsOfCheck};
 ghost use Rattle.bep_explain.specs.document.FirmExplained.{IsFirmExplainedOfBytes, IsFirmExplanation, firmness_told};
 ghost use Rattle.bep_lines.specs.declared.form.Form.TheVariants.{Json, Text};
 
@@ -11,10 +12,10 @@ use crate::{
     Annotated, AnnotatedLoose, Explained, ExplainedLoose, annotate, annotate_loose, explain,
     explain_loose, firm_explanation, firm_explanation_json,
 };
-use bep_answer::{Answer, Firmness, Question};
+use bep_answer::{Answer, Firmness, Question, hint_for};
 use bep_audit::Certificate;
 use bep_cut_document::{DocError, read_check};
-use bep_hints::{Expected, hint_at};
+use bep_hints::Expected;
 use bep_lines::Form;
 use bep_model::firm_is_faultless;
 use bep_tables::Cut;
@@ -31,6 +32,8 @@ pub struct FirmReasonsOfCut {
 impl Question<Firmness> for FirmReasonsOfCut {
     ghost says = { λ asked. IsFirmExplainedOfBytes asked.form };
 
+    ghost tells = { λ _. TellsOfCheck };
+
     fn answer(self, alloc: Global, bytes: &[u8]) -> Result<Answer<Firmness>, AllocError> {
         let form = self.form;
         match read_check(alloc, bytes) {
@@ -40,7 +43,7 @@ impl Question<Firmness> for FirmReasonsOfCut {
             )),
             Err(DocError::Refused(fault)) => {
                 let refused = (Firmness::Refused, fault_in(alloc, form, &fault)?);
-                Ok((refused, hint_at(alloc, bytes, Expected::Check)))
+                Ok((refused, hint_for(alloc, bytes, Expected::Check)))
             }
             Err(DocError::Memory) => Err(AllocError),
         }

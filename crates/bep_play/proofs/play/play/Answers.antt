@@ -11,4 +11,4 @@ loop-step-preserved c =
     leads_on (cluster_of c.args.cluster.now) c.args.steps.items (cluster_of c.loop-step.cluster) c.in-Some.step c.next.new.self.rest.items c.loop-step.told.items c.loop-step.place
     (subst (λ (rest : List Step). LeadsSoFar (cluster_of c.args.cluster.now) c.args.steps.items (cluster_of c.loop-step.cluster) rest c.loop-step.told.items c.loop-step.place) left c.loop-step.invariant)
     (failed_by c.in-Some.step c.apply-answer.new.self.members) (c.apply-answer.ensures.sure (λ _. refl)) c.apply-answer.ensures.node (cluster_of c.apply-answer.new.self) c.apply-answer.result c.tell.new.told.items
-    c.apply-answer.ensures.step c.in_ok-tell.ensures
+    (c.in_ok-tell.ensures.text c.loop-step.invariant.text) c.apply-answer.ensures.step c.in_ok-tell.ensures.tells

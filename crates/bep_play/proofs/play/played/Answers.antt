@@ -4,12 +4,12 @@ use Rattle.bep_peer.specs.network.Network.{Network, cluster_of}
 use Rattle.bep_play.specs.Played.{Leads}
 use Rattle.bep_play.proofs.play.played.Goals as goal
 
-pub returns : goal.returns
-returns c =
+pub returns-clause-ends : goal.returns-clause-ends
+returns-clause-ends c =
     let begun = c.in_ok-cluster.ensures.begun in
     let last = c.play.new.cluster in record {
       begins = subst (λ (network : Network). IsSound (cluster_of network)) begun c.cluster_is_sound.ensures;
-      leads = subst (λ (network : Network). Leads (cluster_of network) c.args.scenario.steps.items (cluster_of last) c.in_ok-told.told.items) begun c.in_ok-told.ensures;
+      leads = subst (λ (network : Network). Leads (cluster_of network) c.args.scenario.steps.items (cluster_of last) c.in_ok-told.told.items) begun c.in_ok-told.ensures.leads;
       network = c.peers-devices.ensures.a_network;
       sound = c.cluster_is_sound-2.ensures;
       says = c.cut_says_cluster.ensures last c.peers-devices.ensures.a_network c.cluster_is_sound-2.ensures;

@@ -1,7 +1,0 @@
-use Rattle.std.proofs.lemmas.Result.{IfOk-weaker}
-use Rattle.bep_answer.proofs.SettledSaid.{settled_answer}
-use Rattle.bep_answer.proofs.answers.checked.Goals as goal
-
-pub returns-clause-settled : goal.returns-clause-settled
-returns-clause-settled g c =
-    IfOk-weaker c.exchange.result _ _ (λ told whole. settled_answer c.settled_stays_put.ensures c.settled_stays_settled.ensures _ _ _ _ told.0 whole) c.exchange.ensures.ok
