@@ -1,11 +1,13 @@
 #!/usr/bin/env bash
-# refused.sh PROGRAM: refuses the program one call after the other, each growth of its memory, each read and each write of
-# standard output, until none is left to refuse. Without memory it must end with status 4, after a refused read or write
-# with status 5, and it must have written nothing; or it made do without the call, and then answers as ever. An interrupted
-# read or write isn't tried again, nor one that takes nothing. Where each read gives and each write takes a few bytes alone it
-# answers as ever. The last line is 'N passed, M failed', a run each.
+# refused.sh PROGRAM PLAIN SECOND: refuses the program one call after the other, each growth of its memory, each read and
+# each write of standard output, until none is left to refuse. Without memory it must end with status 4, after a refused read
+# or write with status 5, and it must have written nothing; or it made do without the call, and then answers as ever. An
+# interrupted read or write isn't tried again, nor one that takes nothing. Where each read gives and each write takes a few
+# bytes alone it answers as ever. SECOND, crates/second_try, asks once more for whatever memory was wanting for, and must then
+# tell as ever. The last line is 'N passed, M failed', a run each.
 set -euo pipefail
 program=$(readlink -m "$1")
+second=$(readlink -m "$3")
 cd "$(dirname "$0")/.."
 passed=0
 failed=0
@@ -102,6 +104,30 @@ in_pieces() {
   fi
 }
 
+# try_again DOCUMENT: refuses each growth to the program that asks once more. It tells as ever, and by status 1 that it asked
+# for something twice; or it ends with status 4 and writes nothing, where what was wanting used up what it was made of.
+try_again() {
+  local document=$1 program=$second number=1 twice=0
+  answer "$document"
+  while run_refused GROWTH "$number" "$document"; [ -e "$work/refused" ]; do
+    if [ "$ever" = 0 ] && [ "$status" -lt 2 ] && cmp -s "$work/out" "$work/ever"; then
+      passed=$((passed + 1))
+      twice=$((twice + status))
+    elif [ "$ever" = 0 ] && [ "$status" = 4 ] && [ ! -s "$work/out" ]; then
+      passed=$((passed + 1))
+    else
+      failed=$((failed + 1))
+      echo "refused: second_try < $document: with growth $number refused it ended with $status, and tells something else"
+    fi
+    number=$((number + 1))
+  done
+  echo "refused: second_try < $document: of $((number - 1)) growths that were refused, $twice were asked for once more"
+  if [ "$twice" = 0 ]; then
+    failed=$((failed + 1))
+    echo "refused: second_try < $document: it asked for nothing once more"
+  fi
+}
+
 # refuse_all DOCUMENT WORDS..: refuses each call of each kind.
 refuse_all() {
   answer "$@"
@@ -127,6 +153,10 @@ done
 refuse_growth examples/local-changes-everywhere.json certify --partial
 refuse_growth examples/scenarios/a-file-is-taken-over.json run
 refuse_growth examples/scenarios/a-file-is-taken-over.json run --document
+for document in scenarios/a-file-is-taken-over scenarios/conflict scenarios/revert scenarios/override old-file-in-a-view \
+  ahead-in-three-ways; do
+  try_again "examples/$document.json"
+done
 cut_off examples/one-equal-file.json check
 REFUSE_WITH=interruption refuse READ 5 examples/one-equal-file.json check
 REFUSE_WITH=interruption refuse WRITE 5 examples/one-equal-file.json check
