@@ -1,0 +1,4 @@
+pub mod Whole
+pub mod Tested
+pub mod RunCut
+pub mod OneRun
