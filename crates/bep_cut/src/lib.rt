@@ -34,5 +34,6 @@ pub use bep_tables::{
 pub use cut::cut_of;
 pub use error::CutError;
 pub use laws::{clusters_are_parts, cut_says_cluster, same_cluster_same_cut};
+pub use names::folder_names;
 pub use points::cut_says_points;
 pub use sound::parts_are_sound;

@@ -9,11 +9,8 @@ use bep_peer::{Peer, tables_are_found};
 use bep_store::Store;
 use std::alloc::{AllocError, Global};
 
-// The names of the folders that some device shares.
-pub(crate) fn folder_names<S: Store>(
-    alloc: Global,
-    peers: &[Peer<S>],
-) -> Result<FolderMap<()>, AllocError>
+/// The names of the folders that some device shares, or want of memory.
+pub fn folder_names<S: Store>(alloc: Global, peers: &[Peer<S>]) -> Result<FolderMap<()>, AllocError>
     ensures { IfOk result (λ made. made ≡ fold with_folders empty (map seen peers.now)) }
 {
     let mut names = FolderMap::new(alloc);

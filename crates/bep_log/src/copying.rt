@@ -1,6 +1,9 @@
 //! Copies of devices and links with their logs: plain data, which no call changes.
 ghost use Rattle.std.specs.Prelude.{◌≡◌, ◌⊎◌, ◌↔◌, IfOk, IfErr, IsErrOf, IsSome};
 ghost use Rattle.bep_log.specs.Copies.{IsCopied};
+ghost use Rattle.bep_log.specs.History.{IsHistory};
+ghost use Rattle.bep_log.specs.LoggedLink.{IsLinkReplayed};
+ghost use Rattle.bep_log.specs.LoggedPeer.{IsReplayed};
 ghost use Rattle.bep_log.specs.declared.error.LogError.TheVariants.{Memory, Refused};
 ghost use Rattle.bep_machine.specs.declared.refusal.Refusal.TheVariants.{StoreFault};
 ghost use Rattle.bep_peer.specs.Copied.{member_copied};
@@ -9,6 +12,7 @@ ghost use Rattle.bep_peer.specs.Member.{Remains, tables_of};
 use crate::history::History;
 use crate::{LogError, LoggedLink, LoggedPeer};
 use bep_fit::Stamped;
+use bep_links::Link;
 use bep_peer::Peer;
 use bep_store::{MemStore, Store};
 use std::alloc::{AllocError, Global};
@@ -54,6 +58,39 @@ impl PeerCopy {
     {
         &self.logged
     }
+
+    /// What the copy holds, for those who take it apart. The device is what its events make of its base.
+    pub fn into_parts(self) -> PeerParts
+        ensures now { result.now ≡ self.now }
+        ensures base { result.base ≡ self.base }
+        ensures log { result.log.items ≡ self.log }
+        ensures round { result.round ≡ self.round }
+        ensures replays { IsReplayed self.now self.base self.log }
+        ensures a_history { IsHistory self.log self.last }
+    {
+        let PeerCopy { logged } = self;
+        let (now, base, history) = logged.into_parts();
+        let round = history.round();
+        PeerParts {
+            now,
+            base,
+            log: history.into_log(),
+            round,
+        }
+    }
+}
+
+/// What a copy of a device holds.
+#[derive(Drop)]
+pub struct PeerParts {
+    /// The device as it was copied, over stores in memory.
+    pub now: Peer<MemStore>,
+    /// The device as it was when its log began, over stores in memory.
+    pub base: Peer<MemStore>,
+    /// The events since, by rising ticket.
+    pub log: Vec<Stamped>,
+    /// The round in which the log began.
+    pub round: u64,
 }
 
 /// A copy of a link with its log. It only lends what it holds, so nothing changes it.
@@ -87,6 +124,39 @@ impl LinkCopy {
     {
         &self.logged
     }
+
+    /// What the copy holds, for those who take it apart. The link is what its events make of its base.
+    pub fn into_parts(self) -> LinkParts
+        ensures now { result.now ≡ self.now }
+        ensures base { result.base ≡ self.base }
+        ensures log { result.log.items ≡ self.log }
+        ensures round { result.round ≡ self.round }
+        ensures replays { IsLinkReplayed self.now self.base self.log }
+        ensures a_history { IsHistory self.log self.last }
+    {
+        let LinkCopy { logged } = self;
+        let (now, base, history) = logged.into_parts();
+        let round = history.round();
+        LinkParts {
+            now,
+            base,
+            log: history.into_log(),
+            round,
+        }
+    }
+}
+
+/// What a copy of a link holds.
+#[derive(Drop)]
+pub struct LinkParts {
+    /// The link as it was copied.
+    pub now: Link,
+    /// The link as it was when its log began.
+    pub base: Link,
+    /// The events since, by rising ticket.
+    pub log: Vec<Stamped>,
+    /// The round in which the log began.
+    pub round: u64,
 }
 
 impl<S: Store> LoggedPeer<S> {

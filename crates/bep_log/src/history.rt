@@ -72,6 +72,19 @@ impl History {
         self.log.as_slice()
     }
 
+    // The events, by rising ticket, for those who take the log apart.
+    pub(crate) fn into_log(self) -> Vec<Stamped>
+        ensures value { result.items ≡ self.log }
+        ensures a_history { IsHistory self.log self.last }
+    {
+        let History {
+            log,
+            round: _,
+            last: _,
+        } = self;
+        log
+    }
+
     // The round in which they were made.
     pub(crate) fn round(&self) -> u64
         ensures { result ≡ self.now.round }

@@ -25,7 +25,7 @@ mod over;
 mod ready;
 mod restarting;
 
-pub use copying::{LinkCopy, PeerCopy};
+pub use copying::{LinkCopy, LinkParts, PeerCopy, PeerParts};
 pub use error::LogError;
 pub use laws::logs_have_one_state;
 pub use limits::MAX_EVENTS;

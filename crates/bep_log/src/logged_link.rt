@@ -120,6 +120,24 @@ impl LoggedLink {
         Ok(())
     }
 
+    // What it holds, for copies that are taken apart.
+    pub(crate) fn into_parts(self) -> (Link, Link, History)
+        ensures now { result.0 ≡ self.now }
+        ensures base { result.1 ≡ self.base }
+        ensures log { result.2.log ≡ self.log }
+        ensures round { result.2.round ≡ self.round }
+        ensures last { result.2.last ≡ self.last }
+        ensures replays { IsLinkReplayed self.now self.base self.log }
+    {
+        let LoggedLink {
+            link,
+            base,
+            history,
+            alloc: _,
+        } = self;
+        (link, base, history)
+    }
+
     /// The link comes up, as `Link::connect` does, under a ticket. Refuses `TicketOld` where the ticket isn't above the last
     /// one, then `LogFull` where the log has 65536 events, then what the link refuses. What is done adds one event to the
     /// log; anything else changes nothing.

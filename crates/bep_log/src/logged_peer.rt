@@ -120,6 +120,24 @@ impl<S: Store> LoggedPeer<S> {
         self.history.last();
     }
 
+    // What it holds, for copies that are taken apart.
+    pub(crate) fn into_parts(self) -> (Peer<S>, Peer<MemStore>, History)
+        ensures now { result.0 ≡ self.now }
+        ensures base { result.1 ≡ self.base }
+        ensures log { result.2.log ≡ self.log }
+        ensures round { result.2.round ≡ self.round }
+        ensures last { result.2.last ≡ self.last }
+        ensures replays { IsReplayed self.now self.base self.log }
+    {
+        let LoggedPeer {
+            peer,
+            base,
+            history,
+            alloc: _,
+        } = self;
+        (peer, base, history)
+    }
+
     /// The device as it is becomes its base, and its log is empty, in this round. The last ticket stays. Refuses
     /// `StoreFault` exactly where a store fails to list its names or to read one; else only for want of memory. After an
     /// error nothing changed.

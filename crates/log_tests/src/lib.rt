@@ -12,4 +12,6 @@ mod rebasing;
 #[cfg(test)]
 mod restarting;
 #[cfg(test)]
+mod run;
+#[cfg(test)]
 mod scenario;

@@ -1,11 +1,11 @@
 -- What comes of words where nothing was read, since memory ran out before.
-use Rattle.std.proofs.Common.{◌≡◌, ℕ, List, [], Option, Err}
+use Rattle.std.proofs.Common.{◌≡◌, ◌∙◌, ℕ, List, [], Option, Err, inl, inr, refl, sym}
 use Rattle.std.proofs.KnownBytes.{Keeps-refl}
 use Rattle.bep_answer.specs.Status.{status_of}
 use Rattle.bep_report.specs.declared.error.ReportError.TheVariants.{Memory}
 use Rattle.clap.specs.Words.{Text, fault_of}
 use Rattle.bep_words.specs.Mode.{FaultlessWordsAsk, program}
-use Rattle.syncaudit.specs.Status.{IsDone, IsFollowed}
+use Rattle.syncaudit.specs.Status.{IsDone, IsFollowed, IsProgramRun}
 use Rattle.bep_words.specs.declared.mode.Ending.TheVariants.{Report, Document}
 use Rattle.bep_words.specs.declared.mode.Extent.TheVariants.{All, Won}
 use Rattle.bep_words.specs.declared.mode.Goal.TheVariants.{Settled}
@@ -29,3 +29,14 @@ pub followed_without_memory : FaultlessWordsAsk → (words : List Text) (unread 
 followed_without_memory ask words unread held status told none =
     let asked = ask words none in
     (asked.0, asked.1, done_without_memory asked.0 unread held status told)
+
+-- nothing is read where memory ran out first
+pub run_without_memory : FaultlessWordsAsk → (words : List Text) (unread held : Option (List ℕ)) (status : ℕ) → status ≡ status_of (Err Memory) → IsProgramRun words unread unread held held status
+run_without_memory ask words unread held status told =
+    let isnt : status ≡ 0 → ⊥ = λ zero. (let e : 4 ≡ 0 = sym told ∙ zero in cc) in record {
+      followed = followed_without_memory ask words unread held status told;
+      end = inl (inr told, refl, Keeps-refl held);
+      settled = λ asks zero. absurd (isnt zero);
+      firm = λ asks zero. absurd (isnt zero);
+      ends_settled = λ asks zero. absurd (isnt zero);
+    }

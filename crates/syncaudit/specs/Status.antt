@@ -1,14 +1,19 @@
 -- What came of the words of the command line (this project's profile).
-use Rattle.std.specs.Prelude.{◌≡◌, ◌⊎◌, ℕ, List, Option, Err}
+use Rattle.std.specs.Prelude.{◌≡◌, ◌⊎◌, ℕ, List, [], Option, Err}
 use Rattle.std.specs.Io.KnownBytes.{Keeps}
+use Rattle.std.specs.declared.io.ErrorKind.{ErrorKind}
+use Rattle.std.specs.declared.io.ErrorKind.TheVariants.{OutOfMemory}
+use Rattle.bep_answer.specs.Answer.{SaysSettled}
+use Rattle.bep_answer.specs.Firm.{SaysFirm}
 use Rattle.bep_answer.specs.Status.{IsCertificateTold, IsFirmTold, IsPartTold, IsTold, status_of, usage}
 use Rattle.bep_lines.specs.declared.form.Form.{Form}
+use Rattle.bep_play.specs.Played.{EndsSettled}
 use Rattle.bep_play.specs.Told.{IsEndTold, IsRunTold}
 use Rattle.bep_explain.specs.document.FirmExplained.{IsFirmExplanationTold}
 use Rattle.bep_explain.specs.document.Told.{IsExplanationTold}
 use Rattle.bep_report.specs.declared.error.ReportError.TheVariants.{Memory}
-use Rattle.clap.specs.Words.{Text}
-use Rattle.bep_words.specs.Mode.{Asks}
+use Rattle.clap.specs.Words.{Text, fault_of}
+use Rattle.bep_words.specs.Mode.{Asks, program}
 use Rattle.bep_words.specs.declared.mode.Ending.{Ending}
 use Rattle.bep_words.specs.declared.mode.Ending.TheVariants.{Report, Document}
 use Rattle.bep_words.specs.declared.mode.Extent.{Extent}
@@ -46,8 +51,28 @@ IsDone (Run ending) = IsEnding ending
 abbrev pub IsFollowed : List Text → Option (List ℕ) → Option (List ℕ) → Option (List ℕ) → Option (List ℕ) → ℕ → Type 0
 IsFollowed words unread left held now status = (mode : Mode) × Asks words mode × IsDone mode unread left held now status
 
--- the status tells that the words weren't followed, or that there was no memory for them, and then nothing was written;
--- or they were followed
+-- the status tells that the words weren't followed, or that there was no memory for them, and then nothing was read or
+-- written; or they were followed
 abbrev pub IsEnd : List Text → Option (List ℕ) → Option (List ℕ) → Option (List ℕ) → Option (List ℕ) → ℕ → Type 0
 IsEnd words unread left held now status =
-    (((status ≡ usage) ⊎ (status ≡ status_of (Err Memory))) × Keeps held now) ⊎ IsFollowed words unread left held now status
+    (((status ≡ usage) ⊎ (status ≡ status_of (Err Memory))) × (left ≡ unread) × Keeps held now) ⊎ IsFollowed words unread left held now status
+
+-- what comes of the words that the program is given
+pub record IsProgramRun (words : List Text) (unread left held now : Option (List ℕ)) (status : ℕ) : Type 0 where
+  -- those in which nothing is at fault are followed
+  pub followed : fault_of program words ≡ [] → IsFollowed words unread left held now status
+  pub end : IsEnd words unread left held now status
+  pub settled : Asks words Check → status ≡ 0 → SaysSettled unread left
+  pub firm : Asks words Firm → status ≡ 0 → SaysFirm unread left
+  pub ends_settled : Asks words (Run Report) → status ≡ 0 → EndsSettled unread left
+
+-- the status where the system gave the program no words, by the kind of its error
+abbrev pub status_without : ErrorKind → ℕ
+status_without OutOfMemory = status_of (Err Memory)
+status_without _ = usage
+
+-- and then nothing is read or written
+pub record IsWithoutWords (kind : ErrorKind) (unread left held now : Option (List ℕ)) (status : ℕ) : Type 0 where
+  pub told : status ≡ status_without kind
+  pub unread_still : left ≡ unread
+  pub unwritten : Keeps held now

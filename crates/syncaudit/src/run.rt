@@ -1,13 +1,14 @@
 //! From the words of the command line to the exit status.
-ghost use Rattle.std.specs.Prelude.{◌≡◌, ◌⊎◌, [], Err, map};
+ghost use Rattle.std.specs.Prelude.{◌≡◌, [], IfErr, IfOk, map};
+ghost use Rattle.std.specs.IoError.{error_kind};
+ghost use Rattle.std.specs.String.{string_bytes};
+ghost use Rattle.std.specs.Vec.Iter.{into_iter_items};
 ghost use Rattle.clap.specs.Words.{fault_of};
 ghost use Rattle.bep_answer.specs.Answer.{SaysSettled};
 ghost use Rattle.bep_answer.specs.Firm.{SaysFirm};
 ghost use Rattle.bep_play.specs.Played.{EndsSettled};
-ghost use Rattle.bep_report.specs.declared.error.ReportError.TheVariants.{Memory};
 ghost use Rattle.bep_words.specs.Mode.{Asks, program};
-ghost use Rattle.bep_answer.specs.Status.{status_of, usage};
-ghost use Rattle.syncaudit.specs.Status.{IsCertifying, IsEnd, IsEnding, IsExplaining, IsFollowed};
+ghost use Rattle.syncaudit.specs.Status.{IsCertifying, IsEnd, IsEnding, IsExplaining, IsFollowed, IsProgramRun, IsWithoutWords, status_without};
 ghost use Rattle.bep_words.specs.declared.mode.Ending.TheVariants.{Report};
 ghost use Rattle.bep_words.specs.declared.mode.Mode.TheVariants.{Check, Firm, Run};
 
@@ -19,12 +20,46 @@ use bep_lines::Form;
 use bep_play::{run_and_tell, run_document_and_tell};
 use bep_report::ReportError;
 use bep_words::{Ending, Extent, Goal, Mode, Unfollowed, faultless_words_ask, mode_told};
+use std::alloc::{AllocError, Global};
 use std::convert::AsStr;
-use std::env::{self, Env};
+use std::env::Args;
 use std::io::{self, Read, Write};
 
+/// Does what the words ask for that the system gave the program, all of them, as `run` does; or tells why it gave none, and
+/// answers the exit status. Without words nothing is read or written.
+pub fn run_given<P: AllocGlobal + Eprint, R: Read, W: Write>(
+    rt: &P,
+    reader: &mut R,
+    writer: &mut W,
+    words: io::Result<Args>,
+) -> u8
+    ensures given { IfOk words (λ all. IsProgramRun (map string_bytes (into_iter_items all)) (R.remaining reader.old) (R.remaining reader.new) (W.contents writer.old) (W.contents writer.new) result) }
+    ensures without { IfErr words (λ error. IsWithoutWords (error_kind error) (R.remaining reader.old) (R.remaining reader.new) (W.contents writer.old) (W.contents writer.new) result) }
+{
+    match words {
+        Ok(words) => run_all(rt, reader, writer, words),
+        Err(error) => run_without_words(rt, error),
+    }
+}
+
+// Does what all these words ask for, as `run` does.
+fn run_all<P: AllocGlobal + Eprint, R: Read, W: Write>(
+    rt: &P,
+    reader: &mut R,
+    writer: &mut W,
+    words: Args,
+) -> u8
+    ensures { IsProgramRun (map string_bytes (into_iter_items words)) (R.remaining reader.old) (R.remaining reader.new) (W.contents writer.old) (W.contents writer.new) result }
+{
+    faultless_words_ask();
+    match all_of(rt.alloc(), words) {
+        Ok(all) => run(rt, reader, writer, all.as_slice()),
+        Err(_) => end(rt, Err(ReportError::Memory)),
+    }
+}
+
 /// Does what these words ask for, the program's name first, and answers the exit status. Words in which nothing is at
-/// fault are followed.
+/// fault are followed; before others nothing is read.
 ///
 /// A document is read and its answer written; why there is none is told on standard error.
 pub fn run<P: AllocGlobal + Eprint, R: Read, W: Write, S: AsStr>(
@@ -55,20 +90,23 @@ pub fn run<P: AllocGlobal + Eprint, R: Read, W: Write, S: AsStr>(
     }
 }
 
-/// The words of the command line, the program's name first.
-pub fn words_of<P: Env + AllocGlobal>(rt: &P) -> io::Result<Vec<String>> {
-    Ok(env::args(rt)?.collect(rt.alloc())?)
+// All words, in their order.
+fn all_of(alloc: Global, words: Args) -> Result<Vec<String>, AllocError>
+    ensures { IfOk result (λ all. all.items ≡ into_iter_items words) }
+{
+    words.collect(alloc)
 }
 
-/// Tells why there are no words, and answers the exit status.
-pub fn run_without_words<P: Eprint>(rt: &P, error: io::Error) -> u8
-    ensures { (result ≡ usage) ⊎ (result ≡ status_of (Err Memory)) }
+// Tells why there are no words, and answers the exit status.
+fn run_without_words<P: Eprint>(rt: &P, error: io::Error) -> u8
+    ensures { result ≡ status_without (error_kind error) }
 {
-    if error.kind() == io::ErrorKind::OutOfMemory {
-        end(rt, Err(ReportError::Memory))
-    } else {
-        let _ = eprint!(rt; "error: the words are no UTF-8\n");
-        USAGE
+    match error.kind() {
+        io::ErrorKind::OutOfMemory => end(rt, Err(ReportError::Memory)),
+        _ => {
+            let _ = eprint!(rt; "error: the words are no UTF-8\n");
+            USAGE
+        }
     }
 }
 

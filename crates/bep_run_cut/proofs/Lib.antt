@@ -1,0 +1,9 @@
+pub mod SameCluster
+pub mod FoundByKey
+pub mod Replaying
+pub mod Tests
+pub mod WholeFacts
+pub mod BasesWhole
+pub mod OneRunFacts
+pub mod Ticketed
+pub mod Counted

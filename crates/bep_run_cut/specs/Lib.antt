@@ -1,0 +1,4 @@
+pub mod Whole
+pub mod RunCut
+pub mod OneRun
+pub mod inner

@@ -1,0 +1,20 @@
+use Rattle.std.proofs.Common.{◌∙◌, map, subst}
+use Rattle.std.specs.String.{string_bytes}
+use Rattle.syncaudit.specs.Status.{IsProgramRun}
+use Rattle.syncaudit.proofs.StatusFacts.{run_without_memory}
+use Rattle.syncaudit.proofs.run.run_all.Goals as goal
+
+pub returns-in-Ok : goal.returns-in-Ok
+returns-in-Ok g c =
+    subst (λ all. IsProgramRun (map string_bytes all) (g.R.Read.remaining c.args.reader.now) (g.R.Read.remaining c.run.new.reader) (g.W.Write.contents c.args.writer.now) (g.W.Write.contents c.run.new.writer) c.run.result)
+    (c.as_slice.ensures.value ∙ c.in-Ok.ensures)
+    (record {
+      followed = c.run.ensures.followed;
+      end = c.run.ensures.end;
+      settled = c.run.ensures.settled;
+      firm = c.run.ensures.firm;
+      ends_settled = c.run.ensures.ends_settled;
+    })
+
+pub returns-in-Err : goal.returns-in-Err
+returns-in-Err g c = run_without_memory c.faultless_words_ask.ensures _ _ _ _ c.end.ensures
