@@ -211,21 +211,25 @@ fn torn(alloc: Global) -> Option<(u64, u64, u64)> {
     let (mut right, mut fitting, mut left) = (0u64, 0u64, 0u64);
     for first in 0..16u64 {
         for rest in 0..16u64 {
-            let mut pair = two_devices(alloc, [0, 0])?;
-            let run = run_cut(alloc, &mut pair, &STEPS, [first, rest, rest])?;
-            let found = check_run(&run);
-            if found == due(first, rest)? {
-                right = right.saturating_add(1);
-            }
-            if let RunVerdict::Fits(_) = found {
-                fitting = fitting.saturating_add(1);
-                if is_left(alloc, &run, first, rest)? {
-                    left = left.saturating_add(1);
-                }
-            }
+            let (one_right, one_fitting, one_left) = torn_at(alloc, first, rest)?;
+            right = right.saturating_add(one_right);
+            fitting = fitting.saturating_add(one_fitting);
+            left = left.saturating_add(one_left);
         }
     }
     Some((right, fitting, left))
+}
+
+// Of copies of these two moments: 1 if the verdict is right, 1 if they fit, and 1 if they fit and the stores are what is left.
+fn torn_at(alloc: Global, first: u64, rest: u64) -> Option<(u64, u64, u64)> {
+    let mut pair = two_devices(alloc, [0, 0])?;
+    let run = run_cut(alloc, &mut pair, &STEPS, [first, rest, rest])?;
+    let found = check_run(&run);
+    let right = u64::from(found == due(first, rest)?);
+    match found {
+        RunVerdict::Fits(_) => Some((right, 1, u64::from(is_left(alloc, &run, first, rest)?))),
+        RunVerdict::Misfit(_, _) => Some((right, 0, 0)),
+    }
 }
 
 // 58 fit: 4, 3, 1, 4 and 4 moments have no event over the link at the first device between them.
