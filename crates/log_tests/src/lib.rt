@@ -12,6 +12,4 @@ mod rebasing;
 #[cfg(test)]
 mod restarting;
 #[cfg(test)]
-mod run;
-#[cfg(test)]
 mod scenario;

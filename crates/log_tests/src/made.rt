@@ -79,22 +79,11 @@ pub(crate) fn peer(
     others: &[u64],
     call: u64,
 ) -> Option<LoggedPeer<FaultStore<MemStore>>> {
-    sharing(alloc, device, others, others, call)
-}
-
-/// The same, of a device that shares the folder with the one and is linked with the others.
-pub(crate) fn sharing(
-    alloc: Global,
-    device: u64,
-    others: &[u64],
-    linked: &[u64],
-    call: u64,
-) -> Option<LoggedPeer<FaultStore<MemStore>>> {
     let mut folders = FolderMap::new(alloc);
     folders
         .insert(docs(alloc)?, replica(alloc, device, others, call)?)
         .ok()?;
-    let linked = devices(alloc, linked)?;
+    let linked = devices(alloc, others)?;
     let peer = Peer::new(alloc, DeviceId::read(device)?, folders, linked)?;
     LoggedPeer::new(alloc, peer).ok()
 }

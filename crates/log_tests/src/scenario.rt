@@ -7,13 +7,13 @@ use bep_record::Same;
 use bep_store::{FaultStore, MemStore};
 use std::alloc::Global;
 
-/// The fifteen steps, each under its place as ticket: a letter, and the device that makes it; the link by itself has none.
-pub(crate) const STEPS: [&str; 15] = [
+// The fifteen steps, each under its place as ticket: a letter, and the device that makes it; the link by itself has none.
+const STEPS: [&str; 15] = [
     "e1", "s1", "c", "b1", "b2", "d2", "d1", "a1", "d2", "p2", "q2", "d1", "d2", "f2", "f2",
 ];
 
-/// Which of them touch the first device; and which the second, and the link. The last is refused.
-pub(crate) const FIRST: [u64; 6] = [1, 2, 4, 7, 8, 12];
+// Which of them touch the first device, the second, and the link; the last is refused.
+const FIRST: [u64; 6] = [1, 2, 4, 7, 8, 12];
 
 const SECOND: [u64; 7] = [5, 6, 9, 10, 11, 13, 14];
 
