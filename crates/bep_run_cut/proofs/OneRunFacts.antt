@@ -27,19 +27,15 @@ use Rattle.bep_run_cut.specs.Whole.{AreWhole}
 use Rattle.bep_run_cut.proofs.BasesWhole.{bases_whole}
 use Rattle.bep_run_cut.proofs.Replaying.{copies_replay}
 
--- what the cut of a network says
-said : (network : Network) (cut : CutParts) → IsCutOf network cut → tables_of (cut_at network.members network.links) ≡ tables_of_cluster (cluster_of network)
-said network cut is = ap tables_of (sym is.cut_of) ∙ is.says
-
 pub is_run : FittingLogsAreOneRun → (run : RunState) → IsRunCut run → (verdict : RunVerdict) → IsRunVerdict run.logs verdict → (count : ℕ) → verdict ≡ Fits count → IsRunOf run count
 is_run law run is verdict judged count fits =
     law run.logs (cluster_of run.bases) (cluster_of run.present) count is.sound is.replayed is.nodes (subst (IsRunVerdict run.logs) fits judged)
 
-pub stays_put : SettledLogsStayPut → (run : RunState) → IsRunCut run → (base cut : CutParts) → IsCutOf run.bases base → IsCutOf run.present cut → (verdict : RunVerdict) → IsRunVerdict run.logs verdict → (count : ℕ) → verdict ≡ Fits count → StaysPut run
-stays_put law run is base cut base_is cut_is verdict judged count fits rows settled quiet =
-    let tables = tables_of (cut_at run.bases.members run.bases.links) in
-    subst (λ (after : Tables). Stays tables rows after) (sym (said run.present cut cut_is))
-    (law run.logs (cluster_of run.bases) (cluster_of run.present) count tables rows is.sound is.replayed (subst (IsRunVerdict run.logs) fits judged) quiet (sym (said run.bases base base_is)) settled)
+pub stays_put : SettledLogsStayPut → (run : RunState) → IsRunCut run → (verdict : RunVerdict) → IsRunVerdict run.logs verdict → (count : ℕ) → verdict ≡ Fits count → StaysPut run
+stays_put law run is verdict judged count fits base cut base_is cut_is rows settled quiet =
+    let tables = tables_of base in
+    subst (λ (after : Tables). Stays tables rows after) (sym cut_is.says)
+    (law run.logs (cluster_of run.bases) (cluster_of run.present) count tables rows is.sound is.replayed (subst (IsRunVerdict run.logs) fits judged) quiet (sym base_is.says) settled)
 
 -- whole copies have few logs
 pub few_logs : (peers : List LoggedMember) (links : List LoggedBetween) → AreWhole (members_now peers) (links_now links) → length (logs_of peers links) ≤ MAX_OBJECTS
