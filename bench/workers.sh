@@ -89,7 +89,7 @@ func main() {
 	}
 }
 PROGRAM
-(cd "$work/hasher" && GO111MODULE=off GOPATH=/usr/share/gocode GOFLAGS= go build -o hasher main.go)
+(cd "$work/hasher" && GO111MODULE=off GOPATH=/usr/share/gocode GOFLAGS='' go build -o hasher main.go)
 "$work/hasher/hasher" "$work/bytes" "$runs" >> "$work/out"
 
 awk -v mib="$mib" '
