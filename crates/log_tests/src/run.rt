@@ -224,12 +224,20 @@ fn torn(alloc: Global) -> Option<(u64, u64, u64)> {
 fn torn_at(alloc: Global, first: u64, rest: u64) -> Option<(u64, u64, u64)> {
     let mut pair = two_devices(alloc, [0, 0])?;
     let run = run_cut(alloc, &mut pair, &STEPS, [first, rest, rest])?;
-    let found = check_run(&run);
-    let right = u64::from(found == due(first, rest)?);
-    match found {
-        RunVerdict::Fits(_) => Some((right, 1, u64::from(is_left(alloc, &run, first, rest)?))),
-        RunVerdict::Misfit(_, _) => Some((right, 0, 0)),
+    let right = u64::from(is_due(&run, first, rest)?);
+    if fits(&run) {
+        Some((right, 1, u64::from(is_left(alloc, &run, first, rest)?)))
+    } else {
+        Some((right, 0, 0))
     }
+}
+
+fn is_due(run: &RunCut, first: u64, rest: u64) -> Option<bool> {
+    Some(check_run(run) == due(first, rest)?)
+}
+
+fn fits(run: &RunCut) -> bool {
+    matches!(check_run(run), RunVerdict::Fits(_))
 }
 
 // 58 fit: 4, 3, 1, 4 and 4 moments have no event over the link at the first device between them.

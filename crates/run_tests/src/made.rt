@@ -40,7 +40,13 @@ fn share(alloc: Global, config: &mut Config<MemStore>, number: u64) -> Option<()
     let docs = docs(alloc)?;
     let kind = FolderKind::SendReceive;
     config
-        .add_device(&docs, device(number)?, kind, 10 + number, store)
+        .add_device(
+            &docs,
+            device(number)?,
+            kind,
+            number.saturating_add(10),
+            store,
+        )
         .ok()
 }
 

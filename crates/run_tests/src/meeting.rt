@@ -16,18 +16,19 @@ const TRIES: u32 = 20000;
 
 const SLEEP: u64 = 100;
 
-// A gate that holds a scanner at its first piece, and a device's session at its first delivery, until both have come.
+// A gate that holds a scanner at its first piece, and the session of the device of this number at its first delivery, until
+// both have come.
 #[derive(Drop)]
 struct Meeting<R: Clock + Drop> {
     rt: R,
-    device: DeviceId,
+    device: u64,
     scanner: AtomicU64,
     session: AtomicU64,
     given_up: AtomicU64,
 }
 
 impl<R: Clock + Drop> Meeting<R> {
-    fn new(rt: R, device: DeviceId) -> Self {
+    fn new(rt: R, device: u64) -> Self {
         Meeting {
             rt,
             device,
@@ -51,6 +52,13 @@ impl<R: Clock + Drop> Meeting<R> {
         self.given_up.fetch_add(1, Ordering::SeqCst);
     }
 
+    // A message was delivered at the device of this number.
+    fn delivered(&self, device: u64) {
+        if device == self.device {
+            self.meet(&self.session, &self.scanner);
+        }
+    }
+
     // How often the scanner and the session came, and how many waited in vain.
     fn seen(&self) -> (u64, u64, u64) {
         let scanner = self.scanner.load(Ordering::SeqCst);
@@ -63,9 +71,7 @@ impl<R: Clock + Drop> Gate for Meeting<R> {
     fn pass(&self, place: Place) {
         match place {
             Place::Piece(_) => self.meet(&self.scanner, &self.session),
-            Place::Delivered(device) if device == self.device => {
-                self.meet(&self.session, &self.scanner)
-            }
+            Place::Delivered(device) => self.delivered(device.number()),
             _ => {}
         }
     }
@@ -77,7 +83,7 @@ fn met<R: Threads + Wait + Clock + Sync + Copy + Drop>(
     alloc: Global,
 ) -> Option<((u64, u64, u64), Result<u64, LogError>)> {
     let shared = with_file_and_message(alloc)?;
-    let gate = Meeting::new(rt, device(1)?);
+    let gate = Meeting::new(rt, 1);
     let done = run_workers(&rt, &shared, &gate, 1);
     Some((gate.seen(), done))
 }

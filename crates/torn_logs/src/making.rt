@@ -131,6 +131,8 @@ fn scan(
     let Ok(found) = peer.look(folder, name) else {
         return Ok(());
     };
-    let scan = ScanResult::plain(alloc, name.copy(alloc)?, found)?;
-    unless_refused(peer.scan_commit(ticket, folder, scan))
+    match ScanResult::plain(alloc, name.copy(alloc)?, found) {
+        Ok(scan) => unless_refused(peer.scan_commit(ticket, folder, scan)),
+        Err(_) => Err(AllocError),
+    }
 }
