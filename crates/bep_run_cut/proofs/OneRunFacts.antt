@@ -5,16 +5,14 @@ use Rattle.std.specs.List.{AllByRecursion}
 use Rattle.bep_machine.specs.HalfLaws.{ReplaysKeepSharing}
 use Rattle.bep_model.specs.Stays.{Stays}
 use Rattle.bep_model.specs.Tables.{Tables}
-use Rattle.bep_machine.specs.Said.{tables_of_cluster}
 use Rattle.bep_links.specs.Link.{LinkBetween}
 use Rattle.bep_peer.specs.Laws.{NoMoreTables, TablesAreFound}
 use Rattle.bep_peer.specs.Member.{Member}
-use Rattle.bep_peer.specs.network.Network.{Network, cluster_of}
+use Rattle.bep_peer.specs.network.Network.{cluster_of}
 use Rattle.bep_log.specs.LoggedLink.{LoggedBetween}
 use Rattle.bep_log.specs.LoggedPeer.{LoggedMember}
-use Rattle.bep_tables.specs.declared.cut.CutParts.{CutParts}
 use Rattle.bep_tables.specs.Cut.{tables_of}
-use Rattle.bep_cut.specs.Cut.{cut_at, seen}
+use Rattle.bep_cut.specs.Cut.{seen}
 use Rattle.bep_fit.specs.declared.verdict.RunVerdict.{RunVerdict}
 use Rattle.bep_fit.specs.declared.verdict.RunVerdict.TheVariants.{Fits}
 use Rattle.bep_fit.specs.Fit.{IsRunVerdict}
@@ -22,7 +20,7 @@ use Rattle.bep_fit.specs.FitLaws.{FittingLogsAreOneRun, SettledLogsStayPut}
 use Rattle.bep_fit.specs.Logs.{ObjectLog}
 use Rattle.bep_run_check.specs.declared.limits.TheConstants.{MAX_OBJECTS}
 use Rattle.bep_run_cut.specs.OneRun.{IsRunOf, StaysPut}
-use Rattle.bep_run_cut.specs.RunCut.{AreTheSame, HoldsCopies, IsCutOf, IsRunCut, IsLinkReplayedCopy, IsReplayedCopy, PartsLead, RunState, device_log, link_log, links_base, links_now, logs_of, members_base, members_now}
+use Rattle.bep_run_cut.specs.RunCut.{AreTheSame, HoldsCopies, IsRunCut, IsLinkReplayedCopy, IsReplayedCopy, PartsLead, RunState, device_log, link_log, links_base, links_now, logs_of, members_base, members_now}
 use Rattle.bep_run_cut.specs.Whole.{AreWhole}
 use Rattle.bep_run_cut.proofs.BasesWhole.{bases_whole}
 use Rattle.bep_run_cut.proofs.Replaying.{copies_replay}
