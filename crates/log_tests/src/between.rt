@@ -38,7 +38,7 @@ fn has_file(alloc: Global, pair: &mut Pair) -> Option<bool> {
     let (docs, name) = (docs(alloc)?, name(alloc, b'h')?);
     match pair.second.look(&docs, &name).ok()? {
         None => Some(false),
-        Some(node) if node.parts().bytes.as_slice() == b"hello" => Some(true),
+        Some(node) if node.parts().bytes.as_slice() == b"hello".as_slice() => Some(true),
         Some(_) => None,
     }
 }
