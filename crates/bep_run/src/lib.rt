@@ -12,6 +12,7 @@
 #![tactic(auto)]
 
 mod actions;
+mod cuts;
 mod over;
 mod pulling;
 mod scanning;

@@ -2,8 +2,18 @@
 #![tactic(auto)]
 
 #[cfg(test)]
+mod at_once;
+#[cfg(test)]
+mod cuts;
+#[cfg(test)]
+mod effects;
+#[cfg(test)]
 mod made;
 #[cfg(test)]
 mod meeting;
 #[cfg(test)]
+mod seen;
+#[cfg(test)]
 mod turns;
+#[cfg(test)]
+mod waiting;

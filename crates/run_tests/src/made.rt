@@ -4,7 +4,7 @@ use bep_core::Cluster;
 use bep_machine::Step;
 use bep_record::{DeviceId, FolderKind, FolderName, Items, Kind, Name, Node, NodeParts, Target};
 use bep_run::Shared;
-use bep_store::MemStore;
+use bep_store::{FaultStore, MemStore, Store};
 use std::alloc::Global;
 
 /// The device of this number, which isn't 0.
@@ -15,6 +15,11 @@ pub(crate) fn device(number: u64) -> Option<DeviceId> {
 /// The folder.
 pub(crate) fn docs(alloc: Global) -> Option<FolderName> {
     FolderName::read(alloc, b"docs").ok()
+}
+
+/// The folder that only the cluster with the other kinds has.
+pub(crate) fn music(alloc: Global) -> Option<FolderName> {
+    FolderName::read(alloc, b"music").ok()
 }
 
 /// The name of the one file.
@@ -35,29 +40,56 @@ pub(crate) fn file(alloc: Global, len: usize) -> Option<Node> {
     Node::read(parts).ok()
 }
 
-fn share(alloc: Global, config: &mut Config<MemStore>, number: u64) -> Option<()> {
-    let store = MemStore::new(alloc);
-    let docs = docs(alloc)?;
-    let kind = FolderKind::SendReceive;
-    config
-        .add_device(
-            &docs,
-            device(number)?,
-            kind,
-            number.saturating_add(10),
-            store,
-        )
-        .ok()
+// Adds the folder to the two devices, in these kinds and with these stores.
+fn share<S: Store>(
+    config: &mut Config<S>,
+    folder: &FolderName,
+    kinds: [FolderKind; 2],
+    first: S,
+    second: S,
+) -> Option<()> {
+    let [one, two] = kinds;
+    config.add_folder(folder.as_bytes()).ok()?;
+    config.add_device(folder, device(1)?, one, 11, first).ok()?;
+    config.add_device(folder, device(2)?, two, 12, second).ok()
 }
+
+// The cluster of the configuration and the link.
+fn linked<S: Store>(alloc: Global, mut config: Config<S>) -> Option<Cluster<S>> {
+    config.add_link(device(1)?, device(2)?).ok()?;
+    Cluster::new(alloc, config).ok()
+}
+
+const BOTH: [FolderKind; 2] = [FolderKind::SendReceive, FolderKind::SendReceive];
 
 /// The cluster as it begins: nothing is recorded, and the link is down.
 pub(crate) fn cluster(alloc: Global) -> Option<Cluster<MemStore>> {
+    let (first, second) = (MemStore::new(alloc), MemStore::new(alloc));
     let mut config = Config::empty(alloc);
-    config.add_folder(b"docs").ok()?;
-    share(alloc, &mut config, 1)?;
-    share(alloc, &mut config, 2)?;
-    config.add_link(device(1)?, device(2)?).ok()?;
-    Cluster::new(alloc, config).ok()
+    share(&mut config, &docs(alloc)?, BOTH, first, second)?;
+    linked(alloc, config)
+}
+
+/// The same, where these calls of the stores of devices 1 and 2 fail, or none for 0.
+pub(crate) fn failing(alloc: Global, calls: [u64; 2]) -> Option<Cluster<FaultStore<MemStore>>> {
+    let [one, two] = calls;
+    let first = FaultStore::new(MemStore::new(alloc), one);
+    let second = FaultStore::new(MemStore::new(alloc), two);
+    let mut config = Config::empty(alloc);
+    share(&mut config, &docs(alloc)?, BOTH, first, second)?;
+    linked(alloc, config)
+}
+
+/// The cluster with the other kinds: device 1 only sends `docs`, and device 2 only receives `music`.
+pub(crate) fn other_kinds(alloc: Global) -> Option<Cluster<MemStore>> {
+    let sends = [FolderKind::SendOnly, FolderKind::SendReceive];
+    let receives = [FolderKind::SendReceive, FolderKind::ReceiveOnly];
+    let (first, second) = (MemStore::new(alloc), MemStore::new(alloc));
+    let (third, fourth) = (MemStore::new(alloc), MemStore::new(alloc));
+    let mut config = Config::empty(alloc);
+    share(&mut config, &docs(alloc)?, sends, first, second)?;
+    share(&mut config, &music(alloc)?, receives, third, fourth)?;
+    linked(alloc, config)
 }
 
 /// The cluster behind its locks, the link up, with a file at device 1 that no scan has seen, and a message on its way to it.

@@ -1,20 +1,15 @@
 //! That a device's session goes on while its scanner hashes.
 use crate::made::{device, with_file_and_message};
+use crate::waiting::{come, count, has_come};
 use bep_blocks::{Gate, Place};
 use bep_log::LogError;
 use bep_record::DeviceId;
 use bep_run::run_workers;
 use std::alloc::Global;
 use std::sync::Wait;
-use std::sync::atomic::{AtomicU64, Ordering};
-use std::thread;
+use std::sync::atomic::AtomicU64;
 use std::thread::Threads;
-use std::time::{Clock, Duration};
-
-// How often a thread that waits at the gate looks whether the other one has come, and the microseconds between two looks.
-const TRIES: u32 = 20000;
-
-const SLEEP: u64 = 100;
+use std::time::Clock;
 
 // A gate that holds a scanner at its first piece, and the session of the device of this number at its first delivery, until
 // both have come.
@@ -40,16 +35,9 @@ impl<R: Clock + Drop> Meeting<R> {
 
     // The first that comes here waits for the first that comes there.
     fn meet(&self, here: &AtomicU64, there: &AtomicU64) {
-        if here.fetch_add(1, Ordering::SeqCst) > 0 {
-            return;
+        if come(here) == 0 && !has_come(&self.rt, there) {
+            come(&self.given_up);
         }
-        for _ in 0..TRIES {
-            if there.load(Ordering::SeqCst) > 0 {
-                return;
-            }
-            thread::sleep(&self.rt, Duration::from_micros(SLEEP));
-        }
-        self.given_up.fetch_add(1, Ordering::SeqCst);
     }
 
     // A message was delivered at the device of this number.
@@ -61,9 +49,11 @@ impl<R: Clock + Drop> Meeting<R> {
 
     // How often the scanner and the session came, and how many waited in vain.
     fn seen(&self) -> (u64, u64, u64) {
-        let scanner = self.scanner.load(Ordering::SeqCst);
-        let session = self.session.load(Ordering::SeqCst);
-        (scanner, session, self.given_up.load(Ordering::SeqCst))
+        (
+            count(&self.scanner),
+            count(&self.session),
+            count(&self.given_up),
+        )
     }
 }
 

@@ -1,0 +1,30 @@
+//! How a thread waits at a gate for another one.
+use std::sync::atomic::{AtomicU64, Ordering};
+use std::thread;
+use std::time::{Clock, Duration};
+
+// How often a thread looks whether another one has come, and the microseconds between two looks.
+const TRIES: u32 = 20000;
+
+const SLEEP: u64 = 100;
+
+/// A thread comes there; how many came before.
+pub(crate) fn come(there: &AtomicU64) -> u64 {
+    there.fetch_add(1, Ordering::SeqCst)
+}
+
+/// How many came there.
+pub(crate) fn count(there: &AtomicU64) -> u64 {
+    there.load(Ordering::SeqCst)
+}
+
+/// Whether some thread came there, once this one has waited for it: at most two seconds and the time that looking takes.
+pub(crate) fn has_come<R: Clock>(rt: &R, there: &AtomicU64) -> bool {
+    for _ in 0..TRIES {
+        if count(there) > 0 {
+            return true;
+        }
+        thread::sleep(rt, Duration::from_micros(SLEEP));
+    }
+    false
+}
