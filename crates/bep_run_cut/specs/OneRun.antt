@@ -17,9 +17,9 @@ use Rattle.bep_run_cut.specs.RunCut.{IsCutOf, RunState}
 abbrev pub IsRunOf : RunState → ℕ → Type 0
 IsRunOf run count = (merged : List Stamped) × (length merged ≡ count) × IsOneRun run.logs merged (cluster_of run.bases) (cluster_of run.present)
 
--- If the cut of the cluster as it was is settled for some rows, and no event is a local step, each store of the cut of the
--- cluster as it is holds byte for byte what it held, and each row's name has its certified content. Only a device whose reset
--- stands in a log may lack an own record of it.
+-- Let the cut of the cluster as it was be settled for some rows, and let no event be a local step. Then each store of the cut
+-- of the cluster as it is holds byte for byte what it held. Each row's name has its certified content. Only a device whose
+-- reset stands in a log may lack an own record of it.
 abbrev pub StaysPut : RunState → Type 0
 StaysPut run = (base cut : CutParts) → IsCutOf run.bases base → IsCutOf run.present cut → (rows : List Row) (reset : List Device) →
     IsSettled (tables_of base) rows → AreQuietLogs run.logs → AreResetOf run.logs reset → Stays (tables_of base) rows reset (tables_of cut)
