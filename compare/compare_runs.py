@@ -47,11 +47,11 @@ def step_value(step: Step) -> list:
     return [WORDS[type(step)], *vars(step).values()]
 
 
-def random_steps(making: Making, config: Config) -> list[Step]:
-    """Steps, each drawn where the ones before it led."""
+def random_steps(making: Making, config: Config, count: int) -> list[Step]:
+    """So many steps, each drawn where the ones before it led."""
     walk = Walk(making, Cluster.new(config))
     steps = []
-    for _ in range(making.random.choice([0, 3, 20, 60, 200])):
+    for _ in range(count):
         kind = making.random.choices(["local", "back", "quiet"], [0.25, 0.1, 0.65])[0]
         step = {"local": walk.local_step, "back": walk.step_back, "quiet": walk.quiet_step}[kind]()
         walk.cluster.apply(step)
@@ -59,15 +59,20 @@ def random_steps(making: Making, config: Config) -> list[Step]:
     return steps
 
 
+def scenario_value(config: Config, steps: list[Step]) -> dict:
+    """A scenario, as a document has it."""
+    folders = [{"folder": folder, "devices": [{"device": share.device, "kind": share.kind.value,
+                                               "index_id": share.index_id} for share in shares]}
+               for folder, shares in config.folders.items()]
+    return {"version": 1, "folders": folders, "links": [list(ends) for ends in config.links],
+            "steps": list(map(step_value, steps))}
+
+
 def random_document(number: int) -> bytes:
     """The scenario of this number."""
     making = Making(random.Random(number))
     config = random_config(making)
-    folders = [{"folder": folder, "devices": [{"device": share.device, "kind": share.kind.value,
-                                               "index_id": share.index_id} for share in shares]}
-               for folder, shares in config.folders.items()]
-    document = {"version": 1, "folders": folders, "links": [list(ends) for ends in config.links],
-                "steps": list(map(step_value, random_steps(making, config)))}
+    document = scenario_value(config, random_steps(making, config, making.random.choice([0, 3, 20, 60, 200])))
     if making.happens(0.1):
         document = Documents(number).with_mistake(document)
     return Documents(number).written(document)
