@@ -84,7 +84,7 @@ impl Model for Node {
 }
 
 impl Node {
-    /// The node of these parts. `FileTooLarge` above 16777216 bytes; else `NodeBad` where there are bytes
+    /// The node of these parts. `FileTooLarge` above 536870912 bytes; else `NodeBad` where there are bytes
     /// outside a file, a symlink without a target or a target outside a symlink, or 1000000000 nanoseconds or more. This
     /// project's profile.
     pub fn read(parts: NodeParts) -> Result<Self, RecordError>
