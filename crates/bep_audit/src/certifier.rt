@@ -62,7 +62,7 @@ fn winners_among<'a>(
     ensures { IfOk result (λ found. AreWinners (tables_of cut.now) found.0.items (map place_shown found.1.items)) }
 {
     entries_are_held();
-    let _folders = cut.folders();
+    cut.is_a_cut();
     let mut rows = Vec::new(alloc);
     let mut without = Vec::new(alloc);
     let mut at = 0;
@@ -88,7 +88,7 @@ fn add_name<'a>(
     ensures { OnOk result (AddsName (tables_of cut.now) (folder.now, name.now) rows.old.items rows.new.items (map place_shown without.old.items) (map place_shown without.new.items)) }
 {
     entries_are_held();
-    let _folders = cut.folders();
+    cut.is_a_cut();
     if !has_known(group) {
         return Ok(());
     }

@@ -11,9 +11,9 @@ ghost use Rattle.bep_audit.specs.inner.Walk.{FindsLeast};
 
 use crate::group::{all_pass, has_known};
 use crate::winner::is_winner_in;
-use crate::{is_clean, is_there, is_valid, says_as_winner, share_is_asked, store_holds};
+use crate::{is_there, is_valid, says_as_winner, share_is_asked, store_holds};
 use bep_model::Row;
-use bep_record::{DeviceId, Node, Record};
+use bep_record::{DeviceId, Node, Record, is_clean};
 use bep_tables::{Cut, Share, Source, TableEntry, cut_says, entries_are_held};
 
 /// Whether no reason fails at the row's name, as if there were no other row. It looks each device's own record and node
@@ -61,7 +61,7 @@ fn meets_here(own: Option<&Record>, node: Option<&Node>, winner: &Record) -> boo
         && says_as_winner(own, winner)
         && is_valid(own)
         && store_holds(node, winner)
-        && is_clean(own, node)
+        && is_clean(node, own)
 }
 
 // Whether it does by its foreign records.

@@ -71,7 +71,7 @@ fn firm_or_loose<'a>(
     firm_stays_firm();
     firm_stays_put();
     entries_are_held();
-    let _folders = cut.folders();
+    cut.is_a_cut();
     let table = Table::of(alloc, cut)?;
     match least_loose(certificate.rows(), table.entries()) {
         None => Ok(FirmVerdict::Firm),

@@ -56,7 +56,7 @@ fn failure_without_row<'a>(
     ensures { FindsLeast (tables_of cut.now) [] (λ key. key ≡ (folder.now, name.now)) (option_map failure_shown result) }
 {
     entries_are_held();
-    let _folders = cut.folders();
+    cut.is_a_cut();
     if has_known(group) {
         return Some(Failure {
             reason: Reason::NameMissing,
@@ -94,7 +94,7 @@ fn failing_in<'a>(
     ensures { FindsHere (tables_of cut.now) row.now reason (option_map place_shown result) }
 {
     entries_are_held();
-    let _folders = cut.folders();
+    cut.is_a_cut();
     match reason {
         Reason::CertificateOrder | Reason::NameMissing => None,
         Reason::NameUnknown => unless(has_known(group), row),

@@ -48,8 +48,7 @@ pub use known::is_known;
 pub use loose::Looseness;
 pub use rows::{Certificate, compare_row, compare_rows, find_row, first_disordered};
 pub use share::{
-    is_clean, is_harmless, is_there, is_valid, meets_share, says_as_winner, share_is_asked,
-    store_holds,
+    is_harmless, is_there, is_valid, meets_share, says_as_winner, share_is_asked, store_holds,
 };
 pub use spot::Spot;
 pub use verdict::Verdict;

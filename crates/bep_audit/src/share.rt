@@ -3,7 +3,6 @@ ghost use Rattle.std.specs.Prelude.{◌≡◌, ◌↔◌, false, IsTrue};
 ghost use Rattle.std.specs.Option.{option_copied};
 ghost use Rattle.bep_record.specs.Block.{base_block_size};
 ghost use Rattle.bep_record.specs.Content.{content_of, content_of_kind};
-ghost use Rattle.bep_record.specs.Node.{IsClean};
 ghost use Rattle.bep_blocks.specs.Plain.{plain_blocks};
 ghost use Rattle.bep_model.specs.Foreign.{IsHarmless};
 ghost use Rattle.bep_model.specs.Settled.{content_of_node};
@@ -11,7 +10,7 @@ ghost use Rattle.bep_audit.specs.Share.{AsksRecord, AsksContent, AsksValid, Asks
 
 use bep_blocks::{matches, plain_blocks_match};
 use bep_model::Reason;
-use bep_record::{Block, BlockSize, Entry, Kind, Node, NodeParts, Record, cut_whole};
+use bep_record::{Block, BlockSize, Entry, Kind, Node, NodeParts, Record, cut_whole, is_clean};
 
 /// Whether the device meets what the reason asks of it at a row, by its own record and its node alone.
 ///
@@ -29,7 +28,7 @@ pub fn meets_share(
         Reason::RecordDiffers => says_as_winner(own, winner),
         Reason::LocalOnly => is_valid(own),
         Reason::StoreDiffers => store_holds(node, winner),
-        Reason::StoreUnclean => is_clean(own, node),
+        Reason::StoreUnclean => is_clean(node, own),
         _ => true,
     }
 }
@@ -97,16 +96,6 @@ fn has_blocks(bytes: &[u8], blocks: &[Block]) -> bool
 {
     plain_blocks_match();
     cut_whole(blocks, bytes.len() as u64, BlockSize::base()) && matches(bytes, blocks)
-}
-
-/// Whether a scan would leave the device's own record alone, or find nothing where there is none.
-pub fn is_clean(own: Option<&Record>, node: Option<&Node>) -> bool
-    ensures { IsTrue result ↔ IsClean (option_copied node.entry) (option_copied own.entry) }
-{
-    match own {
-        None => node.is_none(),
-        Some(own) => own.clean(node),
-    }
 }
 
 /// Whether a foreign record can't change the name at the device: it has the winner's content, or the own record's

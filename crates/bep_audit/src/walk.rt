@@ -27,7 +27,7 @@ pub(crate) fn least_failure<'a>(
 {
     rows_rise_in_order();
     entries_are_held();
-    let _folders = cut.folders();
+    cut.is_a_cut();
     let mut least = None;
     let mut at = 0;
     let mut place = 0;

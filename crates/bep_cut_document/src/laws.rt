@@ -23,5 +23,5 @@ pub fn cut_is_as_written()
 pub fn winners_are_in_range(cut: &Cut)
     ensures { WinnersAreInRange cut.now }
 {
-    let _folders = cut.folders();
+    cut.is_a_cut();
 }

@@ -123,7 +123,7 @@ fn add_alike<'a>(
         [] => Ok(()),
         [first, ..] => {
             let row = first.row;
-            let _folders = cut.folders();
+            cut.is_a_cut();
             let group = about(table, &row.folder, &row.entry.entry().name);
             add_name(found, cut, group, row, rows)?;
             Ok(())
@@ -149,7 +149,7 @@ fn add_name<'a>(
 {
     reasons_are_numbered();
     group_says();
-    let _folders = cut.folders();
+    cut.is_a_cut();
     add_unless(found, has_known(group), &at_row(Reason::NameUnknown, row))?;
     let won = are_won(cut, group, row, rows);
     add_unless(found, won, &at_row(Reason::NotWinner, row))?;
@@ -231,7 +231,7 @@ fn add_reasons<'a>(
 {
     reasons_are_numbered();
     group_says();
-    let _folders = cut.folders();
+    cut.is_a_cut();
     for reason in REASONS {
         let met = meets_both(reason, row, other, group, share.device, own, node);
         add_unless(found, met, &on_device(reason, row, share.device))?;

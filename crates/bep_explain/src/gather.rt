@@ -53,7 +53,7 @@ fn gathered<'a>(
     cut_says();
     entries_are_held();
     group_says();
-    let _folders = cut.folders();
+    cut.is_a_cut();
     let mut found = Vec::new(alloc);
     let table = Table::of(alloc, cut)?;
     let entries = table.entries();

@@ -42,7 +42,7 @@ fn gathered<'a>(alloc: Global, cut: &'a Cut, rows: &[Row]) -> Result<Vec<Loosene
     ensures { IfOk result (λ found. AddsFailing (IsFirmlyMet (tables_of cut.now) rows.now) [] (map loose_shown found.items)) }
 {
     entries_are_asked();
-    let _folders = cut.folders();
+    cut.is_a_cut();
     let mut found = Vec::new(alloc);
     let table = Table::of(alloc, cut)?;
     let sorted = sorted_by_name(alloc, rows)?;

@@ -1,28 +1,17 @@
-//! How a record or a store's node compares with the own record.
+//! How a record compares with the own record.
 ghost use Rattle.std.specs.Prelude.{◌≡◌, ◌↔◌, IsTrue};
 ghost use Rattle.std.specs.Option.{option_copied};
-ghost use Rattle.bep_record.specs.Node.{IsClean};
 ghost use Rattle.bep_machine.specs.Replica.{HasContentOf, version_of};
 
-use bep_record::{Node, Record, Vector};
+use bep_record::{Record, Vector};
 
-// Whether the record has the content of the own one, if there is one.
-pub(crate) fn has_content_of(own: Option<&Record>, other: &Record) -> bool
+/// Whether the record has the content of the own one, if there is one. It takes no memory.
+pub fn has_content_of(own: Option<&Record>, other: &Record) -> bool
     ensures { IsTrue result ↔ HasContentOf (option_copied own.entry) other.now }
 {
     match own {
         None => false,
         Some(own) => other.same_content(own),
-    }
-}
-
-// Whether a scan would leave the name alone. Without a record there must be no node.
-pub(crate) fn is_clean(node: Option<&Node>, own: Option<&Record>) -> bool
-    ensures { IsTrue result ↔ IsClean (option_copied node.entry) (option_copied own.entry) }
-{
-    match own {
-        None => node.is_none(),
-        Some(own) => own.clean(node),
     }
 }
 

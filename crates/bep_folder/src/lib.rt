@@ -26,6 +26,7 @@ mod traced;
 mod user;
 mod views;
 
+pub use beside::has_content_of;
 pub use error::FolderError;
 pub use pull::{Pull, is_about};
 pub use replica::{Replica, are_others};

@@ -20,7 +20,7 @@ pub fn cut_has_cluster(cut: &Cut)
 {
     cuts_have_clusters();
     cut_is_good(cut);
-    cut.folders();
+    cut.is_a_cut();
 }
 
 // What the types of the cut's parts keep.

@@ -36,6 +36,16 @@ impl Record {
     }
 }
 
+/// Whether a scan would leave the device's own record alone, or find nothing where there is none.
+pub fn is_clean(node: Option<&Node>, own: Option<&Record>) -> bool
+    ensures { IsTrue result ↔ IsClean (option_copied node.entry) (option_copied own.entry) }
+{
+    match own {
+        None => node.is_none(),
+        Some(own) => own.clean(node),
+    }
+}
+
 // Whether the node has the entry's kind, and what a scan compares of it.
 fn looks_same(node: &NodeParts, entry: &Entry) -> bool
     ensures { IsTrue result ↔ ((node.now.kind ≡ entry.now.kind) × LooksSame node.now.kind node.now entry.now) }

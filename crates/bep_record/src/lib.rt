@@ -38,6 +38,7 @@ mod text;
 mod vector;
 
 pub use block::{Block, BlockSize, cut_whole};
+pub use compare::is_clean;
 pub use conflict::conflict_name;
 pub use content::Content;
 pub use device::DeviceId;

@@ -13,11 +13,15 @@ use bep_fit::RunVerdict;
 
 /// Whether the logs are those of one run. They stand in the order of their objects: devices, then links, each rising.
 ///
-/// They fit where all bases have one round, and no event is at fault. An event is at fault where the entry before it has a
-/// ticket that isn't below its own, or an object that it touches doesn't have it under its ticket, or any object has a different
-/// event under that ticket, or an object that it doesn't touch has one. Else the misfit is the first object whose round
-/// isn't that of the first, with ticket 0; or, where the rounds are equal, the least ticket at fault and the first object
-/// whose event under it is. This project's profile.
+/// They fit where all bases have one round, and no event is at fault. An event is at fault in each of these cases:
+///
+/// - the entry before it has a ticket that isn't below its own;
+/// - an object that it touches doesn't have it under its ticket;
+/// - an object has a different event under its ticket;
+/// - an object that it doesn't touch has an event under its ticket.
+///
+/// If the rounds differ, the misfit is the first object whose round isn't that of the first, with ticket 0. If they are
+/// equal, it is the least ticket at fault, and the first object whose event under it is at fault. This project's profile.
 ///
 /// It takes no memory: one walk along all logs, with a place in each.
 #[tactic(auto, using(crate::proofs::WalkLists::first_of_other, crate::proofs::WalkLists::of_one_round))]

@@ -22,4 +22,4 @@ mod walk;
 
 pub use check::check_logs;
 pub use limits::MAX_OBJECTS;
-pub use log::ObjectLog;
+pub use log::{ObjectLog, all_are_logged};

@@ -2,7 +2,7 @@
 ghost use Rattle.std.specs.Prelude.{◌≡◌};
 ghost use Rattle.std.specs.List.{AllByRecursion};
 ghost use Rattle.bep_machine.specs.Laws.{IsSoundStep};
-ghost use Rattle.bep_run_check.specs.Log.{AreTicketed, IsLog, PutsNode};
+ghost use Rattle.bep_run_check.specs.Log.{AreTicketed, IsLog, IsLogged, PutsNode};
 
 use bep_fit::{Object, Stamped};
 use bep_machine::Step;
@@ -74,6 +74,17 @@ impl ObjectLog {
         ensures a_log { IsLog self.now.events }
     {
         self.events.as_slice()
+    }
+}
+
+/// Each log is what its type says: its tickets rise, from 1 or more, and what its edits put are nodes.
+///
+/// It does nothing: it is called for what it ensures.
+pub fn all_are_logged(logs: &[ObjectLog])
+    ensures { AllByRecursion IsLogged logs.now }
+{
+    for log in logs {
+        log.events();
     }
 }
 

@@ -1,15 +1,15 @@
 //! The walk along the logs, by rising ticket.
 ghost use Rattle.std.specs.Prelude.{◌≡◌, ◌≤◌, ◌↔◌, All, IsTrue, option_map};
-ghost use Rattle.std.specs.List.{AllByRecursion, find};
+ghost use Rattle.std.specs.List.{find};
 ghost use Rattle.std.specs.Option.{option_copied};
 ghost use Rattle.bep_fit.specs.Fit.{AreOfOneRound, IsRunVerdict};
 ghost use Rattle.bep_fit.specs.Walk.{AgreesNext, after, start};
-ghost use Rattle.bep_run_check.specs.Log.{IsLogged};
 ghost use Rattle.bep_run_check.specs.inner.Rest.{Agrees, IsMisfitAt, IsSomeAt, is_at, lefts};
 ghost use Rattle.bep_run_check.specs.declared.rest.Rest.{Rest as RestOf};
 
 use crate::ObjectLog;
 use crate::guards::{are_both, guards_of};
+use crate::log::all_are_logged;
 use crate::named::named_have_logs;
 use crate::next::next_event;
 use crate::rest::Rest;
@@ -22,7 +22,7 @@ pub(crate) fn walk_along<'a>(logs: &'a [ObjectLog], walk: &mut [Rest<'a>]) -> Ru
     ensures { IsRunVerdict logs.now result }
 {
     walk_finds_verdict();
-    logs_rise(logs);
+    all_are_logged(logs);
     let mut count = 0;
     while let Some(event) = next_event(walk) {
         if !agrees_next(logs, walk, event) {
@@ -32,15 +32,6 @@ pub(crate) fn walk_along<'a>(logs: &'a [ObjectLog], walk: &mut [Rest<'a>]) -> Ru
         count += 1;
     }
     RunVerdict::Fits(count)
-}
-
-// In each log the tickets rise, from 1 or more.
-fn logs_rise(logs: &[ObjectLog])
-    ensures { AllByRecursion IsLogged logs.now }
-{
-    for log in logs {
-        log.events();
-    }
 }
 
 // Whether the event comes next in each log that it touches, and no other has its ticket next; and what it names has a log.

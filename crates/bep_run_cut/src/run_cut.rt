@@ -1,10 +1,8 @@
 //! A run cut.
 ghost use Rattle.std.specs.Prelude.{◌≡◌, ◌↔◌, IsSome, IsTrue, IfOk, IfSome, map};
-ghost use Rattle.std.specs.List.{AllByRecursion};
 ghost use Rattle.bep_cut.specs.Cut.{seen};
 ghost use Rattle.bep_cut.specs.Parts.{AreParts};
 ghost use Rattle.bep_peer.specs.network.Agreed.{network_of};
-ghost use Rattle.bep_run_check.specs.Log.{IsLogged};
 ghost use Rattle.bep_run_cut.specs.RunCut.{AreTheSame, HoldsCopies, IsCutOf, IsRunCut, PartsLead, links_base, links_now, members_base, members_now};
 ghost use Rattle.bep_run_cut.specs.Whole.{AreWhole};
 
@@ -15,7 +13,7 @@ use bep_links::Link;
 use bep_log::{LinkCopy, PeerCopy};
 use bep_machine::replays_keep_folders;
 use bep_peer::{Peer, tables_are_found};
-use bep_run_check::ObjectLog;
+use bep_run_check::{ObjectLog, all_are_logged};
 use bep_store::MemStore;
 use bep_tables::Cut;
 use std::alloc::{AllocError, Global};
@@ -78,10 +76,12 @@ impl Model for RunCut {
 }
 
 impl RunCut {
-    /// The run cut of these copies, which it takes. None exactly where these aren't one copy of each device and link that
-    /// the devices know, both rising, or the devices differ on who shares a folder; or where no cut can hold them: a device
-    /// has no folder, or there are more than 16 devices, 16 folders or 120 links (16 devices have no more). Fails only for want
-    /// of memory.
+    /// The run cut of these copies, which it takes.
+    ///
+    /// It asks four things of the copies. They are one copy of each device and one of each link that the devices know, both
+    /// rising. The devices agree on who shares a folder. Each device has a folder. There are at most 16 devices, 16 folders
+    /// and 120 links (16 devices have no more). It answers None exactly if one of these fails. It fails only for want of
+    /// memory.
     pub fn of(
         alloc: Global,
         peers: Vec<PeerCopy>,
@@ -158,7 +158,7 @@ fn run_of(alloc: Global, parts: Parts) -> Result<RunCut, AllocError>
         logs,
     } = parts;
     parts_are_sound(base_peers.as_slice(), base_links.as_slice());
-    edits_put_nodes(logs.as_slice());
+    all_are_logged(logs.as_slice());
     let (base_peers, base) = with_cut(alloc, base_peers, base_links.as_slice())?;
     let (peers, cut) = with_cut(alloc, peers, links.as_slice())?;
     Ok(RunCut {
@@ -201,14 +201,5 @@ fn cut_in_memory(
     match cut_of(alloc, peers, links) {
         Ok(cut) => Ok(cut),
         Err(_) => Err(AllocError),
-    }
-}
-
-// What the edits of these logs put are nodes.
-fn edits_put_nodes(logs: &[ObjectLog])
-    ensures { AllByRecursion IsLogged logs.now }
-{
-    for log in logs {
-        log.events();
     }
 }

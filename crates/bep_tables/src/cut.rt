@@ -76,6 +76,13 @@ impl Cut {
         self.parts.folders.as_slice()
     }
 
+    /// What holds of every cut holds of this one. It does nothing; its contract is the fact.
+    pub fn is_a_cut(&self)
+        ensures { IsCut self.now }
+    {
+        let _ = &self.parts;
+    }
+
     /// The links, by their two devices, rising.
     pub fn links(&self) -> &[LinkState]
         ensures value { result.now ≡ self.now.links }

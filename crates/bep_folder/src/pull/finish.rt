@@ -14,12 +14,12 @@ ghost use Rattle.bep_folder.specs.inner.Conflict.{IsKeptAs, IsKeptAt};
 ghost use Rattle.bep_folder.specs.Makes.{Makes, Stays, CountsFaults};
 ghost use Rattle.bep_folder.specs.Views.{unchanged};
 
-use crate::beside::{has_content_of, is_clean};
+use crate::beside::has_content_of;
 use crate::pull::adopt::forget;
 use crate::pull::conflict::{is_conflict_due, is_copy, is_file};
 use crate::{FolderError, Replica};
 use bep_machine::Moved;
-use bep_record::{Name, Node, RecordError, conflict_name};
+use bep_record::{Name, Node, RecordError, conflict_name, is_clean};
 use bep_store::Store;
 use std::alloc::Global;
 

@@ -10,14 +10,13 @@ ghost use Rattle.bep_folder.specs.Makes.{Stays, CountsFaults};
 ghost use Rattle.bep_folder.specs.Trace.{CountsCall};
 ghost use Rattle.bep_folder.specs.declared.error.FolderError.TheVariants.{SequenceFull, IndexFull, Memory};
 
-use crate::beside::is_clean;
 use crate::error::index_error;
 use crate::scan::found::found;
 use crate::traced::Traced;
 use crate::{FolderError, Replica, ScanResult};
 use bep_index::Index;
 use bep_machine::Moved;
-use bep_record::{DeviceId, FolderKind, Node, Record, Same};
+use bep_record::{DeviceId, FolderKind, Node, Record, Same, is_clean};
 use bep_store::Store;
 use std::alloc::Global;
 

@@ -5,13 +5,12 @@ ghost use Rattle.bep_machine.specs.Local.{ScanRow};
 ghost use Rattle.bep_folder.specs.inner.Found.{IsNotPut, Records};
 ghost use Rattle.bep_folder.specs.Makes.{Makes, Stays, CountsFaults};
 
-use crate::beside::is_clean;
 use crate::error::index_error;
 use crate::scan::commit::put_found;
 use crate::{FolderError, Replica, ScanResult};
 use bep_index::Index;
 use bep_machine::Moved;
-use bep_record::{DeviceId, FolderKind, Name, Node};
+use bep_record::{DeviceId, FolderKind, Name, Node, is_clean};
 use bep_store::Store;
 use std::alloc::Global;
 

@@ -8,7 +8,7 @@ ghost use Rattle.bep_machine.specs.declared.message.Message.TheVariants as messa
 ghost use Rattle.bep_machine.specs.Exchange.{AskRow, CanAsk, SharesWith, next_block, request_for};
 ghost use Rattle.bep_machine.specs.Link.{end_of, sight_of};
 ghost use Rattle.bep_machine.specs.Peer.{Session as SessionOf};
-ghost use Rattle.bep_machine.specs.Replica.{HasContentOf, viewed_at};
+ghost use Rattle.bep_machine.specs.Replica.{viewed_at};
 ghost use Rattle.bep_peer.specs.inner.InSession.{IsNextAsked, IsOffered, MayRefuse};
 ghost use Rattle.bep_peer.specs.Lent.{NamesFolder, StepOver, OnlySessions};
 ghost use Rattle.bep_peer.specs.Member.{Remains, tables_of, untold};
@@ -18,7 +18,7 @@ ghost use Rattle.bep_peer.specs.Unhidden.{GoesOn, IsUnrefused};
 
 use crate::over::{is_full, side_of};
 use crate::{Peer, PeerError, Session};
-use bep_folder::{Pull, Replica};
+use bep_folder::{Pull, Replica, has_content_of};
 use bep_links::Link;
 use bep_machine::{Message, Moved, Refusal, Request};
 use bep_map::DeviceMap;
@@ -141,16 +141,6 @@ fn block_to_ask<S: Store>(
         return None;
     }
     next_block(session, folder, name, pull)
-}
-
-// Whether the record has the content of the own one, if there is one.
-fn has_content_of(own: Option<&Record>, target: &Record) -> bool
-    ensures { IsTrue result ↔ HasContentOf (option_copied own.entry) target.now }
-{
-    match own {
-        Some(own) => target.same_content(own),
-        None => false,
-    }
 }
 
 // Whether the other device is known to have the target's content, not marked invalid.

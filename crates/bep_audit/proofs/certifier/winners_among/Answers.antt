@@ -11,7 +11,7 @@ loop-folder-init c = (
   omega arith,
   subst (λ (places : List Place). Won c.args.cut.now c.args.table.now c.new-rows.result.items places) (sym (ap (map place_shown) c.new-without.ensures.items))
       (subst (λ rows. Won c.args.cut.now c.args.table.now rows []) (sym c.new-rows.ensures.items)
-      (won_starts c.args.cut.now c.entries_are_held.ensures.held c.entries_are_held.ensures.shares c.folders-folders.ensures.a_cut c.args.table.now c.requires)),
+      (won_starts c.args.cut.now c.entries_are_held.ensures.held c.entries_are_held.ensures.shares c.is_a_cut.ensures c.args.table.now c.requires)),
 )
 
 pub add_name-requires : goal.add_name-requires

@@ -17,7 +17,7 @@ returns-in-NameUnknown c =
     let t = tables_of c.args.cut.now in
     let row = c.args.row.now in
     let found = option_map place_shown c.unless.result in
-    let by_group = known_by_group c.entries_are_held.ensures.held c.args.cut.now c.folders-folders.ensures.a_cut (key_of row) (map listed c.args.group.now) c.requires c.entries_are_held.ensures.shares in
+    let by_group = known_by_group c.entries_are_held.ensures.held c.args.cut.now c.is_a_cut.ensures (key_of row) (map listed c.args.group.now) c.requires c.entries_are_held.ensures.shares in
     let known : IsTrue c.has_known.result ↔ IsKnown t row.folder row.entry.name = (λ is. by_group.0 (c.has_known.ensures.0 is), λ is. c.has_known.ensures.1 (by_group.1 is)) in
     subst (λ reason. FindsHere t row reason found) (sym c.in-NameUnknown.is)
     (finds_here t row NameUnknown (omega arith) found (finds_unknown t row c.has_known.result found known c.unless.ensures))

@@ -9,7 +9,7 @@ use Rattle.bep_audit.proofs.walk.least_failure.Goals.{then-replaces, else-replac
 
 pub loop-folder-init : goal.loop-folder-init
 loop-folder-init c =
-    (omega arith, omega arith, least_starts c.args.cut.now c.args.rows.now c.entries_are_held.ensures.held c.entries_are_held.ensures.shares c.rows_rise_in_order.ensures c.folders-folders.ensures.a_cut c.requires.rise c.args.table.now c.requires.table)
+    (omega arith, omega arith, least_starts c.args.cut.now c.args.rows.now c.entries_are_held.ensures.held c.entries_are_held.ensures.shares c.rows_rise_in_order.ensures c.is_a_cut.ensures c.requires.rise c.args.table.now c.requires.table)
 
 pub failure_at-here-requires-clause-group : goal.failure_at-here-requires-clause-group
 failure_at-here-requires-clause-group c =

@@ -31,7 +31,7 @@ returns c =
     let first = map failure_shown c.add_unless.new.found.items in
     let second = map failure_shown c.add_unless-2.new.found.items in
     let new = map failure_shown c.add_devices.new.found.items in
-    let by_group = c.group_says.ensures.known cut (key_of row) group c.folders-folders.ensures.a_cut c.requires.group in
+    let by_group = c.group_says.ensures.known cut (key_of row) group c.is_a_cut.ensures c.requires.group in
     let known : IsTrue c.has_known.result ↔ IsKnown t row.folder row.entry.name = (λ is. by_group.0 (c.has_known.ensures.0 is), λ is. c.has_known.ensures.1 (by_group.1 is)) in
     let by_known = adds_at c.reasons_are_numbered.ensures.different (failure_shown c.at_row.result) (failure_at NameUnknown (key_of row) None) c.at_row.ensures
     (IsKnown t row.folder row.entry.name) c.has_known.result old first known c.in_ok-add_unless.ensures in

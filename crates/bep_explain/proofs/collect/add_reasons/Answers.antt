@@ -23,7 +23,7 @@ loop-reason-preserved c =
     let reason = get_or REASONS place CertificateOrder in
     let middle = map failure_shown c.loop-reason.found.items in
     let new = map failure_shown c.add_unless.new.found.items in
-    let both = both_asked c.group_says.ensures.asked cut c.folders-folders.ensures.a_cut row (map listed c.args.group.now) c.requires.group share c.requires.share reason
+    let both = both_asked c.group_says.ensures.asked cut c.is_a_cut.ensures row (map listed c.args.group.now) c.requires.group share c.requires.share reason
     (option_copied c.args.own) c.requires.own (option_copied c.args.node) c.requires.node c.args.other c.requires.other in
     let asked : IsTrue c.meets_both-met.result ↔ AsksBoth t reason row other share.device = (λ is. both.0 (c.meets_both-met.ensures.0 is), λ asks. c.meets_both-met.ensures.1 (both.1 asks)) in
     each_goes_on (SaysReasonBoth t row other share) REASONS place reason (map failure_shown c.args.found.now.items) middle new

@@ -25,7 +25,7 @@ returns c =
     let new = map loose_shown c.add_entries.new.found.items in
     let grouped = subst (IsGrouped (cut_listed cut)) (sym c.entries.ensures) c.in_ok-table.ensures in
     let are = subst (AreSorted rows) (sym c.as_slice.ensures.value) c.in_ok-sorted.ensures in
-    let asked = λ (loose : Loosening). c.entries_are_asked.ensures cut entries rows loose c.folders-folders.ensures.a_cut grouped in
+    let asked = λ (loose : Loosening). c.entries_are_asked.ensures cut entries rows loose c.is_a_cut.ensures grouped in
     let same = λ (loose : Loosening) (entry : TableEntry). same_asked rows (listed entry) sorted are.same loose in
     subst (λ (old : List Loosening). AddsFailing (IsFirmlyMet (tables_of cut) rows) old new) (ap (map loose_shown) c.new-found.ensures.items)
     (adds_as (Each (λ (entry : TableEntry). AsksEntry sorted (listed entry)) entries) (IsFirmlyMet (tables_of cut) rows) none new

@@ -1,4 +1,4 @@
 use Rattle.bep_origin.proofs.from_cut.cut_has_cluster.Goals as goal
 
 pub returns : goal.returns
-returns c = c.cuts_have_clusters.ensures c.args.cut.now c.folders.ensures.a_cut c.cut_is_good.ensures
+returns c = c.cuts_have_clusters.ensures c.args.cut.now c.is_a_cut.ensures c.cut_is_good.ensures

@@ -15,7 +15,7 @@ invariant_of-result c =
     let parts = c.args.parts in (
       is_run_cut parts.peers.items parts.base_peers.items parts.links.items parts.base_links.items parts.logs.items c.requires.lead c.requires.whole
           c.as_slice.result.now c.as_slice-2.result.now c.as_slice-3.result.now c.as_slice.ensures.value c.as_slice-2.ensures.value c.as_slice-3.ensures.value
-          c.parts_are_sound.ensures c.edits_put_nodes.ensures
+          c.parts_are_sound.ensures c.all_are_logged.ensures
           c.in_ok-peers.peers.items c.in_ok-base_peers.base_peers.items c.in_ok-peers.ensures.same c.in_ok-base_peers.ensures.same,
       subst (λ (ls : List LinkBetween). IsCutOf (network_of c.in_ok-base_peers.base_peers.items ls) c.in_ok-base_peers.base) c.as_slice-4.ensures.value c.in_ok-base_peers.ensures.cut,
       subst (λ (ls : List LinkBetween). IsCutOf (network_of c.in_ok-peers.peers.items ls) c.in_ok-peers.cut) c.as_slice-5.ensures.value c.in_ok-peers.ensures.cut,
