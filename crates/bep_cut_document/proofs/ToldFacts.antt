@@ -31,6 +31,7 @@ use Rattle.bep_tables.specs.declared.share.PeerView.{PeerView}
 use Rattle.bep_tables.specs.declared.share.SharedFolder.{SharedFolder}
 use Rattle.bep_tables.specs.declared.link.LinkState.{LinkState}
 use Rattle.bep_cut_document.specs.Trees.{name_of_kind, view_tree, share_tree, folder_tree, flight_tree, link_tree, row_tree}
+use Rattle.bep_json.specs.declared.version.DocVersion.TheVariants.{Two}
 use Rattle.bep_cut_document.specs.inner.Told.{node_parts, view_parts, share_parts, flight_parts, AreInRange, IsViewInRange, IsShareInRange, IsFlightInRange, IsRecordTold, IsNodeTold, IsViewTold, IsShareTold, IsFolderTold, IsFlightTold, IsLinkTold, IsRowTold}
 
 where_true : {A : Type 0} {b : Bool} (x y : A) → b ≡ true → (if b then x else y) ≡ x
@@ -51,9 +52,9 @@ few_read reads most d xs read few =
     let told : leb (length xs) most ≡ true = grind (arith, nat_tests) in
     then_read (if_few most) read (where_true _ _ told)
 
-records_say : (records : List Entry) → AllByRecursion IsRecordTold records → AreInRange records → Says (is_list is_record) (read_list read_record) records (list_of (map record_written records))
+records_say : (records : List Entry) → AllByRecursion IsRecordTold records → AreInRange records → Says (is_list (is_record Two)) (read_list (read_record Two)) records (list_of (map record_written records))
 records_say records told range =
-    let all = list_says is_record read_record (λ e. e) record_written records (each_told (λ e. e.sequence ≤ MAX_SEQUENCE) (λ e. Says is_record read_record e (record_written e)) records told range) in
+    let all = list_says (is_record Two) (read_record Two) (λ e. e) record_written records (each_told (λ e. e.sequence ≤ MAX_SEQUENCE) (λ e. Says (is_record Two) (read_record Two) e (record_written e)) records told range) in
     (all.0, all.1 ∙ ap Some (map_same records))
 
 kind_read : (kind : FolderKind) → read_folder_kind (string (name_of_kind kind)) ≡ Some kind
@@ -74,11 +75,11 @@ view_says view of id told range =
       then_read _ of.1
           (then_read _ id.1
           (then_read _ (number_says 0 MAX_SEQUENCE view.max_sequence (omega arith) range.within).1
-          (then_read _ (few_read read_record MAX_NAMES (list_of (map record_written (values view.records))) (values view.records) records.1 range.few) refl))),
+          (then_read _ (few_read (read_record Two) MAX_NAMES (list_of (map record_written (values view.records))) (values view.records) records.1 range.few) refl))),
     )
 
 -- ---- devices
-share_shaped : (share : Share) → is_list is_record (list_of (map record_written (values share.own))) ≡ true → is_list is_node (list_of (map (λ held. node_written held.0 held.1) (entries share.store))) ≡ true → is_list is_view (list_of (map view_tree share.views)) ≡ true → is_list is_record (list_of (map record_written (values share.pulls))) ≡ true → is_share (share_tree share) ≡ true
+share_shaped : (share : Share) → is_list (is_record Two) (list_of (map record_written (values share.own))) ≡ true → is_list is_node (list_of (map (λ held. node_written held.0 held.1) (entries share.store))) ≡ true → is_list (is_view Two) (list_of (map view_tree share.views)) ≡ true → is_list (is_record Two) (list_of (map record_written (values share.pulls))) ≡ true → is_share Two (share_tree share) ≡ true
 unfolding is_share share_tree
 share_shaped share own store views pulls =
     both_are refl (both_are refl (both_are refl (both_are refl (both_are refl (both_are own (both_are store (both_are views pulls)))))))
@@ -87,25 +88,25 @@ pub share_says : (share : Share) → Says is_whole (read_number 1 greatest_id) s
 unfolding read_share share_tree
 share_says share device id own_told store_told views_told pulls_told range =
     let own = records_say (values share.own) own_told range.own.sequences in
-    let store = list_says is_node read_node node_parts (λ held. node_written held.0 held.1) (entries share.store) store_told in
-    let views = list_says is_view read_view view_parts view_tree share.views (each_told IsViewInRange (λ v. Says is_view read_view (view_parts v) (view_tree v)) share.views views_told range.views) in
+    let store = list_says is_node (read_node Two) node_parts (λ held. node_written held.0 held.1) (entries share.store) store_told in
+    let views = list_says (is_view Two) (read_view Two) view_parts view_tree share.views (each_told IsViewInRange (λ v. Says (is_view Two) (read_view Two) (view_parts v) (view_tree v)) share.views views_told range.views) in
     let pulls = records_say (values share.pulls) pulls_told range.pulls in (
       share_shaped share own.0 store.0 views.0 pulls.0,
       then_read _ device.1
           (then_read _ (kind_read share.kind)
           (then_read _ id.1
           (then_read _ (number_says 0 MAX_SEQUENCE share.max_sequence (omega arith) range.own.within).1
-          (then_read _ (few_read read_record MAX_NAMES (list_of (map record_written (values share.own))) (values share.own) own.1 range.own.few)
+          (then_read _ (few_read (read_record Two) MAX_NAMES (list_of (map record_written (values share.own))) (values share.own) own.1 range.own.few)
           (then_read _ store.1
           (then_read _ views.1
-          (then_read _ (few_read read_record MAX_PULLS (list_of (map record_written (values share.pulls))) (values share.pulls) pulls.1 range.few_pulls) refl))))))),
+          (then_read _ (few_read (read_record Two) MAX_PULLS (list_of (map record_written (values share.pulls))) (values share.pulls) pulls.1 range.few_pulls) refl))))))),
     )
 
 -- ---- folders
 pub folder_says : (shared : SharedFolder) → Says is_text read_folder_name shared.folder (string shared.folder) → AllByRecursion IsShareTold shared.shares → IsFolderTold shared
 unfolding is_folder read_folder folder_tree
 folder_says shared name told range =
-    let devices = list_says is_share read_share share_parts share_tree shared.shares (each_told IsShareInRange (λ s. Says is_share read_share (share_parts s) (share_tree s)) shared.shares told range) in (
+    let devices = list_says (is_share Two) (read_share Two) share_parts share_tree shared.shares (each_told IsShareInRange (λ s. Says (is_share Two) (read_share Two) (share_parts s) (share_tree s)) shared.shares told range) in (
       both_are refl (both_are refl devices.0),
       then_read _ name.1 (then_read _ devices.1 refl),
     )
@@ -116,11 +117,11 @@ unfolding is_flight read_flight flight_tree
 flight_says flight name told range =
     let records = records_say flight.records told range.sequences in (
       both_are refl (both_are refl (both_are refl records.0)),
-      then_read _ name.1 (then_read _ (few_read read_record MAX_RECORDS (list_of (map record_written flight.records)) flight.records records.1 range.few) refl),
+      then_read _ name.1 (then_read _ (few_read (read_record Two) MAX_RECORDS (list_of (map record_written flight.records)) flight.records records.1 range.few) refl),
     )
 
-flights_say : (flights : List Flight) → AllByRecursion IsFlightTold flights → AllByRecursion IsFlightInRange flights → Says (is_list is_flight) (read_list read_flight) (map flight_parts flights) (list_of (map flight_tree flights))
-flights_say flights told range = list_says is_flight read_flight flight_parts flight_tree flights (each_told IsFlightInRange (λ f. Says is_flight read_flight (flight_parts f) (flight_tree f)) flights told range)
+flights_say : (flights : List Flight) → AllByRecursion IsFlightTold flights → AllByRecursion IsFlightInRange flights → Says (is_list (is_flight Two)) (read_list (read_flight Two)) (map flight_parts flights) (list_of (map flight_tree flights))
+flights_say flights told range = list_says (is_flight Two) (read_flight Two) flight_parts flight_tree flights (each_told IsFlightInRange (λ f. Says (is_flight Two) (read_flight Two) (flight_parts f) (flight_tree f)) flights told range)
 
 few_parts : (flights : List Flight) → length flights ≤ MAX_MESSAGES → length (map flight_parts flights) ≤ MAX_MESSAGES
 few_parts flights few = let same = length-map flights flight_parts in omega arith
@@ -134,8 +135,8 @@ link_says link a b to_a_told to_b_told range =
       then_read _ a.1
           (then_read _ b.1
           (then_read _ (number_says 0 MAX_SEQUENCE link.epoch (omega arith) range.epoch).1
-          (then_read _ (few_read read_flight MAX_MESSAGES (list_of (map flight_tree link.to_a)) (map flight_parts link.to_a) to_a.1 (few_parts link.to_a range.few_to_a))
-          (then_read _ (few_read read_flight MAX_MESSAGES (list_of (map flight_tree link.to_b)) (map flight_parts link.to_b) to_b.1 (few_parts link.to_b range.few_to_b)) refl)))),
+          (then_read _ (few_read (read_flight Two) MAX_MESSAGES (list_of (map flight_tree link.to_a)) (map flight_parts link.to_a) to_a.1 (few_parts link.to_a range.few_to_a))
+          (then_read _ (few_read (read_flight Two) MAX_MESSAGES (list_of (map flight_tree link.to_b)) (map flight_parts link.to_b) to_b.1 (few_parts link.to_b range.few_to_b)) refl)))),
     )
 
 -- ---- rows

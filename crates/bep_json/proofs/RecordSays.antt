@@ -2,6 +2,7 @@
 use Rattle.std.proofs.Common.{◌≡◌, ◌≤◌, ℕ, ◌||◌, Bool, true, false, List, [], ◌∷◌, map, Some, refl, ap, sym, ◌∙◌, arith}
 use Rattle.std.specs.List.{AllByRecursion}
 use Rattle.hex.specs.Hex.{IsBytes}
+use Rattle.bep_record.proofs.BlockSizeFacts.{block_sizes_are_bounded}
 use Rattle.bep_record.specs.Entry.{HasNoBlocks, HasBlocks, HasBody, IsWellFormed}
 use Rattle.bep_record.specs.Node.{IsNode}
 use Rattle.bep_record.specs.Name.{IsName}
@@ -16,7 +17,8 @@ use Rattle.bep_json.specs.Numbers.{is_whole, read_number, read_signed, greatest_
 use Rattle.bep_json.specs.Texts.{is_text, read_hash}
 use Rattle.bep_json.specs.Lists.{is_list, read_list, is_pair, read_version}
 use Rattle.bep_json.specs.Nodes.{is_node, has_node_members, has_one_body, has_due_target, read_node}
-use Rattle.bep_json.specs.Records.{is_record, blocks_from, read_record}
+use Rattle.bep_json.specs.declared.version.DocVersion.TheVariants.{Two}
+use Rattle.bep_json.specs.Records.{is_record, has_record_members, has_due_block_size, blocks_from, read_record}
 use Rattle.bep_json.specs.Says.{Says, both_are, then_read, number_says, list_says}
 use Rattle.bep_json.specs.Written.{whole, signed, version_written, hex_written, hashes_written, record_written, node_written}
 use Rattle.bep_json.proofs.WrittenFacts.{map_same, kind_says, name_says, target_says, bytes_say, blocks_again}
@@ -43,6 +45,8 @@ range_of_none entry none =
 range_of_some : (entry : Entry) → HasBlocks entry → HasRange entry
 range_of_some entry some =
     let block_size = some.block_size in
+    let bounds = block_sizes_are_bounded entry.size in
+    let most = bounds.1 in
     record { size = some.size; block_size = omega arith; blocks = blocks_again entry.size entry.blocks some.blocks }
 
 range_of : (deleted : Bool) (kind : Kind) (entry : Entry) → HasBody deleted kind entry → HasRange entry
@@ -74,13 +78,17 @@ hashes_say blocks all =
     let told = list_says is_text read_hash (λ h. h) hex_written hashes (each_hash blocks all) in
     (told.0, told.1 ∙ ap Some (map_same hashes))
 
-record_shaped : (entry : Entry) → AreTyped entry → is_record (record_written entry) ≡ true
-unfolding is_record record_written
+or_true : (b : Bool) → (b || true) ≡ true
+or_true true = refl
+or_true false = refl
+
+record_shaped : (entry : Entry) → AreTyped entry → is_record Two (record_written entry) ≡ true
+unfolding is_record has_record_members has_due_block_size record_written
 record_shaped entry typed =
     let may = both_are refl (both_are refl (both_are refl (both_are refl (both_are refl (both_are typed.hashes.0 refl))))) in
-    both_are refl (both_are refl (both_are (kind_says entry.kind).0 (both_are typed.modified_s.0 (both_are refl (both_are typed.version.0 (both_are refl may))))))
+    both_are (both_are refl (both_are refl (both_are (kind_says entry.kind).0 (both_are typed.modified_s.0 (both_are refl (both_are typed.version.0 (both_are refl may))))))) (or_true _)
 
-record_read : (entry : Entry) → IsWellFormed entry → AreTyped entry → entry.sequence ≤ 9223372036854775807 → read_record (record_written entry) ≡ Some entry
+record_read : (entry : Entry) → IsWellFormed entry → AreTyped entry → entry.sequence ≤ 9223372036854775807 → read_record Two (record_written entry) ≡ Some entry
 unfolding read_record record_written
 record_read entry good typed numbered =
     let range = range_of entry.deleted entry.kind entry good.body in
@@ -98,20 +106,16 @@ record_read entry good typed numbered =
     (λ i. Some (record entry { no_permissions = sym good.no_permissions i; blocks = range.blocks i }))))))))))))
 
 -- a record is read again, where its sequence is one that documents have
-pub record_says : (entry : Entry) → IsWellFormed entry → AreTyped entry → entry.sequence ≤ 9223372036854775807 → Says is_record read_record entry (record_written entry)
+pub record_says : (entry : Entry) → IsWellFormed entry → AreTyped entry → entry.sequence ≤ 9223372036854775807 → Says (is_record Two) (read_record Two) entry (record_written entry)
 record_says entry good typed numbered = (record_shaped entry typed, record_read entry good typed numbered)
 
 -- ---- nodes
-or_true : (b : Bool) → (b || true) ≡ true
-or_true true = refl
-or_true false = refl
-
 node_shaped : (name : List ℕ) (node : NodeParts) → Says is_whole read_signed node.modified_s (signed node.modified_s) → is_node (node_written name node) ≡ true
 unfolding is_node has_node_members has_one_body has_due_target node_written
 node_shaped name node time = both_are (both_are refl (both_are refl (both_are (kind_says node.kind).0 (both_are time.0 refl)))) (both_are refl (or_true _))
 
 -- a node is read again with its name
-pub node_says : (name : List ℕ) (node : NodeParts) → IsName name → IsNode node → IsTarget node.target → IsBytes node.bytes → Says is_whole read_signed node.modified_s (signed node.modified_s) → Says is_node read_node (record { name = name; parts = node }) (node_written name node)
+pub node_says : (name : List ℕ) (node : NodeParts) → IsName name → IsNode node → IsTarget node.target → IsBytes node.bytes → Says is_whole read_signed node.modified_s (signed node.modified_s) → Says is_node (read_node Two) (record { name = name; parts = node }) (node_written name node)
 unfolding read_node node_written
 node_says name node named good target bytes time = (
   node_shaped name node time,

@@ -8,6 +8,7 @@ ghost use Rattle.bep_record.specs.Target.{IsTarget};
 ghost use Rattle.bep_json.specs.Numbers.{is_whole, read_number, read_signed, greatest_id};
 ghost use Rattle.bep_json.specs.Texts.{is_text, read_hash};
 ghost use Rattle.bep_json.specs.Lists.{is_list, is_pair, read_version};
+ghost use Rattle.bep_json.specs.declared.version.DocVersion.TheVariants.{Two};
 ghost use Rattle.bep_json.specs.Records.{is_record, read_record};
 ghost use Rattle.bep_json.specs.Nodes.{is_node, read_node};
 ghost use Rattle.bep_json.specs.Says.{Says};
@@ -21,7 +22,7 @@ use std::alloc::{AllocError, Global};
 /// The record as a tree, from which it is read again if its sequence is at most 9223372036854775807; or want of memory.
 pub fn record_value(alloc: Global, written: &Record) -> Result<Value, AllocError>
     ensures value { IfOk result (λ v. view v ≡ record_written written.now) }
-    ensures back { OnOk result (written.now.sequence ≤ 9223372036854775807 → Says is_record read_record written.now (record_written written.now)) }
+    ensures back { OnOk result (written.now.sequence ≤ 9223372036854775807 → Says (is_record Two) (read_record Two) written.now (record_written written.now)) }
 {
     let entry = written.entry();
     let blocks = hashes_value(alloc, entry.blocks.as_slice())?;
@@ -78,7 +79,7 @@ fn fields_are_told(entry: &Entry)
 /// What a store holds at the name as a tree, from which it is read again; or want of memory.
 pub fn node_value(alloc: Global, name: &Name, node: &Node) -> Result<Value, AllocError>
     ensures value { IfOk result (λ v. view v ≡ node_written name.now node.now) }
-    ensures back { OnOk result (Says is_node read_node (record { name = name.now; parts = node.now }) (node_written name.now node.now)) }
+    ensures back { OnOk result (Says is_node (read_node Two) (record { name = name.now; parts = node.now }) (node_written name.now node.now)) }
 {
     let parts = node.parts();
     let bytes = hex_value(alloc, parts.bytes.as_slice())?;

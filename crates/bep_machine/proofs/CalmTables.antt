@@ -3,10 +3,9 @@ use Rattle.std.proofs.Common.{◌≡◌, ◌⊎◌, ℕ, List, Option, Some, Non
 use Rattle.bep_record.specs.declared.entry.Entry.{Entry}
 use Rattle.bep_record.specs.declared.node.NodeParts.{NodeParts}
 use Rattle.bep_record.specs.Content.{Content, content_of, content_of_kind}
-use Rattle.bep_record.specs.Block.{base_block_size}
 use Rattle.bep_record.specs.Node.{IsClean}
 use Rattle.bep_record.specs.Vector.{IsAtMost, IsBelow}
-use Rattle.bep_blocks.specs.Plain.{plain_blocks}
+use Rattle.bep_blocks.specs.Plain.{file_blocks}
 use Rattle.bep_model.specs.Tables.{Tables, Device, Folder, FileName, Shares}
 use Rattle.bep_model.specs.Foreign.{IsForeign, IsHarmless}
 use Rattle.bep_model.specs.Calm.{Contents, content_due, OwnIsCalm, StoreIsCalm, HasNoRecord, IsCalmAt, IsCalm, SameFile, Kept}
@@ -49,7 +48,7 @@ store_after (Some node) (Some other) content same calm =
     let kind : node.kind ≡ other.kind = same.0 in
     let bytes : node.bytes ≡ other.bytes = same.1 in
     let target : node.target ≡ other.target = same.2 in
-    sym (λ i. content_of_kind (kind i) (plain_blocks base_block_size (bytes i)) (target i)) ∙ calm
+    sym (λ i. content_of_kind (kind i) (file_blocks (bytes i)) (target i)) ∙ calm
 
 -- ---- what is foreign
 

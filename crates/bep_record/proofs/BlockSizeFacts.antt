@@ -2,9 +2,14 @@
 use Rattle.std.proofs.Common.{◌≡◌, ℕ, ◌+◌, ◌-◌, ◌*◌, ◌/◌, ◌<◌, ◌≤◌, Bool, true, false, cond, List, [], ◌∷◌, refl, sym, subst, arith}
 use Rattle.std.specs.Prelude.{nat_lt, ⊤}
 use Rattle.std.proofs.Math.Nat.{div-mul-le_self, mul-le-mul_right}
-use Rattle.bep_record.specs.declared.limits.TheConstants.{BLOCK_SIZES, BLOCKS_AIMED_AT, MAX_BLOCK_SIZE}
+use Rattle.std.proofs.lemmas.Nat.{div-add-mod', mod_below}
+use Rattle.bep_record.specs.declared.limits.TheConstants.{BLOCK_SIZES, BLOCKS_AIMED_AT, MAX_BLOCK_SIZE, MAX_FILE_SIZE}
 use Rattle.bep_record.specs.Block.{base_block_size, block_count, block_size_of, first_fitting, IsBlockSize}
 use Rattle.bep_record.specs.Laws.{BlockSizesAreBounded}
+use Rattle.bep_record.specs.Entry.{HasBody, IsWellFormed}
+use Rattle.bep_record.specs.declared.entry.Entry.{Entry}
+use Rattle.bep_record.specs.declared.kind.Kind.{Kind}
+use Rattle.bep_record.specs.declared.kind.Kind.TheVariants.{File, Directory, Symlink}
 
 abbrev IsBounded : ℕ → Type 0
 IsBounded size = (base_block_size ≤ size) × (size ≤ MAX_BLOCK_SIZE)
@@ -25,17 +30,8 @@ fitting_is_bounded len (size ∷ more) all =
 
 pub block_sizes_are_bounded : BlockSizesAreBounded
 unfolding block_size_of
-block_sizes_are_bounded len = fitting_is_bounded len BLOCK_SIZES (
-  (omega arith, omega arith),
-  (omega arith, omega arith),
-  (omega arith, omega arith),
-  (omega arith, omega arith),
-  (omega arith, omega arith),
-  (omega arith, omega arith),
-  (omega arith, omega arith),
-  (omega arith, omega arith),
-  tt,
-)
+block_sizes_are_bounded len = fitting_is_bounded len BLOCK_SIZES
+    ((omega arith, omega arith), ((omega arith, omega arith), ((omega arith, omega arith), ((omega arith, omega arith), ((omega arith, omega arith), ((omega arith, omega arith), ((omega arith, omega arith), ((omega arith, omega arith), tt))))))))
 
 -- so a file has a block's size
 pub some_bytes : (len : ℕ) → 0 < block_size_of len
@@ -55,3 +51,23 @@ begins_within size len place before =
     let up : place * size ≤ (len - 1) / size * size = mul-le-mul_right size (omega arith) in
     let low = div-mul-le_self (len - 1) size in
     omega (arith, up, low)
+
+-- the blocks have room for all bytes of the file
+pub blocks_cover : (size len : ℕ) → 0 < size → len ≤ block_count size len * size
+blocks_cover size len some =
+    let parts = div-add-mod' (len - 1) size in
+    let below = mod_below (len - 1) size some in
+    omega (arith, parts, below)
+
+none_is_few : (size : ℕ) → size ≡ 0 → size ≤ MAX_FILE_SIZE
+none_is_few size none = omega (arith, none)
+
+few_of_body : (deleted : Bool) (kind : Kind) (entry : Entry) → HasBody deleted kind entry → entry.size ≤ MAX_FILE_SIZE
+few_of_body true kind entry body = none_is_few entry.size body.0.size
+few_of_body false File entry body = body.0.size
+few_of_body false Directory entry body = none_is_few entry.size body.0.size
+few_of_body false Symlink entry body = none_is_few entry.size body.0.size
+
+-- no record is of a file above the limit
+pub few_bytes : (entry : Entry) → IsWellFormed entry → entry.size ≤ MAX_FILE_SIZE
+few_bytes entry formed = few_of_body entry.deleted entry.kind entry formed.body

@@ -15,7 +15,7 @@ use Rattle.bep_document.specs.declared.parts.CheckParts.{CheckParts}
 use Rattle.bep_document.specs.Fault.{nowhere}
 use Rattle.bep_document.specs.Faultless.{IsFaultless, FaultlessHasNoFault, FaultlessHasFewDevices}
 use Rattle.bep_document.specs.Reading.{Reading, Read, Refused, ◌>>=◌, given, passed, unless, reading_of_tree, reading_of_cut}
-use Rattle.bep_document.specs.read.Checks.{is_cut, if_few_devices, read_cut, has_version, is_check, read_check_parts}
+use Rattle.bep_document.specs.read.Checks.{is_cut, if_few_devices, read_cut, doc_version, is_check, read_check_parts}
 use Rattle.bep_document.specs.read.Devices.{has_few_devices}
 use Rattle.bep_document.specs.read.Folders.{is_row, read_row}
 use Rattle.bep_tables.specs.declared.cut.CutParts.{CutParts}
@@ -29,6 +29,7 @@ use Rattle.bep_cut_document.proofs.RangeTold.{IsReadAgain, cut_says}
 use Rattle.bep_cut_document.proofs.ToldFacts.{each_told}
 use Rattle.bep_cut_document.proofs.back.CutListed.{cut_listed}
 use Rattle.bep_cut_document.proofs.back.Parts.{all_parts}
+use Rattle.bep_json.specs.declared.version.DocVersion.TheVariants.{Two}
 use Rattle.bep_cut_document.proofs.back.SameCut.{cut_again}
 
 -- ---- the steps of a reading
@@ -42,7 +43,7 @@ gives fault o x next e = ap (λ p. given fault p >>= next) e
 few_read : (folders : List FolderParts) → has_few_devices folders ≡ true → if_few_devices folders ≡ Some folders
 few_read folders few = ap (λ b. if b then Some folders else None) few
 
-lists_say : (cut : CutParts) → IsReadAgain cut → has_few_devices (map folder_parts cut.folders) ≡ true → Says is_cut read_cut (map folder_parts cut.folders, map link_parts cut.links) (cut_tree cut)
+lists_say : (cut : CutParts) → IsReadAgain cut → has_few_devices (map folder_parts cut.folders) ≡ true → Says (is_cut Two) (read_cut Two) (map folder_parts cut.folders, map link_parts cut.links) (cut_tree cut)
 unfolding is_cut read_cut cut_tree
 lists_say cut again few = (
   both_are refl (both_are again.folders.0 again.links.0),
@@ -59,12 +60,12 @@ cut_is_told few cut is folders_told links_told folders_sound links_sound =
     }
 
 -- ---- a cut
-pub cut_read : FaultlessHasNoFault → (cut : CutParts) → IsCutTold cut → cut_of_tree (cut_tree cut) ≡ Read cut
+pub cut_read : FaultlessHasNoFault → (cut : CutParts) → IsCutTold cut → cut_of_tree Two (cut_tree cut) ≡ Read cut
 unfolding reading_of_cut
 cut_read no_fault cut told =
     ap (λ reading. reading >>= made)
-    (passes Shape is_cut (cut_tree cut) _ told.lists.0
-    ∙ gives Range (read_cut (cut_tree cut)) _ _ told.lists.1
+    (passes Shape (is_cut Two) (cut_tree cut) _ told.lists.0
+    ∙ gives Range (read_cut Two (cut_tree cut)) _ _ told.lists.1
     ∙ ap (λ fault. unless fault (parts_of cut [])) (no_fault (parts_of cut []) told.faultless))
     ∙ ap Read told.same
   where
@@ -72,12 +73,12 @@ cut_read no_fault cut told =
     made parts = Read (cut_written parts.folders parts.links)
 
 -- ---- a cut and rows
-rows_say : (rows : List Row) → AllByRecursion IsRowTold rows → AreRowsInRange rows → Says (is_list is_row) (read_list read_row) (map row_parts rows) (list_of (map row_tree rows))
+rows_say : (rows : List Row) → AllByRecursion IsRowTold rows → AreRowsInRange rows → Says (is_list (is_row Two)) (read_list (read_row Two)) (map row_parts rows) (list_of (map row_tree rows))
 rows_say rows told range =
-    list_says is_row read_row row_parts row_tree rows
-    (each_told (λ (row : Row). row.entry.sequence ≤ MAX_SEQUENCE) (λ (row : Row). Says is_row read_row (row_parts row) (row_tree row)) rows told range)
+    list_says (is_row Two) (read_row Two) row_parts row_tree rows
+    (each_told (λ (row : Row). row.entry.sequence ≤ MAX_SEQUENCE) (λ (row : Row). Says (is_row Two) (read_row Two) (row_parts row) (row_tree row)) rows told range)
 
-check_says : (cut : CutParts) (rows : List Row) → IsCutTold cut → Says (is_list is_row) (read_list read_row) (map row_parts rows) (list_of (map row_tree rows)) → Says is_check read_check_parts (parts_of cut rows) (check_tree cut rows)
+check_says : (cut : CutParts) (rows : List Row) → IsCutTold cut → Says (is_list (is_row Two)) (read_list (read_row Two)) (map row_parts rows) (list_of (map row_tree rows)) → Says (is_check Two) (read_check_parts Two) (parts_of cut rows) (check_tree Two cut rows)
 unfolding is_check read_check_parts check_tree
 check_says cut rows told said = (
   both_are refl (both_are refl (both_are told.lists.0 said.0)),
@@ -101,18 +102,18 @@ rows_again : (rows : List Row) → map row_written (map row_parts rows) ≡ rows
 rows_again [] = refl
 rows_again (row ∷ more) = ap (λ l. row ∷ l) (rows_again more)
 
-has_its_version : (cut : CutParts) (rows : List Row) → has_version (check_tree cut rows) ≡ true
+has_its_version : (cut : CutParts) (rows : List Row) → doc_version (check_tree Two cut rows) ≡ Some Two
 unfolding check_tree
 has_its_version cut rows = refl
 
-pub check_read : FaultlessHasNoFault → (cut : CutParts) (rows : List Row) → IsCutTold cut → AllByRecursion IsRowTold rows → AllByRecursion (λ (row : Row). IsWellFormed row.entry) rows → AreRowsInRange rows → check_of_tree (check_tree cut rows) ≡ Read (cut, rows)
+pub check_read : FaultlessHasNoFault → (cut : CutParts) (rows : List Row) → IsCutTold cut → AllByRecursion IsRowTold rows → AllByRecursion (λ (row : Row). IsWellFormed row.entry) rows → AreRowsInRange rows → check_of_tree (check_tree Two cut rows) ≡ Read (cut, rows)
 unfolding reading_of_tree
 check_read no_fault cut rows told rows_told rows_sound range =
     let said = check_says cut rows told (rows_say rows rows_told range) in
     ap (λ reading. reading >>= made)
-    (passes VersionBad has_version (check_tree cut rows) _ (has_its_version cut rows)
-    ∙ passes Shape is_check (check_tree cut rows) _ said.0
-    ∙ gives Range (read_check_parts (check_tree cut rows)) _ _ said.1
+    (gives VersionBad (doc_version (check_tree Two cut rows)) Two _ (has_its_version cut rows)
+    ∙ passes Shape (is_check Two) (check_tree Two cut rows) _ said.0
+    ∙ gives Range (read_check_parts Two (check_tree Two cut rows)) _ _ said.1
     ∙ ap (λ fault. unless fault (parts_of cut rows)) (no_fault (parts_of cut rows) (with_rows cut rows told rows_sound)))
     ∙ λ i. Read (told.same i, rows_again rows i)
   where

@@ -33,6 +33,7 @@ use Rattle.bep_tables.specs.declared.share.SharedFolder.{SharedFolder}
 use Rattle.bep_tables.specs.declared.link.LinkState.{LinkState}
 use Rattle.bep_tables.specs.declared.cut.CutParts.{CutParts}
 use Rattle.bep_cut_document.specs.Trees.{view_tree, share_tree, folder_tree, flight_tree, link_tree, cut_tree, row_tree}
+use Rattle.bep_json.specs.declared.version.DocVersion.TheVariants.{Two}
 use Rattle.bep_cut_document.specs.Written.{cut_written}
 
 -- ---- the lists of a cut, as a document has them
@@ -80,9 +81,9 @@ link_parts link = record {
 abbrev pub row_parts : Row → RowParts
 row_parts row = record { folder = row.folder; device = row.device; entry = row.entry }
 
--- the cut, with these rows
+-- the cut, with these rows, in a document of version 2
 abbrev pub parts_of : CutParts → List Row → CheckParts
-parts_of cut rows = record { folders = map folder_parts cut.folders; links = map link_parts cut.links; certificate = map row_parts rows }
+parts_of cut rows = record { version = Two; folders = map folder_parts cut.folders; links = map link_parts cut.links; certificate = map row_parts rows }
 
 -- ---- what is in range
 -- the sequences of these records are
@@ -121,32 +122,32 @@ pub record IsLinkInRange (link : LinkState) : Type 0 where
 
 -- ---- what is read again, where it is in range
 abbrev pub IsRecordTold : Entry → Type 0
-IsRecordTold entry = entry.sequence ≤ MAX_SEQUENCE → Says is_record read_record entry (record_written entry)
+IsRecordTold entry = entry.sequence ≤ MAX_SEQUENCE → Says (is_record Two) (read_record Two) entry (record_written entry)
 
 abbrev pub IsNodeTold : List ℕ × NodeParts → Type 0
-IsNodeTold held = Says is_node read_node (node_parts held) (node_written held.0 held.1)
+IsNodeTold held = Says is_node (read_node Two) (node_parts held) (node_written held.0 held.1)
 
 abbrev pub IsViewTold : PeerView → Type 0
-IsViewTold view = IsViewInRange view → Says is_view read_view (view_parts view) (view_tree view)
+IsViewTold view = IsViewInRange view → Says (is_view Two) (read_view Two) (view_parts view) (view_tree view)
 
 abbrev pub IsShareTold : Share → Type 0
-IsShareTold share = IsShareInRange share → Says is_share read_share (share_parts share) (share_tree share)
+IsShareTold share = IsShareInRange share → Says (is_share Two) (read_share Two) (share_parts share) (share_tree share)
 
 abbrev pub IsFolderTold : SharedFolder → Type 0
-IsFolderTold shared = AllByRecursion IsShareInRange shared.shares → Says is_folder read_folder (folder_parts shared) (folder_tree shared)
+IsFolderTold shared = AllByRecursion IsShareInRange shared.shares → Says (is_folder Two) (read_folder Two) (folder_parts shared) (folder_tree shared)
 
 abbrev pub IsFlightTold : Flight → Type 0
-IsFlightTold flight = IsFlightInRange flight → Says is_flight read_flight (flight_parts flight) (flight_tree flight)
+IsFlightTold flight = IsFlightInRange flight → Says (is_flight Two) (read_flight Two) (flight_parts flight) (flight_tree flight)
 
 abbrev pub IsLinkTold : LinkState → Type 0
-IsLinkTold link = IsLinkInRange link → Says is_link read_link (link_parts link) (link_tree link)
+IsLinkTold link = IsLinkInRange link → Says (is_link Two) (read_link Two) (link_parts link) (link_tree link)
 
 -- a row of a certificate
 abbrev pub IsRowTold : Row → Type 0
-IsRowTold row = row.entry.sequence ≤ MAX_SEQUENCE → Says is_row read_row (row_parts row) (row_tree row)
+IsRowTold row = row.entry.sequence ≤ MAX_SEQUENCE → Says (is_row Two) (read_row Two) (row_parts row) (row_tree row)
 
 -- what is written of a cut is read as the cut's lists, in which there is no fault, and which write down the cut
 pub record IsCutTold (cut : CutParts) : Type 0 where
-  pub lists : Says is_cut read_cut (map folder_parts cut.folders, map link_parts cut.links) (cut_tree cut)
+  pub lists : Says (is_cut Two) (read_cut Two) (map folder_parts cut.folders, map link_parts cut.links) (cut_tree cut)
   pub faultless : IsFaultless (parts_of cut [])
   pub same : cut_written (map folder_parts cut.folders) (map link_parts cut.links) ≡ cut

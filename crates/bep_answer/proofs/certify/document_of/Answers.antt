@@ -1,4 +1,5 @@
 use Rattle.std.proofs.Common.{◌≡◌, ◌≤◌, List, length, Contains, sym, subst}
+use Rattle.bep_json.specs.declared.version.DocVersion.TheVariants.{Two}
 use Rattle.bep_document.specs.Reading.{Read, most_bytes}
 use Rattle.bep_model.specs.declared.row.Row.{Row}
 use Rattle.bep_model.specs.Winner.{IsWinner}
@@ -11,5 +12,6 @@ pub returns-clause-read_back : goal.returns-clause-read_back
 returns-clause-read_back c =
     let cut = c.args.cut.now in
     let winners = subst (λ (rows : List Row). (row : Row) → Contains rows row → IsWinner (tables_of cut) row.folder row.entry.name (row.device, row.entry)) (sym c.rows.ensures) c.requires.winners in
-    subst (λ (rows : List Row). length (check_document_text cut rows) ≤ most_bytes → check_of (check_document_text cut rows) ≡ Read (cut, rows)) c.rows.ensures
-    (λ short. c.in_ok-check_document.ensures.read_back short (c.winners_are_in_range.ensures c.rows.result.now winners))
+    let version = c.args.version in
+    subst (λ (rows : List Row). version ≡ Two → length (check_document_text version cut rows) ≤ most_bytes → check_of (check_document_text version cut rows) ≡ Read (cut, rows)) c.rows.ensures
+    (λ two short. c.in_ok-check_document.ensures.read_back two short (c.winners_are_in_range.ensures c.rows.result.now winners))
