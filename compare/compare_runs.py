@@ -66,7 +66,7 @@ def random_document(number: int) -> bytes:
     folders = [{"folder": folder, "devices": [{"device": share.device, "kind": share.kind.value,
                                                "index_id": share.index_id} for share in shares]}
                for folder, shares in config.folders.items()]
-    document = {"version": 1, "folders": folders, "links": [list(ends) for ends in config.links],
+    document = {"version": 1 + number % 2, "folders": folders, "links": [list(ends) for ends in config.links],
                 "steps": list(map(step_value, random_steps(making, config)))}
     if making.happens(0.1):
         document = Documents(number).with_mistake(document)
