@@ -25,12 +25,7 @@ pub(crate) fn has_shape(version: DocVersion, sort: Sort, value: &Value) -> bool 
 }
 
 /// Whether the value, which is of that kind, is within its range.
-pub(crate) fn is_in_range(
-    alloc: Global,
-    version: DocVersion,
-    sort: Sort,
-    value: &Value,
-) -> bool {
+pub(crate) fn is_in_range(alloc: Global, version: DocVersion, sort: Sort, value: &Value) -> bool {
     match sort {
         Sort::DocVersion => reads::<Whole<1, 2>>(alloc, version, value),
         Sort::Id => reads::<DeviceId>(alloc, version, value),

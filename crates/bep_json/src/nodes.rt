@@ -39,7 +39,13 @@ impl Readable for NamedParts {
         let name = member::<Name>(alloc, version, value, "name")?;
         let kind = member::<Kind>(alloc, version, value, "type")?;
         let modified_s = member::<i64>(alloc, version, value, "modified_s")?;
-        let modified_ns = member_or::<Nanoseconds>(alloc, version, value, "modified_ns", Whole::new(0))?;
+        let modified_ns = member_or::<Nanoseconds>(
+            alloc,
+            version,
+            value,
+            "modified_ns",
+            Whole::new(0),
+        )?;
         let bytes = body(alloc, version, value)?;
         let target = member_or::<Target>(alloc, version, value, "target", Target::empty(alloc))?;
         let parts = NodeParts {

@@ -89,7 +89,13 @@ impl Readable for Entry {
         let counters = member::<Vector>(alloc, version, value, "version")?;
         let sequence = member::<Sequence>(alloc, version, value, "sequence")?;
         let size = member_or::<FileSize>(alloc, version, value, "size", FileSize { bytes: 0 })?;
-        let modified_ns = member_or::<Nanoseconds>(alloc, version, value, "modified_ns", Whole::new(0))?;
+        let modified_ns = member_or::<Nanoseconds>(
+            alloc,
+            version,
+            value,
+            "modified_ns",
+            Whole::new(0),
+        )?;
         let deleted = member_or::<bool>(alloc, version, value, "deleted", false)?;
         let invalid = member_or::<bool>(alloc, version, value, "invalid", false)?;
         let usual = default_block_size(kind, deleted);

@@ -23,10 +23,7 @@ pub fn push_certificate(text: &mut Vec<u8>, certificate: &Certificate) -> Result
 }
 
 /// Appends the certificate as `push_certificate` does, with one word more in each line: the record's block size.
-pub fn push_certificate_2(
-    text: &mut Vec<u8>,
-    certificate: &Certificate,
-) -> Result<(), AllocError>
+pub fn push_certificate_2(text: &mut Vec<u8>, certificate: &Certificate) -> Result<(), AllocError>
     ensures { AppendsWhole result text.old.items text.new.items (spec.certificate_lines_2 certificate.now) }
 {
     let len = text.len();

@@ -50,11 +50,14 @@ fn has_form(version: DocVersion, word: Option<Word>, value: &Value) -> bool
 {
     match word {
         None => false,
-        Some(Word::Edit) => has_items!(version, value; 1: DeviceId, 2: FolderName, 3: NamedParts; 4),
+        Some(Word::Edit) =>
+            has_items!(version, value; 1: DeviceId, 2: FolderName, 3: NamedParts; 4),
         Some(Word::OfName(_)) => has_items!(version, value; 1: DeviceId, 2: FolderName, 3: Name; 4),
         Some(Word::OfPair(_)) => has_items!(version, value; 1: DeviceId, 2: DeviceId; 3),
-        Some(Word::Announce) => has_items!(version, value; 1: DeviceId, 2: DeviceId, 3: FolderName; 4),
-        Some(Word::Ask) => has_items!(version, value; 1: DeviceId, 2: DeviceId, 3: FolderName, 4: Name; 5),
+        Some(Word::Announce) =>
+            has_items!(version, value; 1: DeviceId, 2: DeviceId, 3: FolderName; 4),
+        Some(Word::Ask) =>
+            has_items!(version, value; 1: DeviceId, 2: DeviceId, 3: FolderName, 4: Name; 5),
         Some(Word::Restart) => has_items!(version, value; 1: DeviceId; 2),
     }
 }

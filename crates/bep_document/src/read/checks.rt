@@ -149,8 +149,9 @@ fn folders_of(
 ) -> Result<Items<FolderParts>, ReadError>
     ensures { Gives result (read_folders version (view cut.now)) }
 {
-    let folders =
-        member::<Few<FolderParts, MAX_FOLDERS>>(alloc, version, cut, "folders")?.into_items();
+    let folders = member::<Few<FolderParts, MAX_FOLDERS>>(
+        alloc, version, cut, "folders",
+    )?.into_items();
     if !has_few_devices(alloc, folders.as_slice())? {
         return Err(ReadError::Range);
     }
@@ -158,11 +159,7 @@ fn folders_of(
 }
 
 // The links of a list, each of which is given up once it is read.
-fn links_of(
-    alloc: Global,
-    version: DocVersion,
-    links: Value,
-) -> Result<Items<LinkParts>, ReadError>
+fn links_of(alloc: Global, version: DocVersion, links: Value) -> Result<Items<LinkParts>, ReadError>
     ensures { Gives result (read_list (read_link version) (view links)) }
 {
     match links {

@@ -25,7 +25,9 @@ impl Readable for FlightParts {
         Ok(FlightParts {
             folder: member(alloc, version, value, "folder")?,
             full: member(alloc, version, value, "full")?,
-            records: member::<Few<Entry, MAX_RECORDS>>(alloc, version, value, "records")?.into_items(),
+            records: member::<Few<Entry, MAX_RECORDS>>(
+                alloc, version, value, "records",
+            )?.into_items(),
         })
     }
 }

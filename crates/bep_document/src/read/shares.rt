@@ -8,7 +8,9 @@ ghost use Rattle.bep_document.specs.read.Shares.{is_share, read_share};
 use crate::read::few::few_or_none;
 use crate::{ShareParts, ViewParts};
 use bep_index::{IndexId, MAX_NAMES};
-use bep_json::{DocVersion, NamedParts, ReadError, Readable, Sequence, Whole, is_object, member, member_or};
+use bep_json::{
+    DocVersion, NamedParts, ReadError, Readable, Sequence, Whole, is_object, member, member_or,
+};
 use bep_record::{DeviceId, Entry, FolderKind, Items, MAX_PULLS};
 use serde_json::Value;
 use std::alloc::Global;
@@ -46,11 +48,7 @@ impl Readable for ShareParts {
 }
 
 /// The id of an index at its member. `Range` where there is none; `Memory` may come in place of any answer.
-pub fn index_id_of(
-    alloc: Global,
-    version: DocVersion,
-    value: &Value,
-) -> Result<IndexId, ReadError>
+pub fn index_id_of(alloc: Global, version: DocVersion, value: &Value) -> Result<IndexId, ReadError>
     ensures { Gives result (read_member (codes "index_id") (read_number 1 greatest_id) (view value.now)) }
 {
     let number = member::<IndexNumber>(alloc, version, value, "index_id")?.number();

@@ -30,7 +30,9 @@ impl Readable for ViewParts {
             of: member(alloc, version, value, "of")?,
             index_id: member::<AnyIndexNumber>(alloc, version, value, "index_id")?.number(),
             max: member::<Sequence>(alloc, version, value, "max")?.number(),
-            records: member::<Few<Entry, MAX_NAMES>>(alloc, version, value, "records")?.into_items(),
+            records: member::<Few<Entry, MAX_NAMES>>(
+                alloc, version, value, "records",
+            )?.into_items(),
         })
     }
 }

@@ -28,8 +28,14 @@ fn size_of(len: u64) -> Result<u32, RecordError> {
 #[test]
 fn block_sizes_go_by_length(rt: HostRuntime) {
     assert_eq!(rt; [size_of(0), size_of(262143999)], [Ok(131072), Ok(131072)]);
-    assert_eq!(rt; [size_of(262144000), size_of(524287999)], [Ok(262144), Ok(262144)]);
-    assert_eq!(rt; [size_of(524288000), size_of(536870912)], [Ok(524288), Ok(524288)]);
+    assert_eq!(rt;
+        [size_of(262144000), size_of(524287999)],
+        [Ok(262144), Ok(262144)]
+    );
+    assert_eq!(rt;
+        [size_of(524288000), size_of(536870912)],
+        [Ok(524288), Ok(524288)]
+    );
     assert_eq!(rt; size_of(536870913), Err(RecordError::FileTooLarge));
     assert_eq!(rt; RecordError::FileTooLarge.number(), Some(112));
     assert_eq!(rt; BlocksError::FileTooLarge.number(), Some(112));
@@ -37,7 +43,11 @@ fn block_sizes_go_by_length(rt: HostRuntime) {
 
 // The place and the size of each of the first two blocks of this many zero bytes, cut by the block size of that length,
 // and how many there are.
-fn cut(alloc: Global, len: usize, size: BlockSize) -> Result<((u64, u32), (u64, u32), usize), BlocksError> {
+fn cut(
+    alloc: Global,
+    len: usize,
+    size: BlockSize,
+) -> Result<((u64, u32), (u64, u32), usize), BlocksError> {
     let bytes = vec![in alloc; 0; len]?;
     let made = blocks(alloc, &bytes, size)?;
     match made.as_slice() {
@@ -55,9 +65,18 @@ fn blocks_have_the_size_that_is_handed(rt: HostRuntime) {
     let Ok(larger) = BlockSize::of_length(262144000) else {
         panic!(rt; "refused");
     };
-    assert_eq!(rt; cut(rt.alloc(), 262145, larger), Ok(((0, 262144), (262144, 1), 2)));
-    assert_eq!(rt; cut(rt.alloc(), 131073, BlockSize::base()), Ok(((0, 131072), (131072, 1), 2)));
-    assert_eq!(rt; cut(rt.alloc(), 16777217, BlockSize::base()), Ok(((0, 131072), (131072, 131072), 129)));
+    assert_eq!(rt;
+        cut(rt.alloc(), 262145, larger),
+        Ok(((0, 262144), (262144, 1), 2))
+    );
+    assert_eq!(rt;
+        cut(rt.alloc(), 131073, BlockSize::base()),
+        Ok(((0, 131072), (131072, 1), 2))
+    );
+    assert_eq!(rt;
+        cut(rt.alloc(), 16777217, BlockSize::base()),
+        Ok(((0, 131072), (131072, 131072), 129))
+    );
 }
 
 #[test]
