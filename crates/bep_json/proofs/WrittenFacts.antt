@@ -15,8 +15,8 @@ use Rattle.bep_record.specs.FolderName.{IsFolderName}
 use Rattle.bep_record.specs.declared.block.Block.{Block}
 use Rattle.bep_record.specs.declared.kind.Kind.{Kind}
 use Rattle.bep_record.specs.declared.kind.Kind.TheVariants.{File, Directory, Symlink}
-use Rattle.bep_record.specs.declared.limits.TheConstants.{MAX_FILE_SIZE}
-use Rattle.bep_json.specs.declared.version.DocVersion.TheVariants.{Two}
+use Rattle.bep_json.specs.declared.version.DocVersion.{DocVersion}
+use Rattle.bep_json.specs.Version.{most_file_bytes}
 use Rattle.bep_json.specs.Numbers.{is_whole, read_kind}
 use Rattle.bep_json.specs.Texts.{is_text, fits_file, read_name, read_target, read_folder_name, read_hash, read_hex_bytes}
 use Rattle.bep_json.specs.Lists.{is_list, is_pair, read_pair, read_version}
@@ -52,10 +52,10 @@ pub hash_says : (hash : List ℕ) → length hash ≡ 32 → IsBytes hash → Sa
 unfolding read_hash
 hash_says hash sized bytes = (refl, rw (decode_sized-encode_lower hash 32 sized bytes))
 
-pub bytes_say : (bytes : List ℕ) → length bytes ≤ MAX_FILE_SIZE → IsBytes bytes → Says is_text (read_hex_bytes Two) bytes (hex_written bytes)
+pub bytes_say : (version : DocVersion) (bytes : List ℕ) → length bytes ≤ most_file_bytes version → IsBytes bytes → Says is_text (read_hex_bytes version) bytes (hex_written bytes)
 unfolding read_hex_bytes
-bytes_say bytes few fit =
-    let told : fits_file Two bytes ≡ true = grind (arith, nat_tests) in
+bytes_say version bytes few fit =
+    let told : fits_file version bytes ≡ true = grind (arith, nat_tests) in
     (refl, rw (decode_of-encode_lower bytes fit) (where_true _ _ told))
 
 -- ---- lists

@@ -9,4 +9,5 @@ pub mod Version
 pub mod Written
 pub mod Members
 pub mod Says
+pub mod Back
 pub mod Laws

@@ -1,5 +1,5 @@
 //! The versions of documents.
-ghost use Rattle.std.specs.Prelude.{◌≡◌};
+ghost use Rattle.std.specs.Prelude.{◌≡◌, ◌≤◌};
 ghost use Rattle.bep_json.specs.Version.{most_file_bytes, number_of, version_of};
 
 use bep_record::MAX_FILE_SIZE;
@@ -44,7 +44,8 @@ impl DocVersion {
 
     /// The most bytes that a file has in a document of this version.
     pub fn most_file_bytes(self) -> u64
-        ensures { result ≡ most_file_bytes self }
+        ensures value { result ≡ most_file_bytes self }
+        ensures most { result ≤ MAX_FILE_SIZE }
     {
         match self {
             DocVersion::One => MAX_FILE_SIZE_ONE,
