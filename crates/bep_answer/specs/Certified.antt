@@ -2,7 +2,6 @@
 use Rattle.std.specs.Prelude.{◌≡◌, ◌≤◌, ◌++◌, ℕ, List, length, None}
 use Rattle.bep_audit.specs.Certifier.{IsSettledIfAny, IsNeverSettled}
 use Rattle.bep_json.specs.declared.version.DocVersion.{DocVersion}
-use Rattle.bep_json.specs.declared.version.DocVersion.TheVariants.{Two}
 use Rattle.bep_document.specs.Reading.{Reading, Read, Refused, most_bytes}
 use Rattle.bep_model.specs.declared.reason.Reason.TheVariants.{NotWinner}
 use Rattle.bep_model.specs.declared.row.Row.{Row}
@@ -12,6 +11,7 @@ use Rattle.bep_model.specs.Verdict.{Not}
 use Rattle.bep_model.specs.WithoutWinner.{IsFirstWithoutWinner}
 use Rattle.bep_tables.specs.declared.cut.CutParts.{CutParts}
 use Rattle.bep_tables.specs.Cut.{tables_of}
+use Rattle.bep_cut_document.specs.Room.{HasRoom}
 use Rattle.bep_cut_document.specs.Trees.{check_document_text}
 use Rattle.bep_cut_document.specs.Written.{check_of, cut_of_document}
 use Rattle.bep_lines.specs.Lines.{verdict_line, newline}
@@ -31,8 +31,9 @@ pub record IsDocumentOf (version : DocVersion) (cut : CutParts) (text : List ℕ
   pub winners : IsListOfWinners (tables_of cut) rows
   pub settled_if_any : IsSettledIfAny (tables_of cut) rows
   pub written : text ≡ document_text version cut rows
-  -- of version 2, without its line's end it is read as the very cut and rows, where it isn't longer than a document may be
-  pub read_back : version ≡ Two → length (check_document_text version cut rows) ≤ most_bytes → check_of (check_document_text version cut rows) ≡ Read (cut, rows)
+  -- without its line's end it is read as the very cut and rows, where its version has room for the cut and it isn't longer
+  -- than a document may be
+  pub read_back : HasRoom version cut → length (check_document_text version cut rows) ≤ most_bytes → check_of (check_document_text version cut rows) ≡ Read (cut, rows)
 
 -- the text is the line of the cut's first known name without a winner, and the cut is settled for no list of rows
 pub record IsLineWithout (cut : CutParts) (text : List ℕ) : Type 0 where

@@ -2,12 +2,12 @@
 use Rattle.std.specs.Prelude.{◌≡◌, ◌≤◌, ℕ, List, [], ◌∷◌, length}
 use Rattle.bep_audit.specs.Certifier.{AreWinners}
 use Rattle.bep_json.specs.declared.version.DocVersion.{DocVersion}
-use Rattle.bep_json.specs.declared.version.DocVersion.TheVariants.{Two}
 use Rattle.bep_document.specs.Reading.{Reading, Read, Refused, most_bytes}
 use Rattle.bep_model.specs.Reasons.{Place}
 use Rattle.bep_model.specs.declared.row.Row.{Row}
 use Rattle.bep_tables.specs.declared.cut.CutParts.{CutParts}
 use Rattle.bep_tables.specs.Cut.{tables_of}
+use Rattle.bep_cut_document.specs.Room.{HasRoom}
 use Rattle.bep_cut_document.specs.Trees.{check_document_text}
 use Rattle.bep_cut_document.specs.Written.{check_of, cut_of_document}
 use Rattle.bep_answer.specs.Answer.{fault_text}
@@ -28,8 +28,9 @@ pub record IsPart (version : DocVersion) (cut : CutParts) (outcome : Partial) (t
   pub winners : AreWinners (tables_of cut) rows without
   pub told : outcome ≡ partial_of without
   pub written : text ≡ document_text version cut rows
-  -- of version 2, without its line's end it is read as the very cut and rows, where it isn't longer than a document may be
-  pub read_back : version ≡ Two → length (check_document_text version cut rows) ≤ most_bytes → check_of (check_document_text version cut rows) ≡ Read (cut, rows)
+  -- without its line's end it is read as the very cut and rows, where its version has room for the cut and it isn't longer
+  -- than a document may be
+  pub read_back : HasRoom version cut → length (check_document_text version cut rows) ≤ most_bytes → check_of (check_document_text version cut rows) ≡ Read (cut, rows)
 
 -- the outcome and the text for what a document says of its cut: that, or the fault for which it is refused
 abbrev pub IsPartly : Reading (DocVersion × CutParts) → Partial → List ℕ → Type 0

@@ -1,10 +1,10 @@
 //! The certificate for a document's cut.
 ghost use Rattle.std.specs.Prelude.{◌≡◌, ◌≤◌, None, Contains, length, IfOk, OnOk};
-ghost use Rattle.bep_json.specs.declared.version.DocVersion.TheVariants.{Two};
 ghost use Rattle.bep_document.specs.Reading.{Read, most_bytes};
 ghost use Rattle.bep_model.specs.declared.row.Row.{Row};
 ghost use Rattle.bep_model.specs.Winner.{IsWinner};
 ghost use Rattle.bep_tables.specs.Cut.{tables_of};
+ghost use Rattle.bep_cut_document.specs.Room.{HasRoom};
 ghost use Rattle.bep_cut_document.specs.Trees.{check_document_text};
 ghost use Rattle.bep_model.specs.declared.reason.Reason.TheVariants.{NotWinner};
 ghost use Rattle.bep_model.specs.Verdict.{Not};
@@ -79,7 +79,7 @@ pub(crate) fn document_of(
 ) -> Result<Vec<u8>, AllocError>
     requires winners { (row : Row) → Contains certificate.now row → IsWinner (tables_of cut.now) row.folder row.entry.name (row.device, row.entry) }
     ensures text { IfOk result (λ text. text.items ≡ document_text version cut.now certificate.now) }
-    ensures read_back { OnOk result (version ≡ Two → length (check_document_text version cut.now certificate.now) ≤ most_bytes → check_of (check_document_text version cut.now certificate.now) ≡ Read (cut.now, certificate.now)) }
+    ensures read_back { OnOk result (HasRoom version cut.now → length (check_document_text version cut.now certificate.now) ≤ most_bytes → check_of (check_document_text version cut.now certificate.now) ≡ Read (cut.now, certificate.now)) }
 {
     winners_are_in_range(cut);
     let mut text = check_document(alloc, version, cut, certificate.rows())?.into_bytes();

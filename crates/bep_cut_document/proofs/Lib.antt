@@ -13,4 +13,5 @@ mod ReadAgain
 mod Shallow
 mod WholeNumbers
 mod WinnersInRange
+mod ShortFacts
 pub mod back

@@ -1,5 +1,6 @@
 //! What the cut of a document says, and that its winners can be written, as laws.
 ghost use Rattle.bep_cut_document.specs.Told.{WinnersAreInRange};
+ghost use Rattle.bep_cut_document.specs.Room.{WinnersHaveRoom};
 ghost use Rattle.bep_cut_document.specs.AsWritten.{SharingIsAsWritten, OwnIsAsWritten, NodeIsAsWritten, ViewedIsAsWritten, TargetIsAsWritten, FlyingIsAsWritten, UnlinkedIsQuiet};
 
 use bep_index::records_make_an_index;
@@ -19,9 +20,11 @@ pub fn cut_is_as_written()
     records_make_an_index();
 }
 
-/// Rows that hold their names' winners have sequences that a document can have.
+/// Rows that hold their names' winners have sequences that a document can have, and a document has room for them in each
+/// version that has room for the cut.
 pub fn winners_are_in_range(cut: &Cut)
-    ensures { WinnersAreInRange cut.now }
+    ensures range { WinnersAreInRange cut.now }
+    ensures room { WinnersHaveRoom cut.now }
 {
     cut.is_a_cut();
 }

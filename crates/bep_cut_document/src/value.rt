@@ -3,9 +3,9 @@ ghost use Rattle.std.specs.Prelude.{◌≡◌, IfOk, OnOk};
 ghost use Rattle.serde_json.specs.Data.{Data};
 ghost use Rattle.serde_json.specs.View.{view};
 ghost use Rattle.bep_json.specs.declared.version.DocVersion.{DocVersion as VersionOf};
-ghost use Rattle.bep_json.specs.declared.version.DocVersion.TheVariants.{Two};
 ghost use Rattle.bep_document.specs.Reading.{Answers, Reading, Read};
 ghost use Rattle.bep_cut_document.specs.Trees.{cut_tree};
+ghost use Rattle.bep_cut_document.specs.Room.{HasRoom};
 ghost use Rattle.bep_cut_document.specs.Written.{cut_of_tree};
 
 use crate::reading::check_from;
@@ -25,6 +25,9 @@ pub trait CutValue: Drop {
     /// The tree that is written.
     ghost tree_of: { Self → Data };
 
+    /// Documents of a version have room for it.
+    ghost has_room: { VersionOf → Self → Type 0 };
+
     /// The cut that a tree says by itself, as the member `cut` of a check document of this version does, or the one fault
     /// for which it is refused: `Shape`, `Range`, or the first of those that have a place. `Memory` may come in place of
     /// any answer.
@@ -32,16 +35,19 @@ pub trait CutValue: Drop {
         ensures { Answers result (of_tree version (view value.now)) };
 
     /// The cut as a tree, with every member, bytes in hexadecimal digits and all lists rising; or want of memory.
-    /// `Cut::from_value` of version 2 reads this tree as the very cut.
+    /// `Cut::from_value` of a version reads this tree as the very cut, if its documents have room for that. Those of version
+    /// 2 have room for each cut.
     fn to_value(&self, alloc: Global) -> Result<Value, AllocError>
         ensures value { IfOk result (λ v. view v ≡ tree_of self.now) }
-        ensures read_back { OnOk result (of_tree Two (tree_of self.now) ≡ Read self.now) };
+        ensures read_back { OnOk result ((version : VersionOf) → has_room version self.now → of_tree version (tree_of self.now) ≡ Read self.now) };
 }
 
 impl CutValue for Cut {
     ghost of_tree = { cut_of_tree };
 
     ghost tree_of = { cut_tree };
+
+    ghost has_room = { HasRoom };
 
     fn from_value(alloc: Global, version: DocVersion, value: &Value) -> Result<Cut, DocError> {
         readings_are_faultless();

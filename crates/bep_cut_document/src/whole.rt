@@ -1,11 +1,11 @@
 //! Whole cuts and check documents as JSON trees, which are read again as they were.
 ghost use Rattle.std.specs.Prelude.{◌≡◌, ◌≤◌, length, map, IfOk, OnOk, string_bytes};
 ghost use Rattle.serde_json.specs.View.{view};
-ghost use Rattle.bep_json.specs.declared.version.DocVersion.TheVariants.{Two};
 ghost use Rattle.bep_json.specs.Written.{list_of};
 ghost use Rattle.bep_document.specs.Reading.{Read, most_bytes};
 ghost use Rattle.bep_cut_document.specs.Trees.{folder_tree, link_tree, cut_tree, row_tree, check_tree, check_document_text};
 ghost use Rattle.bep_cut_document.specs.Told.{AreRowsInRange};
+ghost use Rattle.bep_cut_document.specs.Room.{HasRoom, HasRoomForRows};
 ghost use Rattle.bep_cut_document.specs.inner.Told.{IsCutTold};
 ghost use Rattle.bep_cut_document.specs.Written.{check_of, check_of_tree};
 
@@ -38,8 +38,9 @@ fn cut_members(alloc: Global, cut: &Cut, folders: Value, links: Value) -> Result
     json!(in alloc; {"folders": folders, "links": links})
 }
 
-/// The check document of this version of a cut and the rows of a certificate for it, as a tree, or want of memory. One of
-/// version 2 is read as the very cut and rows, where the sequences of the rows' records are at most 9223372036854775807.
+/// The check document of this version of a cut and the rows of a certificate for it, as a tree, or want of memory. It is
+/// read as the very cut and rows, where the version has room for them and the sequences of the rows' records are at most
+/// 9223372036854775807. Version 2 has room for all; version 1 has where no file is longer than 16777216 bytes.
 pub fn check_value(
     alloc: Global,
     version: DocVersion,
@@ -47,7 +48,7 @@ pub fn check_value(
     rows: &[Row],
 ) -> Result<Value, AllocError>
     ensures value { IfOk result (λ v. view v ≡ check_tree version cut.now rows.now) }
-    ensures read_back { OnOk result (version ≡ Two → AreRowsInRange rows.now → check_of_tree (check_tree version cut.now rows.now) ≡ Read (cut.now, rows.now)) }
+    ensures read_back { OnOk result (HasRoom version cut.now → HasRoomForRows version rows.now → AreRowsInRange rows.now → check_of_tree (check_tree version cut.now rows.now) ≡ Read (cut.now, rows.now)) }
 {
     faultless_parts_are_read();
     let certificate = list_tree(alloc, rows)?;
@@ -73,8 +74,8 @@ fn check_members(
 }
 
 /// The check document of this version of a cut and the rows of a certificate for it, as JSON without spaces, or want of
-/// memory. The bytes of one of version 2 are read as the very cut and rows, where they aren't more than a document may have
-/// and the sequences of the rows' records are at most 9223372036854775807.
+/// memory. Its bytes are read as the very cut and rows, where the version has room for them, they aren't more than a document
+/// may have and the sequences of the rows' records are at most 9223372036854775807.
 pub fn check_document(
     alloc: Global,
     version: DocVersion,
@@ -82,7 +83,7 @@ pub fn check_document(
     rows: &[Row],
 ) -> Result<String, AllocError>
     ensures text { IfOk result (λ text. string_bytes text ≡ check_document_text version cut.now rows.now) }
-    ensures read_back { OnOk result (version ≡ Two → length (check_document_text version cut.now rows.now) ≤ most_bytes → AreRowsInRange rows.now → check_of (check_document_text version cut.now rows.now) ≡ Read (cut.now, rows.now)) }
+    ensures read_back { OnOk result (HasRoom version cut.now → HasRoomForRows version rows.now → length (check_document_text version cut.now rows.now) ≤ most_bytes → AreRowsInRange rows.now → check_of (check_document_text version cut.now rows.now) ≡ Read (cut.now, rows.now)) }
 {
     let tree = check_value(alloc, version, cut, rows)?;
     let text = tree.to_string(alloc)?;
