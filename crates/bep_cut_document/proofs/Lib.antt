@@ -14,4 +14,5 @@ mod Shallow
 mod WholeNumbers
 mod WinnersInRange
 mod ShortFacts
+mod ShortWritten
 pub mod back

@@ -1,5 +1,5 @@
 -- Which cuts and rows a document of a version has room for, by the lengths of their files (this project's profile).
-use Rattle.std.specs.Prelude.{◌≤◌, List, Contains, length, ⊤}
+use Rattle.std.specs.Prelude.{◌≡◌, ◌≤◌, ℕ, List, Contains, length, ⊤}
 use Rattle.std.specs.FinMap.{entries, values}
 use Rattle.std.specs.List.{AllByRecursion}
 use Rattle.bep_record.specs.declared.entry.Entry.{Entry}
@@ -17,6 +17,8 @@ use Rattle.bep_tables.specs.declared.share.SharedFolder.{SharedFolder}
 use Rattle.bep_tables.specs.declared.link.LinkState.{LinkState}
 use Rattle.bep_tables.specs.declared.cut.CutParts.{CutParts}
 use Rattle.bep_tables.specs.Cut.{tables_of}
+use Rattle.bep_document.specs.Reading.{Read}
+use Rattle.bep_cut_document.specs.Written.{cut_of_document}
 
 -- the files of these records are as short as those of a document of this version
 abbrev pub AreShort : DocVersion → List Entry → Type 0
@@ -73,3 +75,7 @@ HasRoomForRows Two rows = ⊤
 abbrev pub WinnersHaveRoom : CutParts → Type 0
 WinnersHaveRoom cut = (version : DocVersion) (rows : List Row) → HasRoom version cut →
     ((row : Row) → Contains rows row → IsWinner (tables_of cut) row.folder row.entry.name (row.device, row.entry)) → HasRoomForRows version rows
+
+-- a document's version has room for the cut that is read of it
+abbrev pub CutsOfDocumentsHaveRoom : Type 0
+CutsOfDocumentsHaveRoom = (bytes : List ℕ) (said : DocVersion × CutParts) → cut_of_document bytes ≡ Read said → HasRoom said.0 said.1
