@@ -78,6 +78,7 @@ own_short cut device folder name entry short own = cases (share_of device (share
   where
     shares : AllByRecursion (IsShareShort One) (shares_of folder cut.folders)
     shares = folder_short folder cut.folders short.folders (find (is_folder folder) cut.folders) refl
+
     cases : (found : Option Share) → share_of device (shares_of folder cut.folders) ≡ found → option_and_then (λ (share : Share). get share.own name) found ≡ Some entry → entry.size ≤ most_file_bytes One
     cases None at has = absurd (cc)
     cases (Some share) at has =

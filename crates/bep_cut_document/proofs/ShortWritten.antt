@@ -93,6 +93,7 @@ have_room found faultless short bytes said e = cases (reading_of_cut_document by
   where
     made : CheckParts → Reading (DocVersion × CutParts)
     made one = Read (one.version, cut_written one.folders one.links)
+
     cases : (reading : Reading CheckParts) → reading_of_cut_document bytes ≡ reading → (reading >>= made) ≡ Read said → HasRoom said.0 said.1
     cases (Read one) is made_of =
         let same : (one.version, cut_written one.folders one.links) ≡ said = cc in
