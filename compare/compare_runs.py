@@ -59,12 +59,12 @@ def random_steps(making: Making, config: Config, count: int) -> list[Step]:
     return steps
 
 
-def scenario_value(config: Config, steps: list[Step]) -> dict:
-    """A scenario, as a document has it."""
+def scenario_value(config: Config, steps: list[Step], version: int = 1) -> dict:
+    """A scenario, as a document of the version has it."""
     folders = [{"folder": folder, "devices": [{"device": share.device, "kind": share.kind.value,
                                                "index_id": share.index_id} for share in shares]}
                for folder, shares in config.folders.items()]
-    return {"version": 1, "folders": folders, "links": [list(ends) for ends in config.links],
+    return {"version": version, "folders": folders, "links": [list(ends) for ends in config.links],
             "steps": list(map(step_value, steps))}
 
 
@@ -72,7 +72,8 @@ def random_document(number: int) -> bytes:
     """The scenario of this number."""
     making = Making(random.Random(number))
     config = random_config(making)
-    document = scenario_value(config, random_steps(making, config, making.random.choice([0, 3, 20, 60, 200])))
+    steps = random_steps(making, config, making.random.choice([0, 3, 20, 60, 200]))
+    document = scenario_value(config, steps, 1 + number % 2)
     if making.happens(0.1):
         document = Documents(number).with_mistake(document)
     return Documents(number).written(document)

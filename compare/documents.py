@@ -12,14 +12,14 @@ import re
 
 import things
 import verdict
-from limits import LARGE_GROWTHS, SMALL_GROWTHS, grow
+from limits import LARGE_GROWTHS, SIZED_GROWTHS, SMALL_GROWTHS, grow
 
 TEXTS = {hashlib.sha256(text.encode()).hexdigest(): text for text in ("hello", "abc", "")}
 VERSIONS = [[[1, 1]], [[1, 2]], [[1, 1], [2, 1]], [[2, 1]], []]
 NAMES = ["a", "b", "a.txt", "c d", "x\\y", "\u00e9"]
 ODD_VALUES = [0, 1, -1, 2, 3, 4, 10, 64, 65, 2**63 - 1, 2**63, 2**64 - 1, 2**64, -(2**63), 1.5, True, False, None, "",
               "x", "docs", "..", "a/b", "send-only", [], {}, [1, 1], [[1, 1]], {"a": 1}, 999999999, 1000000000,
-              131072, 16777216, 16777217, 4294967295, 4294967296, -(2**63) - 1, "0" * 64, "zz"]
+              131072, 262144, 524288, 16777216, 16777217, 536870912, 536870913, 4294967295, 4294967296, -(2**63) - 1, "0" * 64, "zz"]
 ODD_TEXTS = ["", ".", "..", "...", "..b", "/", "a/b", "a//b", "/a", "a/", "./a", "a/..", "a/../b", "\0", "a\0b",
              "a\n", "\n", " ", "\x7f", "\u0080", "\ud7ff\ue000\uffff", "\U0010ffff", "docs", "docs\n", "Docs",
              "d.ocs", "d\u00f6cs", "-", "_", "x" * 64, "x" * 65, "x" * 1024, "x" * 1025, "\u00e9" * 512,
@@ -50,6 +50,7 @@ class Documents:
 
     def __init__(self, seed):
         self.random = random.Random(seed)
+        self.version = 1
 
     def happens(self, share):
         return self.random.random() < share
@@ -63,6 +64,8 @@ class Documents:
         elif made["type"] == 0:
             digest = self.random.choice(list(TEXTS))
             made |= {"size": len(TEXTS[digest]), "blocks": [digest]}
+            if self.version == 2:
+                made["block_size"] = 131072
         elif made["type"] == 4:
             made["target"] = self.random.choice("xy")
         if self.happens(0.1):
@@ -129,9 +132,9 @@ class Documents:
         self.random.shuffle(made)
         return made
 
-    def certificate(self, cut):
+    def certificate(self, cut, version):
         """The rows of the winners, now and then with a mistake."""
-        rows = rows_of(cut)
+        rows = rows_of(cut, version)
         if rows and self.happens(0.1):
             rows.pop(self.random.randrange(len(rows)))
         if self.happens(0.05):
@@ -141,6 +144,7 @@ class Documents:
         return rows
 
     def document(self):
+        self.version = self.random.choice([1, 2])
         calm = self.happens(0.7)
         base = {name: self.record(name) for name in self.random.sample(NAMES, self.random.choice([1, 1, 2, 3]))}
         if calm:
@@ -151,7 +155,7 @@ class Documents:
         cut = {"folders": folders}
         if self.happens(0.6):
             cut["links"] = self.links(folders, base)
-        return {"version": 1, "cut": cut, "certificate": self.certificate(cut)}
+        return {"version": self.version, "cut": cut, "certificate": self.certificate(cut, self.version)}
 
     def places(self, value, path=()):
         if path:
@@ -274,10 +278,10 @@ def is_number(value):
     return isinstance(value, int) and not isinstance(value, bool)
 
 
-def rows_of(cut):
-    """The rows of the winners; none where the cut can't be read."""
+def rows_of(cut, version):
+    """The rows of the winners; none where a document of this version can't have the cut."""
     try:
-        read = things.cut_and_rows({"cut": cut, "certificate": []})
+        read = things.cut_and_rows({"version": version, "cut": cut, "certificate": []})
     except things.Fault:
         return []
     tables = verdict.Cut(read | {"links": []})
@@ -295,9 +299,10 @@ def rows_of(cut):
 
 def at_limits():
     """Documents each of which has something as great as it may be, and others with one more."""
-    for growth in SMALL_GROWTHS + LARGE_GROWTHS:
-        for beyond in (0, 1):
-            share = {"kind": "send-receive", "index_id": 1, "max": 0}
-            cut = {"folders": [{"folder": "docs", "devices": [share | {"device": device} for device in (1, 2)]}]}
-            grow(cut, growth, beyond)
-            yield json.dumps({"version": 1, "cut": cut, "certificate": rows_of(cut)}).encode()
+    for version, growths in ((1, SMALL_GROWTHS + LARGE_GROWTHS), (2, SIZED_GROWTHS)):
+        for growth in growths:
+            for beyond in (0, 1):
+                share = {"kind": "send-receive", "index_id": 1, "max": 0}
+                cut = {"folders": [{"folder": "docs", "devices": [share | {"device": device} for device in (1, 2)]}]}
+                grow(cut, growth, beyond)
+                yield json.dumps({"version": version, "cut": cut, "certificate": rows_of(cut, version)}).encode()

@@ -106,8 +106,30 @@ def hashed(cut, count):
     give(cut, own=[directories(1)[0] | record])
 
 
+def sized(cut, size, block_size):
+    """A file of this size, which says this block size and has as many hashes as blocks of it."""
+    record = {"type": 0, "size": size, "block_size": block_size, "blocks": ["ab" * 32] * -(-size // block_size)}
+    give(cut, own=[directories(1)[0] | record])
+
+
+def with_small_blocks(cut, size):
+    sized(cut, size, 131072)
+
+
+def with_middle_blocks(cut, size):
+    sized(cut, size, 262144)
+
+
+def with_large_blocks(cut, size):
+    sized(cut, size, 524288)
+
+
 SMALL_GROWTHS = [(pulled, 64), (shared, 16), (sharing, 16), (named, 1024), (targeted, 1024), (counted, 16), (called, 64),
                  (cut_in_blocks, 128), (hashed, 128)]
+# Of documents of version 2: the greatest file of each block size, and one below.
+SIZED_GROWTHS = [(with_small_blocks, 16777216), (with_small_blocks, 262143998), (with_small_blocks, 262143999),
+                 (with_middle_blocks, 262143999), (with_middle_blocks, 262144000), (with_middle_blocks, 524287999),
+                 (with_large_blocks, 524287999), (with_large_blocks, 524288000), (with_large_blocks, 536870912)]
 LARGE_GROWTHS = [(own, 4096), (stored, 4096), (viewed, 4096), (announced, 1000), (sent, 1024)]
 
 

@@ -2,7 +2,7 @@
 
 import hashlib
 
-from things import BLOCK, Fault
+from things import Fault, block_size_of
 
 NOTHING = hashlib.sha256(b"").digest()
 
@@ -78,8 +78,9 @@ def is_well_formed(entry):
         if entry["size"] or entry["block_size"] or entry["hashes"]:
             return False
         return bool(entry["target"]) == (entry["kind"] == 4 and not entry["deleted"])
-    count = max(1, -(-entry["size"] // BLOCK))
-    return (entry["block_size"] == BLOCK and len(entry["hashes"]) == count and not entry["target"]
+    block = block_size_of(entry["size"])
+    count = max(1, -(-entry["size"] // block))
+    return (entry["block_size"] == block and len(entry["hashes"]) == count and not entry["target"]
             and (entry["size"] > 0 or entry["hashes"] == [NOTHING]))
 
 

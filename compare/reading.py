@@ -19,11 +19,16 @@ def tree(document):
         raise Fault(181) from None
 
 
+def version_of(value):
+    """The version that the tree of a document says, 1 or 2."""
+    if not isinstance(value, dict) or not is_whole(value.get("version")) or value["version"] not in (1, 2):
+        raise Fault(182)
+    return value["version"]
+
+
 def read_tree(value):
     """What the tree of a check document says, or the fault for which it is refused."""
-    if not isinstance(value, dict) or not is_whole(value.get("version")) or value["version"] != 1:
-        raise Fault(182)
-    if not IS_CHECK(value):
+    if not IS_CHECK[version_of(value)](value):
         raise Fault(183)
     read = cut_and_rows(value)
     for find in (find_twice_in, find_unshared, find_bad_record, find_bad_sequence, find_bad_link):

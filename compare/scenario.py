@@ -64,13 +64,13 @@ def folder(value: dict) -> tuple[str, list[Share]]:
     return things.folder_name(value["folder"]).decode(), list(map(share, value["devices"]))
 
 
-def step(value: list) -> tuple[Step, dict | None]:
+def step(value: list, version: int) -> tuple[Step, dict | None]:
     """A step, and the node of an edit as the other reading has it."""
     make, shapes = STEPS[value[0]]
     devices = [within(item, 1, U64) for item in value[1:] if is_whole(item)]
     texts = value[1 + len(devices):]
     if make is Edit:
-        item = things.node(texts[1])
+        item = things.node(texts[1], version)
         node = Node(Kind(item["kind"]), item["seconds"], item["nanoseconds"], item["bytes"], item["target"].decode())
         return Edit(*devices, things.folder_name(texts[0]).decode(), item["name"].decode(), node), item
     named = [things.folder_name(text) for text in texts[:1]] + [things.file_name(text) for text in texts[1:]]
@@ -108,21 +108,20 @@ def find_bad_link(folders: list[tuple[str, list[Share]]], links: list[tuple[int,
             raise Fault(189, None, a, None)
 
 
-def read_scenario(document: bytes) -> tuple[Config, list[Step]]:
-    """The cluster and the steps that the document tells of, or the fault for which it is refused."""
+def read_scenario(document: bytes) -> tuple[Config, list[Step], int]:
+    """The cluster and the steps that the document tells of, and its version, or the fault for which it is refused."""
     value = reading.tree(document)
-    if not isinstance(value, dict) or not is_whole(value.get("version")) or value["version"] != 1:
-        raise Fault(182)
+    version = reading.version_of(value)
     if not IS_SCENARIO(value):
         raise Fault(183)
     folders = list(map(folder, at_most(value["folders"], 16)))
     at_most({one.device for _, shares in folders for one in shares}, 16)
     links = [(within(a, 1, U64), within(b, 1, U64)) for a, b in value["links"]]
-    steps = list(map(step, value["steps"]))
+    steps = [step(one, version) for one in value["steps"]]
     find_twice(folders, links)
     find_bad_node(steps)
     find_bad_link(folders, links)
-    return Config({name: tuple(shares) for name, shares in folders}, tuple(links)), [one for one, _ in steps]
+    return Config({name: tuple(shares) for name, shares in folders}, tuple(links)), [one for one, _ in steps], version
 
 
 # ---- what is written
@@ -142,12 +141,17 @@ def version_text(version: dict[int, int]) -> bytes:
     return b",".join(b"%d:%d" % counter for counter in sorted(version.items())) or b"-"
 
 
-def certificate_lines(rows: list[dict]) -> list[bytes]:
+def certificate_line(row: dict, version: int) -> bytes:
+    """The line of a row; in version 2 it ends with the record's block size."""
+    record = row["record"]
+    line = b"%s %s %d %d %s %s" % (row["folder"], reports.printed(record["name"]), row["device"], record["kind"],
+                                   b"deleted" if record["deleted"] else b"present", version_text(record["version"]))
+    return line if version == 1 else b"%s %d" % (line, record["block_size"])
+
+
+def certificate_lines(rows: list[dict], version: int) -> list[bytes]:
     """A line for each row."""
-    return [b"%s %s %d %d %s %s" % (row["folder"], reports.printed(row["record"]["name"]), row["device"],
-                                    row["record"]["kind"], b"deleted" if row["record"]["deleted"] else b"present",
-                                    version_text(row["record"]["version"]))
-            for row in rows]
+    return [certificate_line(row, version) for row in rows]
 
 
 def report_without_winner(cut: dict, none: NoWinner) -> tuple[list[bytes], int]:
@@ -157,7 +161,7 @@ def report_without_winner(cut: dict, none: NoWinner) -> tuple[list[bytes], int]:
     return [verdict] + lines[1:], 1
 
 
-def run(config: Config, steps: list[Step]) -> tuple[list[bytes], int]:
+def run(config: Config, steps: list[Step], version: int) -> tuple[list[bytes], int]:
     """The lines on the cluster that these steps leave, and the exit status."""
     cluster = Cluster.new(config)
     refused = refused_steps(cluster, steps)
@@ -168,7 +172,7 @@ def run(config: Config, steps: list[Step]) -> tuple[list[bytes], int]:
         lines, status = report_without_winner(cut, none)
         return refused + lines, status
     lines, status = reports.report(cut | {"rows": rows})
-    return refused + lines + certificate_lines(rows), status
+    return refused + lines + certificate_lines(rows, version), status
 
 
 def answer(document: bytes) -> tuple[bytes, int]:

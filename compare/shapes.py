@@ -47,14 +47,25 @@ def is_node(value):
             and (value["type"] != 4 or "target" in value))
 
 
-IS_VIEW = is_object({"of": is_whole, "index_id": is_whole, "max": is_whole, "records": is_list(IS_RECORD)})
-IS_SHARE = is_object({"device": is_whole, "kind": is_text, "index_id": is_whole, "max": is_whole},
-                     {"own": is_list(IS_RECORD), "store": is_list(is_node), "views": is_list(IS_VIEW),
-                      "pulls": is_list(IS_RECORD)})
-IS_FOLDER = is_object({"folder": is_text, "devices": is_list(IS_SHARE)})
-IS_MESSAGE = is_object({"folder": is_text, "full": is_flag, "records": is_list(IS_RECORD)})
-IS_LINK = is_object({"a": is_whole, "b": is_whole, "up": is_flag, "epoch": is_whole},
-                    {"to_a": is_list(IS_MESSAGE), "to_b": is_list(IS_MESSAGE)})
-IS_CUT = is_object({"folders": is_list(IS_FOLDER)}, {"links": is_list(IS_LINK)})
-IS_ROW = is_object({"folder": is_text, "device": is_whole, "record": IS_RECORD})
-IS_CHECK = is_object({"version": is_whole, "cut": IS_CUT, "certificate": is_list(IS_ROW)})
+def is_sized_record(value):
+    """A record that says its block size where it is of a file that isn't deleted."""
+    return IS_RECORD(value) and (value["type"] != 0 or value.get("deleted", False) or "block_size" in value)
+
+
+def is_check(is_record):
+    """A check document of such records."""
+    is_view = is_object({"of": is_whole, "index_id": is_whole, "max": is_whole, "records": is_list(is_record)})
+    is_share = is_object({"device": is_whole, "kind": is_text, "index_id": is_whole, "max": is_whole},
+                         {"own": is_list(is_record), "store": is_list(is_node), "views": is_list(is_view),
+                          "pulls": is_list(is_record)})
+    is_folder = is_object({"folder": is_text, "devices": is_list(is_share)})
+    is_message = is_object({"folder": is_text, "full": is_flag, "records": is_list(is_record)})
+    is_link = is_object({"a": is_whole, "b": is_whole, "up": is_flag, "epoch": is_whole},
+                        {"to_a": is_list(is_message), "to_b": is_list(is_message)})
+    is_cut = is_object({"folders": is_list(is_folder)}, {"links": is_list(is_link)})
+    is_row = is_object({"folder": is_text, "device": is_whole, "record": is_record})
+    return is_object({"version": is_whole, "cut": is_cut, "certificate": is_list(is_row)})
+
+
+# A check document, by its version.
+IS_CHECK = {1: is_check(IS_RECORD), 2: is_check(is_sized_record)}

@@ -272,7 +272,7 @@ class Answers(unittest.TestCase):
         asked["cut"]["links"] = [link(2, 1)]
         asked["certificate"][0]["device"] = 0
         asked["certificate"][0]["record"]["size"] = "5"
-        asked["version"] = 2
+        asked["version"] = 3
         self.refuses(json.dumps(asked).encode() + b"}", "181 NotJson")
         self.refuses(asked, "182 VersionBad")
         asked["version"] = 1
@@ -295,6 +295,53 @@ class Answers(unittest.TestCase):
         asked["cut"]["links"] = [link(1, 2)]
         self.answers(asked, 0, "settled", COUNTS)
 
+    # ---- version 2
+
+    def sized(self, block_size):
+        """Gives this block size to each record of `hello`, and the document version 2."""
+        self.doc1["version"] = 2
+        for record in (self.first["own"][0], self.second["own"][0], self.doc1["certificate"][0]["record"]):
+            record["block_size"] = block_size
+
+    def test_a_document_of_version_2(self):
+        self.doc1["version"] = 2
+        self.refuses(self.doc1, "183 Shape")
+        self.sized(131072)
+        self.answers(self.doc1, 0, "settled", COUNTS)
+        del self.doc1["certificate"][0]["record"]["block_size"]
+        self.refuses(self.doc1, "183 Shape")
+        self.sized(131072)
+        self.first["own"][0]["block_size"] = 262144
+        self.refuses(self.doc1, "187 RecordBad docs 1 hello")
+
+    def test_what_needs_no_block_size(self):
+        gone = file("gone", [[1, 1]], size=0, blocks=[], deleted=True, sequence=2)
+        self.sized(131072)
+        for device in (self.first, self.second):
+            device["own"] += [gone, directory("there", 3)]
+            device["store"].append({"name": "there", "type": 1, "modified_s": 1000})
+            device["max"] = 3
+        rows = [gone, self.doc1["certificate"][0]["record"], directory("there", 3)]
+        self.doc1["certificate"] = [{"folder": "docs", "device": 1, "record": record} for record in rows]
+        self.answers(self.doc1, 0, "settled", "folder docs: 3 names, 1 deleted, 2 devices")
+
+    def test_files_of_each_block_size(self):
+        for version, size, block_size, fault in (
+                (1, 16777216, 131072, "StoreDiffers"), (1, 16777217, 131072, "184 Range"), (2, 16777217, 131072, "StoreDiffers"),
+                (2, 262143999, 131072, "StoreDiffers"), (2, 262144000, 131072, "187 RecordBad docs 1 hello"),
+                (2, 262144000, 262144, "StoreDiffers"), (2, 524287999, 262144, "StoreDiffers"),
+                (2, 524288000, 524288, "StoreDiffers"), (2, 536870912, 524288, "StoreDiffers"),
+                (2, 536870913, 524288, "184 Range")):
+            with self.subTest(version=version, size=size, block_size=block_size):
+                self.sized(block_size)
+                self.doc1["version"] = version
+                for record in (self.first["own"][0], self.second["own"][0], self.doc1["certificate"][0]["record"]):
+                    record |= {"size": size, "blocks": [HELLO] * -(-size // block_size)}
+                if fault == "StoreDiffers":
+                    self.answers(self.doc1, 1, "not settled: StoreDiffers docs hello on 1", COUNTS)
+                else:
+                    self.refuses(self.doc1, fault)
+
     def test_a_document_too_long(self):
         self.refuses(b" " * 67108864, "181 NotJson")
         self.refuses(b" " * 67108865, "184 Range")
@@ -314,7 +361,7 @@ class Texts(unittest.TestCase):
         "182 VersionBad": ["0", "-0", "-1", "1.0", "1e0", "10e-1", "1e308", "1" + "0" * 308, "1e-400", "1.5e1",
                            str(2**1024 - 2**970 - 1), "1.7976931348623158e308",
                            "18446744073709551617", "true", "null", '"1"', "[1]", "{}", "[" * 126 + "]" * 126,
-                           '"\\ud83d\\ude00"', '"\\/\\b\\f\\n\\r\\t\\u0000\x7f"', "2 \t\r\n"],
+                           '"\\ud83d\\ude00"', '"\\/\\b\\f\\n\\r\\t\\u0000\x7f"', "3 \t\r\n"],
     }
 
     def test_values_of_a_member(self):

@@ -43,6 +43,13 @@ class Scenarios(unittest.TestCase):
                     "folder docs: 0 names, 0 deleted, 2 devices")
         self.writes(self.document([]), 0, "settled", "folder docs: 0 names, 0 deleted, 2 devices")
 
+    def test_rows_of_version_2_have_block_sizes(self):
+        document = self.document(self.STEPS) | {"version": 2}
+        self.writes(document, 0, "step 15: 142 NotNeeded", "settled", self.COUNTS, self.ROW + " 131072")
+        document["steps"] += [["remove", 2, DOCS, "hello"], ["scan", 2, DOCS, "hello"]]
+        self.writes(document, 1, "step 15: 142 NotNeeded", "not settled: RecordDiffers docs hello on 1",
+                    self.COUNTS, "docs hello 2 0 deleted 1:1,2:1 0")
+
     def test_names_versions_and_deletions_in_rows(self):
         edit = ["edit", 1, DOCS, {"name": "a b\\", "type": 1, "modified_s": 1000}]
         self.writes(self.document([edit, ["scan", 1, DOCS, "a b\\"], ["remove", 1, DOCS, "a b\\"],
@@ -83,7 +90,7 @@ class Scenarios(unittest.TestCase):
             return good | {"folders": [folder | {"devices": [device | members]}], "links": []}
         cases = {
             "181 NotJson": [b"", b"{", json.dumps(good).encode()[:-1]],
-            "182 VersionBad": [[], {}, good | {"version": 2}, good | {"version": "1"}, good | {"version": 1.0},
+            "182 VersionBad": [[], {}, good | {"version": 3}, good | {"version": 0}, good | {"version": "1"}, good | {"version": 1.0},
                                good | {"version": True}],
             "183 Shape": [{"version": 1}, good | {"cut": {}}, good | {"steps": [[]]}, good | {"steps": [["jump", 1]]},
                           good | {"steps": [["connect", 1]]}, good | {"steps": [["connect", 1, 2, 3]]},

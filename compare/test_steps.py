@@ -11,7 +11,7 @@ from cases import (BOTH, DOCS, RECEIVE, SEND, UNCHANGED, StepTest, docs, empty_c
                    one_file_on_both, put, see, text)
 from cluster.core import Cluster
 from cluster.cut import certify, cut_of
-from cluster.record import Kind, Node, Record, blocks_of, deletion, is_clean, is_well_formed
+from cluster.record import BLOCK_SIZES, Kind, Node, Record, block_size_of, blocks_of, deletion, is_clean, is_well_formed
 from cluster.refusal import Why
 from cluster.step import Edit, Finish, Override, Remove, Revert, Scan, StartPull
 from cluster.version import GREATEST
@@ -236,6 +236,13 @@ class Parts(unittest.TestCase):
         self.assertEqual([(block.offset, block.size, block.hash.hex()) for block in blocks_of(b"")], [(0, 0, nothing)])
         self.assertEqual([(block.offset, block.size) for block in blocks_of(bytes(131072))], [(0, 131072)])
         self.assertEqual([(block.offset, block.size) for block in blocks_of(bytes(131073))], [(0, 131072), (131072, 1)])
+
+    def test_block_sizes_go_by_length(self):
+        lengths = (0, 262143999, 262144000, 524287999, 524288000, 536870912)
+        self.assertEqual([block_size_of(length) for length in lengths], [131072, 131072, 262144, 262144, 524288, 524288])
+        greatest = [2000 * size - 1 for size in BLOCK_SIZES]
+        self.assertEqual([block_size_of(length) for length in greatest], list(BLOCK_SIZES))
+        self.assertEqual([block_size_of(length + 1) for length in greatest], [*BLOCK_SIZES[1:], 16777216])
 
     def test_the_winner_is_of_the_smallest_device_where_records_are_equal(self):
         row, = certify(cut_of(one_file_on_both()))

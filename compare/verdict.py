@@ -3,7 +3,7 @@
 import hashlib
 
 from placed import each_message
-from things import BLOCK
+from things import block_size_of
 
 
 def content(entry):
@@ -15,15 +15,17 @@ def content(entry):
 
 
 def block_sizes(size):
-    return [min(BLOCK, size - start) for start in range(0, size, BLOCK)] or [0]
+    block = block_size_of(size)
+    return [min(block, size - start) for start in range(0, size, block)] or [0]
 
 
 def content_of_node(item):
     if item is None:
         return "deleted"
     if item["kind"] == 0:
-        starts = range(0, len(item["bytes"]), BLOCK) or [0]
-        pieces = [item["bytes"][start:start + BLOCK] for start in starts]
+        block = block_size_of(len(item["bytes"]))
+        starts = range(0, len(item["bytes"]), block) or [0]
+        pieces = [item["bytes"][start:start + block] for start in starts]
         return [(len(piece), hashlib.sha256(piece).digest()) for piece in pieces]
     return "directory" if item["kind"] == 1 else item["target"]
 

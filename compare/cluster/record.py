@@ -8,7 +8,8 @@ from functools import lru_cache
 from .version import GREATEST, MOST_COUNTERS, Version
 
 BLOCK_SIZE = 131072
-MOST_BYTES = 16777216
+BLOCK_SIZES = (131072, 262144, 524288, 1048576, 2097152, 4194304, 8388608, 16777216)
+MOST_BYTES = 536870912
 MOST_TARGET = 1024
 MOST_NAME = 1024
 MOST_NANOSECONDS = 999999999
@@ -83,11 +84,20 @@ class Record(Value):
         return self.kind == Kind.File and not self.deleted
 
 
+def block_size_of(length: int) -> int:
+    """The bytes in each block but the last of a file of this length."""
+    for size in BLOCK_SIZES:
+        if length < 2000 * size:
+            return size
+    return BLOCK_SIZES[-1]
+
+
 @lru_cache(maxsize=4096)
 def blocks_of(data: bytes) -> tuple[Block, ...]:
-    """The plain block list of these bytes: one empty block where there are none."""
-    offsets = range(0, len(data), BLOCK_SIZE) or [0]
-    pieces = [(offset, data[offset:offset + BLOCK_SIZE]) for offset in offsets]
+    """The block list of a file of these bytes: one empty block where there are none."""
+    whole = block_size_of(len(data))
+    offsets = range(0, len(data), whole) or [0]
+    pieces = [(offset, data[offset:offset + whole]) for offset in offsets]
     return tuple(Block(offset, len(piece), hashlib.sha256(piece).digest()) for offset, piece in pieces)
 
 
@@ -128,7 +138,7 @@ def record_of_node(name: str, node: Node, device: int, version: Version, invalid
     """The record that this device's scan makes of a node."""
     is_file = node.kind == Kind.File
     return Record(name, node.kind, node.modified_s, device, version, modified_ns=node.modified_ns, invalid=invalid,
-                  size=len(node.data), block_size=BLOCK_SIZE if is_file else 0,
+                  size=len(node.data), block_size=block_size_of(len(node.data)) if is_file else 0,
                   blocks=blocks_of(node.data) if is_file else (), target=node.target)
 
 
@@ -166,10 +176,11 @@ def is_version(version: Version) -> bool:
 
 def cut_whole(record: Record) -> bool:
     """Whether a file's blocks cut its size from the front, each full but the last."""
-    if not 0 <= record.size <= MOST_BYTES or record.block_size != BLOCK_SIZE:
+    whole = block_size_of(record.size)
+    if not 0 <= record.size <= MOST_BYTES or record.block_size != whole:
         return False
-    offsets = list(range(0, record.size, BLOCK_SIZE)) or [0]
-    sizes = [min(BLOCK_SIZE, record.size - offset) for offset in offsets]
+    offsets = list(range(0, record.size, whole)) or [0]
+    sizes = [min(whole, record.size - offset) for offset in offsets]
     is_empty_right = record.size > 0 or record.blocks == blocks_of(b"")
     return [(block.offset, block.size) for block in record.blocks] == list(zip(offsets, sizes)) and is_empty_right
 

@@ -204,7 +204,7 @@ class TwoDevices(Answers, Exporting):
     def test_a_file_over_the_limit_of_bytes(self):
         path = self.one.files / "huge"
         with path.open("wb") as file:
-            file.truncate((16 << 20) + 1)
+            file.truncate((64 << 20) + 1)
         try:
             self.assertIn('name huge: a document with bytes has files of at most', self.refused("--bytes"))
             self.assertEqual(self.check().stdout.splitlines()[0], self.fault("NotWinner", "huge"))

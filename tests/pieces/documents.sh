@@ -12,7 +12,7 @@ each_row '' '' << 'END'
 182 VersionBad | {}
 182 VersionBad | {"version":1.0}
 182 VersionBad | {"version":"1"}
-182 VersionBad | {"version":1,"version":2}
+182 VersionBad | {"version":1,"version":3}
 183 Shape | {"version":2,"version":1}
 END
 

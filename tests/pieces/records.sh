@@ -102,6 +102,29 @@ expect 'a file of the greatest length' 'read' "$(sized 16777216 0)"
 expect 'a longer file' '184 Range' "$(sized 16777217 0)"
 expect 'a directory with more bytes than a file has' '184 Range' "$(sized 16777217 1)"
 
+# ---- documents of version 2
+
+# in_version VERSION SIZE BLOCK_SIZE COUNT: what is told of a record of a file of this size, which says this block size and
+# has as many hashes.
+in_version() {
+  {
+    printf '%s' "${begin/\"version\":1/\"version\":$1}$folder$device"',"own":[{"name":"hello","type":0,"modified_s":1000,'
+    printf '%s' '"modified_by":1,"version":[[1,1]],"sequence":1,"size":'"$2"',"block_size":'"$3"',"blocks":['
+    yes "\"$(printf 'ab%.0s' {1..32})\"" | head -n "$4" | paste -s -d ,
+    printf '%s' "]}]$end"
+  } | answer
+}
+
+expect 'a long file in version 1' '184 Range' "$(in_version 1 16777217 131072 129)"
+expect 'a long file in version 2' 'read' "$(in_version 2 16777217 131072 129)"
+expect 'the longest file of the least blocks' 'read' "$(in_version 2 262143999 131072 2000)"
+expect 'a longer file of the least blocks' '187 RecordBad docs 1 hello' "$(in_version 2 262144000 131072 2000)"
+expect 'a longer file of larger blocks' 'read' "$(in_version 2 262144000 262144 1000)"
+expect 'the longest file of these' 'read' "$(in_version 2 524287999 262144 2000)"
+expect 'a file of the largest blocks' 'read' "$(in_version 2 524288000 524288 1000)"
+expect 'the longest file' 'read' "$(in_version 2 536870912 524288 1024)"
+expect 'a file that is too long' '184 Range' "$(in_version 2 536870913 524288 1025)"
+
 # ---- what is a name, a target and the name of a folder
 
 # is TEXT NAME TARGET FOLDER: whether the text is each of these, or out of range.

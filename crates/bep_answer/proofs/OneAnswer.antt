@@ -1,5 +1,6 @@
 -- The definitions of answers leave no choice.
 use Rattle.std.proofs.Common.{◌≡◌, ◌∙◌, ℕ, List, None, refl, sym, ap}
+use Rattle.bep_json.specs.declared.version.DocVersion.{DocVersion}
 use Rattle.bep_document.specs.Reading.{Reading, Read, Refused}
 use Rattle.bep_lines.specs.Lines.{verdict_line}
 use Rattle.bep_model.specs.declared.reason.Reason.TheVariants.{NotWinner}
@@ -45,21 +46,21 @@ firm_audit_is_unique unique bytes = one_firm_audit unique (check_of bytes)
 
 module _ (lists : ListOfWinnersIsUnique) (none_left_out : WinnersLeaveNoneOut) (first : FirstWithoutIsUnique) where
   pub cut_answer_is_unique : CutAnswerIsUnique
-  cut_answer_is_unique cut Written Written text more is also =
-      (refl, is.written ∙ ap (document_text cut) (lists (tables_of cut) is.rows also.rows is.winners also.winners) ∙ sym also.written)
-  cut_answer_is_unique cut NoWinner NoWinner text more is also =
+  cut_answer_is_unique version cut Written Written text more is also =
+      (refl, is.written ∙ ap (document_text version cut) (lists (tables_of cut) is.rows also.rows is.winners also.winners) ∙ sym also.written)
+  cut_answer_is_unique version cut NoWinner NoWinner text more is also =
       let same = first (tables_of cut) (is.folder, is.name) (also.folder, also.name) is.without also.without in
       (refl, is.told ∙ ap (λ (place : Folder × FileName). verdict_line (Not NotWinner place.0 place.1 None)) same ∙ sym also.told)
-  cut_answer_is_unique cut Written NoWinner text more is also =
+  cut_answer_is_unique version cut Written NoWinner text more is also =
       absurd (none_left_out (tables_of cut) is.rows also.folder also.name is.winners also.without.without)
-  cut_answer_is_unique cut NoWinner Written text more is also =
+  cut_answer_is_unique version cut NoWinner Written text more is also =
       absurd (none_left_out (tables_of cut) also.rows is.folder is.name also.winners is.without.without)
-  cut_answer_is_unique cut certificates.Refused other text more is also = absurd is
-  cut_answer_is_unique cut Written certificates.Refused text more is also = absurd also
-  cut_answer_is_unique cut NoWinner certificates.Refused text more is also = absurd also
+  cut_answer_is_unique version cut certificates.Refused other text more is also = absurd is
+  cut_answer_is_unique version cut Written certificates.Refused text more is also = absurd also
+  cut_answer_is_unique version cut NoWinner certificates.Refused text more is also = absurd also
 
-  one_certified : (reading : Reading CutParts) (one other : Certified) (text more : List ℕ) → IsCertified reading one text → IsCertified reading other more → (one ≡ other) × (text ≡ more)
-  one_certified (Read cut) one other text more is also = cut_answer_is_unique cut one other text more is also
+  one_certified : (reading : Reading (DocVersion × CutParts)) (one other : Certified) (text more : List ℕ) → IsCertified reading one text → IsCertified reading other more → (one ≡ other) × (text ≡ more)
+  one_certified (Read said) one other text more is also = cut_answer_is_unique said.0 said.1 one other text more is also
   one_certified (Refused fault) one other text more is also = (is.0 ∙ sym also.0, is.1 ∙ sym also.1)
 
   pub document_answer_is_unique : DocumentAnswerIsUnique

@@ -4,6 +4,7 @@ ghost use Rattle.bep_document.specs.Reading.{Read, most_bytes};
 ghost use Rattle.bep_model.specs.declared.row.Row.{Row};
 ghost use Rattle.bep_model.specs.Winner.{IsWinner};
 ghost use Rattle.bep_tables.specs.Cut.{tables_of};
+ghost use Rattle.bep_cut_document.specs.Room.{HasRoom};
 ghost use Rattle.bep_cut_document.specs.Trees.{check_document_text};
 ghost use Rattle.bep_model.specs.declared.reason.Reason.TheVariants.{NotWinner};
 ghost use Rattle.bep_model.specs.Verdict.{Not};
@@ -18,6 +19,7 @@ use crate::refusing::{fault_line, hint_for};
 use bep_audit::{Certificate, CertifyError, certify};
 use bep_cut_document::{DocError, check_document, read_cut, winners_are_in_range};
 use bep_hints::Expected;
+use bep_json::DocVersion;
 use bep_lines::push_not_settled;
 use bep_model::Reason;
 use bep_record::{FolderName, Name};
@@ -36,7 +38,7 @@ impl Question<Certified> for CertificateOfCut {
 
     fn answer(self, alloc: Global, bytes: &[u8]) -> Result<Answer<Certified>, AllocError> {
         match read_cut(alloc, bytes) {
-            Ok(cut) => Ok((certify_cut(alloc, &cut)?, None)),
+            Ok((version, cut)) => Ok((certify_cut(alloc, version, &cut)?, None)),
             Err(DocError::Refused(fault)) => {
                 let refused = (Certified::Refused, fault_line(alloc, &fault)?);
                 Ok((refused, hint_for(alloc, bytes, Expected::Cut)))
@@ -46,13 +48,18 @@ impl Question<Certified> for CertificateOfCut {
     }
 }
 
-/// The outcome for a cut, and the text: its document with its certificate, or the line of a name without a winner.
-pub fn certify_cut(alloc: Global, cut: &Cut) -> Result<(Certified, Vec<u8>), AllocError>
-    ensures { IfOk result (λ answer. IsCertificate cut.now answer.0 answer.1.items) }
+/// The outcome for a cut, and the text: its document of this version with its certificate, or the line of a name without a
+/// winner.
+pub fn certify_cut(
+    alloc: Global,
+    version: DocVersion,
+    cut: &Cut,
+) -> Result<(Certified, Vec<u8>), AllocError>
+    ensures { IfOk result (λ answer. IsCertificate version cut.now answer.0 answer.1.items) }
 {
     match certify(alloc, cut) {
         Ok(certificate) => {
-            let text = document_of(alloc, cut, &certificate)?;
+            let text = document_of(alloc, version, cut, &certificate)?;
             Ok((Certified::Written, text))
         }
         Err(CertifyError::NoWinner(folder, name)) => {
@@ -63,18 +70,19 @@ pub fn certify_cut(alloc: Global, cut: &Cut) -> Result<(Certified, Vec<u8>), All
     }
 }
 
-/// The document of the cut with this certificate, whose rows hold winners.
+/// The document of this version of the cut with this certificate, whose rows hold winners.
 pub(crate) fn document_of(
     alloc: Global,
+    version: DocVersion,
     cut: &Cut,
     certificate: &Certificate,
 ) -> Result<Vec<u8>, AllocError>
     requires winners { (row : Row) → Contains certificate.now row → IsWinner (tables_of cut.now) row.folder row.entry.name (row.device, row.entry) }
-    ensures text { IfOk result (λ text. text.items ≡ document_text cut.now certificate.now) }
-    ensures read_back { OnOk result (length (check_document_text cut.now certificate.now) ≤ most_bytes → check_of (check_document_text cut.now certificate.now) ≡ Read (cut.now, certificate.now)) }
+    ensures text { IfOk result (λ text. text.items ≡ document_text version cut.now certificate.now) }
+    ensures read_back { OnOk result (HasRoom version cut.now → length (check_document_text version cut.now certificate.now) ≤ most_bytes → check_of (check_document_text version cut.now certificate.now) ≡ Read (cut.now, certificate.now)) }
 {
     winners_are_in_range(cut);
-    let mut text = check_document(alloc, cut, certificate.rows())?.into_bytes();
+    let mut text = check_document(alloc, version, cut, certificate.rows())?.into_bytes();
     text.push(b'\n')?;
     Ok(text)
 }

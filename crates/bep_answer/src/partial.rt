@@ -12,6 +12,7 @@ use crate::refusing::{fault_line, hint_for};
 use bep_audit::{Spot, winners};
 use bep_cut_document::{DocError, read_cut};
 use bep_hints::Expected;
+use bep_json::DocVersion;
 use bep_lines::push_not_settled;
 use bep_model::Reason;
 use bep_tables::Cut;
@@ -29,7 +30,7 @@ impl Question<Partial> for PartOfCut {
 
     fn answer(self, alloc: Global, bytes: &[u8]) -> Result<Answer<Partial>, AllocError> {
         match read_cut(alloc, bytes) {
-            Ok(cut) => certify_part(alloc, &cut),
+            Ok((version, cut)) => certify_part(alloc, version, &cut),
             Err(DocError::Refused(fault)) => {
                 let refused = (Partial::Refused, fault_line(alloc, &fault)?);
                 Ok((refused, hint_for(alloc, bytes, Expected::Cut)))
@@ -40,12 +41,16 @@ impl Question<Partial> for PartOfCut {
 }
 
 // The outcome for a cut, its document with the winners, and the lines of the names without.
-fn certify_part(alloc: Global, cut: &Cut) -> Result<Answer<Partial>, AllocError>
-    ensures part { IfOk result (λ told. IsPart cut.now told.0.0 told.0.1.items) }
+fn certify_part(
+    alloc: Global,
+    version: DocVersion,
+    cut: &Cut,
+) -> Result<Answer<Partial>, AllocError>
+    ensures part { IfOk result (λ told. IsPart version cut.now told.0.0 told.0.1.items) }
     ensures lines { IfOk result (λ told. AreSomeLines told.1) }
 {
     let (certificate, without) = winners(alloc, cut)?;
-    let text = document_of(alloc, cut, &certificate)?;
+    let text = document_of(alloc, version, cut, &certificate)?;
     let lines = lines_of(alloc, without.as_slice())?;
     Ok(((partial_of(without.as_slice()), text), lines))
 }

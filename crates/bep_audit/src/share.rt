@@ -1,16 +1,15 @@
 //! What each reason asks of a device at a row, by the device's own record and its node.
 ghost use Rattle.std.specs.Prelude.{◌≡◌, ◌↔◌, false, IsTrue};
 ghost use Rattle.std.specs.Option.{option_copied};
-ghost use Rattle.bep_record.specs.Block.{base_block_size};
 ghost use Rattle.bep_record.specs.Content.{content_of, content_of_kind};
-ghost use Rattle.bep_blocks.specs.Plain.{plain_blocks};
+ghost use Rattle.bep_blocks.specs.Plain.{file_blocks};
 ghost use Rattle.bep_model.specs.Foreign.{IsHarmless};
 ghost use Rattle.bep_model.specs.Settled.{content_of_node};
 ghost use Rattle.bep_audit.specs.Share.{AsksRecord, AsksContent, AsksValid, AsksHere, ShareIsAsked};
 
 use bep_blocks::{matches, plain_blocks_match};
 use bep_model::Reason;
-use bep_record::{Block, BlockSize, Entry, Kind, Node, NodeParts, Record, cut_whole, is_clean};
+use bep_record::{Block, Entry, Kind, Node, Record, block_sizes_are_bounded, cut_whole, is_clean};
 
 /// Whether the device meets what the reason asks of it at a row, by its own record and its node alone.
 ///
@@ -72,30 +71,33 @@ pub fn store_holds(node: Option<&Node>, winner: &Record) -> bool
 {
     match node {
         None => winner.entry().deleted,
-        Some(node) => !winner.entry().deleted && is_made_of(node.parts(), winner.entry()),
+        Some(node) => !winner.entry().deleted && is_made_of(node, winner.entry()),
     }
 }
 
 // Whether the node is what the entry tells of, if that isn't deleted.
-fn is_made_of(node: &NodeParts, entry: &Entry) -> bool
+fn is_made_of(node: &Node, entry: &Entry) -> bool
     ensures { IsTrue result ↔ (
-        content_of_kind node.now.kind (plain_blocks base_block_size node.now.bytes) node.now.target
+        content_of_kind node.now.kind (file_blocks node.now.bytes) node.now.target
         ≡ content_of_kind entry.now.kind entry.now.blocks entry.now.target) }
 {
-    match (node.kind, entry.kind) {
-        (Kind::File, Kind::File) => has_blocks(node.bytes.as_slice(), entry.blocks.as_slice()),
+    let parts = node.parts();
+    match (parts.kind, entry.kind) {
+        (Kind::File, Kind::File) => has_blocks(node, entry.blocks.as_slice()),
         (Kind::Directory, Kind::Directory) => true,
-        (Kind::Symlink, Kind::Symlink) => node.target == entry.target,
+        (Kind::Symlink, Kind::Symlink) => parts.target == entry.target,
         _ => false,
     }
 }
 
-// Whether these are the blocks of the bytes.
-fn has_blocks(bytes: &[u8], blocks: &[Block]) -> bool
-    ensures { IsTrue result ↔ (plain_blocks base_block_size bytes.now ≡ blocks.now) }
+// Whether these are the blocks of the node's bytes.
+fn has_blocks(node: &Node, blocks: &[Block]) -> bool
+    ensures { IsTrue result ↔ (file_blocks node.now.bytes ≡ blocks.now) }
 {
     plain_blocks_match();
-    cut_whole(blocks, bytes.len() as u64, BlockSize::base()) && matches(bytes, blocks)
+    block_sizes_are_bounded();
+    let bytes = node.parts().bytes.as_slice();
+    cut_whole(blocks, bytes.len() as u64, node.block_size()) && matches(bytes, blocks)
 }
 
 /// Whether a foreign record can't change the name at the device: it has the winner's content, or the own record's

@@ -2,7 +2,7 @@
 use Rattle.std.specs.Prelude.{ℕ, ◌*◌, List, length, take, drop, map}
 use Rattle.std.specs.List.{range_with_len}
 use Rattle.sha2.specs.Sha256.{sha256}
-use Rattle.bep_record.specs.Block.{block_count}
+use Rattle.bep_record.specs.Block.{block_count, block_size_of}
 use Rattle.bep_record.specs.declared.block.Block.{Block}
 
 -- the SHA-256 of these bytes (FIPS 180-4)
@@ -25,6 +25,10 @@ plain_block block_size bytes k = block_of (k * block_size) (piece_at block_size 
 unfoldable pub plain_blocks : ℕ → List ℕ → List Block
 plain_blocks block_size bytes =
     map (λ k. plain_block block_size bytes k) (range_with_len 0 (block_count block_size (length bytes)))
+
+-- the block list of a file with these bytes: its plain list by the block size of its length
+abbrev pub file_blocks : List ℕ → List Block
+file_blocks bytes = plain_blocks (block_size_of (length bytes)) bytes
 
 -- the plain blocks of n pieces, the first of which is piece k
 abbrev pub blocks_from : ℕ → List ℕ → ℕ → ℕ → List Block

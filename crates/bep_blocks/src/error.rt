@@ -12,8 +12,8 @@ pub enum BlocksError {
     /// The number of workers isn't from 1 to 8.
     #[error("there are 1 to 8 workers")]
     WorkersBad,
-    /// A file has more than 16777216 bytes.
-    #[error("a file has at most 16777216 bytes")]
+    /// A file has more than 536870912 bytes.
+    #[error("a file has at most 536870912 bytes")]
     FileTooLarge,
     /// Memory ran out.
     #[error("out of memory")]

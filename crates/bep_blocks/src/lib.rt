@@ -1,10 +1,11 @@
 //! Block lists of files: a file's bytes cut into pieces, each with its place, its size and its SHA-256.
 //!
 //! ```rust
-//! let list = blocks(alloc, bytes, BlockSize::base())?;
+//! let size = BlockSize::of_length(bytes.len() as u64)?;
+//! let list = blocks(alloc, bytes, size)?;
 //! let same = matches(bytes, list.as_slice()); // true
 //!
-//! let by_four = blocks_by(&rt, alloc, &OpenGate, bytes, BlockSize::base(), 4)?; // the same list
+//! let by_four = blocks_by(&rt, alloc, &OpenGate, bytes, size, 4)?; // the same list
 //! ```
 #![tactic(auto)]
 

@@ -10,8 +10,9 @@ use std::alloc::{AllocError, AllocFailed, Global};
 
 /// The block list of a file with these bytes, cut from the front into blocks of this size.
 ///
-/// BEP v1, 'BlockInfo'. The last block may be shorter; a file without bytes has one block, of size 0. Refused with
-/// `FileTooLarge` where there are more than 16777216 bytes, and else only for want of memory.
+/// BEP v1, 'BlockInfo'. The last block may be shorter; a file without bytes has one block, of size 0. It is the block list
+/// that records have of the file if the size is that of the file's length (`BlockSize::of_length`). Refused with
+/// `FileTooLarge` where there are more than 536870912 bytes, and else only for want of memory.
 pub fn blocks(alloc: Global, bytes: &[u8], size: BlockSize) -> Result<Items<Block>, BlocksError>
     ensures plain { IfOk result (λ list. list ≡ plain_blocks size bytes.now) }
     ensures too_large { IsErrOf result BlocksError.FileTooLarge ↔ (MAX_FILE_SIZE < length bytes.now) }

@@ -26,7 +26,7 @@ pub fn is_worker_count(workers: u32) -> bool
 ///
 /// Each worker hashes a run of whole blocks, in a thread of its own where one can be made, and passes the gate at
 /// `Piece` of its number first. All have ended when the call answers. Refused with `WorkersBad` where there are no
-/// workers or more than 8, then with `FileTooLarge` where there are more than 16777216 bytes, and else only for want
+/// workers or more than 8, then with `FileTooLarge` where there are more than 536870912 bytes, and else only for want
 /// of memory.
 pub fn blocks_by<R: Threads + Sync, G: Gate + Sync>(
     rt: &R,

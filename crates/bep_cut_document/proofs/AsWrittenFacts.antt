@@ -89,10 +89,10 @@ target_is_as_written is_cut found parts folder share name entry faultless h =
     let lists = found_as_listed found share.pulls name entry (faultless_share parts folder share faultless h).pulled.names in
     (λ is. lists.0 (sym target ∙ is), λ is. target ∙ lists.1 is)
 
-abbrev named : FileName → NodeParts → NamedParts
+abbrev pub named : FileName → NodeParts → NamedParts
 named name node = record { name = name; parts = node }
 
-found_node : (m : ByName NodeParts) (nodes : List NamedParts) (q : FileName) (found : NodeParts) → get (with_nodes m nodes) q ≡ Some found → Contains nodes (named q found) ⊎ (get m q ≡ Some found)
+pub found_node : (m : ByName NodeParts) (nodes : List NamedParts) (q : FileName) (found : NodeParts) → get (with_nodes m nodes) q ≡ Some found → Contains nodes (named q found) ⊎ (get m q ≡ Some found)
 found_node m [] q found is = inr is
 found_node m (first ∷ more) q found is =
     ⊎_elim

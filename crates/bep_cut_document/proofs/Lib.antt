@@ -13,4 +13,6 @@ mod ReadAgain
 mod Shallow
 mod WholeNumbers
 mod WinnersInRange
+mod ShortFacts
+mod ShortWritten
 pub mod back

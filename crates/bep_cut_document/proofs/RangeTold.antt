@@ -29,6 +29,8 @@ use Rattle.bep_tables.specs.Cut.{AreViews, ArePulls, AreShares, IsFlight, IsLink
 use Rattle.bep_cut_document.specs.Trees.{folder_tree, link_tree}
 use Rattle.bep_cut_document.specs.inner.Told.{folder_parts, link_parts, AreInRange, IsIndexInRange, IsViewInRange, IsShareInRange, IsFlightInRange, IsLinkInRange, IsFolderTold, IsLinkTold}
 use Rattle.bep_tables.proofs.Found.{all_from_each}
+use Rattle.bep_json.specs.declared.version.DocVersion.{DocVersion}
+use Rattle.bep_cut_document.specs.Room.{IsFolderShort, IsLinkShort, IsCutShort}
 use Rattle.bep_cut_document.proofs.ToldFacts.{each_told, few_read}
 
 -- ---- lists
@@ -103,21 +105,24 @@ link_in_range folders link is =
     }
 
 -- ---- the whole
--- the folders and the links that are written of a cut have their shape, and are read again as the cut's, within all ranges
-pub record IsReadAgain (cut : CutParts) : Type 0 where
-  pub folders : Says (is_list is_folder) (read_few MAX_FOLDERS read_folder) (map folder_parts cut.folders) (list_of (map folder_tree cut.folders))
-  pub links : Says (is_list is_link) (read_list read_link) (map link_parts cut.links) (list_of (map link_tree cut.links))
+-- the folders and the links that are written of a cut have their shape in a version, and are read again as the cut's, within
+-- all ranges
+pub record IsReadAgain (version : DocVersion) (cut : CutParts) : Type 0 where
+  pub folders : Says (is_list (is_folder version)) (read_few MAX_FOLDERS (read_folder version)) (map folder_parts cut.folders) (list_of (map folder_tree cut.folders))
+  pub links : Says (is_list (is_link version)) (read_list (read_link version)) (map link_parts cut.links) (list_of (map link_tree cut.links))
 
-pub cut_says : (cut : CutParts) → IsCut cut → AllByRecursion IsFolderTold cut.folders → AllByRecursion IsLinkTold cut.links → IsReadAgain cut
-cut_says cut is folders_told links_told =
+pub cut_says : (version : DocVersion) (cut : CutParts) → IsCut cut → IsCutShort version cut → AllByRecursion IsFolderTold cut.folders → AllByRecursion IsLinkTold cut.links → IsReadAgain version cut
+cut_says version cut is short folders_told links_told =
     let HasShares : SharedFolder → Type 0 = λ shared. AreShares shared.shares in
     let AreWithin : SharedFolder → Type 0 = λ shared. AllByRecursion IsShareInRange shared.shares in
     let folders_range = all_map HasShares AreWithin shares_in_range cut.folders (recursion_from_All HasShares cut.folders is.shares) in
-    let folders = list_says is_folder read_folder folder_parts folder_tree cut.folders (each_told AreWithin (λ f. Says is_folder read_folder (folder_parts f) (folder_tree f)) cut.folders folders_told folders_range) in
+    let folders = list_says (is_folder version) (read_folder version) folder_parts folder_tree cut.folders
+    (each_told IsFolderShort AreWithin (λ (v : DocVersion) (f : SharedFolder). Says (is_folder v) (read_folder v) (folder_parts f) (folder_tree f)) version cut.folders folders_told short.folders folders_range) in
     let links_range = all_map (IsLink cut.folders) IsLinkInRange (link_in_range cut.folders) cut.links (recursion_from_All (IsLink cut.folders) cut.links is.links) in
-    let links = list_says is_link read_link link_parts link_tree cut.links (each_told IsLinkInRange (λ l. Says is_link read_link (link_parts l) (link_tree l)) cut.links links_told links_range) in
+    let links = list_says (is_link version) (read_link version) link_parts link_tree cut.links
+    (each_told IsLinkShort IsLinkInRange (λ (v : DocVersion) (l : LinkState). Says (is_link v) (read_link v) (link_parts l) (link_tree l)) version cut.links links_told short.links links_range) in
     let few : length (map folder_parts cut.folders) ≤ MAX_FOLDERS = let same = length-map cut.folders folder_parts in let most = is.few_folders in omega arith in
     record {
-      folders = (folders.0, few_read read_folder MAX_FOLDERS (list_of (map folder_tree cut.folders)) (map folder_parts cut.folders) folders.1 few);
+      folders = (folders.0, few_read (read_folder version) MAX_FOLDERS (list_of (map folder_tree cut.folders)) (map folder_parts cut.folders) folders.1 few);
       links = links;
     }

@@ -16,6 +16,7 @@ use Rattle.bep_tables.specs.declared.share.PeerView.{PeerView}
 use Rattle.bep_tables.specs.declared.share.SharedFolder.{SharedFolder}
 use Rattle.bep_tables.specs.declared.link.LinkState.{LinkState}
 use Rattle.bep_tables.specs.declared.cut.CutParts.{CutParts}
+use Rattle.bep_json.specs.declared.version.DocVersion.{DocVersion}
 use Rattle.bep_cut_document.specs.Trees.{records_tree, nodes_tree, view_tree, share_tree, folder_tree, flight_tree, link_tree, cut_tree, row_tree, check_tree}
 
 -- the tree nests so deep at most
@@ -106,9 +107,9 @@ row_shallow : (row : Row) → IsShallow 4 (row_tree row)
 unfolding row_tree
 row_shallow row = deeper 3 (max-le (flat 3) (max-le (flat 3) (max-le (record_shallow row.entry) (flat 3))))
 
-pub check_shallow : (cut : CutParts) (rows : List Row) → IsShallow max_depth (check_tree cut rows)
+pub check_shallow : (version : DocVersion) (cut : CutParts) (rows : List Row) → IsShallow max_depth (check_tree version cut rows)
 unfolding check_tree
-check_shallow cut rows =
+check_shallow version cut rows =
     within 12 max_depth (omega arith)
     (deeper 11
     (max-le (within 5 11 (omega arith) (list_shallow 4 row_tree row_shallow rows))

@@ -31,15 +31,26 @@ use Rattle.bep_tables.specs.declared.share.PeerView.{PeerView}
 use Rattle.bep_tables.specs.declared.share.SharedFolder.{SharedFolder}
 use Rattle.bep_tables.specs.declared.link.LinkState.{LinkState}
 use Rattle.bep_cut_document.specs.Trees.{name_of_kind, view_tree, share_tree, folder_tree, flight_tree, link_tree, row_tree}
+use Rattle.bep_json.specs.declared.version.DocVersion.{DocVersion}
+use Rattle.bep_json.specs.Version.{most_file_bytes}
+use Rattle.bep_record.specs.declared.node.NodeParts.{NodeParts}
+use Rattle.bep_cut_document.specs.Room.{AreShort, IsViewShort, IsShareShort, IsFlightShort}
 use Rattle.bep_cut_document.specs.inner.Told.{node_parts, view_parts, share_parts, flight_parts, AreInRange, IsViewInRange, IsShareInRange, IsFlightInRange, IsRecordTold, IsNodeTold, IsViewTold, IsShareTold, IsFolderTold, IsFlightTold, IsLinkTold, IsRowTold}
 
 where_true : {A : Type 0} {b : Bool} (x y : A) → b ≡ true → (if b then x else y) ≡ x
 where_true x y e = ap (λ c. if c then x else y) e
 
--- what each is that is told, where it is in range
-pub each_told : {A : Type 0} (P Q : A → Type 0) (xs : List A) → AllByRecursion (λ x. P x → Q x) xs → AllByRecursion P xs → AllByRecursion Q xs
-each_told P Q [] told range = tt
-each_told P Q (x ∷ more) told range = (told.0 range.0, each_told P Q more told.1 range.1)
+-- what each is that is told, where it is short enough for a version, and in range
+pub each_told : {A : Type 0} (S : DocVersion → A → Type 0) (P : A → Type 0) (Q : DocVersion → A → Type 0) (version : DocVersion) (xs : List A) →
+    AllByRecursion (λ x. (v : DocVersion) → S v x → P x → Q v x) xs → AllByRecursion (S version) xs → AllByRecursion P xs → AllByRecursion (Q version) xs
+each_told S P Q version [] told short range = tt
+each_told S P Q version (x ∷ more) told short range = (told.0 version short.0 range.0, each_told S P Q version more told.1 short.1 range.1)
+
+-- the same of what has no range
+each_node_told : {A : Type 0} (S Q : DocVersion → A → Type 0) (version : DocVersion) (xs : List A) →
+    AllByRecursion (λ x. (v : DocVersion) → S v x → Q v x) xs → AllByRecursion (S version) xs → AllByRecursion (Q version) xs
+each_node_told S Q version [] told short = tt
+each_node_told S Q version (x ∷ more) told short = (told.0 version short.0, each_node_told S Q version more told.1 short.1)
 
 map_same : {A : Type 0} (xs : List A) → map (λ x. x) xs ≡ xs
 map_same [] = refl
@@ -51,9 +62,10 @@ few_read reads most d xs read few =
     let told : leb (length xs) most ≡ true = grind (arith, nat_tests) in
     then_read (if_few most) read (where_true _ _ told)
 
-records_say : (records : List Entry) → AllByRecursion IsRecordTold records → AreInRange records → Says (is_list is_record) (read_list read_record) records (list_of (map record_written records))
-records_say records told range =
-    let all = list_says is_record read_record (λ e. e) record_written records (each_told (λ e. e.sequence ≤ MAX_SEQUENCE) (λ e. Says is_record read_record e (record_written e)) records told range) in
+records_say : (version : DocVersion) (records : List Entry) → AllByRecursion IsRecordTold records → AreShort version records → AreInRange records → Says (is_list (is_record version)) (read_list (read_record version)) records (list_of (map record_written records))
+records_say version records told short range =
+    let all = list_says (is_record version) (read_record version) (λ e. e) record_written records
+    (each_told (λ (v : DocVersion) (e : Entry). e.size ≤ most_file_bytes v) (λ (e : Entry). e.sequence ≤ MAX_SEQUENCE) (λ (v : DocVersion) (e : Entry). Says (is_record v) (read_record v) e (record_written e)) version records told short range) in
     (all.0, all.1 ∙ ap Some (map_same records))
 
 kind_read : (kind : FolderKind) → read_folder_kind (string (name_of_kind kind)) ≡ Some kind
@@ -68,44 +80,47 @@ folder_name_says law name is = (refl, where_true _ _ ((law name).1 is))
 -- ---- views
 pub view_says : (view : PeerView) → Says is_whole (read_number 1 greatest_id) view.of (whole view.of) → Says is_whole (read_number 0 greatest_id) view.index_id (whole view.index_id) → AllByRecursion IsRecordTold (values view.records) → IsViewTold view
 unfolding is_view read_view view_tree
-view_says view of id told range =
-    let records = records_say (values view.records) told range.sequences in (
+view_says view of id told = λ version short range.
+    let records = records_say version (values view.records) told short range.sequences in (
       both_are refl (both_are refl (both_are refl (both_are refl records.0))),
       then_read _ of.1
           (then_read _ id.1
           (then_read _ (number_says 0 MAX_SEQUENCE view.max_sequence (omega arith) range.within).1
-          (then_read _ (few_read read_record MAX_NAMES (list_of (map record_written (values view.records))) (values view.records) records.1 range.few) refl))),
+          (then_read _ (few_read (read_record version) MAX_NAMES (list_of (map record_written (values view.records))) (values view.records) records.1 range.few) refl))),
     )
 
 -- ---- devices
-share_shaped : (share : Share) → is_list is_record (list_of (map record_written (values share.own))) ≡ true → is_list is_node (list_of (map (λ held. node_written held.0 held.1) (entries share.store))) ≡ true → is_list is_view (list_of (map view_tree share.views)) ≡ true → is_list is_record (list_of (map record_written (values share.pulls))) ≡ true → is_share (share_tree share) ≡ true
+share_shaped : (version : DocVersion) (share : Share) → is_list (is_record version) (list_of (map record_written (values share.own))) ≡ true → is_list is_node (list_of (map (λ held. node_written held.0 held.1) (entries share.store))) ≡ true → is_list (is_view version) (list_of (map view_tree share.views)) ≡ true → is_list (is_record version) (list_of (map record_written (values share.pulls))) ≡ true → is_share version (share_tree share) ≡ true
 unfolding is_share share_tree
-share_shaped share own store views pulls =
+share_shaped version share own store views pulls =
     both_are refl (both_are refl (both_are refl (both_are refl (both_are refl (both_are own (both_are store (both_are views pulls)))))))
 
 pub share_says : (share : Share) → Says is_whole (read_number 1 greatest_id) share.device (whole share.device) → Says is_whole (read_number 1 greatest_id) share.index_id (whole share.index_id) → AllByRecursion IsRecordTold (values share.own) → AllByRecursion IsNodeTold (entries share.store) → AllByRecursion IsViewTold share.views → AllByRecursion IsRecordTold (values share.pulls) → IsShareTold share
 unfolding read_share share_tree
-share_says share device id own_told store_told views_told pulls_told range =
-    let own = records_say (values share.own) own_told range.own.sequences in
-    let store = list_says is_node read_node node_parts (λ held. node_written held.0 held.1) (entries share.store) store_told in
-    let views = list_says is_view read_view view_parts view_tree share.views (each_told IsViewInRange (λ v. Says is_view read_view (view_parts v) (view_tree v)) share.views views_told range.views) in
-    let pulls = records_say (values share.pulls) pulls_told range.pulls in (
-      share_shaped share own.0 store.0 views.0 pulls.0,
+share_says share device id own_told store_told views_told pulls_told = λ version short range.
+    let own = records_say version (values share.own) own_told short.own range.own.sequences in
+    let store = list_says is_node (read_node version) node_parts (λ held. node_written held.0 held.1) (entries share.store)
+    (each_node_told (λ (v : DocVersion) (held : List ℕ × NodeParts). length held.1.bytes ≤ most_file_bytes v) (λ (v : DocVersion) (held : List ℕ × NodeParts). Says is_node (read_node v) (node_parts held) (node_written held.0 held.1)) version (entries share.store) store_told short.store) in
+    let views = list_says (is_view version) (read_view version) view_parts view_tree share.views
+    (each_told IsViewShort IsViewInRange (λ (v : DocVersion) (one : PeerView). Says (is_view v) (read_view v) (view_parts one) (view_tree one)) version share.views views_told short.views range.views) in
+    let pulls = records_say version (values share.pulls) pulls_told short.pulls range.pulls in (
+      share_shaped version share own.0 store.0 views.0 pulls.0,
       then_read _ device.1
           (then_read _ (kind_read share.kind)
           (then_read _ id.1
           (then_read _ (number_says 0 MAX_SEQUENCE share.max_sequence (omega arith) range.own.within).1
-          (then_read _ (few_read read_record MAX_NAMES (list_of (map record_written (values share.own))) (values share.own) own.1 range.own.few)
+          (then_read _ (few_read (read_record version) MAX_NAMES (list_of (map record_written (values share.own))) (values share.own) own.1 range.own.few)
           (then_read _ store.1
           (then_read _ views.1
-          (then_read _ (few_read read_record MAX_PULLS (list_of (map record_written (values share.pulls))) (values share.pulls) pulls.1 range.few_pulls) refl))))))),
+          (then_read _ (few_read (read_record version) MAX_PULLS (list_of (map record_written (values share.pulls))) (values share.pulls) pulls.1 range.few_pulls) refl))))))),
     )
 
 -- ---- folders
 pub folder_says : (shared : SharedFolder) → Says is_text read_folder_name shared.folder (string shared.folder) → AllByRecursion IsShareTold shared.shares → IsFolderTold shared
 unfolding is_folder read_folder folder_tree
-folder_says shared name told range =
-    let devices = list_says is_share read_share share_parts share_tree shared.shares (each_told IsShareInRange (λ s. Says is_share read_share (share_parts s) (share_tree s)) shared.shares told range) in (
+folder_says shared name told = λ version short range.
+    let devices = list_says (is_share version) (read_share version) share_parts share_tree shared.shares
+    (each_told IsShareShort IsShareInRange (λ (v : DocVersion) (s : Share). Says (is_share v) (read_share v) (share_parts s) (share_tree s)) version shared.shares told short range) in (
       both_are refl (both_are refl devices.0),
       then_read _ name.1 (then_read _ devices.1 refl),
     )
@@ -113,36 +128,38 @@ folder_says shared name told range =
 -- ---- messages and links
 pub flight_says : (flight : Flight) → Says is_text read_folder_name flight.folder (string flight.folder) → AllByRecursion IsRecordTold flight.records → IsFlightTold flight
 unfolding is_flight read_flight flight_tree
-flight_says flight name told range =
-    let records = records_say flight.records told range.sequences in (
+flight_says flight name told = λ version short range.
+    let records = records_say version flight.records told short range.sequences in (
       both_are refl (both_are refl (both_are refl records.0)),
-      then_read _ name.1 (then_read _ (few_read read_record MAX_RECORDS (list_of (map record_written flight.records)) flight.records records.1 range.few) refl),
+      then_read _ name.1 (then_read _ (few_read (read_record version) MAX_RECORDS (list_of (map record_written flight.records)) flight.records records.1 range.few) refl),
     )
 
-flights_say : (flights : List Flight) → AllByRecursion IsFlightTold flights → AllByRecursion IsFlightInRange flights → Says (is_list is_flight) (read_list read_flight) (map flight_parts flights) (list_of (map flight_tree flights))
-flights_say flights told range = list_says is_flight read_flight flight_parts flight_tree flights (each_told IsFlightInRange (λ f. Says is_flight read_flight (flight_parts f) (flight_tree f)) flights told range)
+flights_say : (version : DocVersion) (flights : List Flight) → AllByRecursion IsFlightTold flights → AllByRecursion (IsFlightShort version) flights → AllByRecursion IsFlightInRange flights → Says (is_list (is_flight version)) (read_list (read_flight version)) (map flight_parts flights) (list_of (map flight_tree flights))
+flights_say version flights told short range =
+    list_says (is_flight version) (read_flight version) flight_parts flight_tree flights
+    (each_told IsFlightShort IsFlightInRange (λ (v : DocVersion) (f : Flight). Says (is_flight v) (read_flight v) (flight_parts f) (flight_tree f)) version flights told short range)
 
 few_parts : (flights : List Flight) → length flights ≤ MAX_MESSAGES → length (map flight_parts flights) ≤ MAX_MESSAGES
 few_parts flights few = let same = length-map flights flight_parts in omega arith
 
 pub link_says : (link : LinkState) → Says is_whole (read_number 1 greatest_id) link.a (whole link.a) → Says is_whole (read_number 1 greatest_id) link.b (whole link.b) → AllByRecursion IsFlightTold link.to_a → AllByRecursion IsFlightTold link.to_b → IsLinkTold link
 unfolding is_link read_link link_tree
-link_says link a b to_a_told to_b_told range =
-    let to_a = flights_say link.to_a to_a_told range.to_a in
-    let to_b = flights_say link.to_b to_b_told range.to_b in (
+link_says link a b to_a_told to_b_told = λ version short range.
+    let to_a = flights_say version link.to_a to_a_told short.to_a range.to_a in
+    let to_b = flights_say version link.to_b to_b_told short.to_b range.to_b in (
       both_are refl (both_are refl (both_are refl (both_are refl (both_are refl (both_are to_a.0 to_b.0))))),
       then_read _ a.1
           (then_read _ b.1
           (then_read _ (number_says 0 MAX_SEQUENCE link.epoch (omega arith) range.epoch).1
-          (then_read _ (few_read read_flight MAX_MESSAGES (list_of (map flight_tree link.to_a)) (map flight_parts link.to_a) to_a.1 (few_parts link.to_a range.few_to_a))
-          (then_read _ (few_read read_flight MAX_MESSAGES (list_of (map flight_tree link.to_b)) (map flight_parts link.to_b) to_b.1 (few_parts link.to_b range.few_to_b)) refl)))),
+          (then_read _ (few_read (read_flight version) MAX_MESSAGES (list_of (map flight_tree link.to_a)) (map flight_parts link.to_a) to_a.1 (few_parts link.to_a range.few_to_a))
+          (then_read _ (few_read (read_flight version) MAX_MESSAGES (list_of (map flight_tree link.to_b)) (map flight_parts link.to_b) to_b.1 (few_parts link.to_b range.few_to_b)) refl)))),
     )
 
 -- ---- rows
 pub row_says : (row : Row) → Says is_text read_folder_name row.folder (string row.folder) → Says is_whole (read_number 1 greatest_id) row.device (whole row.device) → IsRecordTold row.entry → IsRowTold row
 unfolding is_row read_row row_tree
-row_says row name device told range =
-    let entry = told range in (
+row_says row name device told = λ version short range.
+    let entry = told version short range in (
       both_are refl (both_are refl (both_are refl entry.0)),
       then_read _ name.1 (then_read _ device.1 (then_read _ entry.1 refl)),
     )

@@ -14,6 +14,7 @@ use Rattle.bep_tables.specs.declared.share.PeerView.{PeerView}
 use Rattle.bep_tables.specs.declared.share.SharedFolder.{SharedFolder}
 use Rattle.bep_tables.specs.declared.link.LinkState.{LinkState}
 use Rattle.bep_tables.specs.declared.cut.CutParts.{CutParts}
+use Rattle.bep_json.specs.declared.version.DocVersion.{DocVersion}
 use Rattle.bep_cut_document.specs.Trees.{records_tree, view_tree, share_tree, folder_tree, flight_tree, link_tree, cut_tree, row_tree, check_tree}
 
 -- each number in the tree is whole
@@ -84,8 +85,8 @@ row_whole : (row : Row) → IsWhole (row_tree row)
 unfolding row_tree
 row_whole row = both (record_whole row.entry) refl
 
-pub check_whole : (cut : CutParts) (rows : List Row) → IsWhole (check_tree cut rows)
+pub check_whole : (version : DocVersion) (cut : CutParts) (rows : List Row) → IsWhole (check_tree version cut rows)
 unfolding check_tree
-check_whole cut rows =
+check_whole version cut rows =
     both (list_whole row_tree row_whole rows)
     (both (cut_whole cut) refl)

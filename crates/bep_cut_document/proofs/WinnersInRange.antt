@@ -24,7 +24,7 @@ beside_says device (Some entry) one there =
     let same = Contains-one (device, entry) one there in
     (ap (λ (c : Device × Entry). c.0) same, ap (λ (c : Device × Entry). Some c.1) same)
 
-owned_says : (t : Tables) (folder : Folder) (name : FileName) (shares : List (Device × FolderKind)) (one : Device × Entry) → Contains (owned t folder name shares) one → t.own one.0 folder name ≡ Some one.1
+pub owned_says : (t : Tables) (folder : Folder) (name : FileName) (shares : List (Device × FolderKind)) (one : Device × Entry) → Contains (owned t folder name shares) one → t.own one.0 folder name ≡ Some one.1
 owned_says t folder name [] one there = absurd (not_in_none one there)
 owned_says t folder name (share ∷ more) one there =
     ⊎_elim

@@ -4,4 +4,5 @@ pub mod Written
 pub mod AsWritten
 pub mod Trees
 pub mod Told
+pub mod Room
 pub mod inner

@@ -9,6 +9,8 @@ use Rattle.bep_record.specs.declared.entry.Entry.{Entry}
 use Rattle.bep_record.specs.declared.folder_kind.FolderKind.{FolderKind}
 use Rattle.bep_record.specs.declared.folder_kind.FolderKind.TheVariants.{SendReceive, SendOnly, ReceiveOnly}
 use Rattle.bep_record.specs.declared.node.NodeParts.{NodeParts}
+use Rattle.bep_json.specs.declared.version.DocVersion.{DocVersion}
+use Rattle.bep_json.specs.Version.{number_of}
 use Rattle.bep_json.specs.Written.{whole, list_of, record_written, node_written}
 use Rattle.bep_model.specs.declared.flight.Flight.{Flight}
 use Rattle.bep_model.specs.declared.row.Row.{Row}
@@ -95,14 +97,14 @@ row_tree row =
     (member (codes "folder") (string row.folder)
     (member (codes "record") (record_written row.entry) no_members)))
 
--- a check document
-unfoldable pub check_tree : CutParts → List Row → Data
-check_tree cut rows =
+-- a check document of this version
+unfoldable pub check_tree : DocVersion → CutParts → List Row → Data
+check_tree version cut rows =
     object
     (member (codes "certificate") (list_of (map row_tree rows))
     (member (codes "cut") (cut_tree cut)
-    (member (codes "version") (whole 1) no_members)))
+    (member (codes "version") (whole (number_of version)) no_members)))
 
 -- its text: JSON without spaces
-unfoldable pub check_document_text : CutParts → List Row → List ℕ
-check_document_text cut rows = compact_text (check_tree cut rows)
+unfoldable pub check_document_text : DocVersion → CutParts → List Row → List ℕ
+check_document_text version cut rows = compact_text (check_tree version cut rows)

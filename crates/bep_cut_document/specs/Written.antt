@@ -17,6 +17,7 @@ use Rattle.bep_document.specs.declared.parts.FolderParts.{FolderParts}
 use Rattle.bep_document.specs.declared.parts.FlightParts.{FlightParts}
 use Rattle.bep_document.specs.declared.parts.LinkParts.{LinkParts}
 use Rattle.bep_document.specs.declared.parts.RowParts.{RowParts}
+use Rattle.bep_json.specs.declared.version.DocVersion.{DocVersion}
 use Rattle.bep_document.specs.Reading.{Reading, Read, ◌>>=◌, reading_of, reading_of_tree, reading_of_cut, reading_of_cut_document}
 use Rattle.bep_model.specs.declared.flight.Flight.{Flight}
 use Rattle.bep_model.specs.declared.row.Row.{Row}
@@ -117,13 +118,13 @@ row_written parts = record { folder = parts.folder; device = parts.device; entry
 abbrev pub check_of : List ℕ → Reading (CutParts × List Row)
 check_of bytes = reading_of bytes >>= λ parts. Read (cut_written parts.folders parts.links, map row_written parts.certificate)
 
--- the cut that the tree of a cut says by itself, or the fault for which it is refused
-abbrev pub cut_of_tree : Data → Reading CutParts
-cut_of_tree tree = reading_of_cut tree >>= λ parts. Read (cut_written parts.folders parts.links)
+-- the cut that the tree of a cut says by itself, read as in documents of this version, or the fault for which it is refused
+abbrev pub cut_of_tree : DocVersion → Data → Reading CutParts
+cut_of_tree version tree = reading_of_cut version tree >>= λ parts. Read (cut_written parts.folders parts.links)
 
--- the cut of a check document, whatever certificate stands there, or the fault for which it is refused
-abbrev pub cut_of_document : List ℕ → Reading CutParts
-cut_of_document bytes = reading_of_cut_document bytes >>= λ parts. Read (cut_written parts.folders parts.links)
+-- the version and the cut of a check document, whatever certificate stands there, or the fault for which it is refused
+abbrev pub cut_of_document : List ℕ → Reading (DocVersion × CutParts)
+cut_of_document bytes = reading_of_cut_document bytes >>= λ parts. Read (parts.version, cut_written parts.folders parts.links)
 
 -- the cut and the rows that the tree of a check document says, or the fault for which it is refused
 abbrev pub check_of_tree : Data → Reading (CutParts × List Row)

@@ -19,7 +19,8 @@ mod whole;
 mod written;
 
 pub use bep_document::{DocError, DocFault, Fault, MAX_BYTES};
-pub use laws::{cut_is_as_written, winners_are_in_range};
+pub use bep_json::DocVersion;
+pub use laws::{cut_is_as_written, cuts_of_documents_have_room, winners_are_in_range};
 pub use reading::{read_check, read_cut};
 pub use value::CutValue;
 pub use whole::{check_document, check_value};

@@ -1,12 +1,13 @@
 //! The reading of a document: from its bytes to the cut and the rows that it writes down.
 ghost use Rattle.std.specs.Prelude.{◌≡◌, IfOk, map};
 ghost use Rattle.bep_document.specs.Faultless.{IsFaultless};
-ghost use Rattle.bep_document.specs.Reading.{Answers, AnswersBy};
+ghost use Rattle.bep_document.specs.Reading.{AnswersBy};
 ghost use Rattle.bep_cut_document.specs.Written.{cut_written, row_written, check_of, cut_of_document};
 
 use crate::written::{all_as_listed, all_in_order};
 use bep_document::{CheckParts, DocError, read_cut_document, read_parts, readings_are_faultless};
 use bep_index::records_make_an_index;
+use bep_json::DocVersion;
 use bep_model::Row;
 use bep_tables::{Cut, CutParts};
 use std::alloc::{AllocError, Global};
@@ -26,16 +27,17 @@ pub fn read_check(alloc: Global, bytes: &[u8]) -> Result<(Cut, Vec<Row>), DocErr
     }
 }
 
-/// The cut that the bytes of a check document say, or the one fault for which the document is refused: the smallest number
-/// that applies, at its first place. The certificate may be missing, and what stands there isn't looked at. `Memory` may
-/// come in place of any answer.
-pub fn read_cut(alloc: Global, bytes: &[u8]) -> Result<Cut, DocError>
-    ensures { Answers result (cut_of_document bytes.now) }
+/// The version and the cut that the bytes of a check document say, or the one fault for which the document is refused: the
+/// smallest number that applies, at its first place. The certificate may be missing, and what stands there isn't looked at.
+/// `Memory` may come in place of any answer.
+pub fn read_cut(alloc: Global, bytes: &[u8]) -> Result<(DocVersion, Cut), DocError>
+    ensures { AnswersBy (λ read. (read.0, read.1)) result (cut_of_document bytes.now) }
 {
     readings_are_faultless();
     let parts = read_cut_document(alloc, bytes)?;
+    let version = parts.version;
     let (cut, _rows) = check_from(alloc, parts)?;
-    Ok(cut)
+    Ok((version, cut))
 }
 
 // The cut and the rows that are made of parts without faults.

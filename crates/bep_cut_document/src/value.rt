@@ -2,13 +2,16 @@
 ghost use Rattle.std.specs.Prelude.{◌≡◌, IfOk, OnOk};
 ghost use Rattle.serde_json.specs.Data.{Data};
 ghost use Rattle.serde_json.specs.View.{view};
+ghost use Rattle.bep_json.specs.declared.version.DocVersion.{DocVersion as VersionOf};
 ghost use Rattle.bep_document.specs.Reading.{Answers, Reading, Read};
 ghost use Rattle.bep_cut_document.specs.Trees.{cut_tree};
+ghost use Rattle.bep_cut_document.specs.Room.{HasRoom};
 ghost use Rattle.bep_cut_document.specs.Written.{cut_of_tree};
 
 use crate::reading::check_from;
 use crate::whole::cut_tree;
 use bep_document::{DocError, faultless_parts_are_read, read_cut_parts, readings_are_faultless};
+use bep_json::DocVersion;
 use bep_tables::Cut;
 use serde_json::Value;
 use std::alloc::{AllocError, Global};
@@ -16,22 +19,27 @@ use std::alloc::{AllocError, Global};
 /// What is read from a JSON tree and written as one. A caller that has it in scope writes `Cut::from_value` and
 /// `cut.to_value`: the crate of `Cut` knows of no JSON.
 pub trait CutValue: Drop {
-    /// What a tree says by itself, or the fault for which it is refused.
-    ghost of_tree: { Data → Reading Self };
+    /// What a tree says by itself, read as in documents of a version, or the fault for which it is refused.
+    ghost of_tree: { VersionOf → Data → Reading Self };
 
     /// The tree that is written.
     ghost tree_of: { Self → Data };
 
-    /// The cut that a tree says by itself, as a check document's member `cut` does, or the one fault for which it is
-    /// refused: `Shape`, `Range`, or the first of those that have a place. `Memory` may come in place of any answer.
-    fn from_value(alloc: Global, value: &Value) -> Result<Self, DocError>
-        ensures { Answers result (of_tree (view value.now)) };
+    /// Documents of a version have room for it.
+    ghost has_room: { VersionOf → Self → Type 0 };
+
+    /// The cut that a tree says by itself, as the member `cut` of a check document of this version does, or the one fault
+    /// for which it is refused: `Shape`, `Range`, or the first of those that have a place. `Memory` may come in place of
+    /// any answer.
+    fn from_value(alloc: Global, version: DocVersion, value: &Value) -> Result<Self, DocError>
+        ensures { Answers result (of_tree version (view value.now)) };
 
     /// The cut as a tree, with every member, bytes in hexadecimal digits and all lists rising; or want of memory.
-    /// `Cut::from_value` reads this tree as the very cut.
+    /// `Cut::from_value` of a version reads this tree as the very cut, if its documents have room for that. Those of version
+    /// 2 have room for each cut.
     fn to_value(&self, alloc: Global) -> Result<Value, AllocError>
         ensures value { IfOk result (λ v. view v ≡ tree_of self.now) }
-        ensures read_back { OnOk result (of_tree (tree_of self.now) ≡ Read self.now) };
+        ensures read_back { OnOk result ((version : VersionOf) → has_room version self.now → of_tree version (tree_of self.now) ≡ Read self.now) };
 }
 
 impl CutValue for Cut {
@@ -39,9 +47,11 @@ impl CutValue for Cut {
 
     ghost tree_of = { cut_tree };
 
-    fn from_value(alloc: Global, value: &Value) -> Result<Cut, DocError> {
+    ghost has_room = { HasRoom };
+
+    fn from_value(alloc: Global, version: DocVersion, value: &Value) -> Result<Cut, DocError> {
         readings_are_faultless();
-        let parts = read_cut_parts(alloc, value)?;
+        let parts = read_cut_parts(alloc, version, value)?;
         let (cut, _rows) = check_from(alloc, parts)?;
         Ok(cut)
     }

@@ -5,11 +5,13 @@ ghost use Rattle.bep_json.specs.Written.{list_of};
 ghost use Rattle.bep_document.specs.Reading.{Read, most_bytes};
 ghost use Rattle.bep_cut_document.specs.Trees.{folder_tree, link_tree, cut_tree, row_tree, check_tree, check_document_text};
 ghost use Rattle.bep_cut_document.specs.Told.{AreRowsInRange};
+ghost use Rattle.bep_cut_document.specs.Room.{HasRoom, HasRoomForRows};
 ghost use Rattle.bep_cut_document.specs.inner.Told.{IsCutTold};
 ghost use Rattle.bep_cut_document.specs.Written.{check_of, check_of_tree};
 
 use crate::trees::list_tree;
 use bep_document::faultless_parts_are_read;
+use bep_json::DocVersion;
 use bep_model::Row;
 use bep_tables::Cut;
 use serde_json::{Value, json};
@@ -36,22 +38,29 @@ fn cut_members(alloc: Global, cut: &Cut, folders: Value, links: Value) -> Result
     json!(in alloc; {"folders": folders, "links": links})
 }
 
-/// The check document of a cut and the rows of a certificate for it, as a tree, or want of memory. It is read as the
-/// very cut and rows, where the sequences of the rows' records are at most 9223372036854775807.
-pub fn check_value(alloc: Global, cut: &Cut, rows: &[Row]) -> Result<Value, AllocError>
-    ensures value { IfOk result (λ v. view v ≡ check_tree cut.now rows.now) }
-    ensures read_back { OnOk result (AreRowsInRange rows.now → check_of_tree (check_tree cut.now rows.now) ≡ Read (cut.now, rows.now)) }
+/// The check document of this version of a cut and the rows of a certificate for it, as a tree, or want of memory. It is
+/// read as the very cut and rows, where the version has room for them and the sequences of the rows' records are at most
+/// 9223372036854775807. Version 2 has room for all; version 1 has where no file is longer than 16777216 bytes.
+pub fn check_value(
+    alloc: Global,
+    version: DocVersion,
+    cut: &Cut,
+    rows: &[Row],
+) -> Result<Value, AllocError>
+    ensures value { IfOk result (λ v. view v ≡ check_tree version cut.now rows.now) }
+    ensures read_back { OnOk result (HasRoom version cut.now → HasRoomForRows version rows.now → AreRowsInRange rows.now → check_of_tree (check_tree version cut.now rows.now) ≡ Read (cut.now, rows.now)) }
 {
     faultless_parts_are_read();
     let certificate = list_tree(alloc, rows)?;
     let tree = cut_tree(alloc, cut)?;
-    let document = check_members(alloc, cut, rows, certificate, tree)?;
+    let document = check_members(alloc, version, cut, rows, certificate, tree)?;
     Ok(document)
 }
 
 #[tactic(auto, unfolding(crate::specs::Trees::check_tree))]
 fn check_members(
     alloc: Global,
+    version: DocVersion,
     cut: &Cut,
     rows: &[Row],
     certificate: Value,
@@ -59,19 +68,24 @@ fn check_members(
 ) -> Result<Value, AllocError>
     requires certificate { view certificate ≡ list_of (map row_tree rows.now) }
     requires tree { view tree ≡ cut_tree cut.now }
-    ensures { IfOk result (λ v. view v ≡ check_tree cut.now rows.now) }
+    ensures { IfOk result (λ v. view v ≡ check_tree version cut.now rows.now) }
 {
-    json!(in alloc; {"certificate": certificate, "cut": tree, "version": 1u64})
+    json!(in alloc; {"certificate": certificate, "cut": tree, "version": version.number()})
 }
 
-/// The check document of a cut and the rows of a certificate for it, as JSON without spaces, or want of memory. Its bytes
-/// are read as the very cut and rows, where they aren't more than a document may have and the sequences of the rows' records
-/// are at most 9223372036854775807.
-pub fn check_document(alloc: Global, cut: &Cut, rows: &[Row]) -> Result<String, AllocError>
-    ensures text { IfOk result (λ text. string_bytes text ≡ check_document_text cut.now rows.now) }
-    ensures read_back { OnOk result (length (check_document_text cut.now rows.now) ≤ most_bytes → AreRowsInRange rows.now → check_of (check_document_text cut.now rows.now) ≡ Read (cut.now, rows.now)) }
+/// The check document of this version of a cut and the rows of a certificate for it, as JSON without spaces, or want of
+/// memory. Its bytes are read as the very cut and rows, where the version has room for them, they aren't more than a document
+/// may have and the sequences of the rows' records are at most 9223372036854775807.
+pub fn check_document(
+    alloc: Global,
+    version: DocVersion,
+    cut: &Cut,
+    rows: &[Row],
+) -> Result<String, AllocError>
+    ensures text { IfOk result (λ text. string_bytes text ≡ check_document_text version cut.now rows.now) }
+    ensures read_back { OnOk result (HasRoom version cut.now → HasRoomForRows version rows.now → length (check_document_text version cut.now rows.now) ≤ most_bytes → AreRowsInRange rows.now → check_of (check_document_text version cut.now rows.now) ≡ Read (cut.now, rows.now)) }
 {
-    let tree = check_value(alloc, cut, rows)?;
+    let tree = check_value(alloc, version, cut, rows)?;
     let text = tree.to_string(alloc)?;
     Ok(text)
 }

@@ -3,6 +3,7 @@ pub mod TreeFacts
 pub mod Steps
 pub mod FaultlessFacts
 pub mod ReadFaultless
+pub mod ReadShort
 pub mod faultless
 pub mod CleanFacts
 pub mod Given

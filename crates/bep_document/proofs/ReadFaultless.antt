@@ -13,8 +13,9 @@ use Rattle.bep_document.specs.declared.parts.FolderParts.{FolderParts}
 use Rattle.bep_document.specs.declared.parts.FlightParts.{FlightParts}
 use Rattle.bep_document.specs.declared.parts.LinkParts.{LinkParts}
 use Rattle.bep_document.specs.declared.parts.CheckParts.{CheckParts}
+use Rattle.bep_json.specs.declared.version.DocVersion.{DocVersion}
 use Rattle.bep_json.specs.Tree.{has_only, names_of}
-use Rattle.bep_document.specs.read.Checks.{is_cut, read_cut, has_version, check_members, is_check, read_check_parts}
+use Rattle.bep_document.specs.read.Checks.{is_cut, read_cut, doc_version, check_members, is_check, read_check_parts}
 use Rattle.bep_document.specs.read.Devices.{is_one_of, with_devices}
 use Rattle.bep_document.specs.Reading.{Read, first_fault, reading_of_tree, reading_of, without_rows, reading_of_cut, reading_of_cut_in, reading_of_cut_document}
 use Rattle.bep_document.specs.Faultless.{IsFaultlessIndex, IsFaultlessShare, IsFaultlessFolder, IsFaultlessFlight, IsFaultlessLink, IsFaultless}
@@ -121,29 +122,29 @@ faultless parts range free =
 tree_faultless : (tree : Data) (parts : CheckParts) → reading_of_tree tree ≡ Read parts → IsFaultless parts
 unfolding reading_of_tree
 tree_faultless tree parts e =
-    let unshaped = passed_and VersionBad has_version tree _ e in
-    let found = of_shape_and is_check read_check_parts first_fault tree unshaped in
-    faultless parts (check_in_range tree parts found.0) (has_no_fault parts found.1)
+    let known = given_and VersionBad (doc_version tree) _ e in
+    let found = of_shape_and (is_check known.0) (read_check_parts known.0) first_fault tree known.2 in
+    faultless parts (check_in_range known.0 tree parts found.0) (has_no_fault parts found.1)
 
 pub reading_faultless : (bytes : List ℕ) (parts : CheckParts) → reading_of bytes ≡ Read parts → IsFaultless parts
 unfolding reading_of
 reading_faultless bytes parts e = let tree = of_bytes_and reading_of_tree bytes e in tree_faultless tree.0 parts tree.1
 
-pub cut_faultless : (tree : Data) (parts : CheckParts) → reading_of_cut tree ≡ Read parts → IsFaultless parts
+pub cut_faultless : (version : DocVersion) (tree : Data) (parts : CheckParts) → reading_of_cut version tree ≡ Read parts → IsFaultless parts
 unfolding reading_of_cut
-cut_faultless tree parts e =
-    let shaped = passed_and Shape is_cut tree _ e in
-    let found = given_and Range (read_cut tree) _ shaped in
-    let clean = no_fault_and (first_fault (without_rows found.0)) found.2 in
-    subst IsFaultless clean.1 (faultless (without_rows found.0) (cut_in_range tree found.0 found.1) (has_no_fault (without_rows found.0) clean.0))
+cut_faultless version tree parts e =
+    let shaped = passed_and Shape (is_cut version) tree _ e in
+    let found = given_and Range (read_cut version tree) _ shaped in
+    let clean = no_fault_and (first_fault (without_rows version found.0)) found.2 in
+    subst IsFaultless clean.1 (faultless (without_rows version found.0) (cut_in_range version tree found.0 found.1) (has_no_fault (without_rows version found.0) clean.0))
 
 cut_in_faultless : (tree : Data) (parts : CheckParts) → reading_of_cut_in tree ≡ Read parts → IsFaultless parts
 unfolding reading_of_cut_in
 cut_in_faultless tree parts e =
-    let known = passed_and VersionBad has_version tree _ e in
-    let listed = passed_and Shape (has_only (names_of check_members)) tree _ known in
+    let known = given_and VersionBad (doc_version tree) _ e in
+    let listed = passed_and Shape (has_only (names_of (check_members known.0))) tree _ known.2 in
     let cut = given_and Shape (get (codes "cut") tree) _ listed in
-    cut_faultless cut.0 parts cut.2
+    cut_faultless known.0 cut.0 parts cut.2
 
 pub cut_document_faultless : (bytes : List ℕ) (parts : CheckParts) → reading_of_cut_document bytes ≡ Read parts → IsFaultless parts
 unfolding reading_of_cut_document

@@ -3,4 +3,5 @@ pub mod DevicesFacts
 pub mod Readers
 pub mod RowsFirst
 pub mod RangeFacts
+pub mod ShortFacts
 pub mod DevicesKnown

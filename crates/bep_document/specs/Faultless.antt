@@ -15,6 +15,7 @@ use Rattle.bep_document.specs.declared.parts.ViewParts.{ViewParts}
 use Rattle.bep_document.specs.declared.parts.FolderParts.{FolderParts}
 use Rattle.bep_document.specs.declared.parts.FlightParts.{FlightParts}
 use Rattle.bep_document.specs.declared.parts.LinkParts.{LinkParts}
+use Rattle.bep_json.specs.declared.version.DocVersion.{DocVersion}
 use Rattle.bep_document.specs.declared.parts.CheckParts.{CheckParts}
 
 -- none of the items has this key
@@ -123,7 +124,7 @@ abbrev pub ReadingsAreFaultless : Type 0
 ReadingsAreFaultless = (bytes : List ℕ) (parts : CheckParts) → reading_of bytes ≡ Read parts → IsFaultless parts
 
 abbrev pub CutsAreFaultless : Type 0
-CutsAreFaultless = (tree : Data) (parts : CheckParts) → reading_of_cut tree ≡ Read parts → IsFaultless parts
+CutsAreFaultless = (version : DocVersion) (tree : Data) (parts : CheckParts) → reading_of_cut version tree ≡ Read parts → IsFaultless parts
 
 -- no fault that has a place is found in parts that have none, and their devices are few
 abbrev pub FaultlessHasNoFault : Type 0

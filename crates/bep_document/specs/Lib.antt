@@ -3,4 +3,5 @@ pub mod read
 pub mod faults
 pub mod Reading
 pub mod Faultless
+pub mod Short
 pub mod Laws

@@ -13,6 +13,7 @@ use Rattle.bep_document.specs.declared.fault.Fault.TheVariants.{NotJson, Version
 use Rattle.bep_document.specs.declared.parts.FolderParts.{FolderParts}
 use Rattle.bep_document.specs.declared.parts.LinkParts.{LinkParts}
 use Rattle.bep_document.specs.declared.parts.CheckParts.{CheckParts}
+use Rattle.bep_json.specs.declared.version.DocVersion.{DocVersion}
 use Rattle.bep_document.specs.Fault.{nowhere}
 use Rattle.bep_document.specs.faults.Judge.{◌else_at◌}
 use Rattle.bep_document.specs.faults.Twice.{first_twice}
@@ -21,7 +22,7 @@ use Rattle.bep_document.specs.faults.Records.{first_bad}
 use Rattle.bep_document.specs.faults.Sequences.{first_bad_sequence}
 use Rattle.bep_document.specs.faults.Links.{first_bad_link}
 use Rattle.bep_json.specs.Tree.{has_only, names_of}
-use Rattle.bep_document.specs.read.Checks.{is_cut, read_cut, has_version, check_members, is_check, read_check_parts}
+use Rattle.bep_document.specs.read.Checks.{is_cut, read_cut, doc_version, check_members, is_check, read_check_parts}
 
 -- a thing, or the fault in place of it
 pub data Reading (T : Type 0) : Type 0 where
@@ -103,30 +104,32 @@ first_fault parts =
 
 -- what the tree of a document says
 unfoldable pub reading_of_tree : Data → Reading CheckParts
-reading_of_tree tree = passed VersionBad has_version tree >>= of_shape is_check read_check_parts first_fault
+reading_of_tree tree = do
+  version ← given VersionBad (doc_version tree)
+  of_shape (is_check version) (read_check_parts version) first_fault tree
 
 -- what the bytes of a document say
 unfoldable pub reading_of : List ℕ → Reading CheckParts
 reading_of bytes = of_bytes reading_of_tree bytes
 
--- a cut alone: its folders and links, and no rows
-abbrev pub without_rows : List FolderParts × List LinkParts → CheckParts
-without_rows cut = record { folders = cut.0; links = cut.1; certificate = [] }
+-- a cut alone of a document of this version: its folders and links, and no rows
+abbrev pub without_rows : DocVersion → List FolderParts × List LinkParts → CheckParts
+without_rows version cut = record { version = version; folders = cut.0; links = cut.1; certificate = [] }
 
--- what the tree of a cut says, by itself; it has no version, and is no document of bytes
-unfoldable pub reading_of_cut : Data → Reading CheckParts
-reading_of_cut tree = do
-  shaped ← passed Shape is_cut tree
-  cut ← given Range (read_cut shaped)
-  unless (first_fault (without_rows cut)) (without_rows cut)
+-- what the tree of a cut says, by itself, as in documents of this version; it says no version, and is no document of bytes
+unfoldable pub reading_of_cut : DocVersion → Data → Reading CheckParts
+reading_of_cut version tree = do
+  shaped ← passed Shape (is_cut version) tree
+  cut ← given Range (read_cut version shaped)
+  unless (first_fault (without_rows version cut)) (without_rows version cut)
 
 -- what the tree of a check document says of its cut; a certificate may be missing, and isn't looked at
 unfoldable pub reading_of_cut_in : Data → Reading CheckParts
 reading_of_cut_in tree = do
-  known ← passed VersionBad has_version tree
-  listed ← passed Shape (has_only (names_of check_members)) known
+  version ← given VersionBad (doc_version tree)
+  listed ← passed Shape (has_only (names_of (check_members version))) tree
   cut ← given Shape (get (codes "cut") listed)
-  reading_of_cut cut
+  reading_of_cut version cut
 
 -- what the bytes of a check document say of its cut
 unfoldable pub reading_of_cut_document : List ℕ → Reading CheckParts

@@ -1,6 +1,6 @@
 //! What a document says, as plain lists.
 use bep_index::IndexId;
-use bep_json::NamedParts;
+use bep_json::{DocVersion, NamedParts};
 use bep_record::{DeviceId, Entry, FolderKind, FolderName, Items};
 
 /// What a document says of a device that shares a folder.
@@ -88,6 +88,8 @@ pub struct RowParts {
 /// What a check document says: a cut, and a certificate for it.
 #[derive(Debug, Drop)]
 pub struct CheckParts {
+    /// The document's version.
+    pub version: DocVersion,
     /// The folders of the cut.
     pub folders: Items<FolderParts>,
     /// The links between its devices.

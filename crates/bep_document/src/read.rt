@@ -8,7 +8,7 @@ mod links;
 mod shares;
 mod views;
 
-pub use checks::has_version;
+pub use checks::doc_version;
 pub(crate) use checks::{CutLists, is_check, read_check_parts};
 pub use devices::has_few_devices;
 pub use few::Few;

@@ -6,9 +6,9 @@ ghost use Rattle.bep_document.specs.Fault.{nowhere};
 ghost use Rattle.bep_document.specs.declared.fault.Fault.TheVariants.{NotJson};
 
 use crate::faults::fault_of;
-use crate::read::{CutLists, has_version, is_check, read_check_parts};
+use crate::read::{CutLists, doc_version, is_check, read_check_parts};
 use crate::{CheckParts, DocError, DocFault, Fault};
-use bep_json::{ReadError, Readable, has_only};
+use bep_json::{DocVersion, ReadError, Readable, has_only};
 use bep_record::Items;
 use serde_json::Value;
 use serde_json::error::Category;
@@ -65,13 +65,13 @@ pub fn tree_of(alloc: Global, bytes: &[u8]) -> Result<Value, DocError>
 fn parts_of(alloc: Global, tree: Value) -> Result<CheckParts, DocError>
     ensures { Answers result (reading_of_tree (view tree)) }
 {
-    if !has_version(&tree) {
+    let Some(version) = doc_version(&tree) else {
         return Err(refused(Fault::VersionBad));
-    }
-    if !is_check(&tree) {
+    };
+    if !is_check(version, &tree) {
         return Err(refused(Fault::Shape));
     }
-    match read_check_parts(alloc, tree) {
+    match read_check_parts(alloc, version, tree) {
         Ok(parts) => judged(alloc, parts),
         Err(ReadError::Range) => Err(refused(Fault::Range)),
         Err(ReadError::Memory) => Err(DocError::Memory),
@@ -96,17 +96,21 @@ pub fn unless_found<T: Drop>(found: Option<DocFault>, thing: T) -> Result<T, Doc
     }
 }
 
-/// What the tree of a cut says by itself, with no rows, or the fault for which it is refused: `Shape`, `Range`, or the
-/// first of those that have a place. `Memory` may come in place of any answer.
+/// What the tree of a cut says by itself, read as in documents of this version, with no rows; or the fault for which it is
+/// refused: `Shape`, `Range`, or the first of those that have a place. `Memory` may come in place of any answer.
 #[tactic(auto, unfolding(crate::specs::Reading::reading_of_cut))]
-pub fn read_cut_parts(alloc: Global, tree: &Value) -> Result<CheckParts, DocError>
-    ensures { Answers result (reading_of_cut (view tree.now)) }
+pub fn read_cut_parts(
+    alloc: Global,
+    version: DocVersion,
+    tree: &Value,
+) -> Result<CheckParts, DocError>
+    ensures { Answers result (reading_of_cut version (view tree.now)) }
 {
-    if !CutLists::has_shape(tree) {
+    if !CutLists::has_shape(version, tree) {
         return Err(refused(Fault::Shape));
     }
-    match CutLists::read(alloc, tree) {
-        Ok(cut) => judged(alloc, cut.with_rows(Items::new(Vec::new(alloc)))),
+    match CutLists::read(alloc, version, tree) {
+        Ok(cut) => judged(alloc, cut.with_rows(version, Items::new(Vec::new(alloc)))),
         Err(ReadError::Range) => Err(refused(Fault::Range)),
         Err(ReadError::Memory) => Err(DocError::Memory),
     }
@@ -127,14 +131,14 @@ pub fn read_cut_document(alloc: Global, bytes: &[u8]) -> Result<CheckParts, DocE
 fn cut_in(alloc: Global, tree: &Value) -> Result<CheckParts, DocError>
     ensures { Answers result (reading_of_cut_in (view tree.now)) }
 {
-    if !has_version(tree) {
+    let Some(version) = doc_version(tree) else {
         return Err(refused(Fault::VersionBad));
-    }
+    };
     if !has_only(tree, &["version", "cut", "certificate"]) {
         return Err(refused(Fault::Shape));
     }
     match tree.get("cut") {
-        Some(cut) => read_cut_parts(alloc, cut),
+        Some(cut) => read_cut_parts(alloc, version, cut),
         None => Err(refused(Fault::Shape)),
     }
 }

@@ -1,7 +1,7 @@
 //! The first block at which the files of a failure's details differ. No contract speaks of it.
 use crate::detail::Detail;
 use bep_blocks::blocks;
-use bep_record::{Block, BlockSize, Items, Kind, Node};
+use bep_record::{Block, Items, Kind, Node};
 use std::alloc::{AllocError, Global};
 
 /// The blocks of the stored file that a detail tells of; none if what is stored is no file.
@@ -18,7 +18,7 @@ pub(crate) fn stored_blocks(
 fn blocks_of_node(alloc: Global, node: &Node) -> Result<Items<Block>, AllocError> {
     let parts = node.parts();
     match parts.kind {
-        Kind::File => match blocks(alloc, parts.bytes.as_slice(), BlockSize::base()) {
+        Kind::File => match blocks(alloc, parts.bytes.as_slice(), node.block_size()) {
             Ok(list) => Ok(list),
             Err(_) => Err(AllocError),
         },

@@ -3,7 +3,7 @@ use crate::detail::{Detail, What};
 use crate::json::device_tree;
 use bep_blocks::blocks;
 use bep_json::{Members, record_value};
-use bep_record::{Block, BlockSize, Kind, Node, Record};
+use bep_record::{Block, Kind, Node, Record};
 use serde_json::Value;
 use std::alloc::{AllocError, Global};
 
@@ -77,16 +77,15 @@ fn node_or_null(alloc: Global, node: Option<&Node>) -> Result<Value, AllocError>
 // What is there, with the hashes of its blocks in place of its bytes.
 fn node_tree(alloc: Global, node: &Node) -> Result<Value, AllocError> {
     let parts = node.parts();
-    let bytes = parts.bytes.as_slice();
     let hashes = match parts.kind {
-        Kind::File => hashes_of(alloc, bytes)?,
+        Kind::File => hashes_of(alloc, node)?,
         Kind::Directory | Kind::Symlink => Value::Array(Vec::new(alloc)),
     };
     let members = Members::new(alloc)
         .with("blocks", hashes)?
         .with_number("modified_ns", u64::from(parts.modified_ns))?
         .with_signed("modified_s", parts.modified_s)?
-        .with_number("size", bytes.len() as u64)?
+        .with_number("size", parts.bytes.as_slice().len() as u64)?
         .with_text("target", parts.target.as_str())?
         .with_number("type", number_of(parts.kind))?;
     Ok(members.into_value())
@@ -101,8 +100,9 @@ fn number_of(kind: Kind) -> u64 {
     }
 }
 
-fn hashes_of(alloc: Global, bytes: &[u8]) -> Result<Value, AllocError> {
-    let Ok(list) = blocks(alloc, bytes, BlockSize::base()) else {
+fn hashes_of(alloc: Global, node: &Node) -> Result<Value, AllocError> {
+    let bytes = node.parts().bytes.as_slice();
+    let Ok(list) = blocks(alloc, bytes, node.block_size()) else {
         return Err(AllocError);
     };
     let mut hashes = Vec::with_capacity(alloc, list.as_slice().len())?;

@@ -5,11 +5,13 @@ use Rattle.std.specs.Cmp.{Equal-is}
 use Rattle.std.specs.FinMap.{insert}
 use Rattle.std.specs.Bool.{⊤}
 use Rattle.std.specs.List.{range_with_len}
+use Rattle.std.proofs.Math.Nat.{mul-div_cancel}
 use Rattle.std.proofs.lemmas.Bool.{ne_eqb}
 use Rattle.std.proofs.lemmas.Map.Lookups.{exact_bytes}
 use Rattle.bep_facts.specs.Maps.{insert-what_is_there}
-use Rattle.bep_record.specs.Block.{base_block_size, block_count, cut_at}
+use Rattle.bep_record.specs.Block.{block_count, block_size_of, cut_at}
 use Rattle.bep_record.specs.Entry.{IsWellFormed}
+use Rattle.bep_record.proofs.BlockSizeFacts.{some_bytes}
 use Rattle.bep_record.specs.declared.block.Block.{Block}
 use Rattle.bep_record.specs.declared.entry.Entry.{Entry}
 use Rattle.bep_map.specs.NameMap.{ByName}
@@ -38,11 +40,11 @@ begin_from size len first (suc count) (block ∷ blocks) cuts =
     (ap (λ (cut : ℕ × ℕ). cut.0) here, begin_from size len (first + 1) count blocks later)
 
 -- so do the blocks of a record
-pub blocks_begin : (target : Entry) → IsWellFormed target → BeginInOrder base_block_size 0 target.blocks
+pub blocks_begin : (target : Entry) → IsWellFormed target → BeginInOrder (block_size_of target.size) 0 target.blocks
 blocks_begin target formed =
     ⊎_elim
-    (λ none. subst (BeginInOrder base_block_size 0) (sym none.1) tt)
-    (λ file. begin_from base_block_size target.size 0 (block_count base_block_size target.size) target.blocks file.2.blocks)
+    (λ none. subst (BeginInOrder (block_size_of target.size) 0) (sym none.1) tt)
+    (λ file. begin_from (block_size_of target.size) target.size 0 (block_count (block_size_of target.size) target.size) target.blocks file.2.blocks)
     (body_cases target.deleted target.kind target formed.body)
 
 pub offset_at : (size first place : ℕ) (blocks : List Block) (block : Block) → BeginInOrder size first blocks → slice_get blocks place ≡ Some block → block.offset ≡ (first + place) * size
@@ -72,16 +74,21 @@ not_about : (request : Request) (block : Block) → ¬ (request.offset ≡ block
 not_about request block other =
     ap (λ here. here && ((request.size == block.size) && same_bytes request.hash block.hash)) (ne_eqb request.offset block.offset other)
 
+place_of_offset : (size place offset : ℕ) → 0 < size → offset ≡ (0 + place) * size → place ≡ offset / size
+place_of_offset size place offset some at =
+    let place_is : 0 + place ≡ place = omega arith in
+    sym (ap (λ n. n / size) (at ∙ ap (λ n. n * size) place_is) ∙ mul-div_cancel place some)
+
 -- It is about no block, unless about the one whose place its offset tells.
 pub about_none : (request : Request) (target : Entry) → IsWellFormed target →
-    ¬ IsAbout request target.blocks (request.offset / base_block_size) → IsAboutNone request target.blocks
+    ¬ IsAbout request target.blocks (request.offset / block_size_of target.size) → IsAboutNone request target.blocks
 about_none request target formed none place block found = there (is_about request block) refl where
   there : (about : Bool) → is_about request block ≡ about → is_about request block ≡ false
   there false is = is
   there true is =
-      let at = offset_at base_block_size 0 place target.blocks block (blocks_begin target formed) found in
+      let at = offset_at (block_size_of target.size) 0 place target.blocks block (blocks_begin target formed) found in
       let offset = about_offset request block is in
-      let told : place ≡ request.offset / base_block_size = omega (arith, at, offset) in
+      let told : place ≡ request.offset / block_size_of target.size = place_of_offset (block_size_of target.size) place request.offset (some_bytes target.size) (offset ∙ at) in
       absurd (none (block, subst (λ n. slice_get target.blocks n ≡ Some block) told found, is))
 
 -- ---- what is received
@@ -153,7 +160,7 @@ pub with_block_there : (request : Request) (bytes : List ℕ) (tables : Replica)
 with_block_there request bytes tables name place pull named pulled formed (block, found, about) =
     ap (λ held. with_block request bytes held tables) pulled
     ∙ ap (λ (at : FileName). with_pull tables at (record pull { received = received_at request bytes pull.target.blocks pull.received })) named
-    ∙ ap (λ received. with_pull tables name (record pull { received = received })) (received_there request bytes base_block_size 0 place pull.target.blocks pull.received block (omega arith) (blocks_begin pull.target formed) found about)
+    ∙ ap (λ received. with_pull tables name (record pull { received = received })) (received_there request bytes (block_size_of pull.target.size) 0 place pull.target.blocks pull.received block (some_bytes pull.target.size) (blocks_begin pull.target formed) found about)
 
 -- the answer to one about none of them
 pub with_block_nowhere : (request : Request) (bytes : List ℕ) (tables : Replica) (pull : Pull) →

@@ -6,7 +6,8 @@ use Rattle.std.proofs.lemmas.List.Edits.{length-paste}
 use Rattle.std.proofs.lemmas.List.FromFn.{length-map-range_with_len}
 use Rattle.std.proofs.Math.Seq.{paste}
 use Rattle.bep_facts.specs.Members.{Contains-first, Contains-more}
-use Rattle.bep_record.specs.Block.{base_block_size, block_count, cut_at, CutWhole}
+use Rattle.bep_record.specs.Block.{block_count, block_size_of, cut_at, CutWhole}
+use Rattle.bep_record.proofs.BlockSizeFacts.{begins_within, blocks_cover, some_bytes}
 use Rattle.bep_record.specs.Entry.{HasBlocks, HasBody, IsWellFormed}
 use Rattle.bep_record.specs.declared.block.Block.{Block}
 use Rattle.bep_record.specs.declared.entry.Entry.{Entry}
@@ -38,40 +39,43 @@ count_blocks size len blocks whole =
     ∙ ap length whole
     ∙ length-map-range_with_len (λ k. cut_at size len k) 0 (block_count size len)
 
-count_covers : (len : ℕ) → len ≤ block_count base_block_size len * base_block_size
-count_covers len = omega arith
+-- how many bytes each block of the record but the last has
+abbrev pub block_bytes_of : Entry → ℕ
+block_bytes_of target = block_size_of target.size
+
+none_within : (size n : ℕ) → size ≡ 0 → size ≤ n
+none_within size n none = omega arith
 
 -- the blocks have room for all bytes
-pub size_within : (target : Entry) → IsWellFormed target → target.size ≤ length target.blocks * base_block_size
+pub size_within : (target : Entry) → IsWellFormed target → target.size ≤ length target.blocks * block_bytes_of target
 size_within target formed =
     ⊎_elim
-    (λ none. let size = none.0 in omega arith)
+    (λ none. none_within target.size (length target.blocks * block_bytes_of target) none.0)
     (λ file.
-    let count = count_blocks base_block_size target.size target.blocks file.2.blocks in
-    subst (λ n. target.size ≤ n * base_block_size) (sym count) (count_covers target.size))
+    let count = count_blocks (block_bytes_of target) target.size target.blocks file.2.blocks in
+    subst (λ n. target.size ≤ n * block_bytes_of target) (sym count) (blocks_cover (block_bytes_of target) target.size (some_bytes target.size)))
     (body_cases target.deleted target.kind target formed.body)
 
 -- a piece of a file stands within it, and has all that is left there, up to a whole block
 pub record IsPiece (target : Entry) (place : ℕ) (piece : List ℕ) : Type 0 where
   pub there : target.deleted ≡ false
   pub file : target.kind ≡ File
-  pub few : place ≤ 128
-  pub within : place * base_block_size + length piece ≤ target.size
-  pub long : length piece ≡ min base_block_size (target.size - place * base_block_size)
+  pub most : target.size ≤ MAX_FILE_SIZE
+  pub within : place * block_bytes_of target + length piece ≤ target.size
+  pub long : length piece ≡ min (block_bytes_of target) (target.size - place * block_bytes_of target)
 
-piece_within : (len place n : ℕ) → len ≤ MAX_FILE_SIZE → place < block_count base_block_size len → n ≡ min base_block_size (len - place * base_block_size) →
-    (place ≤ 128) × (place * base_block_size + n ≤ len)
-piece_within len place n most before long = (omega arith, omega arith)
+piece_within : (size len place n : ℕ) → place < block_count size len → n ≡ min size (len - place * size) → place * size + n ≤ len
+piece_within size len place n before long = let begins = begins_within size len place before in omega (arith, begins, long)
 
 pub is_piece : (target : Entry) (place : ℕ) (piece : List ℕ) → IsWellFormed target → AreOfBlockAt target.blocks place piece → IsPiece target place piece
 is_piece target place piece formed (block, found, are) =
     ⊎_elim
     (λ none. let same = none.1 in absurd (let gone : slice_get {X = Block} [] place ≡ Some block = ap (λ blocks. slice_get blocks place) (sym same) ∙ found in cc))
     (λ file.
-    let cut = cut_block base_block_size target.size place target.blocks block file.2.blocks found in
-    let long : length piece ≡ min base_block_size (target.size - place * base_block_size) = are.size ∙ cut.1 in
-    let fits = piece_within target.size place (length piece) file.2.size cut.0 long in
-    record { there = file.0; file = file.1; few = fits.0; within = fits.1; long = long })
+    let cut = cut_block (block_bytes_of target) target.size place target.blocks block file.2.blocks found in
+    let long : length piece ≡ min (block_bytes_of target) (target.size - place * block_bytes_of target) = are.size ∙ cut.1 in
+    let within = piece_within (block_bytes_of target) target.size place (length piece) cut.0 long in
+    record { there = file.0; file = file.1; most = file.2.size; within = within; long = long })
     (body_cases target.deleted target.kind target formed.body)
 
 -- ---- the received blocks
@@ -111,7 +115,7 @@ nothing_fits size (block ∷ blocks) flags bytes same none = absurd (cc)
 -- ---- the whole
 
 abbrev pub pull_of : Entry → Option NodeParts → List Bool → Pull
-pull_of target node arrived = record { target = target; received = received_of base_block_size arrived (bytes_in node) }
+pull_of target node arrived = record { target = target; received = received_of (block_bytes_of target) arrived (bytes_in node) }
 
 pub kept_is_pull : (target : Entry) (node : Option NodeParts) (arrived : List Bool) → IsKept target node arrived → IsPull (pull_of target node arrived)
 kept_is_pull target node arrived kept = record {
@@ -121,10 +125,10 @@ kept_is_pull target node arrived kept = record {
   received = ⊎_elim
       (λ full.
       ⊎_elim
-      (λ none. nothing_fits base_block_size target.blocks arrived (bytes_in node) kept.flags none.1)
-      (λ file. received_fits base_block_size target.size 0 (block_count base_block_size target.size) target.blocks arrived (bytes_in node) file.2.blocks kept.flags (omega (arith, full)))
+      (λ none. nothing_fits (block_bytes_of target) target.blocks arrived (bytes_in node) kept.flags none.1)
+      (λ file. received_fits (block_bytes_of target) target.size 0 (block_count (block_bytes_of target) target.size) target.blocks arrived (bytes_in node) file.2.blocks kept.flags (omega (arith, full)))
       (body_cases target.deleted target.kind target kept.formed.body))
-      (λ new. none_fits base_block_size target.blocks arrived (bytes_in node) kept.flags new.1)
+      (λ new. none_fits (block_bytes_of target) target.blocks arrived (bytes_in node) kept.flags new.1)
       kept.filled;
 }
 
@@ -133,12 +137,12 @@ pub kept_written : (target : Entry) (node : Option NodeParts) (arrived : List Bo
 kept_written target node arrived kept none =
     let room = size_within target kept.formed in
     let flags = kept.flags in
-    let few : length (bytes_in node) ≤ length arrived * base_block_size =
+    let few : length (bytes_in node) ≤ length arrived * block_bytes_of target =
     ⊎_elim
     (λ (full : length (bytes_in node) ≡ target.size). rw flags (omega arith))
     (λ (new : (bytes_in node ≡ []) × (¬ Contains arrived true)). let empty = ap length new.0 in omega arith)
     kept.filled in
-    kept.made ∙ ap (node_of target) (sym (whole_of base_block_size arrived (bytes_in node) few none))
+    kept.made ∙ ap (node_of target) (sym (whole_of (block_bytes_of target) arrived (bytes_in node) few none))
 
 -- ---- one block more
 
@@ -160,7 +164,7 @@ length-sized size bytes = cases (length bytes == size) refl where
 
 -- the node with the piece in its file
 abbrev pub piece_in : Entry → Option NodeParts → ℕ → List ℕ → Option NodeParts
-piece_in target node place piece = with_file node (paste (sized target.size (bytes_in node)) (place * base_block_size) piece (length piece))
+piece_in target node place piece = with_file node (paste (sized target.size (bytes_in node)) (place * block_bytes_of target) piece (length piece))
 
 made_with : (target : Entry) (node : Option NodeParts) (bytes : List ℕ) → node ≡ node_of target (bytes_in node) → with_file node bytes ≡ node_of target bytes
 made_with target node bytes made =
@@ -168,7 +172,7 @@ made_with target node bytes made =
 
 module _ (target : Entry) (node : Option NodeParts) (arrived : List Bool) (kept : IsKept target node arrived) (place : ℕ) (piece : List ℕ) (is : IsPiece target place piece) where
   held : List ℕ
-  held = paste (sized target.size (bytes_in node)) (place * base_block_size) piece (length piece)
+  held = paste (sized target.size (bytes_in node)) (place * block_bytes_of target) piece (length piece)
 
   bytes_there : bytes_in (piece_in target node place piece) ≡ held
   unfolding held
@@ -184,25 +188,25 @@ module _ (target : Entry) (node : Option NodeParts) (arrived : List Bool) (kept 
     made = made_with target node held kept.made ∙ ap (node_of target) (sym bytes_there);
     filled = inl (
         ap length bytes_there
-        ∙ length-paste (sized target.size (bytes_in node)) (place * base_block_size) piece (length piece) (let all = length-sized target.size (bytes_in node) in let within = is.within in omega arith) (omega arith)
+        ∙ length-paste (sized target.size (bytes_in node)) (place * block_bytes_of target) piece (length piece) (let all = length-sized target.size (bytes_in node) in let within = is.within in omega arith) (omega arith)
         ∙ length-sized target.size (bytes_in node));
   }
 
   -- what was received before is the same of the bytes that have their size
-  received_sized : received_of base_block_size arrived (bytes_in node) ≡ received_of base_block_size arrived (sized target.size (bytes_in node))
+  received_sized : received_of (block_bytes_of target) arrived (bytes_in node) ≡ received_of (block_bytes_of target) arrived (sized target.size (bytes_in node))
   received_sized =
       ⊎_elim
-      (λ full. ap (received_of base_block_size arrived) (sym (sized_same target.size (bytes_in node) full)))
-      (λ new. unflagged base_block_size arrived (bytes_in node) (sized target.size (bytes_in node)) new.1)
+      (λ full. ap (received_of (block_bytes_of target) arrived) (sym (sized_same target.size (bytes_in node) full)))
+      (λ new. unflagged (block_bytes_of target) arrived (bytes_in node) (sized target.size (bytes_in node)) new.1)
       kept.filled
 
   pub received_after : slice_get arrived place ≡ Some false →
-      received_of base_block_size (set arrived place true) (bytes_in (piece_in target node place piece)) ≡ received_with (received_of base_block_size arrived (bytes_in node)) place piece
+      received_of (block_bytes_of target) (set arrived place true) (bytes_in (piece_in target node place piece)) ≡ received_with (received_of (block_bytes_of target) arrived (bytes_in node)) place piece
   unfolding held
   received_after missing =
       let all = length-sized target.size (bytes_in node) in
       let within = is.within in
       let long = is.long in
-      ap (received_of base_block_size (set arrived place true)) bytes_there
-      ∙ received_paste base_block_size arrived (sized target.size (bytes_in node)) piece place (omega arith) (long ∙ ap (λ n. min base_block_size (n - place * base_block_size)) (sym all)) missing
+      ap (received_of (block_bytes_of target) (set arrived place true)) bytes_there
+      ∙ received_paste (block_bytes_of target) arrived (sized target.size (bytes_in node)) piece place (omega arith) (long ∙ ap (λ n. min (block_bytes_of target) (n - place * block_bytes_of target)) (sym all)) missing
       ∙ ap (λ received. received_with received place piece) (sym received_sized)

@@ -21,7 +21,7 @@ mod writes;
 
 pub use asked::is_about;
 use bep_blocks::matches;
-use bep_record::{BASE_BLOCK_SIZE, Block, Duplicate, Entry, Node, Record};
+use bep_record::{Block, Duplicate, Entry, Node, Record};
 use node::{copy_node, empty_node, put_bytes};
 pub(crate) use record::merged;
 use std::alloc::{AllocError, Global};
@@ -59,11 +59,11 @@ impl Model for Pull {
 
     ghost coded = { pull_code entry.the_row.coded };
 
-    ghost use Rattle.bep_record.specs.Block.{base_block_size};
+    ghost use Rattle.bep_record.specs.Block.{block_size_of};
     ghost use Rattle.bep_folder.specs.PullNode.{bytes_in};
     ghost use Rattle.bep_folder.specs.Pull.{received_of, IsKept};
 
-    ghost view = { λ pull. record { target = pull.target; received = received_of base_block_size pull.arrived.items (bytes_in pull.node) } };
+    ghost view = { λ pull. record { target = pull.target; received = received_of (block_size_of pull.target.size) pull.arrived.items (bytes_in pull.node) } };
 
     ghost invariant = { λ pull. IsKept pull.target pull.node pull.arrived.items };
 }
@@ -129,7 +129,7 @@ impl Pull {
             return Ok(());
         }
         let size = self.target.entry().size as usize;
-        let offset = place * BASE_BLOCK_SIZE as usize;
+        let offset = place * self.target.block_size().bytes() as usize;
         put_bytes(&mut self.node, self.alloc, size, offset, bytes)?;
         self.arrived[place] = true;
         Ok(())

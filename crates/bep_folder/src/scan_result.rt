@@ -1,15 +1,14 @@
 //! What a scan found at a name, with its blocks.
 ghost use Rattle.std.specs.Prelude.{◌≡◌, ◌≢◌, ◌↔◌, IfOk, IfErr, IsErrOf};
 ghost use Rattle.std.specs.Option.{option_copied};
-ghost use Rattle.bep_record.specs.Block.{base_block_size};
-ghost use Rattle.bep_blocks.specs.Plain.{plain_blocks};
+ghost use Rattle.bep_blocks.specs.Plain.{file_blocks};
 ghost use Rattle.bep_blocks.specs.Workers.{IsWorkerCount};
 ghost use Rattle.bep_folder.specs.ScanResult.{blocks_found};
 ghost use Rattle.bep_folder.specs.declared.error.FolderError.TheVariants.{Memory};
 
 use crate::FolderError;
 use bep_blocks::{BlocksError, Gate, blocks, blocks_by, is_worker_count};
-use bep_record::{Block, BlockSize, Items, Kind, Name, Node};
+use bep_record::{Block, Items, Kind, Name, Node};
 use std::alloc::Global;
 use std::marker::Model;
 use std::thread::Threads;
@@ -140,18 +139,18 @@ fn hashed<R: Threads + Sync, G: Gate + Sync>(
     match node.parts().kind {
         Kind::File => {
             let bytes = node.parts().bytes.as_slice();
-            blocks_by(rt, alloc, gate, bytes, BlockSize::base(), workers)
+            blocks_by(rt, alloc, gate, bytes, node.block_size(), workers)
         }
         Kind::Directory | Kind::Symlink => Ok(Items::new(Vec::new(alloc))),
     }
 }
 
-// The plain block list of the node's bytes.
+// The block list of the node's bytes.
 fn file_blocks(alloc: Global, node: &Node) -> Result<Items<Block>, FolderError>
-    ensures blocks { IfOk result (λ list. list ≡ plain_blocks base_block_size node.now.bytes) }
+    ensures blocks { IfOk result (λ list. list ≡ file_blocks node.now.bytes) }
     ensures memory { IfErr result (λ e. e ≡ Memory) }
 {
-    match blocks(alloc, node.parts().bytes.as_slice(), BlockSize::base()) {
+    match blocks(alloc, node.parts().bytes.as_slice(), node.block_size()) {
         Ok(list) => Ok(list),
         Err(BlocksError::Memory) => Err(FolderError::Memory),
         Err(BlocksError::FileTooLarge | BlocksError::WorkersBad) => unreachable!(),

@@ -1,18 +1,18 @@
 //! Values of one piece: whether they are what they should be. And in which words it is told what a value should be.
 use crate::members::Sort;
-use bep_json::{Nanoseconds, ReadError, Readable, Sequence, Whole};
-use bep_record::{DeviceId, FolderKind, FolderName, Kind, MAX_FILE_SIZE, Name, Target, Vector};
+use bep_json::{DocVersion, Nanoseconds, ReadError, Readable, Sequence, Whole};
+use bep_record::{DeviceId, FolderKind, FolderName, Kind, Name, Target, Vector};
 use serde_json::Value;
 use std::alloc::Global;
 
 /// Whether the value is of the kind that the sort asks for.
-pub(crate) fn has_shape(sort: Sort, value: &Value) -> bool {
+pub(crate) fn has_shape(version: DocVersion, sort: Sort, value: &Value) -> bool {
     match sort {
         Sort::Anything => true,
         // one that begins with a known word isn't of one piece
         Sort::Step => false,
         Sort::Flag => value.is_boolean(),
-        Sort::Version => Vector::has_shape(value),
+        Sort::Version => Vector::has_shape(version, value),
         Sort::FolderKind
         | Sort::FolderName
         | Sort::Name
@@ -20,56 +20,63 @@ pub(crate) fn has_shape(sort: Sort, value: &Value) -> bool {
         | Sort::Hash
         | Sort::Text
         | Sort::Hex => value.is_string(),
-        _ => i64::has_shape(value),
+        _ => i64::has_shape(version, value),
     }
 }
 
 /// Whether the value, which is of that kind, is within its range.
-pub(crate) fn is_in_range(alloc: Global, sort: Sort, value: &Value) -> bool {
+pub(crate) fn is_in_range(alloc: Global, version: DocVersion, sort: Sort, value: &Value) -> bool {
     match sort {
-        Sort::One => reads::<Whole<1, 1>>(alloc, value),
-        Sort::Id => reads::<DeviceId>(alloc, value),
+        Sort::DocVersion => reads::<Whole<1, 2>>(alloc, version, value),
+        Sort::Id => reads::<DeviceId>(alloc, version, value),
         Sort::AnyId => value.as_u64().is_some(),
-        Sort::Sequence => reads::<Sequence>(alloc, value),
+        Sort::Sequence => reads::<Sequence>(alloc, version, value),
         Sort::Seconds => value.as_i64().is_some(),
-        Sort::Nanoseconds => reads::<Nanoseconds>(alloc, value),
-        Sort::FileSize => reads::<Whole<0, MAX_FILE_SIZE>>(alloc, value),
-        Sort::BlockSize => reads::<Whole<0, 4294967295>>(alloc, value),
-        Sort::Kind => reads::<Kind>(alloc, value),
-        Sort::FolderKind => reads::<FolderKind>(alloc, value),
-        Sort::FolderName => reads::<FolderName>(alloc, value),
-        Sort::Name => reads::<Name>(alloc, value),
-        Sort::Target => reads::<Target>(alloc, value),
-        Sort::Hash => reads::<[u8; 32]>(alloc, value),
-        Sort::Version => reads::<Vector>(alloc, value),
-        Sort::Text => fits_file(value),
-        Sort::Hex => is_hex(value),
+        Sort::Nanoseconds => reads::<Nanoseconds>(alloc, version, value),
+        Sort::FileSize => is_file_size(version, value),
+        Sort::BlockSize => reads::<Whole<0, 4294967295>>(alloc, version, value),
+        Sort::Kind => reads::<Kind>(alloc, version, value),
+        Sort::FolderKind => reads::<FolderKind>(alloc, version, value),
+        Sort::FolderName => reads::<FolderName>(alloc, version, value),
+        Sort::Name => reads::<Name>(alloc, version, value),
+        Sort::Target => reads::<Target>(alloc, version, value),
+        Sort::Hash => reads::<[u8; 32]>(alloc, version, value),
+        Sort::Version => reads::<Vector>(alloc, version, value),
+        Sort::Text => fits_file(version, value),
+        Sort::Hex => is_hex(version, value),
         _ => true,
     }
 }
 
 // Whether the value is read as a `T`, or can't be for want of memory alone.
-fn reads<T: Readable>(alloc: Global, value: &Value) -> bool {
-    match T::read(alloc, value) {
+fn reads<T: Readable>(alloc: Global, version: DocVersion, value: &Value) -> bool {
+    match T::read(alloc, version, value) {
         Err(ReadError::Range) => false,
         Ok(_) | Err(ReadError::Memory) => true,
     }
 }
 
-fn fits_file(value: &Value) -> bool {
+fn is_file_size(version: DocVersion, value: &Value) -> bool {
+    match value.as_u64() {
+        Some(size) => size <= version.most_file_bytes(),
+        None => false,
+    }
+}
+
+fn fits_file(version: DocVersion, value: &Value) -> bool {
     match value.as_str() {
-        Some(text) => text.len() as u64 <= MAX_FILE_SIZE,
+        Some(text) => text.len() as u64 <= version.most_file_bytes(),
         None => false,
     }
 }
 
 // Whether the value has two hexadecimal digits for each byte, and not too many.
-fn is_hex(value: &Value) -> bool {
+fn is_hex(version: DocVersion, value: &Value) -> bool {
     match value.as_str() {
         Some(digits) => {
             let digits = digits.as_bytes();
             digits.len() % 2 == 0
-                && (digits.len() / 2) as u64 <= MAX_FILE_SIZE
+                && (digits.len() / 2) as u64 <= version.most_file_bytes()
                 && digits.iter().all(|digit| digit.is_ascii_hexdigit())
         }
         None => false,
@@ -77,17 +84,21 @@ fn is_hex(value: &Value) -> bool {
 }
 
 /// What the sort asks for.
-pub(crate) fn words_of(sort: Sort) -> &'static str {
+pub(crate) fn words_of(version: DocVersion, sort: Sort) -> &'static str {
     match sort {
         Sort::Anything => "anything",
-        Sort::One => "the number 1",
+        Sort::DocVersion => "the number 1 or 2",
         Sort::Flag => "true or false",
         Sort::Id => "a whole number from 1 to 18446744073709551615",
         Sort::AnyId => "a whole number from 0 to 18446744073709551615",
         Sort::Sequence => "a whole number from 0 to 9223372036854775807",
         Sort::Seconds => "a whole number from -9223372036854775808 to 9223372036854775807",
         Sort::Nanoseconds => "a whole number from 0 to 999999999",
-        Sort::FileSize => "a whole number from 0 to 16777216",
+        Sort::FileSize => in_version(
+            version,
+            "a whole number from 0 to 16777216",
+            "a whole number from 0 to 536870912",
+        ),
         Sort::BlockSize => "a whole number from 0 to 4294967295",
         Sort::Kind => "0 (a file), 1 (a directory) or 4 (a symlink)",
         Sort::FolderKind => "\"send-receive\", \"send-only\" or \"receive-only\"",
@@ -98,8 +109,16 @@ pub(crate) fn words_of(sort: Sort) -> &'static str {
         Sort::Hash => "64 hexadecimal digits",
         Sort::Version =>
             "a list of at most 16 pairs: an id from 1, rising, and a value from 1 to 9223372036854775807",
-        Sort::Text => "a text of at most 16777216 bytes",
-        Sort::Hex => "two hexadecimal digits for each of at most 16777216 bytes",
+        Sort::Text => in_version(
+            version,
+            "a text of at most 16777216 bytes",
+            "a text of at most 536870912 bytes",
+        ),
+        Sort::Hex => in_version(
+            version,
+            "two hexadecimal digits for each of at most 16777216 bytes",
+            "two hexadecimal digits for each of at most 536870912 bytes",
+        ),
         Sort::FreshLink => "a list of two devices",
         Sort::EditStep => "a list of this word, a device, a folder and a node",
         Sort::NameStep => "a list of this word, a device, a folder and a name",
@@ -110,5 +129,13 @@ pub(crate) fn words_of(sort: Sort) -> &'static str {
         Sort::Step =>
             "a list that begins with edit, remove, scan, override, revert, connect, lose, begin, deliver, announce, pull, ask, finish or restart",
         _ => "an object",
+    }
+}
+
+// What is asked for in documents of this version.
+fn in_version(version: DocVersion, one: &'static str, two: &'static str) -> &'static str {
+    match version {
+        DocVersion::One => one,
+        DocVersion::Two => two,
     }
 }

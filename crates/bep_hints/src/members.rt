@@ -46,7 +46,7 @@ pub(crate) enum Sort {
     Step,
     // values of one piece
     Anything,
-    One,
+    DocVersion,
     Flag,
     Id,
     AnyId,
@@ -113,13 +113,13 @@ pub(crate) fn members_of(sort: Sort) -> &'static [Member] {
 }
 
 static CHECK_DOCUMENT: [Member; 3] = [
-    Member("version", Due, Single(Sort::One)),
+    Member("version", Due, Single(Sort::DocVersion)),
     Member("cut", Due, Single(Sort::Cut)),
     Member("certificate", Due, List(Sort::Row, ANY)),
 ];
 
 static CUT_DOCUMENT: [Member; 3] = [
-    Member("version", Due, Single(Sort::One)),
+    Member("version", Due, Single(Sort::DocVersion)),
     Member("cut", Due, Single(Sort::Cut)),
     Member("certificate", May, Single(Sort::Anything)),
 ];

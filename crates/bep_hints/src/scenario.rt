@@ -7,7 +7,7 @@ use serde_json::Value;
 
 /// The members of a scenario.
 pub(crate) static SCENARIO: [Member; 4] = [
-    Member("version", Due, Single(Sort::One)),
+    Member("version", Due, Single(Sort::DocVersion)),
     Member("folders", Due, List(Sort::FreshFolder, MAX_FOLDERS)),
     Member("links", Due, List(Sort::FreshLink, ANY)),
     Member("steps", Due, List(Sort::Step, ANY)),

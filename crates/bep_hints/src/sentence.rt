@@ -5,7 +5,7 @@ use crate::members::Holds::Single;
 use crate::members::{Expected, Sort};
 use crate::walk::{Flaw, LEVELS, Step, look};
 use crate::wrong::{Wrong, items_of};
-use bep_document::{MAX_BYTES, has_version};
+use bep_document::{MAX_BYTES, doc_version};
 use bep_lines::{Piece, push_pieces};
 use bep_record::MAX_DEVICES;
 use serde_json::Value;
@@ -82,10 +82,10 @@ fn said_of_text(alloc: Global, error: &Error) -> Result<Vec<u8>, AllocError> {
 
 // What is at fault in a tree.
 fn said_of_tree(alloc: Global, tree: &Value, expected: Expected) -> Result<Vec<u8>, AllocError> {
-    if !has_version(tree) {
-        let what = "the document should be an object whose member version is 1";
+    let Some(version) = doc_version(tree) else {
+        let what = "the document should be an object whose member version is 1 or 2";
         return said(alloc, &[Piece::Text(what)]);
-    }
+    };
     let sort = match expected {
         Expected::Check => Sort::CheckDocument,
         Expected::Cut => Sort::CutDocument,
@@ -93,7 +93,7 @@ fn said_of_tree(alloc: Global, tree: &Value, expected: Expected) -> Result<Vec<u
     };
     for flaw in [Flaw::Shape, Flaw::Range] {
         let mut way = Vec::new(alloc);
-        if let Some(wrong) = look(alloc, flaw, &mut way, tree, Single(sort), LEVELS)? {
+        if let Some(wrong) = look(alloc, version, flaw, &mut way, tree, Single(sort), LEVELS)? {
             return said_at(alloc, way.as_slice(), wrong);
         }
     }

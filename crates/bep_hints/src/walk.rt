@@ -3,6 +3,7 @@ use crate::members::Holds::{List, Single};
 use crate::members::{Holds, Member, members_of};
 use crate::scenario::{places_of, sort_at};
 use crate::wrong::{Wrong, items_of, wrong_in};
+use bep_json::DocVersion;
 use serde_json::Value;
 use std::alloc::{AllocError, Global};
 
@@ -31,6 +32,7 @@ pub(crate) const LEVELS: usize = 16;
 /// something is, the way leads to it.
 pub(crate) fn look<'a>(
     alloc: Global,
+    version: DocVersion,
     flaw: Flaw,
     way: &mut Vec<Step<'a>>,
     value: &'a Value,
@@ -40,7 +42,7 @@ pub(crate) fn look<'a>(
     if levels == 0 {
         return Ok(None);
     }
-    let wrong = wrong_in(alloc, flaw, way, value, holds)?;
+    let wrong = wrong_in(alloc, version, flaw, way, value, holds)?;
     if wrong.is_some() {
         return Ok(wrong);
     }
@@ -49,7 +51,7 @@ pub(crate) fn look<'a>(
             continue;
         };
         way.push(step)?;
-        let wrong = look(alloc, flaw, way, part, holds, levels - 1)?;
+        let wrong = look(alloc, version, flaw, way, part, holds, levels - 1)?;
         if wrong.is_some() {
             return Ok(wrong);
         }

@@ -4,6 +4,7 @@ use crate::members::Holds::{List, Single};
 use crate::members::{Holds, Member, Need, Sort, members_of};
 use crate::scenario::{places_of, sort_at};
 use crate::walk::{Flaw, Step};
+use bep_json::DocVersion;
 use serde_json::Value;
 use std::alloc::{AllocError, Global};
 
@@ -27,6 +28,7 @@ type Found = Result<Option<Wrong>, AllocError>;
 /// What is wrong with a value in which this is to stand, if anything is. The way is led on to a member that isn't known.
 pub(crate) fn wrong_in<'a>(
     alloc: Global,
+    version: DocVersion,
     flaw: Flaw,
     way: &mut Vec<Step<'a>>,
     value: &'a Value,
@@ -38,10 +40,10 @@ pub(crate) fn wrong_in<'a>(
     };
     let members = members_of(sort);
     if members.is_empty() {
-        return Ok(wrong_piece(alloc, flaw, value, sort));
+        return Ok(wrong_piece(alloc, version, flaw, value, sort));
     }
     match flaw {
-        Flaw::Shape => wrong_object(way, value, sort, members),
+        Flaw::Shape => wrong_object(version, way, value, sort, members),
         Flaw::Range => Ok(None),
     }
 }
@@ -57,17 +59,23 @@ fn wrong_list(flaw: Flaw, value: &Value, most: usize) -> Option<Wrong> {
 }
 
 // What is wrong with a value that is no object: of one piece, or with a sort for each of its places.
-fn wrong_piece(alloc: Global, flaw: Flaw, value: &Value, sort: Sort) -> Option<Wrong> {
+fn wrong_piece(
+    alloc: Global,
+    version: DocVersion,
+    flaw: Flaw,
+    value: &Value,
+    sort: Sort,
+) -> Option<Wrong> {
     let places = places_of(sort);
     let fits = match flaw {
         _ if !places.is_empty() => items_of(value).len() == places.len(),
-        Flaw::Shape => has_shape(sort, value),
-        Flaw::Range => is_in_range(alloc, sort, value),
+        Flaw::Shape => has_shape(version, sort, value),
+        Flaw::Range => is_in_range(alloc, version, sort, value),
     };
     if fits {
         None
     } else {
-        Some(Wrong::Expected(words_of(sort)))
+        Some(Wrong::Expected(words_of(version, sort)))
     }
 }
 
@@ -81,6 +89,7 @@ pub(crate) fn items_of(value: &Value) -> &[Value] {
 
 // What is wrong with the members of an object, or where there is no object.
 fn wrong_object<'a>(
+    version: DocVersion,
     way: &mut Vec<Step<'a>>,
     value: &'a Value,
     sort: Sort,
@@ -101,7 +110,11 @@ fn wrong_object<'a>(
             return Ok(Some(Wrong::Missing(name)));
         }
     }
-    Ok(wrong_node(value, sort))
+    Ok(match sort {
+        Sort::Node => wrong_node(value),
+        Sort::Record => wrong_record(version, value),
+        _ => None,
+    })
 }
 
 fn is_known(members: &[Member], name: &str) -> bool {
@@ -109,10 +122,7 @@ fn is_known(members: &[Member], name: &str) -> bool {
 }
 
 // What is wrong with a node as a whole.
-fn wrong_node(value: &Value, sort: Sort) -> Option<Wrong> {
-    if sort != Sort::Node {
-        return None;
-    }
+fn wrong_node(value: &Value) -> Option<Wrong> {
     if value.get("text").is_some() && value.get("hex").is_some() {
         return Some(Wrong::TwoBodies);
     }
@@ -121,5 +131,29 @@ fn wrong_node(value: &Value, sort: Sort) -> Option<Wrong> {
             Some(Wrong::Missing("target"))
         }
         _ => None,
+    }
+}
+
+// What is wrong with a record as a whole: in version 2 one of a file that isn't deleted says its block size.
+fn wrong_record(version: DocVersion, value: &Value) -> Option<Wrong> {
+    let is_file = is_number(value.get("type"), 0);
+    let is_deleted = is_set(value.get("deleted"));
+    if version == DocVersion::One || !is_file || is_deleted || value.get("block_size").is_some() {
+        return None;
+    }
+    Some(Wrong::Missing("block_size"))
+}
+
+fn is_number(value: Option<&Value>, number: u64) -> bool {
+    match value {
+        Some(value) => value.as_u64() == Some(number),
+        None => false,
+    }
+}
+
+fn is_set(value: Option<&Value>) -> bool {
+    match value {
+        Some(value) => value.as_bool() == Some(true),
+        None => false,
     }
 }

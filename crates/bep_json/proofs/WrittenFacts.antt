@@ -7,7 +7,7 @@ use Rattle.std.proofs.lemmas.List.FromFn.{length-map-range_with_len}
 use Rattle.hex.specs.Hex.{IsBytes}
 use Rattle.hex.proofs.HexLemmas.{decode_of-encode_lower, decode_sized-encode_lower}
 use Rattle.serde_json.specs.Data.{string}
-use Rattle.bep_record.specs.Block.{base_block_size, block_count, cut_at, CutWhole}
+use Rattle.bep_record.specs.Block.{block_count, block_size_of, cut_at, CutWhole}
 use Rattle.bep_record.specs.Vector.{IsVersion, most_counters}
 use Rattle.bep_record.specs.Name.{IsName}
 use Rattle.bep_record.specs.Target.{IsTarget}
@@ -15,7 +15,8 @@ use Rattle.bep_record.specs.FolderName.{IsFolderName}
 use Rattle.bep_record.specs.declared.block.Block.{Block}
 use Rattle.bep_record.specs.declared.kind.Kind.{Kind}
 use Rattle.bep_record.specs.declared.kind.Kind.TheVariants.{File, Directory, Symlink}
-use Rattle.bep_record.specs.declared.limits.TheConstants.{MAX_FILE_SIZE}
+use Rattle.bep_json.specs.declared.version.DocVersion.{DocVersion}
+use Rattle.bep_json.specs.Version.{most_file_bytes}
 use Rattle.bep_json.specs.Numbers.{is_whole, read_kind}
 use Rattle.bep_json.specs.Texts.{is_text, fits_file, read_name, read_target, read_folder_name, read_hash, read_hex_bytes}
 use Rattle.bep_json.specs.Lists.{is_list, is_pair, read_pair, read_version}
@@ -51,10 +52,10 @@ pub hash_says : (hash : List ℕ) → length hash ≡ 32 → IsBytes hash → Sa
 unfolding read_hash
 hash_says hash sized bytes = (refl, rw (decode_sized-encode_lower hash 32 sized bytes))
 
-pub bytes_say : (bytes : List ℕ) → length bytes ≤ MAX_FILE_SIZE → IsBytes bytes → Says is_text read_hex_bytes bytes (hex_written bytes)
+pub bytes_say : (version : DocVersion) (bytes : List ℕ) → length bytes ≤ most_file_bytes version → IsBytes bytes → Says is_text (read_hex_bytes version) bytes (hex_written bytes)
 unfolding read_hex_bytes
-bytes_say bytes few fit =
-    let told : fits_file bytes ≡ true = grind (arith, nat_tests) in
+bytes_say version bytes few fit =
+    let told : fits_file version bytes ≡ true = grind (arith, nat_tests) in
     (refl, rw (decode_of-encode_lower bytes fit) (where_true _ _ told))
 
 -- ---- lists
@@ -91,12 +92,12 @@ same_blocks (x ∷ xs) (y ∷ ys) places hashes =
     λ i. first i ∷ rest i
 
 -- blocks that cut a file whole are those of their hashes
-pub blocks_again : (size : ℕ) (blocks : List Block) → CutWhole base_block_size size blocks → blocks_from size 0 (map (λ b. b.hash) blocks) ≡ blocks
+pub blocks_again : (size : ℕ) (blocks : List Block) → CutWhole (block_size_of size) size blocks → blocks_from size 0 (map (λ b. b.hash) blocks) ≡ blocks
 blocks_again size blocks whole =
     let hashes = map (λ (b : Block). b.hash) blocks in
-    let counted : length hashes ≡ block_count base_block_size size =
+    let counted : length hashes ≡ block_count (block_size_of size) size =
     length-map blocks (λ b. b.hash)
     ∙ sym (length-map blocks place_of)
     ∙ ap length whole
-    ∙ length-map-range_with_len (λ k. cut_at base_block_size size k) 0 (block_count base_block_size size) in
+    ∙ length-map-range_with_len (λ k. cut_at (block_size_of size) size k) 0 (block_count (block_size_of size) size) in
     same_blocks (blocks_from size 0 hashes) blocks (cut_whole-where_counted size hashes counted ∙ sym whole) (blocks_from-hashes size 0 hashes)

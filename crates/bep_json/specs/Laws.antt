@@ -1,6 +1,6 @@
 -- What holds of the words by which records and names are read.
 use Rattle.std.specs.Prelude.{◌≡◌, ◌↔◌, ◌≤◌, ℕ, IsTrue, List, map, length}
-use Rattle.bep_record.specs.Block.{base_block_size, block_count, CutWhole}
+use Rattle.bep_record.specs.Block.{block_count, block_size_of, CutWhole}
 use Rattle.bep_record.specs.FolderName.{IsFolderName}
 use Rattle.bep_record.specs.Name.{IsName}
 use Rattle.bep_record.specs.Target.{IsTarget}
@@ -27,7 +27,7 @@ VersionsAreTold =
 abbrev pub BlocksCutWhole : Type 0
 BlocksCutWhole =
     (size : ℕ) (hashes : List (List ℕ)) →
-    CutWhole base_block_size size (blocks_from size 0 hashes) ↔ (length hashes ≡ block_count base_block_size size)
+    CutWhole (block_size_of size) size (blocks_from size 0 hashes) ↔ (length hashes ≡ block_count (block_size_of size) size)
 
 -- they have these hashes
 abbrev pub BlocksHaveHashes : Type 0

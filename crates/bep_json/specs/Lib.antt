@@ -5,7 +5,9 @@ pub mod Texts
 pub mod Lists
 pub mod Records
 pub mod Nodes
+pub mod Version
 pub mod Written
 pub mod Members
 pub mod Says
+pub mod Back
 pub mod Laws

@@ -5,6 +5,7 @@ use Rattle.serde_json.specs.Find.{get}
 use Rattle.bep_record.specs.declared.kind.Kind.{Kind}
 use Rattle.bep_record.specs.declared.kind.Kind.TheVariants.{File, Directory, Symlink}
 use Rattle.bep_json.specs.declared.nodes.NamedParts.{NamedParts}
+use Rattle.bep_json.specs.declared.version.DocVersion.{DocVersion}
 use Rattle.bep_record.specs.declared.limits.TheConstants.{MAX_NANOSECONDS}
 use Rattle.bep_json.specs.Tree.{due, may, is_object}
 use Rattle.bep_json.specs.Reading.{◌>>=◌, read_member, read_member_or}
@@ -40,18 +41,18 @@ unfoldable pub is_node : Data → Bool
 is_node d = has_node_members d && (has_one_body d && has_due_target d)
 
 -- the bytes: those of the text, where there is one, else those of the hexadecimal digits, else none
-abbrev pub read_body : Option Data → Data → Option (List ℕ)
-read_body (Some text) d = read_text_bytes text
-read_body None d = read_member_or (codes "hex") read_hex_bytes [] d
+abbrev pub read_body : DocVersion → Option Data → Data → Option (List ℕ)
+read_body version (Some text) d = read_text_bytes version text
+read_body version None d = read_member_or (codes "hex") (read_hex_bytes version) [] d
 
 -- the name and what stands there, whether it fits its kind or not
-unfoldable pub read_node : Data → Option NamedParts
-read_node d = do
+unfoldable pub read_node : DocVersion → Data → Option NamedParts
+read_node version d = do
   name ← read_member (codes "name") read_name d
   kind ← read_member (codes "type") read_kind d
   modified_s ← read_member (codes "modified_s") read_signed d
   modified_ns ← read_member_or (codes "modified_ns") (read_number 0 MAX_NANOSECONDS) 0 d
-  bytes ← read_body (get (codes "text") d) d
+  bytes ← read_body version (get (codes "text") d) d
   target ← read_member_or (codes "target") read_target [] d
   Some (record {
     name = name;

@@ -10,8 +10,10 @@ use Rattle.serde_json.specs.Find.{as_str}
 use Rattle.bep_record.specs.Name.{parts_of}
 use Rattle.bep_record.specs.declared.folder_kind.FolderKind.{FolderKind}
 use Rattle.bep_record.specs.declared.folder_kind.FolderKind.TheVariants.{SendReceive, SendOnly, ReceiveOnly}
-use Rattle.bep_record.specs.declared.limits.TheConstants.{MAX_FILE_SIZE, MAX_NAME_LEN, MAX_TARGET_LEN, MAX_FOLDER_NAME_LEN}
+use Rattle.bep_record.specs.declared.limits.TheConstants.{MAX_NAME_LEN, MAX_TARGET_LEN, MAX_FOLDER_NAME_LEN}
+use Rattle.bep_json.specs.declared.version.DocVersion.{DocVersion}
 use Rattle.bep_json.specs.Reading.{◌>>=◌}
+use Rattle.bep_json.specs.Version.{most_file_bytes}
 
 -- a text
 abbrev pub is_text : Data → Bool
@@ -73,13 +75,13 @@ unfoldable pub read_hash : Data → Option (List ℕ)
 read_hash d = as_str d >>= λ text. result_ok (decode_sized text 32)
 
 -- bytes that a file may have
-abbrev pub fits_file : List ℕ → Bool
-fits_file bytes = nat_le (length bytes) MAX_FILE_SIZE
+abbrev pub fits_file : DocVersion → List ℕ → Bool
+fits_file version bytes = nat_le (length bytes) (most_file_bytes version)
 
 -- the bytes of a text, in UTF-8
-unfoldable pub read_text_bytes : Data → Option (List ℕ)
-read_text_bytes d = as_str d >>= if_passes fits_file
+unfoldable pub read_text_bytes : DocVersion → Data → Option (List ℕ)
+read_text_bytes version d = as_str d >>= if_passes (fits_file version)
 
 -- the bytes of hexadecimal digits of either case
-unfoldable pub read_hex_bytes : Data → Option (List ℕ)
-read_hex_bytes d = as_str d >>= λ text. result_ok (decode_of text) >>= if_passes fits_file
+unfoldable pub read_hex_bytes : DocVersion → Data → Option (List ℕ)
+read_hex_bytes version d = as_str d >>= λ text. result_ok (decode_of text) >>= if_passes (fits_file version)

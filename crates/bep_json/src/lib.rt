@@ -3,9 +3,9 @@
 //! Each thing is read in two walks. The first asks whether the tree has the thing's shape: members and kinds of values.
 //! The second makes the thing, where every number and text is inside its range. A caller reads a message so:
 //!
-//!     if !(has_only(tree, &["folder", "records"]) && has::<Items<Entry>>(tree, "records")) { .. }
-//!     let folder = member::<FolderName>(alloc, tree, "folder")?;
-//!     let records = member::<Items<Entry>>(alloc, tree, "records")?;
+//!     if !(has_only(tree, &["folder", "records"]) && has::<Items<Entry>>(version, tree, "records")) { .. }
+//!     let folder = member::<FolderName>(alloc, version, tree, "folder")?;
+//!     let records = member::<Items<Entry>>(alloc, version, tree, "records")?;
 #![tactic(auto)]
 
 mod digits;
@@ -19,6 +19,7 @@ mod readable;
 mod records;
 mod texts;
 mod tree;
+mod version;
 mod writing;
 
 pub use error::ReadError;
@@ -28,4 +29,5 @@ pub use nodes::NamedParts;
 pub use numbers::{Nanoseconds, Sequence, Whole};
 pub use readable::{Readable, has, may_have, member, member_or};
 pub use tree::has_only;
+pub use version::DocVersion;
 pub use writing::{node_value, record_value};

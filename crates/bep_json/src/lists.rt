@@ -5,45 +5,49 @@ ghost use Rattle.bep_json.specs.Reading.{Gives, GivesBy};
 ghost use Rattle.bep_json.specs.Lists.{have_shape, is_list, read_items, read_list, two_of, is_pair, read_pair, read_version};
 
 use crate::numbers::is_whole;
-use crate::{ReadError, Readable};
+use crate::{DocVersion, ReadError, Readable};
 use bep_record::{Items, Vector};
 use serde_json::Value;
 use std::alloc::Global;
 
 impl<T: Readable> Readable for Items<T> {
-    ghost has_shape = { is_list T.has_shape };
+    ghost has_shape = { λ version. is_list (T.has_shape version) };
 
-    ghost reads = { read_list T.reads };
+    ghost reads = { λ version. read_list (T.reads version) };
 
-    fn has_shape(value: &Value) -> bool {
+    fn has_shape(version: DocVersion, value: &Value) -> bool {
         match value.as_array() {
-            Some(items) => have_shape::<T>(items.as_slice()),
+            Some(items) => have_shape::<T>(version, items.as_slice()),
             None => false,
         }
     }
 
-    fn read(alloc: Global, value: &Value) -> Result<Self, ReadError> {
+    fn read(alloc: Global, version: DocVersion, value: &Value) -> Result<Self, ReadError> {
         let Some(items) = value.as_array() else {
             return Err(ReadError::Range);
         };
-        Ok(Items::new(read_items(alloc, items.as_slice())?))
+        Ok(Items::new(read_items(alloc, version, items.as_slice())?))
     }
 }
 
 // Whether each item has a `T`'s shape.
-fn have_shape<T: Readable>(items: &[Value]) -> bool
-    ensures { result ≡ have_shape T.has_shape (items_view items.now) }
+fn have_shape<T: Readable>(version: DocVersion, items: &[Value]) -> bool
+    ensures { result ≡ have_shape (T.has_shape version) (items_view items.now) }
 {
-    items.iter().all(|item| T::has_shape(item))
+    items.iter().all(|item| T::has_shape(version, item))
 }
 
 // The thing of each item, in order.
-fn read_items<T: Readable>(alloc: Global, items: &[Value]) -> Result<Vec<T>, ReadError>
-    ensures { GivesBy (λ things. things.items) result (read_items T.reads (items_view items.now)) }
+fn read_items<T: Readable>(
+    alloc: Global,
+    version: DocVersion,
+    items: &[Value],
+) -> Result<Vec<T>, ReadError>
+    ensures { GivesBy (λ things. things.items) result (read_items (T.reads version) (items_view items.now)) }
 {
     let mut things = Vec::with_capacity(alloc, items.len())?;
     for item in items {
-        let thing = T::read(alloc, item)?;
+        let thing = T::read(alloc, version, item)?;
         things.push(thing)?;
     }
     Ok(things)
@@ -63,12 +67,12 @@ fn two_of(value: &Value) -> Option<(&Value, &Value)>
 
 // A pair of unsigned numbers, written as a list.
 impl Readable for (u64, u64) {
-    ghost has_shape = { is_pair };
+    ghost has_shape = { λ _. is_pair };
 
-    ghost reads = { read_pair };
+    ghost reads = { λ _. read_pair };
 
     #[tactic(auto, unfolding(crate::specs::Lists::is_pair))]
-    fn has_shape(value: &Value) -> bool {
+    fn has_shape(_version: DocVersion, value: &Value) -> bool {
         match two_of(value) {
             Some((first, second)) => is_whole(first) && is_whole(second),
             None => false,
@@ -76,7 +80,7 @@ impl Readable for (u64, u64) {
     }
 
     #[tactic(auto, unfolding(crate::specs::Lists::read_pair))]
-    fn read(_alloc: Global, value: &Value) -> Result<Self, ReadError> {
+    fn read(_alloc: Global, _version: DocVersion, value: &Value) -> Result<Self, ReadError> {
         let Some((first, second)) = two_of(value) else {
             return Err(ReadError::Range);
         };
@@ -88,17 +92,17 @@ impl Readable for (u64, u64) {
 }
 
 impl Readable for Vector {
-    ghost has_shape = { is_list is_pair };
+    ghost has_shape = { λ _. is_list is_pair };
 
-    ghost reads = { read_version };
+    ghost reads = { λ _. read_version };
 
-    fn has_shape(value: &Value) -> bool {
-        <Items<(u64, u64)>>::has_shape(value)
+    fn has_shape(version: DocVersion, value: &Value) -> bool {
+        <Items<(u64, u64)>>::has_shape(version, value)
     }
 
     #[tactic(auto, unfolding(crate::specs::Lists::read_version), using(crate::proofs::ListFacts::version_decides))]
-    fn read(alloc: Global, value: &Value) -> Result<Self, ReadError> {
-        let pairs = <Items<(u64, u64)>>::read(alloc, value)?;
+    fn read(alloc: Global, version: DocVersion, value: &Value) -> Result<Self, ReadError> {
+        let pairs = <Items<(u64, u64)>>::read(alloc, version, value)?;
         match Vector::read(pairs.as_slice()) {
             Some(version) => Ok(version),
             None => Err(ReadError::Range),

@@ -9,7 +9,7 @@ ghost use Rattle.bep_json.specs.Nodes.{is_node, has_node_members, has_one_body, 
 
 use crate::numbers::kind_of;
 use crate::texts::{HexBytes, TextBytes};
-use crate::{Nanoseconds, ReadError, Readable, Whole, is_object, member, member_or};
+use crate::{DocVersion, Nanoseconds, ReadError, Readable, Whole, is_object, member, member_or};
 use bep_record::{Items, Kind, Name, NodeParts, Target};
 use serde_json::Value;
 use std::alloc::Global;
@@ -25,23 +25,29 @@ pub struct NamedParts {
 
 // A node, whether it fits its kind or not.
 impl Readable for NamedParts {
-    ghost has_shape = { is_node };
+    ghost has_shape = { λ _. is_node };
 
     ghost reads = { read_node };
 
     #[tactic(auto, unfolding(crate::specs::Nodes::is_node))]
-    fn has_shape(value: &Value) -> bool {
-        has_node_members(value) && has_one_body(value) && has_due_target(value)
+    fn has_shape(version: DocVersion, value: &Value) -> bool {
+        has_node_members(version, value) && has_one_body(value) && has_due_target(value)
     }
 
     #[tactic(auto, unfolding(crate::specs::Nodes::read_node))]
-    fn read(alloc: Global, value: &Value) -> Result<Self, ReadError> {
-        let name = member::<Name>(alloc, value, "name")?;
-        let kind = member::<Kind>(alloc, value, "type")?;
-        let modified_s = member::<i64>(alloc, value, "modified_s")?;
-        let modified_ns = member_or::<Nanoseconds>(alloc, value, "modified_ns", Whole::new(0))?;
-        let bytes = body(alloc, value)?;
-        let target = member_or::<Target>(alloc, value, "target", Target::empty(alloc))?;
+    fn read(alloc: Global, version: DocVersion, value: &Value) -> Result<Self, ReadError> {
+        let name = member::<Name>(alloc, version, value, "name")?;
+        let kind = member::<Kind>(alloc, version, value, "type")?;
+        let modified_s = member::<i64>(alloc, version, value, "modified_s")?;
+        let modified_ns = member_or::<Nanoseconds>(
+            alloc,
+            version,
+            value,
+            "modified_ns",
+            Whole::new(0),
+        )?;
+        let bytes = body(alloc, version, value)?;
+        let target = member_or::<Target>(alloc, version, value, "target", Target::empty(alloc))?;
         let parts = NodeParts {
             kind,
             bytes,
@@ -55,10 +61,10 @@ impl Readable for NamedParts {
 
 // Whether the value is an object with the members of a node, each of its kind, and no others.
 #[tactic(auto, unfolding(crate::specs::Nodes::has_node_members))]
-fn has_node_members(value: &Value) -> bool
+fn has_node_members(version: DocVersion, value: &Value) -> bool
     ensures { result ≡ has_node_members (view value.now) }
 {
-    is_object!(value;
+    is_object!(version, value;
         has "name": Name, has "type": Kind, has "modified_s": i64, may_have "modified_ns": Nanoseconds,
         may_have "text": TextBytes, may_have "hex": HexBytes, may_have "target": Target)
 }
@@ -95,20 +101,20 @@ fn is_symlink(value: &Value) -> bool
 }
 
 // The bytes, which are written as a text or in hexadecimal digits.
-fn body(alloc: Global, value: &Value) -> Result<Items<u8>, ReadError>
-    ensures { Gives result (read_body (get (codes "text") (view value.now)) (view value.now)) }
+fn body(alloc: Global, version: DocVersion, value: &Value) -> Result<Items<u8>, ReadError>
+    ensures { Gives result (read_body version (get (codes "text") (view value.now)) (view value.now)) }
 {
     match value.get("text") {
-        Some(text) => Ok(TextBytes::read(alloc, text)?.into_items()),
-        None => hex_body(alloc, value),
+        Some(text) => Ok(TextBytes::read(alloc, version, text)?.into_items()),
+        None => hex_body(alloc, version, value),
     }
 }
 
-fn hex_body(alloc: Global, value: &Value) -> Result<Items<u8>, ReadError>
-    ensures { Gives result (read_member_or (codes "hex") read_hex_bytes [] (view value.now)) }
+fn hex_body(alloc: Global, version: DocVersion, value: &Value) -> Result<Items<u8>, ReadError>
+    ensures { Gives result (read_member_or (codes "hex") (read_hex_bytes version) [] (view value.now)) }
 {
     match value.get("hex") {
-        Some(digits) => Ok(HexBytes::read(alloc, digits)?.into_items()),
+        Some(digits) => Ok(HexBytes::read(alloc, version, digits)?.into_items()),
         None => Ok(Items::new(Vec::new(alloc))),
     }
 }

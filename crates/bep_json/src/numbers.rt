@@ -4,7 +4,7 @@ ghost use Rattle.serde_json.specs.View.{view};
 ghost use Rattle.bep_json.specs.Reading.{Gives};
 ghost use Rattle.bep_json.specs.Numbers.{is_whole, is_flag, read_number, read_signed, read_flag, read_kind, greatest_id};
 
-use crate::{ReadError, Readable};
+use crate::{DocVersion, ReadError, Readable};
 use bep_record::{DeviceId, Kind};
 use serde_json::Value;
 use std::alloc::Global;
@@ -53,15 +53,15 @@ impl<const LOW: u64, const HIGH: u64> Whole<LOW, HIGH> {
 }
 
 impl<const LOW: u64, const HIGH: u64> Readable for Whole<LOW, HIGH> {
-    ghost has_shape = { is_whole };
+    ghost has_shape = { λ _. is_whole };
 
-    ghost reads = { read_number LOW HIGH };
+    ghost reads = { λ _. read_number LOW HIGH };
 
-    fn has_shape(value: &Value) -> bool {
+    fn has_shape(_version: DocVersion, value: &Value) -> bool {
         is_whole(value)
     }
 
-    fn read(_alloc: Global, value: &Value) -> Result<Self, ReadError> {
+    fn read(_alloc: Global, _version: DocVersion, value: &Value) -> Result<Self, ReadError> {
         match value.as_u64() {
             Some(number) if LOW <= number && number <= HIGH => Ok(Whole { number }),
             _ => Err(ReadError::Range),
@@ -70,15 +70,15 @@ impl<const LOW: u64, const HIGH: u64> Readable for Whole<LOW, HIGH> {
 }
 
 impl Readable for i64 {
-    ghost has_shape = { is_whole };
+    ghost has_shape = { λ _. is_whole };
 
-    ghost reads = { read_signed };
+    ghost reads = { λ _. read_signed };
 
-    fn has_shape(value: &Value) -> bool {
+    fn has_shape(_version: DocVersion, value: &Value) -> bool {
         is_whole(value)
     }
 
-    fn read(_alloc: Global, value: &Value) -> Result<Self, ReadError> {
+    fn read(_alloc: Global, _version: DocVersion, value: &Value) -> Result<Self, ReadError> {
         match value.as_i64() {
             Some(number) => Ok(number),
             None => Err(ReadError::Range),
@@ -87,15 +87,15 @@ impl Readable for i64 {
 }
 
 impl Readable for bool {
-    ghost has_shape = { is_flag };
+    ghost has_shape = { λ _. is_flag };
 
-    ghost reads = { read_flag };
+    ghost reads = { λ _. read_flag };
 
-    fn has_shape(value: &Value) -> bool {
+    fn has_shape(_version: DocVersion, value: &Value) -> bool {
         value.is_boolean()
     }
 
-    fn read(_alloc: Global, value: &Value) -> Result<Self, ReadError> {
+    fn read(_alloc: Global, _version: DocVersion, value: &Value) -> Result<Self, ReadError> {
         match value.as_bool() {
             Some(flag) => Ok(flag),
             None => Err(ReadError::Range),
@@ -104,15 +104,15 @@ impl Readable for bool {
 }
 
 impl Readable for DeviceId {
-    ghost has_shape = { is_whole };
+    ghost has_shape = { λ _. is_whole };
 
-    ghost reads = { read_number 1 greatest_id };
+    ghost reads = { λ _. read_number 1 greatest_id };
 
-    fn has_shape(value: &Value) -> bool {
+    fn has_shape(_version: DocVersion, value: &Value) -> bool {
         is_whole(value)
     }
 
-    fn read(_alloc: Global, value: &Value) -> Result<Self, ReadError> {
+    fn read(_alloc: Global, _version: DocVersion, value: &Value) -> Result<Self, ReadError> {
         match value.as_u64() {
             Some(number) => match DeviceId::read(number) {
                 Some(device) => Ok(device),
@@ -124,15 +124,15 @@ impl Readable for DeviceId {
 }
 
 impl Readable for Kind {
-    ghost has_shape = { is_whole };
+    ghost has_shape = { λ _. is_whole };
 
-    ghost reads = { read_kind };
+    ghost reads = { λ _. read_kind };
 
-    fn has_shape(value: &Value) -> bool {
+    fn has_shape(_version: DocVersion, value: &Value) -> bool {
         is_whole(value)
     }
 
-    fn read(_alloc: Global, value: &Value) -> Result<Self, ReadError> {
+    fn read(_alloc: Global, _version: DocVersion, value: &Value) -> Result<Self, ReadError> {
         match kind_of(value) {
             Some(kind) => Ok(kind),
             None => Err(ReadError::Range),

@@ -2,57 +2,63 @@
 ghost use Rattle.std.specs.Prelude.{◌≡◌, Bool, Option};
 ghost use Rattle.serde_json.specs.Data.{Data};
 ghost use Rattle.serde_json.specs.View.{view};
+ghost use Rattle.bep_json.specs.declared.version.DocVersion.{DocVersion as VersionOf};
 ghost use Rattle.bep_json.specs.Tree.{has_member, may_have_member};
 ghost use Rattle.bep_json.specs.Reading.{Gives, read_member, read_member_or};
 
-use crate::ReadError;
+use crate::{DocVersion, ReadError};
 use serde_json::Value;
 use std::alloc::Global;
 
 /// A thing that stands in a JSON tree.
 pub trait Readable: Drop + Sized {
-    /// Which values have the thing's shape.
-    ghost has_shape: { Data → Bool };
+    /// Which values of a document of a version have the thing's shape.
+    ghost has_shape: { VersionOf → Data → Bool };
 
-    /// Which thing a value stands for, where each of its parts is inside its range.
-    ghost reads: { Data → Option Self };
+    /// Which thing a value of a document of a version stands for, where each of its parts is inside its range.
+    ghost reads: { VersionOf → Data → Option Self };
 
     /// Whether the value has the thing's shape: its members, and their kinds.
-    fn has_shape(value: &Value) -> bool
-        ensures { result ≡ has_shape (view value.now) };
+    fn has_shape(version: DocVersion, value: &Value) -> bool
+        ensures { result ≡ has_shape version (view value.now) };
 
     /// The thing that the value stands for. `Range` where there is none; `Memory` may come in place of any answer.
-    fn read(alloc: Global, value: &Value) -> Result<Self, ReadError>
-        ensures { Gives result (reads (view value.now)) };
+    fn read(alloc: Global, version: DocVersion, value: &Value) -> Result<Self, ReadError>
+        ensures { Gives result (reads version (view value.now)) };
 }
 
 /// Whether the value has a member of this name that has a `T`'s shape.
-pub fn has<T: Readable>(value: &Value, name: &str) -> bool
-    ensures { result ≡ has_member name.now T.has_shape (view value.now) }
+pub fn has<T: Readable>(version: DocVersion, value: &Value, name: &str) -> bool
+    ensures { result ≡ has_member name.now (T.has_shape version) (view value.now) }
 {
     match value.get(name) {
-        Some(found) => T::has_shape(found),
+        Some(found) => T::has_shape(version, found),
         None => false,
     }
 }
 
 /// Whether a member of this name, if the value has one, has a `T`'s shape.
-pub fn may_have<T: Readable>(value: &Value, name: &str) -> bool
-    ensures { result ≡ may_have_member name.now T.has_shape (view value.now) }
+pub fn may_have<T: Readable>(version: DocVersion, value: &Value, name: &str) -> bool
+    ensures { result ≡ may_have_member name.now (T.has_shape version) (view value.now) }
 {
     match value.get(name) {
-        Some(member) => T::has_shape(member),
+        Some(member) => T::has_shape(version, member),
         None => true,
     }
 }
 
 /// The thing at the member of this name. `Range` where there is none, or no such member; `Memory` may come in place of
 /// any answer.
-pub fn member<T: Readable>(alloc: Global, value: &Value, name: &str) -> Result<T, ReadError>
-    ensures { Gives result (read_member name.now T.reads (view value.now)) }
+pub fn member<T: Readable>(
+    alloc: Global,
+    version: DocVersion,
+    value: &Value,
+    name: &str,
+) -> Result<T, ReadError>
+    ensures { Gives result (read_member name.now (T.reads version) (view value.now)) }
 {
     match value.get(name) {
-        Some(found) => T::read(alloc, found),
+        Some(found) => T::read(alloc, version, found),
         None => Err(ReadError::Range),
     }
 }
@@ -61,14 +67,15 @@ pub fn member<T: Readable>(alloc: Global, value: &Value, name: &str) -> Result<T
 /// such thing; `Memory` may come in place of any answer.
 pub fn member_or<T: Readable>(
     alloc: Global,
+    version: DocVersion,
     value: &Value,
     name: &str,
     default: T,
 ) -> Result<T, ReadError>
-    ensures { Gives result (read_member_or name.now T.reads default (view value.now)) }
+    ensures { Gives result (read_member_or name.now (T.reads version) default (view value.now)) }
 {
     match value.get(name) {
-        Some(member) => T::read(alloc, member),
+        Some(member) => T::read(alloc, version, member),
         None => Ok(default),
     }
 }
@@ -76,10 +83,10 @@ pub fn member_or<T: Readable>(
 /// Whether the value is an object with these members, each of its thing's shape, and no others. A member after `has`
 /// must be there, one after `may_have` may be left out.
 ///
-///     is_object!(value; has "folders": Items<FolderParts>, may_have "links": Items<LinkParts>)
+///     is_object!(version, value; has "folders": Items<FolderParts>, may_have "links": Items<LinkParts>)
 #[macro_export]
 macro_rules! is_object {
-    ($value:expr; $($asked:ident $name:literal: $thing:ty),+) => {
-        $crate::has_only($value, &[$($name),+]) $(&& $crate::$asked::<$thing>($value, $name))+
+    ($version:expr, $value:expr; $($asked:ident $name:literal: $thing:ty),+) => {
+        $crate::has_only($value, &[$($name),+]) $(&& $crate::$asked::<$thing>($version, $value, $name))+
     };
 }

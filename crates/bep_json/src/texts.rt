@@ -5,23 +5,23 @@ ghost use Rattle.bep_json.specs.Reading.{Gives};
 ghost use Rattle.bep_json.specs.Texts.{is_text, read_name, read_target, read_folder_name, read_folder_kind, read_hash, fits_file, read_text_bytes, read_hex_bytes};
 
 use crate::digits::{bytes_of, hash_of};
-use crate::{ReadError, Readable};
-use bep_record::{FolderKind, FolderName, Items, MAX_FILE_SIZE, Name, RecordError, Target};
+use crate::{DocVersion, ReadError, Readable};
+use bep_record::{FolderKind, FolderName, Items, Name, RecordError, Target};
 use serde_json::Value;
 use std::alloc::Global;
 use std::marker::Model;
 
 impl Readable for Name {
-    ghost has_shape = { is_text };
+    ghost has_shape = { λ _. is_text };
 
-    ghost reads = { read_name };
+    ghost reads = { λ _. read_name };
 
-    fn has_shape(value: &Value) -> bool {
+    fn has_shape(_version: DocVersion, value: &Value) -> bool {
         value.is_string()
     }
 
     #[tactic(auto, unfolding(crate::specs::Texts::read_name), using(crate::proofs::TextFacts::name_decides))]
-    fn read(alloc: Global, value: &Value) -> Result<Self, ReadError> {
+    fn read(alloc: Global, _version: DocVersion, value: &Value) -> Result<Self, ReadError> {
         let Some(text) = value.as_str() else {
             return Err(ReadError::Range);
         };
@@ -34,16 +34,16 @@ impl Readable for Name {
 }
 
 impl Readable for Target {
-    ghost has_shape = { is_text };
+    ghost has_shape = { λ _. is_text };
 
-    ghost reads = { read_target };
+    ghost reads = { λ _. read_target };
 
-    fn has_shape(value: &Value) -> bool {
+    fn has_shape(_version: DocVersion, value: &Value) -> bool {
         value.is_string()
     }
 
     #[tactic(auto, unfolding(crate::specs::Texts::read_target), using(crate::proofs::TextFacts::target_decides))]
-    fn read(alloc: Global, value: &Value) -> Result<Self, ReadError> {
+    fn read(alloc: Global, _version: DocVersion, value: &Value) -> Result<Self, ReadError> {
         let Some(text) = value.as_str() else {
             return Err(ReadError::Range);
         };
@@ -56,16 +56,16 @@ impl Readable for Target {
 }
 
 impl Readable for FolderName {
-    ghost has_shape = { is_text };
+    ghost has_shape = { λ _. is_text };
 
-    ghost reads = { read_folder_name };
+    ghost reads = { λ _. read_folder_name };
 
-    fn has_shape(value: &Value) -> bool {
+    fn has_shape(_version: DocVersion, value: &Value) -> bool {
         value.is_string()
     }
 
     #[tactic(auto, unfolding(crate::specs::Texts::read_folder_name), using(crate::proofs::TextFacts::folder_name_decides))]
-    fn read(alloc: Global, value: &Value) -> Result<Self, ReadError> {
+    fn read(alloc: Global, _version: DocVersion, value: &Value) -> Result<Self, ReadError> {
         let Some(text) = value.as_str() else {
             return Err(ReadError::Range);
         };
@@ -79,15 +79,15 @@ impl Readable for FolderName {
 
 // What a device does with a folder, by its name.
 impl Readable for FolderKind {
-    ghost has_shape = { is_text };
+    ghost has_shape = { λ _. is_text };
 
-    ghost reads = { read_folder_kind };
+    ghost reads = { λ _. read_folder_kind };
 
-    fn has_shape(value: &Value) -> bool {
+    fn has_shape(_version: DocVersion, value: &Value) -> bool {
         value.is_string()
     }
 
-    fn read(_alloc: Global, value: &Value) -> Result<Self, ReadError> {
+    fn read(_alloc: Global, _version: DocVersion, value: &Value) -> Result<Self, ReadError> {
         match value.as_str() {
             Some("send-receive") => Ok(FolderKind::SendReceive),
             Some("send-only") => Ok(FolderKind::SendOnly),
@@ -99,16 +99,16 @@ impl Readable for FolderKind {
 
 // A SHA-256 (FIPS 180-4).
 impl Readable for [u8; 32] {
-    ghost has_shape = { is_text };
+    ghost has_shape = { λ _. is_text };
 
-    ghost reads = { read_hash };
+    ghost reads = { λ _. read_hash };
 
-    fn has_shape(value: &Value) -> bool {
+    fn has_shape(_version: DocVersion, value: &Value) -> bool {
         value.is_string()
     }
 
     #[tactic(auto, unfolding(crate::specs::Texts::read_hash))]
-    fn read(_alloc: Global, value: &Value) -> Result<Self, ReadError> {
+    fn read(_alloc: Global, _version: DocVersion, value: &Value) -> Result<Self, ReadError> {
         let Some(text) = value.as_str() else {
             return Err(ReadError::Range);
         };
@@ -120,13 +120,13 @@ impl Readable for [u8; 32] {
 }
 
 // Whether a file may have these bytes.
-fn fits_file(bytes: &[u8]) -> bool
-    ensures { result ≡ fits_file bytes.now }
+fn fits_file(version: DocVersion, bytes: &[u8]) -> bool
+    ensures { result ≡ fits_file version bytes.now }
 {
-    bytes.len() as u64 <= MAX_FILE_SIZE
+    bytes.len() as u64 <= version.most_file_bytes()
 }
 
-// A file's bytes, written as a text: at most 16777216.
+// A file's bytes, written as a text.
 #[derive(Debug, Drop)]
 pub(crate) struct TextBytes {
     bytes: Items<u8>,
@@ -148,21 +148,21 @@ impl TextBytes {
 }
 
 impl Readable for TextBytes {
-    ghost has_shape = { is_text };
+    ghost has_shape = { λ _. is_text };
 
     ghost reads = { read_text_bytes };
 
-    fn has_shape(value: &Value) -> bool {
+    fn has_shape(_version: DocVersion, value: &Value) -> bool {
         value.is_string()
     }
 
     #[tactic(auto, unfolding(crate::specs::Texts::read_text_bytes))]
-    fn read(alloc: Global, value: &Value) -> Result<Self, ReadError> {
+    fn read(alloc: Global, version: DocVersion, value: &Value) -> Result<Self, ReadError> {
         let Some(text) = value.as_str() else {
             return Err(ReadError::Range);
         };
         let bytes = text.as_bytes();
-        if !fits_file(bytes) {
+        if !fits_file(version, bytes) {
             return Err(ReadError::Range);
         }
         let bytes = Vec::from_slice(alloc, bytes)?;
@@ -172,7 +172,7 @@ impl Readable for TextBytes {
     }
 }
 
-// A file's bytes, written in hexadecimal digits: at most 16777216 bytes.
+// A file's bytes, written in hexadecimal digits.
 #[derive(Debug, Drop)]
 pub(crate) struct HexBytes {
     bytes: Items<u8>,
@@ -194,23 +194,23 @@ impl HexBytes {
 }
 
 impl Readable for HexBytes {
-    ghost has_shape = { is_text };
+    ghost has_shape = { λ _. is_text };
 
     ghost reads = { read_hex_bytes };
 
-    fn has_shape(value: &Value) -> bool {
+    fn has_shape(_version: DocVersion, value: &Value) -> bool {
         value.is_string()
     }
 
     #[tactic(auto, unfolding(crate::specs::Texts::read_hex_bytes))]
-    fn read(alloc: Global, value: &Value) -> Result<Self, ReadError> {
+    fn read(alloc: Global, version: DocVersion, value: &Value) -> Result<Self, ReadError> {
         let Some(text) = value.as_str() else {
             return Err(ReadError::Range);
         };
         let Some(bytes) = bytes_of(alloc, text.as_bytes())? else {
             return Err(ReadError::Range);
         };
-        if !fits_file(bytes.as_slice()) {
+        if !fits_file(version, bytes.as_slice()) {
             return Err(ReadError::Range);
         }
         Ok(HexBytes {

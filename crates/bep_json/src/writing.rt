@@ -8,9 +8,8 @@ ghost use Rattle.bep_record.specs.Target.{IsTarget};
 ghost use Rattle.bep_json.specs.Numbers.{is_whole, read_number, read_signed, greatest_id};
 ghost use Rattle.bep_json.specs.Texts.{is_text, read_hash};
 ghost use Rattle.bep_json.specs.Lists.{is_list, is_pair, read_version};
-ghost use Rattle.bep_json.specs.Records.{is_record, read_record};
-ghost use Rattle.bep_json.specs.Nodes.{is_node, read_node};
 ghost use Rattle.bep_json.specs.Says.{Says};
+ghost use Rattle.bep_json.specs.Back.{IsRecordBack, IsNodeBack};
 ghost use Rattle.bep_json.specs.Written.{whole, signed, number_of, counter_written, version_written, hex_written, hashes_written, record_written, node_written};
 
 use crate::Members;
@@ -18,10 +17,11 @@ use bep_record::{Block, DeviceId, Entry, Kind, Name, Node, NodeParts, Record, Ta
 use serde_json::{Value, json};
 use std::alloc::{AllocError, Global};
 
-/// The record as a tree, from which it is read again if its sequence is at most 9223372036854775807; or want of memory.
+/// The record as a tree, or want of memory. It is read again from that tree in each version whose files may be so long, if
+/// its sequence is at most 9223372036854775807.
 pub fn record_value(alloc: Global, written: &Record) -> Result<Value, AllocError>
     ensures value { IfOk result (λ v. view v ≡ record_written written.now) }
-    ensures back { OnOk result (written.now.sequence ≤ 9223372036854775807 → Says is_record read_record written.now (record_written written.now)) }
+    ensures back { OnOk result (IsRecordBack written.now (record_written written.now)) }
 {
     let entry = written.entry();
     let blocks = hashes_value(alloc, entry.blocks.as_slice())?;
@@ -75,10 +75,11 @@ fn fields_are_told(entry: &Entry)
     version_is_told(&entry.version);
 }
 
-/// What a store holds at the name as a tree, from which it is read again; or want of memory.
+/// What a store holds at the name as a tree, or want of memory. It is read again from that tree in each version whose files
+/// may be so long.
 pub fn node_value(alloc: Global, name: &Name, node: &Node) -> Result<Value, AllocError>
     ensures value { IfOk result (λ v. view v ≡ node_written name.now node.now) }
-    ensures back { OnOk result (Says is_node read_node (record { name = name.now; parts = node.now }) (node_written name.now node.now)) }
+    ensures back { OnOk result (IsNodeBack (record { name = name.now; parts = node.now }) (node_written name.now node.now)) }
 {
     let parts = node.parts();
     let bytes = hex_value(alloc, parts.bytes.as_slice())?;

@@ -8,8 +8,9 @@ use Rattle.bep_record.specs.declared.block.Block.{Block}
 use Rattle.bep_record.specs.declared.entry.Entry.{Entry}
 use Rattle.bep_record.specs.declared.kind.Kind.{Kind}
 use Rattle.bep_record.specs.declared.kind.Kind.TheVariants.{File, Directory, Symlink}
-use Rattle.bep_record.specs.Block.{base_block_size, block_count, cut_at, CutWhole}
+use Rattle.bep_record.specs.Block.{block_count, block_size_of, cut_at, CutWhole}
 use Rattle.bep_record.specs.Entry.{IsWellFormed, HasBody}
+use Rattle.bep_record.proofs.BlockSizeFacts.{some_bytes}
 use Rattle.bep_machine.specs.declared.message.Request.{Request}
 use Rattle.bep_machine.specs.Exchange.{is_about, same_bytes}
 
@@ -78,7 +79,7 @@ alone_from size len positive k (suc n) (first ∷ front) block back are =
 
 -- ---- in a record
 
-has_cut : (deleted : Bool) (kind : Kind) (entry : Entry) → HasBody deleted kind entry → CutWhole base_block_size entry.size entry.blocks ⊎ (entry.blocks ≡ [])
+has_cut : (deleted : Bool) (kind : Kind) (entry : Entry) → HasBody deleted kind entry → CutWhole (block_size_of entry.size) entry.size entry.blocks ⊎ (entry.blocks ≡ [])
 has_cut true kind entry body = inr body.0.blocks
 has_cut false File entry body = inl body.0.blocks
 has_cut false Directory entry body = inr body.0.blocks
@@ -88,8 +89,8 @@ pub block_is_alone : (entry : Entry) → IsWellFormed entry → (front : List Bl
 block_is_alone entry formed front block back blocks =
     ⊎_elim
     (λ cut.
-    alone_from base_block_size entry.size (omega arith) 0 (block_count base_block_size entry.size) front block back
-    (subst (λ (bs : List Block). CutWhole base_block_size entry.size bs) blocks cut))
+    alone_from (block_size_of entry.size) entry.size (some_bytes entry.size) 0 (block_count (block_size_of entry.size) entry.size) front block back
+    (subst (λ (bs : List Block). CutWhole (block_size_of entry.size) entry.size bs) blocks cut))
     (λ none.
     absurd (not_in_none block (subst (λ (bs : List Block). Contains bs block) (sym blocks ∙ none) (Contains-append_right front (block ∷ back) block (Contains-first block back)))))
     (has_cut entry.deleted entry.kind entry formed.body)

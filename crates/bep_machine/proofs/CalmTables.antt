@@ -6,9 +6,8 @@ use Rattle.bep_record.specs.declared.folder_kind.FolderKind.{FolderKind}
 use Rattle.bep_record.specs.declared.folder_kind.FolderKind.TheVariants.{ReceiveOnly}
 use Rattle.bep_record.specs.declared.node.NodeParts.{NodeParts}
 use Rattle.bep_record.specs.Content.{Content, Deleted, content_of, content_of_kind}
-use Rattle.bep_record.specs.Block.{base_block_size}
 use Rattle.bep_record.specs.Vector.{IsAtMost, IsBelow}
-use Rattle.bep_blocks.specs.Plain.{plain_blocks}
+use Rattle.bep_blocks.specs.Plain.{file_blocks}
 use Rattle.bep_model.specs.Tables.{Tables, Device, Folder, FileName, Shares}
 use Rattle.bep_model.specs.Foreign.{IsForeign}
 use Rattle.bep_model.specs.Settled.{content_of_node}
@@ -41,7 +40,7 @@ pub record IsQuietMove (contents : Contents) (reset : List Device) (before after
 -- a scan finds nothing new where there is neither record nor node
 nothing_is_found : (receives : Type 0) (node : Option NodeParts) (after : Entry) → content_of_node node ≡ Deleted → ¬ IsFirst receives node after
 nothing_is_found receives None after held first = first.unclean tt
-nothing_is_found receives (Some node) after held first = there_is_not_deleted node.kind (plain_blocks base_block_size node.bytes) node.target held
+nothing_is_found receives (Some node) after held first = there_is_not_deleted node.kind (file_blocks node.bytes) node.target held
 
 none_goes_on : (receives : Type 0) (node : Option NodeParts) (old new : Option Entry) → content_of_node node ≡ Deleted → old ≡ None → GoesOn receives node old new → new ≡ None
 none_goes_on receives node old new held none goes =
@@ -85,7 +84,7 @@ store_after (Some node) (Some other) content same calm =
     let kind : node.kind ≡ other.kind = same.0 in
     let bytes : node.bytes ≡ other.bytes = same.1 in
     let target : node.target ≡ other.target = same.2 in
-    sym (λ i. content_of_kind (kind i) (plain_blocks base_block_size (bytes i)) (target i)) ∙ calm
+    sym (λ i. content_of_kind (kind i) (file_blocks (bytes i)) (target i)) ∙ calm
 
 -- ---- what is foreign
 

@@ -6,7 +6,7 @@ use Rattle.bep_record.specs.declared.entry.Entry.{Entry}
 use Rattle.bep_record.specs.declared.kind.Kind.{Kind}
 use Rattle.bep_record.specs.declared.kind.Kind.TheVariants as kinds
 use Rattle.bep_record.specs.declared.node.NodeParts.{NodeParts}
-use Rattle.bep_record.specs.Block.{base_block_size, CutWhole}
+use Rattle.bep_record.specs.Block.{block_size_of, CutWhole}
 use Rattle.bep_record.specs.Content.{Deleted, content_of, content_of_kind}
 use Rattle.bep_record.specs.Entry.{IsWellFormed, HasBody, HasBlocks}
 use Rattle.bep_record.specs.Laws.{CutIsOfOneLength}
@@ -92,10 +92,10 @@ module _ (one_length : CutIsOfOneLength) where
   -- files of the same blocks have one size
   pub same_size : (one other : Entry) → IsWellFormed one → IsWellFormed other → one.deleted ≡ false → other.deleted ≡ false → AreAlike one other → one.kind ≡ kinds.File → one.size ≡ other.size
   same_size one other formed too there present alike file =
-      let cut : CutWhole base_block_size one.size one.blocks = (has_blocks one formed there file).blocks in
-      let others : CutWhole base_block_size other.size other.blocks = (has_blocks other too present (sym alike.kind ∙ file)).blocks in
-      one_length base_block_size one.size other.size one.blocks (omega arith) cut
-      (subst (λ (blocks : List Block). CutWhole base_block_size other.size blocks) (sym (alike.blocks file)) others)
+      let cut : CutWhole (block_size_of one.size) one.size one.blocks = (has_blocks one formed there file).blocks in
+      let others : CutWhole (block_size_of other.size) other.size other.blocks = (has_blocks other too present (sym alike.kind ∙ file)).blocks in
+      one_length one.size other.size one.blocks cut
+      (subst (λ (blocks : List Block). CutWhole (block_size_of other.size) other.size blocks) (sym (alike.blocks file)) others)
 
   looks_same : (kind : Kind) (node : NodeParts) (own target : Entry) → kind ≡ target.kind → IsWellFormed own → IsWellFormed target → own.deleted ≡ false → target.deleted ≡ false → AreAlike target own → LooksSame kind node own → LooksSame kind (at_time node target.modified_s target.modified_ns) target
   looks_same kinds.File node own target is formed too there present alike looks =

@@ -7,10 +7,9 @@ use Rattle.bep_record.specs.declared.entry.Entry.{Entry}
 use Rattle.bep_record.specs.declared.kind.Kind.{Kind}
 use Rattle.bep_record.specs.declared.kind.Kind.TheVariants as kinds
 use Rattle.bep_record.specs.declared.node.NodeParts.{NodeParts}
-use Rattle.bep_record.specs.Block.{base_block_size}
 use Rattle.bep_record.specs.Content.{content_of, content_of_kind, Symlink}
 use Rattle.bep_record.specs.Node.{IsClean, LooksSame}
-use Rattle.bep_blocks.specs.Plain.{plain_blocks}
+use Rattle.bep_blocks.specs.Plain.{file_blocks}
 use Rattle.bep_model.specs.Calm.{SameFile}
 use Rattle.bep_model.specs.Settled.{content_of_node}
 use Rattle.bep_machine.specs.Replica.{Pull, HasContentOf}
@@ -32,7 +31,7 @@ none_where_deleted None target clean deleted = refl
 none_where_deleted (Some node) target clean deleted = let never : true ≡ false = sym deleted ∙ clean.0 in absurd (cc)
 
 same_but_files : (kind : Kind) (node : NodeParts) (target : Entry) → kind ≢ kinds.File → LooksSame kind node target →
-    content_of_kind kind (plain_blocks base_block_size node.bytes) node.target ≡ content_of_kind kind target.blocks target.target
+    content_of_kind kind (file_blocks node.bytes) node.target ≡ content_of_kind kind target.blocks target.target
 same_but_files kinds.File node target no_file looks = absurd (no_file refl)
 same_but_files kinds.Directory node target no_file looks = refl
 same_but_files kinds.Symlink node target no_file looks = ap Symlink looks

@@ -6,11 +6,11 @@ use Rattle.bep_record.specs.declared.entry.Entry.{Entry}
 use Rattle.bep_record.specs.declared.block.Block.{Block}
 use Rattle.bep_record.specs.declared.node.NodeParts.{NodeParts}
 use Rattle.bep_record.specs.declared.limits.TheConstants.{HASH_OF_NOTHING}
-use Rattle.bep_record.specs.Block.{base_block_size, CutWhole}
+use Rattle.bep_record.specs.Block.{block_size_of, CutWhole}
 use Rattle.bep_record.specs.Entry.{HasNoBlocks, HasBlocks, HasBody, SameBody}
 use Rattle.bep_record.specs.Node.{FitsKind, IsNode}
 use Rattle.bep_record.specs.Vector.{IsVersion, most_counters}
-use Rattle.bep_blocks.specs.Plain.{plain_blocks}
+use Rattle.bep_blocks.specs.Plain.{file_blocks}
 use Rattle.bep_blocks.specs.Laws.{NothingIsOneBlock, NothingHasItsHash, PlainIsCutWhole}
 use Rattle.bep_model.specs.Tables.{Device, FileName}
 use Rattle.bep_machine.specs.Local.{blocks_of_kind, block_size_of_kind, record_of_node, deletion_of}
@@ -28,10 +28,10 @@ no_blocks_too one other same has = record {
 blocks_too : (one other : Entry) → SameBody one other → HasBlocks one → HasBlocks other
 blocks_too one other same has = record {
   size = let size = same.size in let most = has.size in omega arith;
-  block_size = sym same.block_size ∙ has.block_size;
+  block_size = sym same.block_size ∙ has.block_size ∙ ap block_size_of same.size;
   blocks =
-      subst (λ size. CutWhole base_block_size size other.blocks) same.size
-      (subst (λ blocks. CutWhole base_block_size one.size blocks) same.blocks has.blocks);
+      subst (λ size. CutWhole (block_size_of size) size other.blocks) same.size
+      (subst (λ blocks. CutWhole (block_size_of one.size) one.size blocks) same.blocks has.blocks);
   empty = λ none. subst (λ blocks. map (λ (b : Block). b.hash) blocks ≡ HASH_OF_NOTHING ∷ []) same.blocks (has.empty (same.size ∙ none));
 }
 
@@ -92,17 +92,17 @@ good_deletion device name entry version good is few = record {
 }
 
 module _ (one_block : NothingIsOneBlock) (its_hash : NothingHasItsHash) (cut : PlainIsCutWhole) where
-  empty_hashes : (bytes : List ℕ) → length bytes ≡ 0 → map (λ (b : Block). b.hash) (plain_blocks base_block_size bytes) ≡ HASH_OF_NOTHING ∷ []
-  empty_hashes [] none = ap (λ blocks. map (λ (b : Block). b.hash) blocks) (one_block base_block_size) ∙ ap (λ hash. hash ∷ []) its_hash
+  empty_hashes : (bytes : List ℕ) → length bytes ≡ 0 → map (λ (b : Block). b.hash) (file_blocks bytes) ≡ HASH_OF_NOTHING ∷ []
+  empty_hashes [] none = ap (λ blocks. map (λ (b : Block). b.hash) blocks) (one_block (block_size_of 0)) ∙ ap (λ hash. hash ∷ []) its_hash
   empty_hashes (byte ∷ bytes) none = absurd (omega arith)
 
   found_body : (device : Device) (name : FileName) (node : NodeParts) (version : List (ℕ × ℕ)) (kind : Kind) → IsNode node → FitsKind kind node →
-      HasBody false kind (record (record_of_node device name node version) { block_size = block_size_of_kind kind; blocks = blocks_of_kind kind node.bytes })
+      HasBody false kind (record (record_of_node device name node version) { block_size = block_size_of_kind kind node.bytes; blocks = blocks_of_kind kind node.bytes })
   found_body device name node version File is fits = (
     record {
       size = is.size;
       block_size = refl;
-      blocks = cut base_block_size node.bytes;
+      blocks = cut (block_size_of (length node.bytes)) node.bytes;
       empty = empty_hashes node.bytes;
     },
     fits,

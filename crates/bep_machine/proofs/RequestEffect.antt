@@ -11,9 +11,10 @@ use Rattle.bep_record.specs.declared.entry.Entry.{Entry}
 use Rattle.bep_record.specs.declared.kind.Kind.{Kind}
 use Rattle.bep_record.specs.declared.kind.Kind.TheVariants as kinds
 use Rattle.bep_record.specs.declared.node.NodeParts.{NodeParts}
-use Rattle.bep_record.specs.Block.{base_block_size, block_count}
+use Rattle.bep_record.specs.Block.{block_count, block_size_of}
 use Rattle.bep_record.specs.Content.{Deleted, File, content_of, content_of_kind}
-use Rattle.bep_blocks.specs.Plain.{hash_of, plain_block, plain_blocks}
+use Rattle.bep_record.proofs.BlockSizeFacts.{begins_within}
+use Rattle.bep_blocks.specs.Plain.{file_blocks, hash_of, plain_block, plain_blocks}
 use Rattle.bep_model.specs.Tables.{FileName}
 use Rattle.bep_machine.specs.declared.message.Message.TheVariants as messages
 use Rattle.bep_machine.specs.declared.message.Request.{Request}
@@ -77,23 +78,23 @@ from_front : (n k : ℕ) → Contains (range_with_len 0 n) k → k < n
 from_front n k stands = let below = in_range 0 n k stands in omega (arith, below)
 
 -- a cut of a file ends within it
-cut_within : (len k : ℕ) → k < block_count base_block_size len → k * base_block_size + min base_block_size (len - k * base_block_size) ≤ len
-cut_within len k below = omega (arith, below)
+cut_within : (size len k : ℕ) → k < block_count size len → k * size + min size (len - k * size) ≤ len
+cut_within size len k below = let begins = begins_within size len k below in omega (arith, begins)
 
-piece_is_part : (bytes : List ℕ) (k : ℕ) → k < block_count base_block_size (length bytes) → IsPart bytes (plain_block base_block_size bytes k)
-piece_is_part bytes k below = record {
+piece_is_part : (size : ℕ) (bytes : List ℕ) (k : ℕ) → k < block_count size (length bytes) → IsPart bytes (plain_block size bytes k)
+piece_is_part size bytes k below = record {
   within =
-      subst (λ (n : ℕ). k * base_block_size + n ≤ length bytes)
-      (sym (length-take base_block_size (drop (k * base_block_size) bytes) ∙ ap (min base_block_size) (length-drop (k * base_block_size) bytes)))
-      (cut_within (length bytes) k below);
-  hashed = ap hash_of (take_all_taken base_block_size (drop (k * base_block_size) bytes));
+      subst (λ (n : ℕ). k * size + n ≤ length bytes)
+      (sym (length-take size (drop (k * size) bytes) ∙ ap (min size) (length-drop (k * size) bytes)))
+      (cut_within size (length bytes) k below);
+  hashed = ap hash_of (take_all_taken size (drop (k * size) bytes));
 }
 
-plain_is_part : (bytes : List ℕ) (block : Block) → Contains (plain_blocks base_block_size bytes) block → IsPart bytes block
+plain_is_part : (size : ℕ) (bytes : List ℕ) (block : Block) → Contains (plain_blocks size bytes) block → IsPart bytes block
 unfolding plain_blocks
-plain_is_part bytes block stands =
-    let from = Contains-from_image (λ k. plain_block base_block_size bytes k) (range_with_len 0 (block_count base_block_size (length bytes))) block stands in
-    subst (IsPart bytes) from.2 (piece_is_part bytes from.0 (from_front (block_count base_block_size (length bytes)) from.0 from.1))
+plain_is_part size bytes block stands =
+    let from = Contains-from_image (λ k. plain_block size bytes k) (range_with_len 0 (block_count size (length bytes))) block stands in
+    subst (IsPart bytes) from.2 (piece_is_part size bytes from.0 (from_front (block_count size (length bytes)) from.0 from.1))
 
 file_of_kind : (kind : Kind) (blocks others : List Block) (target : List ℕ) → content_of_kind kind blocks target ≡ File others → (kind ≡ kinds.File) × (blocks ≡ others)
 file_of_kind kinds.File blocks others target same = (refl, cc)
@@ -108,8 +109,8 @@ own_is_file own present file =
 -- the store has each block of such a file
 block_is_stored : (replica : Replica) (name : FileName) (own : Entry) (node : NodeParts) (block : Block) → HoldsFile replica name own node → Contains own.blocks block → (node.kind ≡ kinds.File) × IsPart node.bytes block
 block_is_stored replica name own node block holds stands =
-    let same = file_of_kind node.kind (plain_blocks base_block_size node.bytes) own.blocks node.target (holds.same ∙ own_is_file own holds.present holds.file) in
-    (same.0, plain_is_part node.bytes block (subst (λ (blocks : List Block). Contains blocks block) (sym same.1) stands))
+    let same = file_of_kind node.kind (file_blocks node.bytes) own.blocks node.target (holds.same ∙ own_is_file own holds.present holds.file) in
+    (same.0, plain_is_part (block_size_of (length node.bytes)) node.bytes block (subst (λ (blocks : List Block). Contains blocks block) (sym same.1) stands))
 
 -- the answer to a request for such a block
 abbrev answering : Request → NodeParts → Response

@@ -6,12 +6,11 @@ use Rattle.bep_record.specs.declared.kind.Kind.TheVariants as kinds
 use Rattle.bep_record.specs.declared.node.NodeParts.{NodeParts}
 use Rattle.bep_record.specs.declared.folder_kind.FolderKind.{FolderKind}
 use Rattle.bep_record.specs.declared.folder_kind.FolderKind.TheVariants.{SendReceive, SendOnly, ReceiveOnly}
-use Rattle.bep_record.specs.Block.{base_block_size}
 use Rattle.bep_record.specs.Content.{content_of, content_of_kind}
 use Rattle.bep_record.specs.Laws.{BumpExists}
 use Rattle.bep_record.specs.Node.{IsClean, LooksSame}
 use Rattle.bep_record.specs.Vector.{counter_of, greatest_counter, IsBump}
-use Rattle.bep_blocks.specs.Plain.{plain_blocks}
+use Rattle.bep_blocks.specs.Plain.{file_blocks}
 use Rattle.bep_index.specs.Index.{numbered}
 use Rattle.bep_model.specs.Settled.{content_of_node}
 use Rattle.bep_model.specs.Tables.{Device, FileName}
@@ -30,7 +29,7 @@ looks_recorded kinds.File device name node version = (refl, refl, refl)
 looks_recorded kinds.Directory device name node version = tt
 looks_recorded kinds.Symlink device name node version = refl
 
-content_recorded : (kind : Kind) (bytes target : List ℕ) → content_of_kind kind (blocks_of_kind kind bytes) target ≡ content_of_kind kind (plain_blocks base_block_size bytes) target
+content_recorded : (kind : Kind) (bytes target : List ℕ) → content_of_kind kind (blocks_of_kind kind bytes) target ≡ content_of_kind kind (file_blocks bytes) target
 content_recorded kinds.File bytes target = refl
 content_recorded kinds.Directory bytes target = refl
 content_recorded kinds.Symlink bytes target = refl

@@ -1,13 +1,14 @@
 -- What a device writes when it ends a pull is clean against the target: the bytes that were received are as many as the
 -- record says.
-use Rattle.std.proofs.Common.{◌≡◌, ◌∙◌, ◌+◌, ◌-◌, ◌*◌, ℕ, zero, suc, min, Bool, true, false, cond, List, [], ◌∷◌, length, length-append, map, Contains, Option, Some, None, refl, ap, arith}
+use Rattle.std.proofs.Common.{◌≡◌, ◌∙◌, ◌+◌, ◌-◌, ◌*◌, ◌<◌, ℕ, zero, suc, min, Bool, true, false, cond, List, [], ◌∷◌, length, length-append, map, Contains, Option, Some, None, refl, ap, arith}
 use Rattle.std.specs.List.{range_with_len}
 use Rattle.bep_facts.specs.Members.{Contains-first, Contains-more}
 use Rattle.bep_record.specs.declared.block.Block.{Block}
 use Rattle.bep_record.specs.declared.kind.Kind.{Kind}
 use Rattle.bep_record.specs.declared.kind.Kind.TheVariants as kinds
-use Rattle.bep_record.specs.Block.{base_block_size, block_count, cut_at, CutWhole}
+use Rattle.bep_record.specs.Block.{block_count, block_size_of, cut_at, CutWhole}
 use Rattle.bep_record.specs.Node.{IsClean, LooksSame}
+use Rattle.bep_record.proofs.BlockSizeFacts.{blocks_cover, some_bytes}
 use Rattle.bep_model.specs.Tables.{FileName}
 use Rattle.bep_machine.specs.Replica.{Pull}
 use Rattle.bep_machine.specs.Pull.{IsFile, IsMissingBlocks, written}
@@ -24,9 +25,10 @@ cuts_cover size len k (suc n) =
     omega arith
 
 -- all cuts cover the file
-cuts_are_whole : (len : ℕ) → sizes (map (λ j. cut_at base_block_size len j) (range_with_len 0 (block_count base_block_size len))) ≡ len
-cuts_are_whole len =
-    let covered = cuts_cover base_block_size len 0 (block_count base_block_size len) in
+cuts_are_whole : (size len : ℕ) → 0 < size → sizes (map (λ j. cut_at size len j) (range_with_len 0 (block_count size len))) ≡ len
+cuts_are_whole size len some =
+    let covered = cuts_cover size len 0 (block_count size len) in
+    let all = blocks_cover size len some in
     omega arith
 
 -- where no block is missing, the bytes are as many as the blocks have
@@ -43,9 +45,9 @@ received_whole (block ∷ blocks) (Some bytes ∷ received) are none_missing =
     let here = are.0 in
     omega arith
 
-file_whole : (len : ℕ) (blocks : List Block) (received : List (Option (List ℕ))) → CutWhole base_block_size len blocks → AreReceived blocks received → ¬ Contains received None →
+file_whole : (len : ℕ) (blocks : List Block) (received : List (Option (List ℕ))) → CutWhole (block_size_of len) len blocks → AreReceived blocks received → ¬ Contains received None →
     length (bytes_of received) ≡ len
-file_whole len blocks received whole are none_missing = received_whole blocks received are none_missing ∙ ap sizes whole ∙ cuts_are_whole len
+file_whole len blocks received whole are none_missing = received_whole blocks received are none_missing ∙ ap sizes whole ∙ cuts_are_whole (block_size_of len) len (some_bytes len)
 
 looks_written : (kind : Kind) (pull : Pull) → (kind ≡ kinds.File → length (bytes_of pull.received) ≡ pull.target.size) → LooksSame kind (node_of pull) pull.target
 looks_written kinds.File pull whole = (whole refl, refl, refl)

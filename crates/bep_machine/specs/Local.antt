@@ -1,7 +1,7 @@
 -- The steps of one device in one folder that look at its own files: editing, scanning, override and revert
 -- (this project's profile, over Syncthing, 'Folder Types').
 use Rattle.std.specs.Prelude.{◌≡◌, ◌≢◌, ℕ, ◌+◌, ◌<◌, ◌==◌, ◌&&◌, true, false, max, List, [], length, Option, Some, None, IsSome, if◌then◌else◌}
-use Rattle.bep_record.specs.Block.{base_block_size}
+use Rattle.bep_record.specs.Block.{block_size_of}
 use Rattle.bep_record.specs.declared.entry.Entry.{Entry}
 use Rattle.bep_record.specs.declared.kind.Kind.{Kind}
 use Rattle.bep_record.specs.declared.kind.Kind.TheVariants.{File, Directory, Symlink}
@@ -12,7 +12,7 @@ use Rattle.bep_record.specs.declared.block.Block.{Block}
 use Rattle.bep_record.specs.Content.{content_of}
 use Rattle.bep_record.specs.Node.{IsClean}
 use Rattle.bep_record.specs.Vector.{counter_of, greatest_counter, most_counters, IsVersion, IsAtMost, IsMerge, IsBump, ids_in_either}
-use Rattle.bep_blocks.specs.Plain.{plain_blocks}
+use Rattle.bep_blocks.specs.Plain.{file_blocks}
 use Rattle.bep_index.specs.Index.{IsSequenceFull, IsIndexFull}
 use Rattle.bep_model.specs.Tables.{Device, FileName}
 use Rattle.bep_machine.specs.Answer.{Done, Refused, Row, becomes, ◌answers◌when◌else◌}
@@ -44,14 +44,14 @@ RemoveRow name failed old =
 
 -- the blocks of a node, and the size of each but the last, by its kind
 abbrev pub blocks_of_kind : Kind → List ℕ → List Block
-blocks_of_kind File bytes = plain_blocks base_block_size bytes
+blocks_of_kind File bytes = file_blocks bytes
 blocks_of_kind Directory bytes = []
 blocks_of_kind Symlink bytes = []
 
-abbrev pub block_size_of_kind : Kind → ℕ
-block_size_of_kind File = base_block_size
-block_size_of_kind Directory = 0
-block_size_of_kind Symlink = 0
+abbrev pub block_size_of_kind : Kind → List ℕ → ℕ
+block_size_of_kind File bytes = block_size_of (length bytes)
+block_size_of_kind Directory bytes = 0
+block_size_of_kind Symlink bytes = 0
 
 -- the record of a node that the device found
 abbrev pub record_of_node : Device → FileName → NodeParts → List (ℕ × ℕ) → Entry
@@ -67,7 +67,7 @@ record_of_node device name node version = record {
   no_permissions = true;
   version = version;
   sequence = 0;
-  block_size = block_size_of_kind node.kind;
+  block_size = block_size_of_kind node.kind node.bytes;
   blocks = blocks_of_kind node.kind node.bytes;
   target = node.target;
 }

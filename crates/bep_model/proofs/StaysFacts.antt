@@ -8,12 +8,11 @@ use Rattle.bep_record.specs.declared.entry.Entry.{Entry}
 use Rattle.bep_record.specs.declared.kind.Kind.TheVariants.{File, Directory, Symlink}
 use Rattle.bep_record.specs.declared.node.NodeParts.{NodeParts}
 use Rattle.bep_record.specs.declared.folder_kind.FolderKind.{FolderKind}
-use Rattle.bep_record.specs.Block.{base_block_size}
 use Rattle.bep_record.specs.declared.block.Block.{Block}
 use Rattle.bep_record.specs.declared.kind.Kind.{Kind}
 use Rattle.bep_record.specs.Content.{Content, Deleted, content_of, content_of_kind}
 use Rattle.bep_record.specs.Node.{IsClean}
-use Rattle.bep_blocks.specs.Plain.{plain_blocks}
+use Rattle.bep_blocks.specs.Plain.{file_blocks}
 use Rattle.bep_choice.specs.Choice.{Candidate}
 use Rattle.bep_model.specs.declared.row.Row.{Row}
 use Rattle.bep_model.specs.Tables.{Tables, Device, Folder, FileName, Shares}
@@ -39,7 +38,7 @@ not_deleted entry there e = what_is_there entry.kind entry.blocks entry.target (
 -- what a store holds is Deleted only where it holds nothing
 nothing_held : (node : Option NodeParts) → content_of_node node ≡ Deleted → node ≡ None
 nothing_held None e = refl
-nothing_held (Some node) e = absurd (what_is_there node.kind (plain_blocks base_block_size node.bytes) node.target e)
+nothing_held (Some node) e = absurd (what_is_there node.kind (file_blocks node.bytes) node.target e)
 
 -- the content of a row is its name's
 pub content_at_row : OneChoice → (t : Tables) (rows : List Row) → IsListOfWinners t rows → (row : Row) → Contains rows row → contents_of rows row.folder row.entry.name ≡ Some (content_of row.entry)

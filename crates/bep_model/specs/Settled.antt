@@ -4,21 +4,20 @@ use Rattle.std.specs.declared.cmp.Ordering.{Ordering}
 use Rattle.std.specs.declared.cmp.Ordering.TheVariants.{Less}
 use Rattle.std.specs.Ordering.{nat_cmp, on, then_cmp}
 use Rattle.std.specs.Cmp.Lexicographic.{slice_cmp}
-use Rattle.bep_record.specs.Block.{base_block_size}
 use Rattle.bep_record.specs.declared.entry.Entry.{Entry}
 use Rattle.bep_record.specs.declared.node.NodeParts.{NodeParts}
 use Rattle.bep_record.specs.Content.{Content, Deleted, content_of, content_of_kind}
 use Rattle.bep_record.specs.Node.{IsClean}
-use Rattle.bep_blocks.specs.Plain.{plain_blocks}
+use Rattle.bep_blocks.specs.Plain.{file_blocks}
 use Rattle.bep_model.specs.declared.row.Row.{Row}
 use Rattle.bep_model.specs.Tables.{Tables, Device, Folder, FileName, Shares}
 use Rattle.bep_model.specs.Foreign.{IsForeign, IsHarmless, IsKnown}
 use Rattle.bep_model.specs.Winner.{IsWinner}
 
--- the content of what a store holds: the plain block list of its bytes, or its target; no record is asked
+-- the content of what a store holds: the block list of its bytes, or its target; no record is asked
 abbrev pub content_of_node : Option NodeParts → Content
 content_of_node None = Deleted
-content_of_node (Some node) = content_of_kind node.kind (plain_blocks base_block_size node.bytes) node.target
+content_of_node (Some node) = content_of_kind node.kind (file_blocks node.bytes) node.target
 
 -- the folder and the name that a row is about
 abbrev pub key_of : Row → Folder × FileName

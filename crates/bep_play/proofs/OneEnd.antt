@@ -16,13 +16,13 @@ use Rattle.bep_model.specs.Verdict.{IsVerdict, Not}
 use Rattle.bep_model.specs.declared.reason.Reason.TheVariants.{NotWinner}
 use Rattle.bep_model.specs.declared.row.Row.{Row}
 use Rattle.bep_peer.specs.network.Network.{Network, cluster_of}
-use Rattle.bep_report.specs.Certificate.{certificate_lines}
+use Rattle.bep_json.specs.declared.version.DocVersion.{DocVersion}
 use Rattle.bep_report.specs.Report.{report_text}
 use Rattle.bep_scenario.specs.Scenario.{Said, scenario_of}
 use Rattle.bep_tables.specs.Cut.{tables_of}
 use Rattle.bep_tables.specs.declared.cut.CutParts.{CutParts}
 use Rattle.bep_play.specs.Laws.{DocumentIsUnique, EndIsUnique, RunIsUnique}
-use Rattle.bep_play.specs.Played.{AreSure, IsAudited, IsEnd, IsEndOf, IsRunOf, IsUnwon, beginning_of, refused_lines}
+use Rattle.bep_play.specs.Played.{AreSure, IsAudited, IsEnd, IsEndOf, IsRunOf, IsUnwon, beginning_of, refused_lines, rows_told}
 
 -- ---- the cut to which it leads
 
@@ -48,14 +48,14 @@ module _ (determined : RunsAreDetermined) (same_cut : SameClusterSameCut) where
 
 -- ---- what is answered of a cut
 
-module _ (verdicts : VerdictIsUnique) (lists : ListOfWinnersIsUnique) (none_left_out : WinnersLeaveNoneOut) (first : FirstWithoutIsUnique) (cut : CutParts) (told : List ℕ) (one other : Outcome) (text more : List ℕ) where
-  one_audit : IsAudited cut told one text → IsAudited cut told other more → (one ≡ other) × (text ≡ more)
+module _ (verdicts : VerdictIsUnique) (lists : ListOfWinnersIsUnique) (none_left_out : WinnersLeaveNoneOut) (first : FirstWithoutIsUnique) (version : DocVersion) (cut : CutParts) (told : List ℕ) (one other : Outcome) (text more : List ℕ) where
+  one_audit : IsAudited version cut told one text → IsAudited version cut told other more → (one ≡ other) × (text ≡ more)
   one_audit is also =
       let rows = lists (tables_of cut) is.rows also.rows is.winners also.winners in
       let verdict =
       verdicts (tables_of cut) is.rows is.verdict also.verdict is.judged (subst (λ (all : List Row). IsVerdict (tables_of cut) all also.verdict) (sym rows) also.judged) in (
         is.outcome_is ∙ ap outcome_of verdict ∙ sym also.outcome_is,
-        is.reported ∙ (λ i. (told ++ report_text cut (verdict i)) ++ certificate_lines (rows i)) ∙ sym also.reported,
+        is.reported ∙ (λ i. (told ++ report_text cut (verdict i)) ++ rows_told version (rows i)) ∙ sym also.reported,
       )
 
   one_without : IsUnwon cut told one text → IsUnwon cut told other more → (one ≡ other) × (text ≡ more)
@@ -65,7 +65,7 @@ module _ (verdicts : VerdictIsUnique) (lists : ListOfWinnersIsUnique) (none_left
         is.reported ∙ ap (λ (at : Folder × FileName). told ++ report_text cut (Not NotWinner at.0 at.1 None)) place ∙ sym also.reported,
       )
 
-  one_end : IsEnd cut told one text → IsEnd cut told other more → (one ≡ other) × (text ≡ more)
+  one_end : IsEnd version cut told one text → IsEnd version cut told other more → (one ≡ other) × (text ≡ more)
   one_end is also =
       ⊎_elim
       (λ won.
@@ -89,8 +89,8 @@ module _ (ends : EndIsUnique) (verdicts : VerdictIsUnique) (lists : ListOfWinner
   one_run : (reading : Reading Said) (one other : Outcome) (text more : List ℕ) → IsRunOf reading one text → IsRunOf reading other more → (one ≡ other) × (text ≡ more)
   one_run (Read scenario) one other text more is also =
       let same = ends scenario is.last also.last is.told also.told is.leads also.leads in
-      one_end verdicts lists none_left_out first (cut_of is.last) is.told one other text more is.end
-      (subst (λ (cut : CutParts). IsEnd cut is.told other more) (sym same.0) (subst (λ (told : List ℕ). IsEnd (cut_of also.last) told other more) (sym same.1) also.end))
+      one_end verdicts lists none_left_out first scenario.version (cut_of is.last) is.told one other text more is.end
+      (subst (λ (cut : CutParts). IsEnd scenario.version cut is.told other more) (sym same.0) (subst (λ (told : List ℕ). IsEnd scenario.version (cut_of also.last) told other more) (sym same.1) also.end))
   one_run (Refused fault) one other text more is also = (is.0 ∙ sym also.0, is.1 ∙ sym also.1)
 
   pub run_is_unique : RunIsUnique
@@ -100,7 +100,7 @@ module _ (ends : EndIsUnique) (certificates : CutAnswerIsUnique) where
   one_document : (reading : Reading Said) (one other : Certified) (text more : List ℕ) → IsEndOf reading one text → IsEndOf reading other more → (one ≡ other) × (text ≡ more)
   one_document (Read scenario) one other text more is also =
       let same = ends scenario is.last also.last is.told also.told is.leads also.leads in
-      certificates (cut_of is.last) one other text more is.certificate (subst (λ (cut : CutParts). IsCertificate cut other more) (sym same.0) also.certificate)
+      certificates scenario.version (cut_of is.last) one other text more is.certificate (subst (λ (cut : CutParts). IsCertificate scenario.version cut other more) (sym same.0) also.certificate)
   one_document (Refused fault) one other text more is also = (is.0 ∙ sym also.0, is.1 ∙ sym also.1)
 
   pub document_is_unique : DocumentIsUnique

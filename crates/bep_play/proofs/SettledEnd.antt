@@ -12,10 +12,11 @@ use Rattle.bep_answer.specs.declared.outcome.Outcome.{Outcome}
 use Rattle.bep_answer.specs.declared.outcome.Outcome.TheVariants as outcomes
 use Rattle.bep_answer.specs.Exchange.{IsWhole}
 use Rattle.bep_answer.proofs.SettledSaid.{settled_verdict}
+use Rattle.bep_json.specs.declared.version.DocVersion.{DocVersion}
 use Rattle.bep_play.specs.Played.{EndsSettled, IsEnd, IsRunOf, IsRunOfBytes, LeadsToSettled}
 
-settled_rows : (cut : CutParts) (told : List ℕ) (outcome : Outcome) (text : List ℕ) → IsEnd cut told outcome text → outcome ≡ outcomes.Settled → (rows : List Row) × IsSettled (tables_of cut) rows
-settled_rows cut told outcome text end is =
+settled_rows : (version : DocVersion) (cut : CutParts) (told : List ℕ) (outcome : Outcome) (text : List ℕ) → IsEnd version cut told outcome text → outcome ≡ outcomes.Settled → (rows : List Row) × IsSettled (tables_of cut) rows
+settled_rows version cut told outcome text end is =
     ⊎_elim
     (λ audited. (audited.rows, settled_verdict cut audited.rows audited.verdict audited.judged (sym is ∙ audited.outcome_is)))
     (λ unwon. let other = sym is ∙ unwon.outcome_is in absurd (cc))
@@ -23,7 +24,7 @@ settled_rows cut told outcome text end is =
 
 settled_run : SettledStaysPut → SettledStaysSettled → (reading : Reading Said) (outcome : Outcome) (text : List ℕ) → IsRunOf reading outcome text → outcome ≡ outcomes.Settled → LeadsToSettled reading
 settled_run put again (Read scenario) outcome text run is =
-    let found = settled_rows (cut_at run.last.members run.last.links) run.told outcome text run.end is in
+    let found = settled_rows scenario.version (cut_at run.last.members run.last.links) run.told outcome text run.end is in
     record {
       scenario = scenario;
       says = refl;

@@ -24,7 +24,9 @@ use Rattle.bep_model.specs.Settled.{IsListOfWinners, IsSettled}
 use Rattle.bep_model.specs.Tables.{Folder, FileName}
 use Rattle.bep_model.specs.Verdict.{Verdict, IsVerdict, Not}
 use Rattle.bep_model.specs.WithoutWinner.{IsFirstWithoutWinner}
-use Rattle.bep_report.specs.Certificate.{certificate_lines}
+use Rattle.bep_report.specs.Certificate.{certificate_lines, certificate_lines_2}
+use Rattle.bep_json.specs.declared.version.DocVersion.{DocVersion}
+use Rattle.bep_json.specs.declared.version.DocVersion.TheVariants.{One, Two}
 use Rattle.bep_lines.specs.Lines.{step_line}
 use Rattle.bep_report.specs.Input.{IsRead}
 use Rattle.bep_report.specs.Report.{report_text}
@@ -89,14 +91,19 @@ IsTold place (Err whys.Memory) old new = ⊥
 
 -- ---- the end
 
+-- the lines of a certificate after the run of a scenario of this version: those of version 2 have the block sizes
+abbrev pub rows_told : DocVersion → List Row → List ℕ
+rows_told One rows = certificate_lines rows
+rows_told Two rows = certificate_lines_2 rows
+
 -- the cut under the one list of its winners has this verdict; it is reported, and the list is told
-pub record IsAudited (cut : CutParts) (told : List ℕ) (outcome : Outcome) (text : List ℕ) : Type 0 where
+pub record IsAudited (version : DocVersion) (cut : CutParts) (told : List ℕ) (outcome : Outcome) (text : List ℕ) : Type 0 where
   pub rows : List Row
   pub winners : IsListOfWinners (tables_of cut) rows
   pub verdict : Verdict
   pub judged : IsVerdict (tables_of cut) rows verdict
   pub outcome_is : outcome ≡ outcome_of verdict
-  pub reported : text ≡ (told ++ report_text cut verdict) ++ certificate_lines rows
+  pub reported : text ≡ (told ++ report_text cut verdict) ++ rows_told version rows
 
 -- the cut's first known name without a winner is reported, and it is settled for no list of rows
 pub record IsUnwon (cut : CutParts) (told : List ℕ) (outcome : Outcome) (text : List ℕ) : Type 0 where
@@ -108,15 +115,15 @@ pub record IsUnwon (cut : CutParts) (told : List ℕ) (outcome : Outcome) (text 
   pub reported : text ≡ told ++ report_text cut (Not NotWinner folder name None)
 
 -- the cut is audited under the list of its winners, if it has one
-abbrev pub IsEnd : CutParts → List ℕ → Outcome → List ℕ → Type 0
-IsEnd cut told outcome text = IsAudited cut told outcome text ⊎ IsUnwon cut told outcome text
+abbrev pub IsEnd : DocVersion → CutParts → List ℕ → Outcome → List ℕ → Type 0
+IsEnd version cut told outcome text = IsAudited version cut told outcome text ⊎ IsUnwon cut told outcome text
 
 -- the steps are made, and the cut to which they lead is reported
 pub record IsPlayed (scenario : Said) (outcome : Outcome) (text : List ℕ) : Type 0 where
   pub last : Network
   pub told : List ℕ
   pub leads : EndsAt scenario last told
-  pub end : IsEnd (cut_at last.members last.links) told outcome text
+  pub end : IsEnd scenario.version (cut_at last.members last.links) told outcome text
 
 -- the outcome and the text for what a document says: its scenario's run, or the fault for which it is refused
 abbrev pub IsRunOf : Reading Said → Outcome → List ℕ → Type 0
@@ -128,12 +135,12 @@ abbrev pub IsRunOfBytes : List ℕ → Outcome → List ℕ → Type 0
 IsRunOfBytes bytes outcome text = IsRunOf (scenario_of bytes) outcome text
 
 -- the steps are made, and the cut to which they lead is written as where its certificate is asked for: as the document of
--- that cut with the list under which it is audited
+-- that cut, of the scenario's version, with the list under which it is audited
 pub record IsPlayedTo (scenario : Said) (outcome : Certified) (text : List ℕ) : Type 0 where
   pub last : Network
   pub told : List ℕ
   pub leads : EndsAt scenario last told
-  pub certificate : IsCertificate (cut_at last.members last.links) outcome text
+  pub certificate : IsCertificate scenario.version (cut_at last.members last.links) outcome text
 
 -- the outcome and the text for what a document says: where its scenario's run ends, or the fault for which it is refused
 abbrev pub IsEndOf : Reading Said → Certified → List ℕ → Type 0

@@ -40,8 +40,9 @@ fn run(alloc: Global, scenario: Scenario) -> Result<Answer<Certified>, AllocErro
     ensures played { IfOk result (λ told. IsPlayedTo (said scenario) told.0.0 told.0.1.items) }
     ensures tells { IfOk result (λ told. TellsSteps (said scenario) told.1) }
 {
+    let version = scenario.version;
     let (cluster, told) = played(alloc, scenario)?;
-    let document = document_of_end(alloc, cluster)?;
+    let document = document_of_end(alloc, version, cluster)?;
     Ok((document, lines_of(told)))
 }
 

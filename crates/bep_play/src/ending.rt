@@ -5,20 +5,21 @@ ghost use Rattle.bep_cut.specs.Cut.{cut_at};
 ghost use Rattle.bep_model.specs.declared.reason.Reason.TheVariants.{NotWinner};
 ghost use Rattle.bep_model.specs.Settled.{IsListOfWinners};
 ghost use Rattle.bep_model.specs.Verdict.{Not};
-ghost use Rattle.bep_report.specs.Certificate.{certificate_lines};
+ghost use Rattle.bep_lines.specs.Text.{AppendsWhole};
 ghost use Rattle.bep_report.specs.Report.{report_text};
 ghost use Rattle.bep_tables.specs.Cut.{tables_of};
 ghost use Rattle.bep_answer.specs.Certified.{IsCertificate};
-ghost use Rattle.bep_play.specs.Played.{IsAudited, IsEnd};
+ghost use Rattle.bep_play.specs.Played.{IsAudited, IsEnd, rows_told};
 ghost use Rattle.bep_answer.specs.declared.outcome.Outcome.TheVariants as outcomes;
 
 use bep_answer::{Certified, Outcome, certify_cut, outcome_of};
 use bep_audit::{Certificate, CertifyError, Verdict, certify, check};
 use bep_core::Cluster;
 use bep_cut::{clusters_are_parts, cut_of};
+use bep_json::DocVersion;
 use bep_model::Reason;
 use bep_record::{FolderName, Name};
-use bep_report::{push_certificate, push_report};
+use bep_report::{push_certificate, push_certificate_2, push_report};
 use bep_store::MemStore;
 use bep_tables::Cut;
 use std::alloc::{AllocError, Global};
@@ -26,24 +27,27 @@ use std::alloc::{AllocError, Global};
 /// The outcome for the cluster's cut, and the text: what was told before, the report, and the certificate, if there is one.
 pub(crate) fn report_on_end(
     alloc: Global,
+    version: DocVersion,
     cluster: Cluster<MemStore>,
     told: Vec<u8>,
 ) -> Result<(Outcome, Vec<u8>), AllocError>
-    ensures { IfOk result (λ answer. IsEnd (cut_at cluster.members cluster.links) told.items answer.0 answer.1.items) }
+    ensures { IfOk result (λ answer. IsEnd version (cut_at cluster.members cluster.links) told.items answer.0 answer.1.items) }
 {
     let cut = end_of(alloc, cluster)?;
-    audit(alloc, &cut, told)
+    audit(alloc, version, &cut, told)
 }
 
-/// The outcome for the cluster's cut, and its check document with its certificate, or the line of a name without a winner.
+/// The outcome for the cluster's cut, and its check document of this version with its certificate, or the line of a name
+/// without a winner.
 pub(crate) fn document_of_end(
     alloc: Global,
+    version: DocVersion,
     cluster: Cluster<MemStore>,
 ) -> Result<(Certified, Vec<u8>), AllocError>
-    ensures { IfOk result (λ answer. IsCertificate (cut_at cluster.members cluster.links) answer.0 answer.1.items) }
+    ensures { IfOk result (λ answer. IsCertificate version (cut_at cluster.members cluster.links) answer.0 answer.1.items) }
 {
     let cut = end_of(alloc, cluster)?;
-    certify_cut(alloc, &cut)
+    certify_cut(alloc, version, &cut)
 }
 
 // The cluster's cut.
@@ -60,11 +64,16 @@ fn end_of(alloc: Global, cluster: Cluster<MemStore>) -> Result<Cut, AllocError>
 }
 
 // The outcome for the cut, and the text.
-fn audit(alloc: Global, cut: &Cut, told: Vec<u8>) -> Result<(Outcome, Vec<u8>), AllocError>
-    ensures { IfOk result (λ answer. IsEnd cut.now told.items answer.0 answer.1.items) }
+fn audit(
+    alloc: Global,
+    version: DocVersion,
+    cut: &Cut,
+    told: Vec<u8>,
+) -> Result<(Outcome, Vec<u8>), AllocError>
+    ensures { IfOk result (λ answer. IsEnd version cut.now told.items answer.0 answer.1.items) }
 {
     match certify(alloc, cut) {
-        Ok(certificate) => report_under(alloc, cut, &certificate, told),
+        Ok(certificate) => report_under(alloc, version, cut, &certificate, told),
         Err(CertifyError::NoWinner(folder, name)) => {
             let text = report_without(alloc, cut, &folder, &name, told)?;
             Ok((Outcome::NotSettled, text))
@@ -76,16 +85,17 @@ fn audit(alloc: Global, cut: &Cut, told: Vec<u8>) -> Result<(Outcome, Vec<u8>), 
 // The outcome under the certificate, and the text.
 fn report_under<'a>(
     alloc: Global,
+    version: DocVersion,
     cut: &'a Cut,
     certificate: &'a Certificate,
     told: Vec<u8>,
 ) -> Result<(Outcome, Vec<u8>), AllocError>
     requires { IsListOfWinners (tables_of cut.now) certificate.now }
-    ensures { IfOk result (λ answer. IsAudited cut.now told.items answer.0 answer.1.items) }
+    ensures { IfOk result (λ answer. IsAudited version cut.now told.items answer.0 answer.1.items) }
 {
     match check(alloc, cut, certificate) {
         Ok(verdict) => {
-            let text = with_report(alloc, cut, certificate, &verdict, told)?;
+            let text = with_report(alloc, version, cut, certificate, &verdict, told)?;
             Ok((outcome_of(&verdict), text))
         }
         Err(_) => Err(AllocError),
@@ -95,16 +105,31 @@ fn report_under<'a>(
 // The text with the report of this verdict and the certificate.
 fn with_report(
     alloc: Global,
+    version: DocVersion,
     cut: &Cut,
     certificate: &Certificate,
     verdict: &Verdict<'_>,
     mut text: Vec<u8>,
 ) -> Result<Vec<u8>, AllocError>
-    ensures { IfOk result (λ whole. whole.items ≡ (text.items ++ report_text cut.now (verdict_shown verdict.now)) ++ certificate_lines certificate.now) }
+    ensures { IfOk result (λ whole. whole.items ≡ (text.items ++ report_text cut.now (verdict_shown verdict.now)) ++ rows_told version certificate.now) }
 {
     push_report(alloc, &mut text, cut, verdict)?;
-    push_certificate(&mut text, certificate)?;
+    push_rows(version, &mut text, certificate)?;
     Ok(text)
+}
+
+// Appends the certificate, as the run of a scenario of this version tells it.
+fn push_rows(
+    version: DocVersion,
+    text: &mut Vec<u8>,
+    certificate: &Certificate,
+) -> Result<(), AllocError>
+    ensures { AppendsWhole result text.old.items text.new.items (rows_told version certificate.now) }
+{
+    match version {
+        DocVersion::One => push_certificate(text, certificate),
+        DocVersion::Two => push_certificate_2(text, certificate),
+    }
 }
 
 // The text where a name has no winner.

@@ -37,6 +37,7 @@ impl Question<Outcome> for ReportOnEnd {
 fn run(alloc: Global, scenario: Scenario) -> Result<(Outcome, Vec<u8>), AllocError>
     ensures { IfOk result (λ answer. IsPlayed (said scenario) answer.0 answer.1.items) }
 {
+    let version = scenario.version;
     let (cluster, told) = played(alloc, scenario)?;
-    report_on_end(alloc, cluster, told)
+    report_on_end(alloc, version, cluster, told)
 }

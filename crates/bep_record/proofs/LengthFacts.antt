@@ -1,31 +1,34 @@
--- The blocks of one size that cut a file whole tell its length.
-use Rattle.std.proofs.Common.{◌≡◌, ℕ, ◌+◌, ◌-◌, ◌*◌, ◌/◌, ◌<◌, ◌≤◌, min, length, get_or, sym, ap, ◌∙◌, arith}
+-- The blocks that cut a file whole tell its length, whatever their size.
+use Rattle.std.proofs.Common.{◌≡◌, ℕ, ◌+◌, ◌-◌, ◌*◌, ◌/◌, ◌<◌, ◌≤◌, min, List, [], length, get_or, sym, ap, ◌∙◌, arith}
 use Rattle.std.proofs.Math.Nat.{div-mul-le_self, lt-div-mul-add}
-use Rattle.std.proofs.lemmas.List.FromFn.{get_or-map-range_with_len, length-map-range_with_len}
-use Rattle.bep_record.specs.Block.{cut_at, cuts_of, block_count}
+use Rattle.bep_record.specs.Block.{block_size_of, cut_at, block_count, CutWhole}
 use Rattle.bep_record.specs.Laws.{CutIsOfOneLength}
+use Rattle.bep_record.specs.declared.block.Block.{Block}
+use Rattle.bep_record.proofs.BlockSizeFacts.{some_bytes}
+use Rattle.bep_record.proofs.Cuts.{count-CutWhole, at-CutWhole}
 
-count-cuts_of : (size len : ℕ) → length (cuts_of size len) ≡ block_count size len
-count-cuts_of size len = length-map-range_with_len (λ k. cut_at size len k) 0 (block_count size len)
+-- where the block at this place ends
+abbrev end_at : List Block → ℕ → ℕ
+end_at blocks i = (get_or blocks i (record { offset = 0; size = 0; hash = [] })).offset + (get_or blocks i (record { offset = 0; size = 0; hash = [] })).size
 
-at-cuts_of : (size len i : ℕ) → i < block_count size len → get_or (cuts_of size len) i (0, 0) ≡ cut_at size len i
-at-cuts_of size len i below = get_or-map-range_with_len (λ k. cut_at size len k) 0 (block_count size len) i i (0, 0) below (omega arith)
+ends_there : (size start len offset bytes : ℕ) → start ≤ len → len ≤ start + size → offset ≡ start → bytes ≡ min size (len - start) → len ≡ offset + bytes
+ends_there size start len offset bytes low high begins sized = omega arith
 
--- what is left for the last block tells the length
-same_end : (size start len other : ℕ) → start ≤ len → len ≤ start + size → start ≤ other → other ≤ start + size → min size (len - start) ≡ min size (other - start) → len ≡ other
-same_end size start len other a b c d same = omega arith
+-- the file ends where the last of its blocks does
+ends_with_last : (size len : ℕ) (blocks : List Block) → 0 < size → CutWhole size len blocks → len ≡ end_at blocks (length blocks - 1)
+ends_with_last size len blocks some whole =
+    let i = (len - 1) / size in
+    let none : Block = record { offset = 0; size = 0; hash = [] } in
+    let counted = count-CutWhole size len blocks whole in
+    let last : (len - 1) / size ≡ length blocks - 1 = omega arith in
+    let at = at-CutWhole size len blocks i none whole (omega arith) in
+    let low = div-mul-le_self (len - 1) size in
+    let high = lt-div-mul-add {a = len - 1} {b = size} some in
+    ends_there size ((len - 1) / size * size) len (get_or blocks i none).offset (get_or blocks i none).size
+    (omega arith) (omega arith) (ap (λ (cut : ℕ × ℕ). cut.0) at) (ap (λ (cut : ℕ × ℕ). cut.1) at)
+    ∙ ap (end_at blocks) last
 
 pub cut_is_of_one_length : CutIsOfOneLength
-cut_is_of_one_length size len other blocks positive whole also =
-    let i = (len - 1) / size in
-    let cuts : cuts_of size len ≡ cuts_of size other = sym whole ∙ also in
-    let counts : block_count size len ≡ block_count size other = sym (count-cuts_of size len) ∙ ap length cuts ∙ count-cuts_of size other in
-    let places : (len - 1) / size ≡ (other - 1) / size = omega arith in
-    let starts : (len - 1) / size * size ≡ (other - 1) / size * size = ap (λ q. q * size) places in
-    let last : cut_at size len i ≡ cut_at size other i =
-    sym (at-cuts_of size len i (omega arith)) ∙ ap (λ cs. get_or cs i (0, 0)) cuts ∙ at-cuts_of size other i (omega arith) in
-    let low = div-mul-le_self (len - 1) size in
-    let high = lt-div-mul-add {a = len - 1} {b = size} positive in
-    let low_other = div-mul-le_self (other - 1) size in
-    let high_other = lt-div-mul-add {a = other - 1} {b = size} positive in
-    same_end size ((len - 1) / size * size) len other (omega arith) (omega arith) (omega arith) (omega arith) (ap (λ cut. cut.1) last)
+cut_is_of_one_length len other blocks whole also =
+    ends_with_last (block_size_of len) len blocks (some_bytes len) whole
+    ∙ sym (ends_with_last (block_size_of other) other blocks (some_bytes other) also)

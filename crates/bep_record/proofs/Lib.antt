@@ -1,3 +1,4 @@
+pub mod BlockSizeFacts
 mod Cuts
 mod LengthFacts
 mod MergeFacts

@@ -1,12 +1,29 @@
--- How a file's bytes are cut into blocks (BEP v1, 'BlockInfo'; the sizes are this project's profile).
-use Rattle.std.specs.Prelude.{◌≡◌, ℕ, ◌+◌, ◌-◌, ◌*◌, ◌/◌, min, List, map}
+-- How a file's bytes are cut into blocks (BEP v1, 'BlockInfo', and 'FileInfo', field 'block_size').
+use Rattle.std.specs.Prelude.{◌≡◌, ℕ, ◌+◌, ◌-◌, ◌*◌, ◌/◌, nat_lt, min, if◌then◌else◌, List, [], ◌∷◌, map}
 use Rattle.std.specs.List.{range_with_len}
 use Rattle.bep_record.specs.declared.block.Block.{Block}
-use Rattle.bep_record.specs.declared.limits.TheConstants.{BASE_BLOCK_SIZE}
+use Rattle.bep_record.specs.declared.limits.TheConstants.{BASE_BLOCK_SIZE, BLOCK_SIZES, BLOCKS_AIMED_AT, MAX_BLOCK_SIZE}
 
--- the bytes in each block of a file but the last
+-- ---- the size of blocks
+
+-- the least block size, that of small files
 abbrev pub base_block_size : ℕ
 base_block_size = BASE_BLOCK_SIZE
+
+-- the first of these sizes of which a file of this length has fewer bytes than 2000 blocks have, else the greatest size
+abbrev pub first_fitting : ℕ → List ℕ → ℕ
+first_fitting len [] = MAX_BLOCK_SIZE
+first_fitting len (size ∷ more) = if nat_lt len (BLOCKS_AIMED_AT * size) then size else first_fitting len more
+
+-- the bytes in each block but the last of a file of this length (BEP v1, 'FileInfo', field 'block_size')
+unfoldable pub block_size_of : ℕ → ℕ
+block_size_of len = first_fitting len BLOCK_SIZES
+
+-- files of some length have blocks of this size
+abbrev pub IsBlockSize : ℕ → Type 0
+IsBlockSize size = (len : ℕ) × (size ≡ block_size_of len)
+
+-- ---- the cuts
 
 -- how many blocks a file of this length has; an empty file has one
 abbrev pub block_count : ℕ → ℕ → ℕ

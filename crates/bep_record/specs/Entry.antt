@@ -1,6 +1,6 @@
 -- When the fields of a record are well formed (BEP v1, 'FileInfo'; the limits are this project's profile).
 use Rattle.std.specs.Prelude.{◌≡◌, ◌≢◌, ◌≤◌, Bool, true, false, IsTrue, [], ◌∷◌, map}
-use Rattle.bep_record.specs.Block.{base_block_size, CutWhole}
+use Rattle.bep_record.specs.Block.{block_size_of, CutWhole}
 use Rattle.bep_record.specs.declared.kind.Kind.{Kind}
 use Rattle.bep_record.specs.declared.kind.Kind.TheVariants.{File, Directory, Symlink}
 use Rattle.bep_record.specs.declared.entry.Entry.{Entry}
@@ -12,11 +12,11 @@ pub record HasNoBlocks (entry : Entry) : Type 0 where
   pub block_size : entry.block_size ≡ 0
   pub blocks : entry.blocks ≡ []
 
--- the blocks are those of a file of this size; an empty file has one empty block
+-- the blocks are those of a file of this size, and have the block size of that length; an empty file has one empty block
 pub record HasBlocks (entry : Entry) : Type 0 where
   pub size : entry.size ≤ MAX_FILE_SIZE
-  pub block_size : entry.block_size ≡ base_block_size
-  pub blocks : CutWhole base_block_size entry.size entry.blocks
+  pub block_size : entry.block_size ≡ block_size_of entry.size
+  pub blocks : CutWhole (block_size_of entry.size) entry.size entry.blocks
   pub empty : entry.size ≡ 0 → map (λ b. b.hash) entry.blocks ≡ HASH_OF_NOTHING ∷ []
 
 -- what a record has beside its name, times and version: by whether it is deleted, and by its kind

@@ -1,7 +1,8 @@
 -- What follows from the definitions alone; the functions of src/laws.rt have these as contracts.
 use Rattle.std.specs.Prelude.{◌≡◌, ◌==◌, ℕ, ◌+◌, ◌<◌, ◌≤◌, List, length, if◌then◌else◌}
 use Rattle.bep_record.specs.declared.block.Block.{Block}
-use Rattle.bep_record.specs.Block.{CutWhole}
+use Rattle.bep_record.specs.declared.limits.TheConstants.{MAX_BLOCK_SIZE}
+use Rattle.bep_record.specs.Block.{base_block_size, block_size_of, CutWhole}
 use Rattle.bep_record.specs.Vector.{counter_of, greatest_counter, IsVersion, IsMerge, IsBump, ids_in_either}
 
 -- w is a well-formed merge of u and v, with a counter for each id that has one in either
@@ -48,8 +49,12 @@ BumpIsCounted =
     (old : List (ℕ × ℕ)) (id : ℕ) (new : List (ℕ × ℕ)) → IsVersion old → 1 ≤ id → IsVersion new → IsBump old id new →
     length new ≡ length old + (if counter_of old id == 0 then 1 else 0)
 
--- blocks of one size cut files of one length only
+-- a block list cuts files of one length only, each by its own block size
 abbrev pub CutIsOfOneLength : Type 0
 CutIsOfOneLength =
-    (block_size len other : ℕ) (blocks : List Block) → 0 < block_size → CutWhole block_size len blocks →
-    CutWhole block_size other blocks → len ≡ other
+    (len other : ℕ) (blocks : List Block) → CutWhole (block_size_of len) len blocks →
+    CutWhole (block_size_of other) other blocks → len ≡ other
+
+-- the block size of each length is from the least to the greatest of the eight
+abbrev pub BlockSizesAreBounded : Type 0
+BlockSizesAreBounded = (len : ℕ) → (base_block_size ≤ block_size_of len) × (block_size_of len ≤ MAX_BLOCK_SIZE)

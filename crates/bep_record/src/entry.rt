@@ -1,8 +1,10 @@
 //! The fields of a record, and whether they are well formed.
-ghost use Rattle.std.specs.Prelude.{◌≡◌, ◌↔◌, [], ◌∷◌, map, IsTrue, IfOk};
+ghost use Rattle.std.specs.Prelude.{◌≡◌, ◌↔◌, ◌≤◌, [], ◌∷◌, map, IsTrue, IfOk};
+ghost use Rattle.bep_record.specs.Block.{block_size_of};
+ghost use Rattle.bep_record.specs.declared.limits.TheConstants.{MAX_FILE_SIZE};
 ghost use Rattle.bep_record.specs.Entry.{HasNoBlocks, HasBlocks, HasBody, IsWellFormed, SameEntry};
 
-use crate::limits::{HASH_OF_NOTHING, MAX_FILE_SIZE, MAX_NANOSECONDS};
+use crate::limits::{HASH_OF_NOTHING, MAX_NANOSECONDS};
 use crate::{Block, BlockSize, DeviceId, Items, Kind, Name, Target, Vector, cut_whole};
 use std::alloc::{AllocError, Global};
 
@@ -115,10 +117,20 @@ impl Entry {
     fn has_blocks(&self) -> bool
         ensures { IsTrue result ↔ HasBlocks self.now }
     {
+        match BlockSize::of_length(self.size) {
+            Ok(size) => self.has_blocks_of(size),
+            Err(_) => false,
+        }
+    }
+
+    // Whether the blocks have this size, which is that of the file's length, and are those of a file of this length.
+    fn has_blocks_of(&self, size: BlockSize) -> bool
+        requires within { self.now.size ≤ MAX_FILE_SIZE }
+        requires size { size ≡ block_size_of self.now.size }
+        ensures { IsTrue result ↔ HasBlocks self.now }
+    {
         let blocks = self.blocks.as_slice();
-        let size = BlockSize::base();
-        self.size <= MAX_FILE_SIZE
-            && self.block_size == size.bytes()
+        self.block_size == size.bytes()
             && cut_whole(blocks, self.size, size)
             && (self.size != 0 || is_empty_block(blocks))
     }

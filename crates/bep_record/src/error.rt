@@ -21,8 +21,8 @@ pub enum RecordError {
     /// The parts are no node of a store.
     #[error("the parts make no node")]
     NodeBad,
-    /// A file has more than 16777216 bytes.
-    #[error("a file has at most 16777216 bytes")]
+    /// A file has more than 536870912 bytes.
+    #[error("a file has at most 536870912 bytes")]
     FileTooLarge,
     /// Memory ran out.
     #[error("out of memory")]

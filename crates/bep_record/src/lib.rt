@@ -49,10 +49,11 @@ pub use folder::FolderName;
 pub use folder_kind::FolderKind;
 pub use items::Items;
 pub use kind::Kind;
-pub use laws::{bump_exists, cut_is_of_one_length, merge_exists};
+pub use laws::{block_sizes_are_bounded, bump_exists, cut_is_of_one_length, merge_exists};
 pub use limits::{
-    BASE_BLOCK_SIZE, HASH_OF_NOTHING, MAX_DEVICES, MAX_FILE_SIZE, MAX_FOLDER_NAME_LEN, MAX_FOLDERS,
-    MAX_MESSAGES, MAX_NAME_LEN, MAX_NANOSECONDS, MAX_PULLS, MAX_TARGET_LEN,
+    BASE_BLOCK_SIZE, BLOCK_SIZES, BLOCKS_AIMED_AT, HASH_OF_NOTHING, MAX_BLOCK_SIZE, MAX_DEVICES,
+    MAX_FILE_SIZE, MAX_FOLDER_NAME_LEN, MAX_FOLDERS, MAX_MESSAGES, MAX_NAME_LEN, MAX_NANOSECONDS,
+    MAX_PULLS, MAX_TARGET_LEN,
 };
 pub use name::Name;
 pub use node::{Node, NodeParts};

@@ -3,12 +3,29 @@
 /// The most bytes that a file may have.
 ///
 /// This project's profile.
-pub const MAX_FILE_SIZE: u64 = 16777216;
+pub const MAX_FILE_SIZE: u64 = 536870912;
 
-/// The number of bytes in each block of a file but the last.
+/// The number of bytes in each block of a small file but the last: the least of the block sizes.
 ///
-/// BEP v1, 'FileInfo', field 'block_size'; this project's profile has one size so far.
+/// BEP v1, 'FileInfo', field 'block_size'.
 pub const BASE_BLOCK_SIZE: u32 = 131072;
+
+/// The sizes that the blocks of a file may have, rising: each is twice the one before it.
+///
+/// BEP v1, 'FileInfo', field 'block_size'.
+pub const BLOCK_SIZES: [u32; 8] = [
+    131072, 262144, 524288, 1048576, 2097152, 4194304, 8388608, 16777216,
+];
+
+/// The greatest of the block sizes.
+///
+/// BEP v1, 'FileInfo', field 'block_size'.
+pub const MAX_BLOCK_SIZE: u32 = 16777216;
+
+/// A file has fewer bytes than so many blocks of its size have, if there is such a size.
+///
+/// BEP v1, 'FileInfo', field 'block_size'.
+pub const BLOCKS_AIMED_AT: u64 = 2000;
 
 /// The most nanoseconds that a time may have beside its whole seconds.
 pub const MAX_NANOSECONDS: u32 = 999999999;

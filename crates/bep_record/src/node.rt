@@ -1,9 +1,10 @@
 //! What a store holds at a name.
 ghost use Rattle.std.specs.Prelude.{◌≡◌, ◌<◌, ◌≤◌, ◌↔◌, [], length, IsTrue, IsOk, IsErrOf, IfOk};
+ghost use Rattle.bep_record.specs.Block.{block_size_of};
 ghost use Rattle.bep_record.specs.Node.{FitsKind, IsNode};
 
 use crate::limits::{MAX_FILE_SIZE, MAX_NANOSECONDS};
-use crate::{Items, Kind, RecordError, Target};
+use crate::{BlockSize, Items, Kind, RecordError, Target};
 use std::alloc::{AllocError, Global};
 use std::marker::Model;
 
@@ -84,7 +85,7 @@ impl Model for Node {
 }
 
 impl Node {
-    /// The node of these parts. `FileTooLarge` above 16777216 bytes; else `NodeBad` where there are bytes
+    /// The node of these parts. `FileTooLarge` above 536870912 bytes; else `NodeBad` where there are bytes
     /// outside a file, a symlink without a target or a target outside a symlink, or 1000000000 nanoseconds or more. This
     /// project's profile.
     pub fn read(parts: NodeParts) -> Result<Self, RecordError>
@@ -117,6 +118,16 @@ impl Node {
     {
         let Node { parts } = self;
         parts
+    }
+
+    /// The block size of the node's file; of all else, which has no bytes, that of an empty file.
+    pub fn block_size(&self) -> BlockSize
+        ensures { result ≡ block_size_of (length self.now.bytes) }
+    {
+        match BlockSize::of_length(self.parts.bytes.as_slice().len() as u64) {
+            Ok(size) => size,
+            Err(_) => unreachable!(),
+        }
     }
 
     /// An equal node of its own, or want of memory.

@@ -1,9 +1,10 @@
 //! Records that are well formed.
 ghost use Rattle.std.specs.Prelude.{◌≡◌, ◌↔◌, IsTrue, IsOk, IfOk, IfErr};
+ghost use Rattle.bep_record.specs.Block.{block_size_of};
 ghost use Rattle.bep_record.specs.Content.{content_of, content_lent};
 ghost use Rattle.bep_record.specs.Entry.{IsWellFormed};
 
-use crate::{Content, Entry, Kind};
+use crate::{BlockSize, Content, Entry, Kind};
 use std::alloc::{AllocError, Global};
 use std::marker::Model;
 
@@ -62,6 +63,17 @@ impl Record {
     {
         let Record { entry } = self;
         entry
+    }
+
+    /// The block size of the record's file; of all else, which has size 0, that of an empty file.
+    #[tactic(auto, using(crate::proofs::BlockSizeFacts::few_bytes))]
+    pub fn block_size(&self) -> BlockSize
+        ensures { result ≡ block_size_of self.now.size }
+    {
+        match BlockSize::of_length(self.entry.size) {
+            Ok(size) => size,
+            Err(_) => unreachable!(),
+        }
     }
 
     /// An equal record of its own, or want of memory.

@@ -32,12 +32,24 @@ abbrev pub version_text : List (ℕ × ℕ) → List ℕ
 version_text [] = codes "-"
 version_text (counter ∷ more) = counter_text counter ++ further_text more
 
--- the line of a row: folder, name, the winning device, and its record's kind, state and version
-abbrev pub row_line : Row → List ℕ
-row_line row =
+-- the words of a row: folder, name, the winning device, and its record's kind, state and version
+abbrev pub row_words : Row → List ℕ
+row_words row =
     concat (row.folder ∷ codes " " ∷ printed row.entry.name ∷ codes " " ∷ decimal row.device ∷ codes " " ∷ type_text row.entry.kind ∷ codes " "
-    ∷ state_text row.entry.deleted ∷ codes " " ∷ version_text row.entry.version ∷ newline ∷ [])
+    ∷ state_text row.entry.deleted ∷ codes " " ∷ version_text row.entry.version ∷ [])
+
+-- the line of a row
+abbrev pub row_line : Row → List ℕ
+row_line row = row_words row ++ newline
 
 -- the lines of a certificate, a line a row
 abbrev pub certificate_lines : List Row → List ℕ
 certificate_lines rows = flat_map row_line rows
+
+-- the line of a row with one word more: its record's block size
+abbrev pub row_line_2 : Row → List ℕ
+row_line_2 row = row_words row ++ concat (codes " " ∷ decimal row.entry.block_size ∷ newline ∷ [])
+
+-- the lines of a certificate with the block sizes, a line a row
+abbrev pub certificate_lines_2 : List Row → List ℕ
+certificate_lines_2 rows = flat_map row_line_2 rows

@@ -22,8 +22,40 @@ pub fn push_certificate(text: &mut Vec<u8>, certificate: &Certificate) -> Result
     Ok(())
 }
 
+/// Appends the certificate as `push_certificate` does, with one word more in each line: the record's block size.
+pub fn push_certificate_2(text: &mut Vec<u8>, certificate: &Certificate) -> Result<(), AllocError>
+    ensures { AppendsWhole result text.old.items text.new.items (spec.certificate_lines_2 certificate.now) }
+{
+    let len = text.len();
+    for row in certificate.rows() {
+        let pushed = push_row_2(text, row);
+        or_as_before(text, len, pushed)?;
+    }
+    Ok(())
+}
+
 fn push_row(text: &mut Vec<u8>, row: &Row) -> Result<(), AllocError>
     ensures { AppendsWhole result text.old.items text.new.items (spec.row_line row.now) }
+{
+    let len = text.len();
+    push_words(text, row)?;
+    let pushed = push_pieces(text, &[Piece::Text("\n")]);
+    or_as_before(text, len, pushed)
+}
+
+fn push_row_2(text: &mut Vec<u8>, row: &Row) -> Result<(), AllocError>
+    ensures { AppendsWhole result text.old.items text.new.items (spec.row_line_2 row.now) }
+{
+    let len = text.len();
+    push_words(text, row)?;
+    let block_size = Piece::Number(u64::from(row.entry.entry().block_size));
+    let pushed = push_pieces(text, &[Piece::Text(" "), block_size, Piece::Text("\n")]);
+    or_as_before(text, len, pushed)
+}
+
+// Appends the words that each line of a row has.
+fn push_words(text: &mut Vec<u8>, row: &Row) -> Result<(), AllocError>
+    ensures { AppendsWhole result text.old.items text.new.items (spec.row_words row.now) }
 {
     let len = text.len();
     let entry = row.entry.entry();
@@ -42,8 +74,6 @@ fn push_row(text: &mut Vec<u8>, row: &Row) -> Result<(), AllocError>
     ];
     push_pieces(text, &pieces)?;
     let pushed = push_version(text, entry.version.counters());
-    or_as_before(text, len, pushed)?;
-    let pushed = push_pieces(text, &[Piece::Text("\n")]);
     or_as_before(text, len, pushed)
 }
 

@@ -20,9 +20,9 @@ pub use bep_lines::{
     push_not_settled, push_pieces, push_printed, push_reason, push_refused, push_settled,
     push_step, word_of,
 };
-pub use certificate::push_certificate;
+pub use certificate::{push_certificate, push_certificate_2};
 pub use error::ReportError;
 pub use input::read_document;
 pub use output::write_all;
 pub use reporting::{push_firm_report, push_report};
-pub use written::{certificate_text, report};
+pub use written::{certificate_text, certificate_text_2, report};

@@ -2,11 +2,11 @@
 ghost use Rattle.std.specs.Prelude.{OnOk, IfErr};
 ghost use Rattle.std.specs.Io.KnownBytes.{Appends};
 ghost use Rattle.bep_audit.specs.Shown.{verdict_shown};
-ghost use Rattle.bep_report.specs.Certificate.{certificate_lines};
+ghost use Rattle.bep_report.specs.Certificate.{certificate_lines, certificate_lines_2};
 ghost use Rattle.bep_report.specs.Output.{WritesInPart};
 ghost use Rattle.bep_report.specs.Report.{report_text};
 
-use crate::{ReportError, push_certificate, push_report, write_all};
+use crate::{ReportError, push_certificate, push_certificate_2, push_report, write_all};
 use bep_audit::{Certificate, Verdict};
 use bep_tables::Cut;
 use std::alloc::Global;
@@ -44,5 +44,22 @@ pub fn certificate_text<W: Write>(
 {
     let mut text = Vec::new(alloc);
     push_certificate(&mut text, certificate)?;
+    write_all(writer, text.as_slice())
+}
+
+/// Writes the certificate as `certificate_text` does, with one word more in each line: the record's block size.
+///
+/// `Write` is answered where the writer answers any error, or takes nothing, and then a beginning of the lines may be
+/// written; after `Memory` nothing is.
+pub fn certificate_text_2<W: Write>(
+    alloc: Global,
+    certificate: &Certificate,
+    writer: &mut W,
+) -> Result<(), ReportError>
+    ensures ok { OnOk result (Appends (W.contents writer.old) (W.contents writer.new) (certificate_lines_2 certificate.now)) }
+    ensures err { IfErr result (WritesInPart (W.contents writer.old) (W.contents writer.new) (certificate_lines_2 certificate.now)) }
+{
+    let mut text = Vec::new(alloc);
+    push_certificate_2(&mut text, certificate)?;
     write_all(writer, text.as_slice())
 }

@@ -6,12 +6,12 @@ use Rattle.bep_document.specs.Fault.{at_name}
 use Rattle.bep_document.specs.faults.Judge.{first_in}
 use Rattle.bep_document.specs.faults.Twice.{first_twice}
 use Rattle.bep_document.specs.faults.Links.{first_bad_link}
-use Rattle.bep_document.specs.read.Checks.{has_version}
+use Rattle.bep_document.specs.read.Checks.{doc_version}
 use Rattle.bep_document.specs.Reading.{Read}
 use Rattle.bep_record.specs.declared.limits.TheConstants.{MAX_DEVICES}
 use Rattle.bep_document.specs.read.Devices.{with_devices}
 use Rattle.bep_document.proofs.Given.{devices_known, known_are_of, all_map}
-use Rattle.bep_document.proofs.Steps.{passed_and, of_bytes_and, of_shape_and}
+use Rattle.bep_document.proofs.Steps.{given_and, of_bytes_and, of_shape_and}
 use Rattle.bep_document.proofs.CleanFacts.{neither_fault, each_without_fault, node_without_fault, folders_differ, devices_differ, links_differ, links_join}
 use Rattle.bep_scenario.specs.declared.parts.StepParts.{StepParts}
 use Rattle.bep_scenario.specs.declared.parts.StepParts.TheVariants.{Edit, Other}
@@ -47,9 +47,9 @@ faultless parts range none =
 tree_faultless : (tree : Data) (parts : ScenarioParts) → reading_of_tree tree ≡ Read parts → IsFaultless parts
 unfolding reading_of_tree
 tree_faultless tree parts e =
-    let unshaped = passed_and VersionBad has_version tree _ e in
-    let found = of_shape_and is_scenario read_scenario first_fault tree unshaped in
-    faultless parts (scenario_in_range tree parts found.0) found.1
+    let known = given_and VersionBad (doc_version tree) _ e in
+    let found = of_shape_and (is_scenario known.0) (read_scenario known.0) first_fault tree known.2 in
+    faultless parts (scenario_in_range known.0 tree parts found.0) found.1
 
 pub scenario_faultless : (bytes : List ℕ) (parts : ScenarioParts) → reading_of bytes ≡ Read parts → IsFaultless parts
 unfolding reading_of

@@ -4,6 +4,7 @@ use Rattle.std.specs.List.{AllByRecursion}
 use Rattle.serde_json.specs.Find.{as_str, as_number, as_u64}
 use Rattle.bep_record.specs.FolderName.{IsFolderName}
 use Rattle.bep_record.specs.declared.limits.TheConstants.{MAX_FOLDERS}
+use Rattle.bep_json.specs.declared.version.DocVersion.{DocVersion}
 use Rattle.bep_json.specs.Reading.{read_member}
 use Rattle.bep_json.specs.Lists.{read_list}
 use Rattle.bep_json.specs.Numbers.{read_number, greatest_id}
@@ -57,10 +58,10 @@ pub record AreFoldersInRange (folders : List FolderParts) : Type 0 where
 abbrev pub IsInRange : ScenarioParts → Type 0
 IsInRange parts = AreFoldersInRange parts.cluster.folders
 
-pub scenario_in_range : Reads IsInRange read_scenario
+pub scenario_in_range : (version : DocVersion) → Reads IsInRange (read_scenario version)
 unfolding read_scenario
-scenario_in_range d =
+scenario_in_range version d =
     keep (member_read (few_read MAX_FOLDERS folder_in_range) (codes "folders") d) (λ folders few.
     keep (tested AreFoldersInRange (has_few_devices folders) folders (λ devices. record { few = few.0; few_devices = devices; each = few.1 })) (λ known range.
     skip (read_member (codes "links") (read_list read_fresh_link) d) (λ links.
-    skip (read_member (codes "steps") (read_list read_step) d) (λ steps. made IsInRange _ range))))
+    skip (read_member (codes "steps") (read_list (read_step version)) d) (λ steps. made IsInRange _ range))))

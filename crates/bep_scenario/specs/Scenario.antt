@@ -3,6 +3,7 @@ use Rattle.std.specs.Prelude.{◌≡◌, ℕ, List, All, map}
 use Rattle.std.specs.FinMap.{empty}
 use Rattle.std.specs.Map.{values_of}
 use Rattle.bep_machine.specs.declared.step.Step.{Step}
+use Rattle.bep_json.specs.declared.version.DocVersion.{DocVersion}
 use Rattle.bep_document.specs.Reading.{Reading, Read, ◌>>=◌}
 use Rattle.bep_scenario.specs.declared.parts.ScenarioParts.{ScenarioParts}
 use Rattle.bep_scenario.specs.declared.scenario.Scenario.{Scenario}
@@ -10,17 +11,18 @@ use Rattle.bep_scenario.specs.Configured.{Start, start_of}
 use Rattle.bep_scenario.specs.Faultless.{step_of}
 use Rattle.bep_scenario.specs.Reading.{reading_of}
 
--- what a scenario says: with which configuration it begins, and its steps
+-- what a scenario says: its document's version, with which configuration it begins, and its steps
 pub record Said : Type 0 where
+  pub version : DocVersion
   pub config : Start
   pub steps : List Step
 
 abbrev pub said : Scenario → Said
-said scenario = record { config = scenario.config; steps = scenario.steps.items }
+said scenario = record { version = scenario.version; config = scenario.config; steps = scenario.steps.items }
 
--- the cluster's configuration, its stores empty, and its steps
+-- the document's version, the cluster's configuration, its stores empty, and its steps
 abbrev pub made_of : ScenarioParts → Said
-made_of parts = record { config = start_of parts.cluster; steps = map step_of parts.steps }
+made_of parts = record { version = parts.cluster.version; config = start_of parts.cluster; steps = map step_of parts.steps }
 
 -- what the bytes of a document say
 abbrev pub scenario_of : List ℕ → Reading Said

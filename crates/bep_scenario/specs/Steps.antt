@@ -1,6 +1,7 @@
 -- Steps as lists in JSON trees (this project's profile).
 use Rattle.std.specs.Prelude.{ℕ, Bool, false, List, [], ◌∷◌, Option, Some, None}
 use Rattle.serde_json.specs.Data.{Data}
+use Rattle.bep_json.specs.declared.version.DocVersion.{DocVersion}
 use Rattle.bep_json.specs.Reading.{◌>>=◌}
 use Rattle.bep_json.specs.Numbers.{is_whole, read_number, greatest_id}
 use Rattle.bep_json.specs.Texts.{is_text, read_name, read_folder_name}
@@ -32,9 +33,9 @@ abbrev pub has_form : Option Word → Data → Bool
 has_form None d = false
 has_form (Some word) d = has_items 1 (shapes_of word) d
 
--- a step: a list of a word and what belongs to it, and of nothing else
-unfoldable pub is_step : Data → Bool
-is_step d = has_form (read_item 0 read_word d) d
+-- a step: a list of a word and what belongs to it, and of nothing else; each word is one of both versions of documents
+unfoldable pub is_step : DocVersion → Data → Bool
+is_step version d = has_form (read_item 0 read_word d) d
 
 -- a device, by its number
 abbrev pub read_device : Data → Option ℕ
@@ -54,11 +55,11 @@ pair_step of_pair.Lose one other = steps.Lose one other
 pair_step of_pair.Begin one other = steps.Begin one other
 pair_step of_pair.Deliver one other = steps.Deliver one other
 
-unfoldable pub read_edit : Data → Option StepParts
-read_edit d = do
+unfoldable pub read_edit : DocVersion → Data → Option StepParts
+read_edit version d = do
   device ← read_item 1 read_device d
   folder ← read_item 2 read_folder_name d
-  node ← read_item 3 read_node d
+  node ← read_item 3 (read_node version) d
   Some (parts.Edit device folder node)
 
 unfoldable pub read_name_step : NameWord → Data → Option StepParts
@@ -94,16 +95,16 @@ read_restart d = do
   device ← read_item 1 read_device d
   Some (parts.Other (steps.Restart device))
 
-abbrev pub read_by : Word → Data → Option StepParts
-read_by Edit d = read_edit d
-read_by (OfName word) d = read_name_step word d
-read_by (OfPair word) d = read_pair_step word d
-read_by Announce d = read_announce d
-read_by Ask d = read_ask d
-read_by Restart d = read_restart d
+abbrev pub read_by : DocVersion → Word → Data → Option StepParts
+read_by version Edit d = read_edit version d
+read_by version (OfName word) d = read_name_step word d
+read_by version (OfPair word) d = read_pair_step word d
+read_by version Announce d = read_announce d
+read_by version Ask d = read_ask d
+read_by version Restart d = read_restart d
 
 -- the step, whose node, if it is an edit, may not fit its kind
-unfoldable pub read_step : Data → Option StepParts
-read_step d = do
+unfoldable pub read_step : DocVersion → Data → Option StepParts
+read_step version d = do
   word ← read_item 0 read_word d
-  read_by word d
+  read_by version word d

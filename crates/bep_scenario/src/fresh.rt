@@ -5,7 +5,7 @@ ghost use Rattle.bep_json.specs.Lists.{is_pair};
 ghost use Rattle.bep_scenario.specs.Fresh.{is_fresh_share, read_fresh_share, is_fresh_folder, read_fresh_folder, fresh_link, read_fresh_link};
 
 use bep_document::{FolderParts, IndexNumber, LinkParts, ShareParts, index_id_of};
-use bep_json::{ReadError, Readable, is_object, member};
+use bep_json::{DocVersion, ReadError, Readable, is_object, member};
 use bep_record::{DeviceId, FolderKind, FolderName, Items};
 use serde_json::Value;
 use std::alloc::{AllocError, Global};
@@ -41,21 +41,21 @@ pub(crate) fn into_parts<P: Drop>(
 
 // A device that shares a folder.
 impl Readable for Fresh<ShareParts> {
-    ghost has_shape = { is_fresh_share };
+    ghost has_shape = { λ _. is_fresh_share };
 
-    ghost reads = { read_fresh_share };
+    ghost reads = { λ _. read_fresh_share };
 
     #[tactic(auto, unfolding(crate::specs::Fresh::is_fresh_share))]
-    fn has_shape(value: &Value) -> bool {
-        is_object!(value; has "device": DeviceId, has "kind": FolderKind, has "index_id": IndexNumber)
+    fn has_shape(version: DocVersion, value: &Value) -> bool {
+        is_object!(version, value; has "device": DeviceId, has "kind": FolderKind, has "index_id": IndexNumber)
     }
 
     #[tactic(auto, unfolding(crate::specs::Fresh::read_fresh_share))]
-    fn read(alloc: Global, value: &Value) -> Result<Self, ReadError> {
+    fn read(alloc: Global, version: DocVersion, value: &Value) -> Result<Self, ReadError> {
         let part = ShareParts {
-            device: member(alloc, value, "device")?,
-            kind: member(alloc, value, "kind")?,
-            index_id: index_id_of(alloc, value)?,
+            device: member(alloc, version, value, "device")?,
+            kind: member(alloc, version, value, "kind")?,
+            index_id: index_id_of(alloc, version, value)?,
             max: 0,
             own: Items::new(Vec::new(alloc)),
             store: Items::new(Vec::new(alloc)),
@@ -68,19 +68,19 @@ impl Readable for Fresh<ShareParts> {
 
 // A folder.
 impl Readable for Fresh<FolderParts> {
-    ghost has_shape = { is_fresh_folder };
+    ghost has_shape = { λ _. is_fresh_folder };
 
-    ghost reads = { read_fresh_folder };
+    ghost reads = { λ _. read_fresh_folder };
 
     #[tactic(auto, unfolding(crate::specs::Fresh::is_fresh_folder))]
-    fn has_shape(value: &Value) -> bool {
-        is_object!(value; has "folder": FolderName, has "devices": Items<Fresh<ShareParts>>)
+    fn has_shape(version: DocVersion, value: &Value) -> bool {
+        is_object!(version, value; has "folder": FolderName, has "devices": Items<Fresh<ShareParts>>)
     }
 
     #[tactic(auto, unfolding(crate::specs::Fresh::read_fresh_folder))]
-    fn read(alloc: Global, value: &Value) -> Result<Self, ReadError> {
-        let folder = member::<FolderName>(alloc, value, "folder")?;
-        let fresh = member::<Items<Fresh<ShareParts>>>(alloc, value, "devices")?;
+    fn read(alloc: Global, version: DocVersion, value: &Value) -> Result<Self, ReadError> {
+        let folder = member::<FolderName>(alloc, version, value, "folder")?;
+        let fresh = member::<Items<Fresh<ShareParts>>>(alloc, version, value, "devices")?;
         let devices = into_parts(alloc, fresh)?;
         let part = FolderParts { folder, devices };
         Ok(Fresh { part })
@@ -89,17 +89,17 @@ impl Readable for Fresh<FolderParts> {
 
 // A link.
 impl Readable for Fresh<LinkParts> {
-    ghost has_shape = { is_pair };
+    ghost has_shape = { λ _. is_pair };
 
-    ghost reads = { read_fresh_link };
+    ghost reads = { λ _. read_fresh_link };
 
-    fn has_shape(value: &Value) -> bool {
-        <(u64, u64)>::has_shape(value)
+    fn has_shape(version: DocVersion, value: &Value) -> bool {
+        <(u64, u64)>::has_shape(version, value)
     }
 
     #[tactic(auto, unfolding(crate::specs::Fresh::read_fresh_link))]
-    fn read(alloc: Global, value: &Value) -> Result<Self, ReadError> {
-        let (first, second) = <(u64, u64)>::read(alloc, value)?;
+    fn read(alloc: Global, version: DocVersion, value: &Value) -> Result<Self, ReadError> {
+        let (first, second) = <(u64, u64)>::read(alloc, version, value)?;
         let (Some(a), Some(b)) = (DeviceId::read(first), DeviceId::read(second)) else {
             return Err(ReadError::Range);
         };

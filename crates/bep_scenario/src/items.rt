@@ -4,16 +4,16 @@ ghost use Rattle.serde_json.specs.View.{view};
 ghost use Rattle.bep_json.specs.Reading.{Gives};
 ghost use Rattle.bep_scenario.specs.Items.{has_item, ends_at, read_item};
 
-use bep_json::{ReadError, Readable};
+use bep_json::{DocVersion, ReadError, Readable};
 use serde_json::Value;
 use std::alloc::Global;
 
 // Whether the value is a list that has an item of a `T`'s shape at this place, from 0.
-pub(crate) fn has_item<T: Readable>(value: &Value, place: usize) -> bool
-    ensures { result ≡ has_item place T.has_shape (view value.now) }
+pub(crate) fn has_item<T: Readable>(version: DocVersion, value: &Value, place: usize) -> bool
+    ensures { result ≡ has_item place (T.has_shape version) (view value.now) }
 {
     match value.get(place) {
-        Some(found) => T::has_shape(found),
+        Some(found) => T::has_shape(version, found),
         None => false,
     }
 }
@@ -26,19 +26,24 @@ pub(crate) fn ends_at(value: &Value, count: usize) -> bool
 }
 
 // The thing at this place of a list. `Range` where there is none; `Memory` may come in place of any answer.
-pub(crate) fn item<T: Readable>(alloc: Global, value: &Value, place: usize) -> Result<T, ReadError>
-    ensures { Gives result (read_item place T.reads (view value.now)) }
+pub(crate) fn item<T: Readable>(
+    alloc: Global,
+    version: DocVersion,
+    value: &Value,
+    place: usize,
+) -> Result<T, ReadError>
+    ensures { Gives result (read_item place (T.reads version) (view value.now)) }
 {
     match value.get(place) {
-        Some(found) => T::read(alloc, found),
+        Some(found) => T::read(alloc, version, found),
         None => Err(ReadError::Range),
     }
 }
 
 // Whether the value, if it is a list, has things of these shapes at these places, and at most this many items.
 macro_rules! has_items {
-    ($value:expr; $($place:literal: $thing:ty),+; $count:literal) => {
-        $(has_item::<$thing>($value, $place) &&)+ ends_at($value, $count)
+    ($version:expr, $value:expr; $($place:literal: $thing:ty),+; $count:literal) => {
+        $(has_item::<$thing>($version, $value, $place) &&)+ ends_at($value, $count)
     };
 }
 

@@ -16,7 +16,8 @@ pub enum StepParts {
 /// What a scenario says: a cluster, and its steps.
 #[derive(Debug, Drop)]
 pub struct ScenarioParts {
-    /// The cluster before the first step, as a cut in which nothing is recorded, kept, known or on its way, without rows.
+    /// The document's version, and the cluster before the first step, as a cut in which nothing is recorded, kept, known or
+    /// on its way, without rows.
     pub cluster: CheckParts,
     /// The steps, the first one first.
     pub steps: Items<StepParts>,

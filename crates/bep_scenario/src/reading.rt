@@ -9,10 +9,10 @@ use crate::faults::fault_of;
 use crate::fresh::{Fresh, into_parts};
 use crate::{ScenarioParts, StepParts};
 use bep_document::{
-    CheckParts, DocError, Fault, Few, FolderParts, LinkParts, document_tree, has_few_devices,
-    has_version, refused, unless_found,
+    CheckParts, DocError, Fault, Few, FolderParts, LinkParts, doc_version, document_tree,
+    has_few_devices, refused, unless_found,
 };
-use bep_json::{ReadError, Readable, Whole, is_object, member};
+use bep_json::{DocVersion, ReadError, Readable, Whole, is_object, member};
 use bep_record::{Items, MAX_FOLDERS};
 use serde_json::Value;
 use std::alloc::Global;
@@ -27,24 +27,25 @@ impl Readable for ScenarioParts {
     ghost reads = { read_scenario };
 
     #[tactic(auto, unfolding(crate::specs::Reading::is_scenario))]
-    fn has_shape(value: &Value) -> bool {
-        is_object!(value;
-            has "version": Whole<1, 1>, has "folders": FreshFolders, has "links": FreshLinks,
+    fn has_shape(version: DocVersion, value: &Value) -> bool {
+        is_object!(version, value;
+            has "version": Whole<1, 2>, has "folders": FreshFolders, has "links": FreshLinks,
             has "steps": Items<StepParts>)
     }
 
     #[tactic(auto, unfolding(crate::specs::Reading::read_scenario))]
-    fn read(alloc: Global, value: &Value) -> Result<Self, ReadError> {
-        let fresh = member::<FreshFolders>(alloc, value, "folders")?.into_items();
+    fn read(alloc: Global, version: DocVersion, value: &Value) -> Result<Self, ReadError> {
+        let fresh = member::<FreshFolders>(alloc, version, value, "folders")?.into_items();
         let folders = into_parts(alloc, fresh)?;
         if !has_few_devices(alloc, folders.as_slice())? {
             return Err(ReadError::Range);
         }
-        let fresh = member::<FreshLinks>(alloc, value, "links")?;
+        let fresh = member::<FreshLinks>(alloc, version, value, "links")?;
         let links = into_parts(alloc, fresh)?;
-        let steps = member::<Items<StepParts>>(alloc, value, "steps")?;
+        let steps = member::<Items<StepParts>>(alloc, version, value, "steps")?;
         let certificate = Items::new(Vec::new(alloc));
         let cluster = CheckParts {
+            version,
             folders,
             links,
             certificate,
@@ -70,13 +71,13 @@ pub fn read_scenario_parts(alloc: Global, bytes: &[u8]) -> Result<ScenarioParts,
 fn parts_of(alloc: Global, tree: &Value) -> Result<ScenarioParts, DocError>
     ensures { Answers result (reading_of_tree (view tree.now)) }
 {
-    if !has_version(tree) {
+    let Some(version) = doc_version(tree) else {
         return Err(refused(Fault::VersionBad));
-    }
-    if !ScenarioParts::has_shape(tree) {
+    };
+    if !ScenarioParts::has_shape(version, tree) {
         return Err(refused(Fault::Shape));
     }
-    match ScenarioParts::read(alloc, tree) {
+    match ScenarioParts::read(alloc, version, tree) {
         Ok(parts) => judged(alloc, parts),
         Err(ReadError::Range) => Err(refused(Fault::Range)),
         Err(ReadError::Memory) => Err(DocError::Memory),

@@ -9,7 +9,7 @@ ghost use Rattle.bep_scenario.specs.Steps.{has_form, is_step, name_step, pair_st
 use crate::StepParts;
 use crate::items::{ends_at, has_item, has_items, item};
 use crate::words::{NameWord, PairWord, Word, word_of};
-use bep_json::{NamedParts, ReadError, Readable};
+use bep_json::{DocVersion, NamedParts, ReadError, Readable};
 use bep_machine::Step;
 use bep_record::{DeviceId, FolderName, Name};
 use serde_json::Value;
@@ -21,14 +21,14 @@ impl Readable for StepParts {
     ghost reads = { read_step };
 
     #[tactic(auto, unfolding(crate::specs::Steps::is_step))]
-    fn has_shape(value: &Value) -> bool {
-        has_form(first_word(value), value)
+    fn has_shape(version: DocVersion, value: &Value) -> bool {
+        has_form(version, first_word(value), value)
     }
 
     #[tactic(auto, unfolding(crate::specs::Steps::read_step))]
-    fn read(alloc: Global, value: &Value) -> Result<Self, ReadError> {
+    fn read(alloc: Global, version: DocVersion, value: &Value) -> Result<Self, ReadError> {
         match first_word(value) {
-            Some(word) => read_by(alloc, word, value),
+            Some(word) => read_by(alloc, version, word, value),
             None => Err(ReadError::Range),
         }
     }
@@ -45,49 +45,57 @@ fn first_word(value: &Value) -> Option<Word>
 }
 
 // Whether what belongs to the word comes after it.
-fn has_form(word: Option<Word>, value: &Value) -> bool
+fn has_form(version: DocVersion, word: Option<Word>, value: &Value) -> bool
     ensures { result ≡ has_form word (view value.now) }
 {
     match word {
         None => false,
-        Some(Word::Edit) => has_items!(value; 1: DeviceId, 2: FolderName, 3: NamedParts; 4),
-        Some(Word::OfName(_)) => has_items!(value; 1: DeviceId, 2: FolderName, 3: Name; 4),
-        Some(Word::OfPair(_)) => has_items!(value; 1: DeviceId, 2: DeviceId; 3),
-        Some(Word::Announce) => has_items!(value; 1: DeviceId, 2: DeviceId, 3: FolderName; 4),
-        Some(Word::Ask) => has_items!(value; 1: DeviceId, 2: DeviceId, 3: FolderName, 4: Name; 5),
-        Some(Word::Restart) => has_items!(value; 1: DeviceId; 2),
+        Some(Word::Edit) =>
+            has_items!(version, value; 1: DeviceId, 2: FolderName, 3: NamedParts; 4),
+        Some(Word::OfName(_)) => has_items!(version, value; 1: DeviceId, 2: FolderName, 3: Name; 4),
+        Some(Word::OfPair(_)) => has_items!(version, value; 1: DeviceId, 2: DeviceId; 3),
+        Some(Word::Announce) =>
+            has_items!(version, value; 1: DeviceId, 2: DeviceId, 3: FolderName; 4),
+        Some(Word::Ask) =>
+            has_items!(version, value; 1: DeviceId, 2: DeviceId, 3: FolderName, 4: Name; 5),
+        Some(Word::Restart) => has_items!(version, value; 1: DeviceId; 2),
     }
 }
 
 // The step of this word. `Range` where there is none; `Memory` may come in place of any answer.
 #[tactic(auto, unfolding(crate::specs::Steps::read_edit, crate::specs::Steps::read_name_step, crate::specs::Steps::read_pair_step, crate::specs::Steps::read_announce, crate::specs::Steps::read_ask, crate::specs::Steps::read_restart))]
-fn read_by(alloc: Global, word: Word, value: &Value) -> Result<StepParts, ReadError>
-    ensures { Gives result (read_by word (view value.now)) }
+fn read_by(
+    alloc: Global,
+    version: DocVersion,
+    word: Word,
+    value: &Value,
+) -> Result<StepParts, ReadError>
+    ensures { Gives result (read_by version word (view value.now)) }
 {
-    let device = item(alloc, value, 1)?;
+    let device = item(alloc, version, value, 1)?;
     match word {
         Word::Edit => {
-            let folder = item(alloc, value, 2)?;
-            Ok(StepParts::Edit(device, folder, item(alloc, value, 3)?))
+            let folder = item(alloc, version, value, 2)?;
+            Ok(StepParts::Edit(device, folder, item(alloc, version, value, 3)?))
         }
         Word::OfName(word) => {
-            let folder = item(alloc, value, 2)?;
-            let name = item(alloc, value, 3)?;
+            let folder = item(alloc, version, value, 2)?;
+            let name = item(alloc, version, value, 3)?;
             Ok(StepParts::Other(name_step(word, device, folder, name)))
         }
         Word::OfPair(word) => {
-            let other = item(alloc, value, 2)?;
+            let other = item(alloc, version, value, 2)?;
             Ok(StepParts::Other(pair_step(word, device, other)))
         }
         Word::Announce => {
-            let other = item(alloc, value, 2)?;
-            let folder = item(alloc, value, 3)?;
+            let other = item(alloc, version, value, 2)?;
+            let folder = item(alloc, version, value, 3)?;
             Ok(StepParts::Other(Step::Announce(device, other, folder)))
         }
         Word::Ask => {
-            let other = item(alloc, value, 2)?;
-            let folder = item(alloc, value, 3)?;
-            let name = item(alloc, value, 4)?;
+            let other = item(alloc, version, value, 2)?;
+            let folder = item(alloc, version, value, 3)?;
+            let name = item(alloc, version, value, 4)?;
             Ok(StepParts::Other(Step::Ask(device, other, folder, name)))
         }
         Word::Restart => Ok(StepParts::Other(Step::Restart(device))),

@@ -6,7 +6,7 @@ use crate::twice;
 use bep_audit::{Certificate, CertifyError, Verdict, certify, check};
 use bep_core::Cluster;
 use bep_cut::{clusters_are_parts, cut_of};
-use bep_cut_document::{CutValue, check_document};
+use bep_cut_document::{CutValue, DocVersion, check_document};
 use bep_links::Link;
 use bep_peer::Peer;
 use bep_report::{push_certificate, push_report};
@@ -71,7 +71,7 @@ fn read_back(alloc: Global, cut: &Cut, told: &mut Told) -> Result<Cut, AllocErro
 }
 
 fn read_of(alloc: Global, tree: &Value, told: &mut Told) -> Result<Cut, AllocError> {
-    match twice!(told; CutValue::from_value(alloc, tree)) {
+    match twice!(told; CutValue::from_value(alloc, DocVersion::Two, tree)) {
         Ok(cut) => Ok(cut),
         Err(_) => Err(AllocError),
     }
@@ -115,6 +115,6 @@ fn tell(
 ) -> Result<(), AllocError> {
     twice!(told; push_report(alloc, &mut told.text, cut, verdict))?;
     twice!(told; push_certificate(&mut told.text, certificate))?;
-    let document = twice!(told; check_document(alloc, cut, certificate.rows()))?;
+    let document = twice!(told; check_document(alloc, DocVersion::Two, cut, certificate.rows()))?;
     twice!(told; told.text.extend_from_slice(document.as_bytes()))
 }

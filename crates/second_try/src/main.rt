@@ -48,7 +48,7 @@ fn tell(alloc: Global, bytes: &[u8]) -> Result<Told, AllocError> {
     match read_scenario(alloc, bytes) {
         Ok(scenario) => tell_run(alloc, scenario, &mut told)?,
         Err(_) => match read_cut(alloc, bytes) {
-            Ok(cut) => audit(alloc, &cut, &mut told)?,
+            Ok((_, cut)) => audit(alloc, &cut, &mut told)?,
             Err(_) => return Err(AllocError),
         },
     }

@@ -61,7 +61,7 @@ fn uncertified(alloc: Global, cut: &Cut, text: &mut Vec<u8>) -> bool {
 // The same under no rows, and then under the certificate of the cut.
 fn told(alloc: Global, text: &mut Vec<u8>) -> bool {
     match read_cut(alloc, CUT.as_bytes()) {
-        Ok(cut) => uncertified(alloc, &cut, text) && certified(alloc, &cut, text),
+        Ok((_, cut)) => uncertified(alloc, &cut, text) && certified(alloc, &cut, text),
         Err(_) => false,
     }
 }

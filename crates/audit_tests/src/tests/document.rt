@@ -1,5 +1,5 @@
 //! A cut as a tree by itself, and a fault's copy. What is read and refused, and all else that is written, `tests/` shows.
-use bep_cut_document::CutValue;
+use bep_cut_document::{CutValue, DocVersion};
 use bep_document::{DocError, DocFault, read_parts};
 use bep_tables::Cut;
 use serde_json::Value;
@@ -19,7 +19,7 @@ fn is_written(alloc: Global, cut: &Cut, tree: &Value) -> bool {
 
 // Whether the cut that is read of the tree is written as the tree.
 fn is_read(alloc: Global, tree: &Value) -> bool {
-    match Cut::from_value(alloc, tree) {
+    match Cut::from_value(alloc, DocVersion::Two, tree) {
         Ok(cut) => is_written(alloc, &cut, tree),
         Err(_) => false,
     }

@@ -64,7 +64,8 @@ fn joined(alloc: Global, pieces: &[&str]) -> Result<String, AllocError> {
 // The cut of the document.
 fn cut_of(alloc: Global, pieces: &[&str]) -> Option<Cut> {
     let text = joined(alloc, pieces).ok()?;
-    read_cut(alloc, text.as_bytes()).ok()
+    let (_, cut) = read_cut(alloc, text.as_bytes()).ok()?;
+    Some(cut)
 }
 
 // What is told of the cut under its own certificate.

@@ -5,6 +5,7 @@ use Rattle.std.specs.List.{AllByRecursion}
 use Rattle.std.proofs.lemmas.List.{length-map}
 use Rattle.std.proofs.lemmas.List.Elements.{All-contains}
 use Rattle.bep_facts.specs.Members.{holds_of_member}
+use Rattle.bep_json.specs.declared.version.DocVersion.{DocVersion}
 use Rattle.bep_document.specs.declared.parts.FolderParts.{FolderParts}
 use Rattle.bep_document.specs.Faultless.{ends_of, IsFaultlessFolder, IsFaultlessLink, IsFaultless}
 use Rattle.bep_tables.specs.declared.share.SharedFolder.{SharedFolder}
@@ -21,8 +22,8 @@ use Rattle.bep_cut_document.proofs.back.InOrder.{differ_where_rising}
 use Rattle.bep_cut_document.proofs.back.LinksListed.{link_listed}
 use Rattle.bep_cut_document.proofs.back.Parts.{each_part}
 
-pub cut_listed : (cut : CutParts) → IsCut cut → AllByRecursion IsFolderSound cut.folders → AllByRecursion IsLinkSound cut.links → IsFaultless (parts_of cut [])
-cut_listed cut is folders_sound links_sound = record {
+pub cut_listed : (version : DocVersion) (cut : CutParts) → IsCut cut → AllByRecursion IsFolderSound cut.folders → AllByRecursion IsLinkSound cut.links → IsFaultless (parts_of version cut [])
+cut_listed version cut is folders_sound links_sound = record {
   few_folders = let same = length-map cut.folders folder_parts in let most = is.few_folders in omega arith;
   few_devices = few_devices cut is;
   different = differ_written (λ (folder : FolderParts). folder.folder) folder_parts cut.folders

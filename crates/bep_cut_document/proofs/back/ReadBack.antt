@@ -15,7 +15,7 @@ use Rattle.bep_document.specs.declared.parts.CheckParts.{CheckParts}
 use Rattle.bep_document.specs.Fault.{nowhere}
 use Rattle.bep_document.specs.Faultless.{IsFaultless, FaultlessHasNoFault, FaultlessHasFewDevices}
 use Rattle.bep_document.specs.Reading.{Reading, Read, Refused, ◌>>=◌, given, passed, unless, reading_of_tree, reading_of_cut}
-use Rattle.bep_document.specs.read.Checks.{is_cut, if_few_devices, read_cut, has_version, is_check, read_check_parts}
+use Rattle.bep_document.specs.read.Checks.{is_cut, if_few_devices, read_cut, doc_version, is_check, read_check_parts}
 use Rattle.bep_document.specs.read.Devices.{has_few_devices}
 use Rattle.bep_document.specs.read.Folders.{is_row, read_row}
 use Rattle.bep_tables.specs.declared.cut.CutParts.{CutParts}
@@ -29,6 +29,11 @@ use Rattle.bep_cut_document.proofs.RangeTold.{IsReadAgain, cut_says}
 use Rattle.bep_cut_document.proofs.ToldFacts.{each_told}
 use Rattle.bep_cut_document.proofs.back.CutListed.{cut_listed}
 use Rattle.bep_cut_document.proofs.back.Parts.{all_parts}
+use Rattle.bep_json.specs.declared.version.DocVersion.{DocVersion}
+use Rattle.bep_json.specs.declared.version.DocVersion.TheVariants.{One, Two}
+use Rattle.bep_json.specs.Version.{most_file_bytes}
+use Rattle.bep_cut_document.specs.Room.{IsCutShort, AreRowsShort}
+use Rattle.bep_cut_document.proofs.ShortFacts.{cut_short}
 use Rattle.bep_cut_document.proofs.back.SameCut.{cut_again}
 
 -- ---- the steps of a reading
@@ -42,51 +47,53 @@ gives fault o x next e = ap (λ p. given fault p >>= next) e
 few_read : (folders : List FolderParts) → has_few_devices folders ≡ true → if_few_devices folders ≡ Some folders
 few_read folders few = ap (λ b. if b then Some folders else None) few
 
-lists_say : (cut : CutParts) → IsReadAgain cut → has_few_devices (map folder_parts cut.folders) ≡ true → Says is_cut read_cut (map folder_parts cut.folders, map link_parts cut.links) (cut_tree cut)
+lists_say : (version : DocVersion) (cut : CutParts) → IsReadAgain version cut → has_few_devices (map folder_parts cut.folders) ≡ true → Says (is_cut version) (read_cut version) (map folder_parts cut.folders, map link_parts cut.links) (cut_tree cut)
 unfolding is_cut read_cut cut_tree
-lists_say cut again few = (
+lists_say version cut again few = (
   both_are refl (both_are again.folders.0 again.links.0),
   then_read _ (then_read _ again.folders.1 (few_read (map folder_parts cut.folders) few)) (then_read _ again.links.1 refl),
 )
 
 pub cut_is_told : FaultlessHasFewDevices → (cut : CutParts) → IsCut cut → AllByRecursion IsFolderTold cut.folders → AllByRecursion IsLinkTold cut.links → AllByRecursion IsFolderSound cut.folders → AllByRecursion IsLinkSound cut.links → IsCutTold cut
 cut_is_told few cut is folders_told links_told folders_sound links_sound =
-    let listed = cut_listed cut is folders_sound links_sound in
     record {
-      lists = lists_say cut (cut_says cut is folders_told links_told) (few (parts_of cut []) listed);
-      faultless = listed;
+      lists = λ version short. lists_say version cut (cut_says version cut is short folders_told links_told) (few (parts_of version cut []) (cut_listed version cut is folders_sound links_sound));
+      short = cut_short cut folders_sound links_sound;
+      faultless = λ version. cut_listed version cut is folders_sound links_sound;
       same = cut_again cut is;
     }
 
 -- ---- a cut
-pub cut_read : FaultlessHasNoFault → (cut : CutParts) → IsCutTold cut → cut_of_tree (cut_tree cut) ≡ Read cut
+pub cut_read : FaultlessHasNoFault → (version : DocVersion) (cut : CutParts) → IsCutTold cut → IsCutShort version cut → cut_of_tree version (cut_tree cut) ≡ Read cut
 unfolding reading_of_cut
-cut_read no_fault cut told =
+cut_read no_fault version cut told short =
+    let lists = told.lists version short in
     ap (λ reading. reading >>= made)
-    (passes Shape is_cut (cut_tree cut) _ told.lists.0
-    ∙ gives Range (read_cut (cut_tree cut)) _ _ told.lists.1
-    ∙ ap (λ fault. unless fault (parts_of cut [])) (no_fault (parts_of cut []) told.faultless))
+    (passes Shape (is_cut version) (cut_tree cut) _ lists.0
+    ∙ gives Range (read_cut version (cut_tree cut)) _ _ lists.1
+    ∙ ap (λ fault. unless fault (parts_of version cut [])) (no_fault (parts_of version cut []) (told.faultless version)))
     ∙ ap Read told.same
   where
     made : CheckParts → Reading CutParts
     made parts = Read (cut_written parts.folders parts.links)
 
 -- ---- a cut and rows
-rows_say : (rows : List Row) → AllByRecursion IsRowTold rows → AreRowsInRange rows → Says (is_list is_row) (read_list read_row) (map row_parts rows) (list_of (map row_tree rows))
-rows_say rows told range =
-    list_says is_row read_row row_parts row_tree rows
-    (each_told (λ (row : Row). row.entry.sequence ≤ MAX_SEQUENCE) (λ (row : Row). Says is_row read_row (row_parts row) (row_tree row)) rows told range)
+rows_say : (version : DocVersion) (rows : List Row) → AllByRecursion IsRowTold rows → AreRowsShort version rows → AreRowsInRange rows → Says (is_list (is_row version)) (read_list (read_row version)) (map row_parts rows) (list_of (map row_tree rows))
+rows_say version rows told short range =
+    list_says (is_row version) (read_row version) row_parts row_tree rows
+    (each_told (λ (v : DocVersion) (row : Row). row.entry.size ≤ most_file_bytes v) (λ (row : Row). row.entry.sequence ≤ MAX_SEQUENCE) (λ (v : DocVersion) (row : Row). Says (is_row v) (read_row v) (row_parts row) (row_tree row)) version rows told short range)
 
-check_says : (cut : CutParts) (rows : List Row) → IsCutTold cut → Says (is_list is_row) (read_list read_row) (map row_parts rows) (list_of (map row_tree rows)) → Says is_check read_check_parts (parts_of cut rows) (check_tree cut rows)
+check_says : (version : DocVersion) (cut : CutParts) (rows : List Row) → IsCutTold cut → IsCutShort version cut → Says (is_list (is_row version)) (read_list (read_row version)) (map row_parts rows) (list_of (map row_tree rows)) → Says (is_check version) (read_check_parts version) (parts_of version cut rows) (check_tree version cut rows)
 unfolding is_check read_check_parts check_tree
-check_says cut rows told said = (
-  both_are refl (both_are refl (both_are told.lists.0 said.0)),
-  then_read _ told.lists.1 (then_read _ said.1 refl),
-)
+check_says version cut rows told short said =
+    let lists = told.lists version short in (
+      both_are refl (both_are refl (both_are lists.0 said.0)),
+      then_read _ lists.1 (then_read _ said.1 refl),
+    )
 
-with_rows : (cut : CutParts) (rows : List Row) → IsCutTold cut → AllByRecursion (λ (row : Row). IsWellFormed row.entry) rows → IsFaultless (parts_of cut rows)
-with_rows cut rows told sound =
-    let free = told.faultless in
+with_rows : (version : DocVersion) (cut : CutParts) (rows : List Row) → IsCutTold cut → AllByRecursion (λ (row : Row). IsWellFormed row.entry) rows → IsFaultless (parts_of version cut rows)
+with_rows version cut rows told sound =
+    let free = told.faultless version in
     record {
       few_folders = free.few_folders;
       few_devices = free.few_devices;
@@ -101,19 +108,20 @@ rows_again : (rows : List Row) → map row_written (map row_parts rows) ≡ rows
 rows_again [] = refl
 rows_again (row ∷ more) = ap (λ l. row ∷ l) (rows_again more)
 
-has_its_version : (cut : CutParts) (rows : List Row) → has_version (check_tree cut rows) ≡ true
+has_its_version : (version : DocVersion) (cut : CutParts) (rows : List Row) → doc_version (check_tree version cut rows) ≡ Some version
 unfolding check_tree
-has_its_version cut rows = refl
+has_its_version One cut rows = refl
+has_its_version Two cut rows = refl
 
-pub check_read : FaultlessHasNoFault → (cut : CutParts) (rows : List Row) → IsCutTold cut → AllByRecursion IsRowTold rows → AllByRecursion (λ (row : Row). IsWellFormed row.entry) rows → AreRowsInRange rows → check_of_tree (check_tree cut rows) ≡ Read (cut, rows)
+pub check_read : FaultlessHasNoFault → (version : DocVersion) (cut : CutParts) (rows : List Row) → IsCutTold cut → IsCutShort version cut → AllByRecursion IsRowTold rows → AllByRecursion (λ (row : Row). IsWellFormed row.entry) rows → AreRowsShort version rows → AreRowsInRange rows → check_of_tree (check_tree version cut rows) ≡ Read (cut, rows)
 unfolding reading_of_tree
-check_read no_fault cut rows told rows_told rows_sound range =
-    let said = check_says cut rows told (rows_say rows rows_told range) in
+check_read no_fault version cut rows told short rows_told rows_sound rows_short range =
+    let said = check_says version cut rows told short (rows_say version rows rows_told rows_short range) in
     ap (λ reading. reading >>= made)
-    (passes VersionBad has_version (check_tree cut rows) _ (has_its_version cut rows)
-    ∙ passes Shape is_check (check_tree cut rows) _ said.0
-    ∙ gives Range (read_check_parts (check_tree cut rows)) _ _ said.1
-    ∙ ap (λ fault. unless fault (parts_of cut rows)) (no_fault (parts_of cut rows) (with_rows cut rows told rows_sound)))
+    (gives VersionBad (doc_version (check_tree version cut rows)) version _ (has_its_version version cut rows)
+    ∙ passes Shape (is_check version) (check_tree version cut rows) _ said.0
+    ∙ gives Range (read_check_parts version (check_tree version cut rows)) _ _ said.1
+    ∙ ap (λ fault. unless fault (parts_of version cut rows)) (no_fault (parts_of version cut rows) (with_rows version cut rows told rows_sound)))
     ∙ λ i. Read (told.same i, rows_again rows i)
   where
     made : CheckParts → Reading (CutParts × List Row)

@@ -33,6 +33,10 @@ use Rattle.bep_tables.specs.declared.share.SharedFolder.{SharedFolder}
 use Rattle.bep_tables.specs.declared.link.LinkState.{LinkState}
 use Rattle.bep_tables.specs.declared.cut.CutParts.{CutParts}
 use Rattle.bep_cut_document.specs.Trees.{view_tree, share_tree, folder_tree, flight_tree, link_tree, cut_tree, row_tree}
+use Rattle.bep_json.specs.declared.version.DocVersion.{DocVersion}
+use Rattle.bep_json.specs.declared.version.DocVersion.TheVariants.{Two}
+use Rattle.bep_json.specs.Version.{most_file_bytes}
+use Rattle.bep_cut_document.specs.Room.{IsViewShort, IsShareShort, IsFolderShort, IsFlightShort, IsLinkShort, IsCutShort}
 use Rattle.bep_cut_document.specs.Written.{cut_written}
 
 -- ---- the lists of a cut, as a document has them
@@ -80,9 +84,9 @@ link_parts link = record {
 abbrev pub row_parts : Row → RowParts
 row_parts row = record { folder = row.folder; device = row.device; entry = row.entry }
 
--- the cut, with these rows
-abbrev pub parts_of : CutParts → List Row → CheckParts
-parts_of cut rows = record { folders = map folder_parts cut.folders; links = map link_parts cut.links; certificate = map row_parts rows }
+-- the cut, with these rows, in a document of this version
+abbrev pub parts_of : DocVersion → CutParts → List Row → CheckParts
+parts_of version cut rows = record { version = version; folders = map folder_parts cut.folders; links = map link_parts cut.links; certificate = map row_parts rows }
 
 -- ---- what is in range
 -- the sequences of these records are
@@ -119,34 +123,36 @@ pub record IsLinkInRange (link : LinkState) : Type 0 where
   pub to_a : AllByRecursion IsFlightInRange link.to_a
   pub to_b : AllByRecursion IsFlightInRange link.to_b
 
--- ---- what is read again, where it is in range
+-- ---- what is read again in each version whose files may be so long, where it is in range
 abbrev pub IsRecordTold : Entry → Type 0
-IsRecordTold entry = entry.sequence ≤ MAX_SEQUENCE → Says is_record read_record entry (record_written entry)
+IsRecordTold entry = (version : DocVersion) → entry.size ≤ most_file_bytes version → entry.sequence ≤ MAX_SEQUENCE → Says (is_record version) (read_record version) entry (record_written entry)
 
 abbrev pub IsNodeTold : List ℕ × NodeParts → Type 0
-IsNodeTold held = Says is_node read_node (node_parts held) (node_written held.0 held.1)
+IsNodeTold held = (version : DocVersion) → length held.1.bytes ≤ most_file_bytes version → Says is_node (read_node version) (node_parts held) (node_written held.0 held.1)
 
 abbrev pub IsViewTold : PeerView → Type 0
-IsViewTold view = IsViewInRange view → Says is_view read_view (view_parts view) (view_tree view)
+IsViewTold view = (version : DocVersion) → IsViewShort version view → IsViewInRange view → Says (is_view version) (read_view version) (view_parts view) (view_tree view)
 
 abbrev pub IsShareTold : Share → Type 0
-IsShareTold share = IsShareInRange share → Says is_share read_share (share_parts share) (share_tree share)
+IsShareTold share = (version : DocVersion) → IsShareShort version share → IsShareInRange share → Says (is_share version) (read_share version) (share_parts share) (share_tree share)
 
 abbrev pub IsFolderTold : SharedFolder → Type 0
-IsFolderTold shared = AllByRecursion IsShareInRange shared.shares → Says is_folder read_folder (folder_parts shared) (folder_tree shared)
+IsFolderTold shared = (version : DocVersion) → IsFolderShort version shared → AllByRecursion IsShareInRange shared.shares → Says (is_folder version) (read_folder version) (folder_parts shared) (folder_tree shared)
 
 abbrev pub IsFlightTold : Flight → Type 0
-IsFlightTold flight = IsFlightInRange flight → Says is_flight read_flight (flight_parts flight) (flight_tree flight)
+IsFlightTold flight = (version : DocVersion) → IsFlightShort version flight → IsFlightInRange flight → Says (is_flight version) (read_flight version) (flight_parts flight) (flight_tree flight)
 
 abbrev pub IsLinkTold : LinkState → Type 0
-IsLinkTold link = IsLinkInRange link → Says is_link read_link (link_parts link) (link_tree link)
+IsLinkTold link = (version : DocVersion) → IsLinkShort version link → IsLinkInRange link → Says (is_link version) (read_link version) (link_parts link) (link_tree link)
 
 -- a row of a certificate
 abbrev pub IsRowTold : Row → Type 0
-IsRowTold row = row.entry.sequence ≤ MAX_SEQUENCE → Says is_row read_row (row_parts row) (row_tree row)
+IsRowTold row = (version : DocVersion) → row.entry.size ≤ most_file_bytes version → row.entry.sequence ≤ MAX_SEQUENCE → Says (is_row version) (read_row version) (row_parts row) (row_tree row)
 
--- what is written of a cut is read as the cut's lists, in which there is no fault, and which write down the cut
+-- what is written of a cut is read as the cut's lists in each version that has room for it, as version 2 has; in the lists
+-- there is no fault, and they write down the cut
 pub record IsCutTold (cut : CutParts) : Type 0 where
-  pub lists : Says is_cut read_cut (map folder_parts cut.folders, map link_parts cut.links) (cut_tree cut)
-  pub faultless : IsFaultless (parts_of cut [])
+  pub lists : (version : DocVersion) → IsCutShort version cut → Says (is_cut version) (read_cut version) (map folder_parts cut.folders, map link_parts cut.links) (cut_tree cut)
+  pub short : IsCutShort Two cut
+  pub faultless : (version : DocVersion) → IsFaultless (parts_of version cut [])
   pub same : cut_written (map folder_parts cut.folders) (map link_parts cut.links) ≡ cut

@@ -2,7 +2,7 @@
 use Rattle.std.proofs.Common.{◌≡◌, ◌≤◌, ℕ, ◌||◌, not, nat_eq, Bool, true, false, List, [], ◌∷◌, Decides, length, leb, map, refl, ap, ◌∙◌, arith}
 use Rattle.std.specs.Cmp.Lexicographic.{pointwise, bytes_decides}
 use Rattle.std.proofs.lemmas.Bool.Decides.{Decides-and, Decides-not, Decides-eqb, nat_tests}
-use Rattle.bep_record.specs.Block.{base_block_size, cuts_of}
+use Rattle.bep_record.specs.Block.{block_size_of, cuts_of}
 use Rattle.bep_record.specs.Entry.{HasNoBlocks, HasBlocks, HasBody, IsWellFormed}
 use Rattle.bep_record.specs.Node.{FitsKind, IsNode}
 use Rattle.bep_record.specs.declared.entry.Entry.{Entry}
@@ -61,9 +61,9 @@ no_blocks_decide entry =
 
 blocks_decide : (entry : Entry) → Decides (has_blocks entry) (HasBlocks entry)
 blocks_decide entry =
-    let cut = lists_decide pair_eq pairs_decide (map (λ b. (b.offset, b.size)) entry.blocks) (cuts_of base_block_size entry.size) in
+    let cut = lists_decide pair_eq pairs_decide (map (λ b. (b.offset, b.size)) entry.blocks) (cuts_of (block_size_of entry.size) entry.size) in
     let hash = lists_decide (pointwise nat_eq) bytes_decides (map (λ b. b.hash) entry.blocks) (HASH_OF_NOTHING ∷ []) in
-    let parts = Decides-and _ _ (leb_decides entry.size MAX_FILE_SIZE) (Decides-and _ _ (Decides-eqb entry.block_size base_block_size) (Decides-and _ _ cut (implies_decides _ _ (Decides-eqb entry.size 0) hash))) in (
+    let parts = Decides-and _ _ (leb_decides entry.size MAX_FILE_SIZE) (Decides-and _ _ (Decides-eqb entry.block_size (block_size_of entry.size)) (Decides-and _ _ cut (implies_decides _ _ (Decides-eqb entry.size 0) hash))) in (
       λ e. let all = parts.0 e in record { size = all.0; block_size = all.1.0; blocks = all.1.1.0; empty = all.1.1.1 },
       λ h. parts.1 (h.size, (h.block_size, (h.blocks, h.empty))),
     )

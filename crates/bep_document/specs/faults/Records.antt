@@ -1,7 +1,7 @@
 -- Which records aren't well formed, and which nodes don't fit their kind (this project's profile).
 use Rattle.std.specs.Prelude.{ℕ, nat_eq, nat_le, ◌==◌, ◌&&◌, ◌||◌, not, Bool, true, false, List, [], ◌∷◌, length, Option, Some, None, map, if◌then◌else◌}
 use Rattle.std.specs.Cmp.Lexicographic.{pointwise}
-use Rattle.bep_record.specs.Block.{base_block_size, cuts_of}
+use Rattle.bep_record.specs.Block.{block_size_of, cuts_of}
 use Rattle.bep_record.specs.declared.entry.Entry.{Entry}
 use Rattle.bep_record.specs.declared.kind.Kind.{Kind}
 use Rattle.bep_record.specs.declared.kind.Kind.TheVariants.{File, Directory, Symlink}
@@ -37,8 +37,8 @@ has_no_blocks entry = (entry.size == 0) && ((entry.block_size == 0) && is_empty 
 abbrev pub has_blocks : Entry → Bool
 has_blocks entry =
     nat_le entry.size MAX_FILE_SIZE
-    && ((entry.block_size == base_block_size)
-    && (pointwise pair_eq (map (λ b. (b.offset, b.size)) entry.blocks) (cuts_of base_block_size entry.size)
+    && ((entry.block_size == block_size_of entry.size)
+    && (pointwise pair_eq (map (λ b. (b.offset, b.size)) entry.blocks) (cuts_of (block_size_of entry.size) entry.size)
     && (not (entry.size == 0) || pointwise (pointwise nat_eq) (map (λ b. b.hash) entry.blocks) (HASH_OF_NOTHING ∷ []))))
 
 -- what a record has beside its name, times and version: by whether it is deleted, and by its kind, as a test

@@ -2,6 +2,7 @@
 use Rattle.std.specs.Prelude.{ℕ, Bool, List, [], ◌∷◌, Option, Some, codes}
 use Rattle.serde_json.specs.Data.{Data}
 use Rattle.bep_json.specs.Tree.{due, is_object}
+use Rattle.bep_json.specs.declared.version.DocVersion.{DocVersion}
 use Rattle.bep_json.specs.Reading.{◌>>=◌, read_member}
 use Rattle.bep_json.specs.Numbers.{is_whole, read_number, greatest_id}
 use Rattle.bep_json.specs.Texts.{is_text, read_folder_name}
@@ -24,21 +25,21 @@ read_folder_of read_device d = do
   Some (record { folder = folder; devices = devices })
 
 -- a folder of a cut
-unfoldable pub is_folder : Data → Bool
-is_folder d = is_folder_of is_share d
+unfoldable pub is_folder : DocVersion → Data → Bool
+is_folder version d = is_folder_of (is_share version) d
 
 -- the folder of a cut
-unfoldable pub read_folder : Data → Option FolderParts
-read_folder d = read_folder_of read_share d
+unfoldable pub read_folder : DocVersion → Data → Option FolderParts
+read_folder version d = read_folder_of (read_share version) d
 
 -- a row: each member of its kind, and no others
-unfoldable pub is_row : Data → Bool
-is_row d = is_object (due (codes "folder") is_text ∷ due (codes "device") is_whole ∷ due (codes "record") is_record ∷ []) d
+unfoldable pub is_row : DocVersion → Data → Bool
+is_row version d = is_object (due (codes "folder") is_text ∷ due (codes "device") is_whole ∷ due (codes "record") (is_record version) ∷ []) d
 
 -- the row
-unfoldable pub read_row : Data → Option RowParts
-read_row d = do
+unfoldable pub read_row : DocVersion → Data → Option RowParts
+read_row version d = do
   folder ← read_member (codes "folder") read_folder_name d
   device ← read_member (codes "device") (read_number 1 greatest_id) d
-  entry ← read_member (codes "record") read_record d
+  entry ← read_member (codes "record") (read_record version) d
   Some (record { folder = folder; device = device; entry = entry })

@@ -5,12 +5,12 @@ ghost use Rattle.serde_json.specs.Find.{get};
 ghost use Rattle.bep_json.specs.Reading.{Gives, GivesBy};
 ghost use Rattle.bep_json.specs.Lists.{read_items, read_list};
 ghost use Rattle.bep_document.specs.read.Links.{read_link};
-ghost use Rattle.bep_document.specs.read.Checks.{is_cut, read_folders, read_cut, is_one, has_version, is_check, with_rows, read_check_parts};
+ghost use Rattle.bep_document.specs.read.Checks.{is_cut, read_folders, read_cut, read_doc_version, doc_version, is_check, with_rows, read_check_parts};
 
 use crate::read::devices::has_few_devices;
 use crate::read::few::Few;
 use crate::{CheckParts, FolderParts, LinkParts, RowParts};
-use bep_json::{ReadError, Readable, Whole, is_object, member, member_or};
+use bep_json::{DocVersion, ReadError, Readable, Whole, is_object, member, member_or};
 use bep_record::{Items, MAX_FOLDERS};
 use serde_json::Value;
 use std::alloc::Global;
@@ -34,11 +34,12 @@ impl Model for CutLists {
 }
 
 impl CutLists {
-    // The cut and the rows together.
-    pub(crate) fn with_rows(self, certificate: Items<RowParts>) -> CheckParts
-        ensures { result ≡ record { folders = self.0; links = self.1; certificate = certificate } }
+    // The document of this version that has this cut and these rows.
+    pub(crate) fn with_rows(self, version: DocVersion, certificate: Items<RowParts>) -> CheckParts
+        ensures { result ≡ record { version = version; folders = self.0; links = self.1; certificate = certificate } }
     {
         CheckParts {
+            version,
             folders: self.folders,
             links: self.links,
             certificate,
@@ -52,89 +53,105 @@ impl Readable for CutLists {
     ghost reads = { read_cut };
 
     #[tactic(auto, unfolding(crate::specs::read::Checks::is_cut))]
-    fn has_shape(value: &Value) -> bool {
-        is_object!(value; has "folders": Items<FolderParts>, may_have "links": Items<LinkParts>)
+    fn has_shape(version: DocVersion, value: &Value) -> bool {
+        is_object!(version, value; has "folders": Items<FolderParts>, may_have "links": Items<LinkParts>)
     }
 
     #[tactic(auto, unfolding(crate::specs::read::Checks::read_cut))]
-    fn read(alloc: Global, value: &Value) -> Result<Self, ReadError> {
+    fn read(alloc: Global, version: DocVersion, value: &Value) -> Result<Self, ReadError> {
         Ok(CutLists {
-            folders: folders_of(alloc, value)?,
-            links: member_or(alloc, value, "links", Items::new(Vec::new(alloc)))?,
+            folders: folders_of(alloc, version, value)?,
+            links: member_or(alloc, version, value, "links", Items::new(Vec::new(alloc)))?,
         })
     }
 }
 
-/// Whether the version of the document is the whole number 1.
-pub fn has_version(value: &Value) -> bool
-    ensures { result ≡ has_version (view value.now) }
+/// The version of the document: the one with the whole number that it says, 1 or 2.
+pub fn doc_version(value: &Value) -> Option<DocVersion>
+    ensures { result ≡ doc_version (view value.now) }
 {
     match value.get("version") {
-        Some(version) => is_one(version),
-        None => false,
+        Some(version) => version_with(version),
+        None => None,
     }
 }
 
-fn is_one(value: &Value) -> bool
-    ensures { result ≡ is_one (view value.now) }
+// The version with this number.
+fn version_with(value: &Value) -> Option<DocVersion>
+    ensures { result ≡ read_doc_version (view value.now) }
 {
     match value.as_u64() {
-        Some(number) => number == 1,
-        None => false,
+        Some(number) => DocVersion::of_number(number),
+        None => None,
     }
 }
 
 // Whether the tree has the shape of a check document.
 #[tactic(auto, unfolding(crate::specs::read::Checks::is_check))]
-pub(crate) fn is_check(value: &Value) -> bool
-    ensures { result ≡ is_check (view value.now) }
+pub(crate) fn is_check(version: DocVersion, value: &Value) -> bool
+    ensures { result ≡ is_check version (view value.now) }
 {
-    is_object!(value; has "version": Whole<1, 1>, has "cut": CutLists, has "certificate": Items<RowParts>)
+    is_object!(version, value; has "version": Whole<1, 2>, has "cut": CutLists, has "certificate": Items<RowParts>)
 }
 
 // What the tree of a check document says. The tree is given up as it is read, rows first, so that the cut is read in the
 // memory that they took. `Range` where something is out of range; `Memory` may come in place of any answer.
-pub(crate) fn read_check_parts(alloc: Global, tree: Value) -> Result<CheckParts, ReadError>
-    ensures { Gives result (read_check_parts (view tree)) }
+pub(crate) fn read_check_parts(
+    alloc: Global,
+    version: DocVersion,
+    tree: Value,
+) -> Result<CheckParts, ReadError>
+    ensures { Gives result (read_check_parts version (view tree)) }
 {
-    let rows = match member::<Items<RowParts>>(alloc, &tree, "certificate") {
+    let rows = match member::<Items<RowParts>>(alloc, version, &tree, "certificate") {
         Ok(rows) => rows,
         Err(error) => return Err(error),
     };
     let Some(cut) = member_alone(tree, "cut") else {
         return Err(ReadError::Range);
     };
-    read_beside(alloc, cut, rows)
+    read_beside(alloc, version, cut, rows)
 }
 
 // What a check document says whose cut has this tree, and whose rows were read.
-fn read_beside(alloc: Global, cut: Value, rows: Items<RowParts>) -> Result<CheckParts, ReadError>
-    ensures { Gives result (with_rows (read_cut (view cut)) (Some rows)) }
+fn read_beside(
+    alloc: Global,
+    version: DocVersion,
+    cut: Value,
+    rows: Items<RowParts>,
+) -> Result<CheckParts, ReadError>
+    ensures { Gives result (with_rows version (read_cut version (view cut)) (Some rows)) }
 {
-    match lists_of(alloc, cut) {
-        Ok(lists) => Ok(lists.with_rows(rows)),
+    match lists_of(alloc, version, cut) {
+        Ok(lists) => Ok(lists.with_rows(version, rows)),
         Err(error) => Err(error),
     }
 }
 
 // The folders and the links of a cut, whose tree is given up: its folders once they are read, and then each link.
 #[tactic(auto, unfolding(crate::specs::read::Checks::read_cut))]
-fn lists_of(alloc: Global, cut: Value) -> Result<CutLists, ReadError>
-    ensures { Gives result (read_cut (view cut)) }
+fn lists_of(alloc: Global, version: DocVersion, cut: Value) -> Result<CutLists, ReadError>
+    ensures { Gives result (read_cut version (view cut)) }
 {
-    let folders = folders_of(alloc, &cut)?;
+    let folders = folders_of(alloc, version, &cut)?;
     let links = match member_alone(cut, "links") {
-        Some(links) => links_of(alloc, links)?,
+        Some(links) => links_of(alloc, version, links)?,
         None => Items::new(Vec::new(alloc)),
     };
     Ok(CutLists { folders, links })
 }
 
 // The folders of a cut.
-fn folders_of(alloc: Global, cut: &Value) -> Result<Items<FolderParts>, ReadError>
-    ensures { Gives result (read_folders (view cut.now)) }
+fn folders_of(
+    alloc: Global,
+    version: DocVersion,
+    cut: &Value,
+) -> Result<Items<FolderParts>, ReadError>
+    ensures { Gives result (read_folders version (view cut.now)) }
 {
-    let folders = member::<Few<FolderParts, MAX_FOLDERS>>(alloc, cut, "folders")?.into_items();
+    let folders = member::<Few<FolderParts, MAX_FOLDERS>>(
+        alloc, version, cut, "folders",
+    )?.into_items();
     if !has_few_devices(alloc, folders.as_slice())? {
         return Err(ReadError::Range);
     }
@@ -142,22 +159,26 @@ fn folders_of(alloc: Global, cut: &Value) -> Result<Items<FolderParts>, ReadErro
 }
 
 // The links of a list, each of which is given up once it is read.
-fn links_of(alloc: Global, links: Value) -> Result<Items<LinkParts>, ReadError>
-    ensures { Gives result (read_list read_link (view links)) }
+fn links_of(alloc: Global, version: DocVersion, links: Value) -> Result<Items<LinkParts>, ReadError>
+    ensures { Gives result (read_list (read_link version) (view links)) }
 {
     match links {
-        Value::Array(items) => Ok(Items::new(each_link(alloc, items)?)),
+        Value::Array(items) => Ok(Items::new(each_link(alloc, version, items)?)),
         _ => Err(ReadError::Range),
     }
 }
 
 // The link that each item says, in order.
-fn each_link(alloc: Global, items: Vec<Value>) -> Result<Vec<LinkParts>, ReadError>
-    ensures { GivesBy (λ links. links.items) result (read_items read_link (items_view items.items)) }
+fn each_link(
+    alloc: Global,
+    version: DocVersion,
+    items: Vec<Value>,
+) -> Result<Vec<LinkParts>, ReadError>
+    ensures { GivesBy (λ links. links.items) result (read_items (read_link version) (items_view items.items)) }
 {
     let mut links = Vec::with_capacity(alloc, items.len())?;
     for item in items {
-        let link = LinkParts::read(alloc, &item)?;
+        let link = LinkParts::read(alloc, version, &item)?;
         links.push(link)?;
     }
     Ok(links)

@@ -5,7 +5,7 @@ ghost use Rattle.bep_json.specs.Lists.{is_list};
 ghost use Rattle.bep_json.specs.Reading.{Gives, read_member_or};
 ghost use Rattle.bep_document.specs.read.Few.{read_few};
 
-use bep_json::{ReadError, Readable, member_or};
+use bep_json::{DocVersion, ReadError, Readable, member_or};
 use bep_record::Items;
 use serde_json::Value;
 use std::alloc::Global;
@@ -44,16 +44,16 @@ impl<T, const MOST: usize> Few<T, MOST> {
 }
 
 impl<T: Readable, const MOST: usize> Readable for Few<T, MOST> {
-    ghost has_shape = { is_list T.has_shape };
+    ghost has_shape = { λ version. is_list (T.has_shape version) };
 
-    ghost reads = { read_few MOST T.reads };
+    ghost reads = { λ version. read_few MOST (T.reads version) };
 
-    fn has_shape(value: &Value) -> bool {
-        <Items<T>>::has_shape(value)
+    fn has_shape(version: DocVersion, value: &Value) -> bool {
+        <Items<T>>::has_shape(version, value)
     }
 
-    fn read(alloc: Global, value: &Value) -> Result<Self, ReadError> {
-        let items = <Items<T>>::read(alloc, value)?;
+    fn read(alloc: Global, version: DocVersion, value: &Value) -> Result<Self, ReadError> {
+        let items = <Items<T>>::read(alloc, version, value)?;
         if items.as_slice().len() > MOST {
             return Err(ReadError::Range);
         }
@@ -65,11 +65,12 @@ impl<T: Readable, const MOST: usize> Readable for Few<T, MOST> {
 // list; `Memory` may come in place of any answer.
 pub(crate) fn few_or_none<T: Readable, const MOST: usize>(
     alloc: Global,
+    version: DocVersion,
     value: &Value,
     name: &str,
 ) -> Result<Items<T>, ReadError>
-    ensures { Gives result (read_member_or name.now (read_few MOST T.reads) [] (view value.now)) }
+    ensures { Gives result (read_member_or name.now (read_few MOST (T.reads version)) [] (view value.now)) }
 {
-    let few = member_or::<Few<T, MOST>>(alloc, value, name, Few::none(alloc))?;
+    let few = member_or::<Few<T, MOST>>(alloc, version, value, name, Few::none(alloc))?;
     Ok(few.into_items())
 }

@@ -4,7 +4,7 @@ ghost use Rattle.serde_json.specs.View.{view};
 ghost use Rattle.bep_document.specs.read.Folders.{is_folder, read_folder, is_row, read_row};
 
 use crate::{FolderParts, RowParts, ShareParts};
-use bep_json::{ReadError, Readable, is_object, member};
+use bep_json::{DocVersion, ReadError, Readable, is_object, member};
 use bep_record::{DeviceId, Entry, FolderName, Items};
 use serde_json::Value;
 use std::alloc::Global;
@@ -16,15 +16,15 @@ impl Readable for FolderParts {
     ghost reads = { read_folder };
 
     #[tactic(auto, unfolding(crate::specs::read::Folders::is_folder))]
-    fn has_shape(value: &Value) -> bool {
-        is_object!(value; has "folder": FolderName, has "devices": Items<ShareParts>)
+    fn has_shape(version: DocVersion, value: &Value) -> bool {
+        is_object!(version, value; has "folder": FolderName, has "devices": Items<ShareParts>)
     }
 
     #[tactic(auto, unfolding(crate::specs::read::Folders::read_folder))]
-    fn read(alloc: Global, value: &Value) -> Result<Self, ReadError> {
+    fn read(alloc: Global, version: DocVersion, value: &Value) -> Result<Self, ReadError> {
         Ok(FolderParts {
-            folder: member(alloc, value, "folder")?,
-            devices: member(alloc, value, "devices")?,
+            folder: member(alloc, version, value, "folder")?,
+            devices: member(alloc, version, value, "devices")?,
         })
     }
 }
@@ -36,16 +36,16 @@ impl Readable for RowParts {
     ghost reads = { read_row };
 
     #[tactic(auto, unfolding(crate::specs::read::Folders::is_row))]
-    fn has_shape(value: &Value) -> bool {
-        is_object!(value; has "folder": FolderName, has "device": DeviceId, has "record": Entry)
+    fn has_shape(version: DocVersion, value: &Value) -> bool {
+        is_object!(version, value; has "folder": FolderName, has "device": DeviceId, has "record": Entry)
     }
 
     #[tactic(auto, unfolding(crate::specs::read::Folders::read_row))]
-    fn read(alloc: Global, value: &Value) -> Result<Self, ReadError> {
+    fn read(alloc: Global, version: DocVersion, value: &Value) -> Result<Self, ReadError> {
         Ok(RowParts {
-            folder: member(alloc, value, "folder")?,
-            device: member(alloc, value, "device")?,
-            entry: member(alloc, value, "record")?,
+            folder: member(alloc, version, value, "folder")?,
+            device: member(alloc, version, value, "device")?,
+            entry: member(alloc, version, value, "record")?,
         })
     }
 }

@@ -4,7 +4,7 @@ ghost use Rattle.bep_document.specs.read.Links.{is_flight, read_flight, is_link,
 use crate::read::few::{Few, few_or_none};
 use crate::{FlightParts, LinkParts};
 use bep_index::MAX_RECORDS;
-use bep_json::{ReadError, Readable, Sequence, is_object, member, member_or};
+use bep_json::{DocVersion, ReadError, Readable, Sequence, is_object, member, member_or};
 use bep_record::{DeviceId, Entry, FolderName, Items, MAX_MESSAGES};
 use serde_json::Value;
 use std::alloc::Global;
@@ -16,16 +16,18 @@ impl Readable for FlightParts {
     ghost reads = { read_flight };
 
     #[tactic(auto, unfolding(crate::specs::read::Links::is_flight))]
-    fn has_shape(value: &Value) -> bool {
-        is_object!(value; has "folder": FolderName, has "full": bool, has "records": Items<Entry>)
+    fn has_shape(version: DocVersion, value: &Value) -> bool {
+        is_object!(version, value; has "folder": FolderName, has "full": bool, has "records": Items<Entry>)
     }
 
     #[tactic(auto, unfolding(crate::specs::read::Links::read_flight))]
-    fn read(alloc: Global, value: &Value) -> Result<Self, ReadError> {
+    fn read(alloc: Global, version: DocVersion, value: &Value) -> Result<Self, ReadError> {
         Ok(FlightParts {
-            folder: member(alloc, value, "folder")?,
-            full: member(alloc, value, "full")?,
-            records: member::<Few<Entry, MAX_RECORDS>>(alloc, value, "records")?.into_items(),
+            folder: member(alloc, version, value, "folder")?,
+            full: member(alloc, version, value, "full")?,
+            records: member::<Few<Entry, MAX_RECORDS>>(
+                alloc, version, value, "records",
+            )?.into_items(),
         })
     }
 }
@@ -37,21 +39,21 @@ impl Readable for LinkParts {
     ghost reads = { read_link };
 
     #[tactic(auto, unfolding(crate::specs::read::Links::is_link))]
-    fn has_shape(value: &Value) -> bool {
-        is_object!(value;
+    fn has_shape(version: DocVersion, value: &Value) -> bool {
+        is_object!(version, value;
             has "a": DeviceId, has "b": DeviceId, has "up": bool, has "epoch": Sequence,
             may_have "to_a": Items<FlightParts>, may_have "to_b": Items<FlightParts>)
     }
 
     #[tactic(auto, unfolding(crate::specs::read::Links::read_link))]
-    fn read(alloc: Global, value: &Value) -> Result<Self, ReadError> {
+    fn read(alloc: Global, version: DocVersion, value: &Value) -> Result<Self, ReadError> {
         Ok(LinkParts {
-            a: member(alloc, value, "a")?,
-            b: member(alloc, value, "b")?,
-            up: member(alloc, value, "up")?,
-            epoch: member::<Sequence>(alloc, value, "epoch")?.number(),
-            to_a: few_or_none::<FlightParts, MAX_MESSAGES>(alloc, value, "to_a")?,
-            to_b: few_or_none::<FlightParts, MAX_MESSAGES>(alloc, value, "to_b")?,
+            a: member(alloc, version, value, "a")?,
+            b: member(alloc, version, value, "b")?,
+            up: member(alloc, version, value, "up")?,
+            epoch: member::<Sequence>(alloc, version, value, "epoch")?.number(),
+            to_a: few_or_none::<FlightParts, MAX_MESSAGES>(alloc, version, value, "to_a")?,
+            to_b: few_or_none::<FlightParts, MAX_MESSAGES>(alloc, version, value, "to_b")?,
         })
     }
 }

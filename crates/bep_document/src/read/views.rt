@@ -4,7 +4,7 @@ ghost use Rattle.bep_document.specs.read.Views.{is_view, read_view};
 use crate::ViewParts;
 use crate::read::few::Few;
 use bep_index::MAX_NAMES;
-use bep_json::{ReadError, Readable, Sequence, Whole, is_object, member};
+use bep_json::{DocVersion, ReadError, Readable, Sequence, Whole, is_object, member};
 use bep_record::{DeviceId, Entry, Items};
 use serde_json::Value;
 use std::alloc::Global;
@@ -19,18 +19,20 @@ impl Readable for ViewParts {
     ghost reads = { read_view };
 
     #[tactic(auto, unfolding(crate::specs::read::Views::is_view))]
-    fn has_shape(value: &Value) -> bool {
-        is_object!(value;
+    fn has_shape(version: DocVersion, value: &Value) -> bool {
+        is_object!(version, value;
             has "of": DeviceId, has "index_id": AnyIndexNumber, has "max": Sequence, has "records": Items<Entry>)
     }
 
     #[tactic(auto, unfolding(crate::specs::read::Views::read_view))]
-    fn read(alloc: Global, value: &Value) -> Result<Self, ReadError> {
+    fn read(alloc: Global, version: DocVersion, value: &Value) -> Result<Self, ReadError> {
         Ok(ViewParts {
-            of: member(alloc, value, "of")?,
-            index_id: member::<AnyIndexNumber>(alloc, value, "index_id")?.number(),
-            max: member::<Sequence>(alloc, value, "max")?.number(),
-            records: member::<Few<Entry, MAX_NAMES>>(alloc, value, "records")?.into_items(),
+            of: member(alloc, version, value, "of")?,
+            index_id: member::<AnyIndexNumber>(alloc, version, value, "index_id")?.number(),
+            max: member::<Sequence>(alloc, version, value, "max")?.number(),
+            records: member::<Few<Entry, MAX_NAMES>>(
+                alloc, version, value, "records",
+            )?.into_items(),
         })
     }
 }

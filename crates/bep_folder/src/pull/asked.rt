@@ -4,7 +4,7 @@ ghost use Rattle.bep_machine.specs.Exchange.{is_about, same_bytes};
 ghost use Rattle.bep_folder.specs.Received.{IsAbout, IsAboutNone};
 
 use bep_machine::Request;
-use bep_record::{BASE_BLOCK_SIZE, Block, Record};
+use bep_record::{Block, Record};
 
 /// The place, from 0, of the block of the record that the request is about. There is at most one, since each block begins
 /// at another offset.
@@ -12,7 +12,7 @@ pub(crate) fn place_asked(target: &Record, request: &Request) -> Option<usize>
     ensures some { IfSome result (λ place. IsAbout request.now target.now.blocks place) }
     ensures none { IfNone result (IsAboutNone request.now target.now.blocks) }
 {
-    let place = (request.offset / u64::from(BASE_BLOCK_SIZE)) as usize;
+    let place = (request.offset / u64::from(target.block_size().bytes())) as usize;
     if !is_about_block_at(request, target.entry().blocks.as_slice(), place) {
         return None;
     }

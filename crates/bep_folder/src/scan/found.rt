@@ -13,8 +13,7 @@ use crate::record_of::record_of;
 use crate::{FolderError, ScanResult};
 use bep_blocks::plain_blocks_match;
 use bep_record::{
-    BASE_BLOCK_SIZE, Block, DeviceId, Entry, FolderKind, Items, Kind, Name, Node, Record,
-    RecordError, Vector,
+    Block, DeviceId, Entry, FolderKind, Items, Kind, Name, Node, Record, RecordError, Vector,
 };
 use std::alloc::Global;
 
@@ -93,6 +92,7 @@ fn of_node(
     ensures { result ≡ record_of_node device name node version }
 {
     plain_blocks_match();
+    let block_size = block_size_of(&node);
     let parts = node.into_parts();
     record_of(Entry {
         name,
@@ -106,18 +106,18 @@ fn of_node(
         no_permissions: true,
         version,
         sequence: 0,
-        block_size: block_size_of(parts.kind),
+        block_size,
         blocks,
         target: parts.target,
     })
 }
 
-// The number of bytes in each block but the last.
-fn block_size_of(kind: Kind) -> u32
-    ensures { result ≡ block_size_of_kind kind }
+// The number of bytes in each block of the node but the last.
+fn block_size_of(node: &Node) -> u32
+    ensures { result ≡ block_size_of_kind node.now.kind node.now.bytes }
 {
-    match kind {
-        Kind::File => BASE_BLOCK_SIZE,
+    match node.parts().kind {
+        Kind::File => node.block_size().bytes(),
         Kind::Directory | Kind::Symlink => 0,
     }
 }

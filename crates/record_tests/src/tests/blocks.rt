@@ -1,7 +1,7 @@
 //! Block lists and their limits, with hashes from outside. The blocks of small files and of two blocks, and those that
 //! hashes make, `tests/` shows.
 use bep_blocks::{BlocksError, blocks, matches};
-use bep_record::{Block, BlockSize};
+use bep_record::{Block, BlockSize, RecordError};
 use std::alloc::Global;
 
 // The SHA-256 of no bytes and of `abc` (FIPS 180-4).
@@ -19,23 +19,64 @@ fn block(offset: u64, size: u32, hash: [u8; 32]) -> Block {
     Block { offset, size, hash }
 }
 
-fn count(alloc: Global, bytes: &[u8]) -> Result<usize, BlocksError> {
-    let made = blocks(alloc, bytes, BlockSize::base())?;
-    Ok(made.as_slice().len())
-}
-
-// How many blocks a file of this many zero bytes has.
-fn count_of_zeros(alloc: Global, len: usize) -> Result<usize, BlocksError> {
-    let bytes = vec![in alloc; 0; len]?;
-    count(alloc, &bytes)
+// The block size of files of this length.
+fn size_of(len: u64) -> Result<u32, RecordError> {
+    let size = BlockSize::of_length(len)?;
+    Ok(size.bytes())
 }
 
 #[test]
-fn refuses_over_the_limit(rt: HostRuntime) {
-    assert_eq!(rt; count_of_zeros(rt.alloc(), 16777216), Ok(128));
-    let refused = Err(BlocksError::FileTooLarge);
-    assert_eq!(rt; count_of_zeros(rt.alloc(), 16777217), refused);
+fn block_sizes_go_by_length(rt: HostRuntime) {
+    assert_eq!(rt; [size_of(0), size_of(262143999)], [Ok(131072), Ok(131072)]);
+    assert_eq!(rt;
+        [size_of(262144000), size_of(524287999)],
+        [Ok(262144), Ok(262144)]
+    );
+    assert_eq!(rt;
+        [size_of(524288000), size_of(536870912)],
+        [Ok(524288), Ok(524288)]
+    );
+    assert_eq!(rt; size_of(536870913), Err(RecordError::FileTooLarge));
+    assert_eq!(rt; RecordError::FileTooLarge.number(), Some(112));
     assert_eq!(rt; BlocksError::FileTooLarge.number(), Some(112));
+}
+
+// The place and the size of each of the first two blocks of this many zero bytes, cut by the block size of that length,
+// and how many there are.
+fn cut(
+    alloc: Global,
+    len: usize,
+    size: BlockSize,
+) -> Result<((u64, u32), (u64, u32), usize), BlocksError> {
+    let bytes = vec![in alloc; 0; len]?;
+    let made = blocks(alloc, &bytes, size)?;
+    match made.as_slice() {
+        [first, second, ..] => Ok((
+            (first.offset, first.size),
+            (second.offset, second.size),
+            made.as_slice().len(),
+        )),
+        _ => Ok(((0, 0), (0, 0), made.as_slice().len())),
+    }
+}
+
+#[test]
+fn blocks_have_the_size_that_is_handed(rt: HostRuntime) {
+    let Ok(larger) = BlockSize::of_length(262144000) else {
+        panic!(rt; "refused");
+    };
+    assert_eq!(rt;
+        cut(rt.alloc(), 262145, larger),
+        Ok(((0, 262144), (262144, 1), 2))
+    );
+    assert_eq!(rt;
+        cut(rt.alloc(), 131073, BlockSize::base()),
+        Ok(((0, 131072), (131072, 1), 2))
+    );
+    assert_eq!(rt;
+        cut(rt.alloc(), 16777217, BlockSize::base()),
+        Ok(((0, 131072), (131072, 131072), 129))
+    );
 }
 
 #[test]

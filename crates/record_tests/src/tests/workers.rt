@@ -99,8 +99,7 @@ fn workers_are_one_to_eight(rt: HostRuntime) {
         assert_eq!(rt; count(&rt, rt.alloc(), 16777217, workers), refused);
     }
     assert_eq!(rt; BlocksError::WorkersBad.number(), Some(111));
-    let refused = Err(BlocksError::FileTooLarge);
-    assert_eq!(rt; count(&rt, rt.alloc(), 16777217, 8), refused);
+    assert_eq!(rt; count(&rt, rt.alloc(), 16777217, 8), Ok(129));
 }
 
 #[test]

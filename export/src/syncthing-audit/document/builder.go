@@ -202,7 +202,7 @@ func (b *Builder) Rows() int { return len(b.rows) }
 // write gives the document's one line.
 func (b *Builder) write() []byte {
 	var to bytes.Buffer
-	fmt.Fprintf(&to, `{"version":1,"cut":{"folders":[{"folder":%q,"devices":[`, b.folder.ID)
+	fmt.Fprintf(&to, `{"version":2,"cut":{"folders":[{"folder":%q,"devices":[`, b.folder.ID)
 	for place, one := range b.members {
 		if place > 0 {
 			to.WriteByte(',')

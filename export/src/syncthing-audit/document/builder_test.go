@@ -28,7 +28,7 @@ func twoDevices() *join.Folder {
 
 // rowOf gives a name that both devices hold, record and see, with so many bytes.
 func rowOf(name string, sequence, size int64) *join.Row {
-	one := part.Record{ModifiedBy: 1, Sequence: sequence, Content: &part.Content{Size: size, BlockSize: limits.BlockSize}}
+	one := part.Record{ModifiedBy: 1, Sequence: sequence, Content: &part.Content{Size: size, BlockSize: int64(protocol.BlockSize(size))}}
 	row := &join.Row{Name: name}
 	data := []byte(nil) // of a file that documents with bytes have
 	if size <= limits.MostFileBytes {

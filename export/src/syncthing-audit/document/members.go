@@ -7,6 +7,7 @@ import (
 	"strings"
 	"unicode/utf8"
 
+	"github.com/syncthing/syncthing/lib/protocol"
 	"syncthing-audit/part"
 )
 
@@ -66,7 +67,7 @@ func (w *writer) take() []byte {
 	return made
 }
 
-// record gives an entry of an index. Its block size is the document's default.
+// record gives an entry of an index. A file's block size is the one of the length that the document has.
 func (w *writer) record(one *part.Record) []byte {
 	w.text(`{"name":` + w.name)
 	w.number("type", int64(one.Type), true)
@@ -81,18 +82,23 @@ func (w *writer) record(one *part.Record) []byte {
 	switch {
 	case one.Content == nil:
 	case w.withBytes:
-		w.number("size", one.Content.Size, false)
-		w.blocks(one.Blocks)
+		w.file(one.Content.Size, one.Blocks)
 	default:
 		stands := w.standInOf(one.Content)
-		w.number("size", int64(len(stands.text)), true)
-		w.blocks([][32]byte{stands.block})
+		w.file(int64(len(stands.text)), [][32]byte{stands.block})
 	}
 	if one.Target != "" {
 		w.text(`,"target":` + quoted(one.Target))
 	}
 	w.text("}")
 	return w.take()
+}
+
+// file writes a file's length, block size and block hashes.
+func (w *writer) file(size int64, hashes [][32]byte) {
+	w.number("size", size, false)
+	w.number("block_size", int64(protocol.BlockSize(size)), true)
+	w.blocks(hashes)
 }
 
 // version writes a record's version.

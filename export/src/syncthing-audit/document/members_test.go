@@ -1,6 +1,41 @@
 package document
 
-import "testing"
+import (
+	"strings"
+	"testing"
+
+	"syncthing-audit/part"
+)
+
+// A record's block size is the one for the length of the file that the document has: of its bytes, or of a stand-in.
+func TestBlockSizes(t *testing.T) {
+	cases := []struct {
+		size      int64
+		withBytes bool
+		has       string
+	}{
+		{5, true, `"size":5,"block_size":131072,`},
+		{0, true, `,"sequence":7,"block_size":131072,`},
+		{2000*kilo128 - 1, true, `,"block_size":131072,`},
+		{2000 * kilo128, true, `,"block_size":262144,`},
+		{1 << 40, true, `,"block_size":16777216,`},
+		{1 << 40, false, `,"block_size":131072,`},
+	}
+	for _, one := range cases {
+		var made writer
+		made.withBytes = one.withBytes
+		made.begin("a")
+		written := string(made.record(&part.Record{Sequence: 7, Content: contentOf(one.size, kilo256, 1)}))
+		if !strings.Contains(written, one.has) {
+			t.Errorf("%d bytes: %s", one.size, written)
+		}
+	}
+	var made writer
+	made.begin("a")
+	if written := string(made.record(&part.Record{Sequence: 7, Deleted: true})); strings.Contains(written, "block_size") {
+		t.Errorf("a file that is deleted: %s", written)
+	}
+}
 
 func TestTextOrHex(t *testing.T) {
 	cases := []struct{ data, text, digits string }{

@@ -2,6 +2,7 @@ package gather
 
 import (
 	"errors"
+	"fmt"
 
 	"github.com/syncthing/syncthing/lib/fs"
 	"github.com/syncthing/syncthing/lib/ignore"
@@ -154,13 +155,14 @@ func (m *merge) addRecord(line *part.Name, place int, entry *device.Entry) {
 	line.Views = append(line.Views, part.Seen{View: place - 1, Record: entry.Record})
 }
 
-// fitsBytes says whether a document with bytes has files such as this.
+// fitsBytes says whether a document with bytes has files such as this. One block is the same in each block size.
 func fitsBytes(size, blockSize int64) bool {
-	return size <= limits.MostFileBytes && (size <= limits.BlockSize || blockSize == limits.BlockSize)
+	return size <= limits.MostFileBytes && (size <= protocol.MinBlockSize || blockSize == int64(protocol.BlockSize(size)))
 }
 
 func tooLarge(size int64) part.LeftOut {
-	return part.LeftOut{Kind: part.Large, Why: "a document with bytes has files of at most 16777216 bytes in blocks of 131072", Bytes: size}
+	why := fmt.Sprintf("a document with bytes has files of at most %d bytes, in blocks of the size for their length", limits.MostFileBytes)
+	return part.LeftOut{Kind: part.Large, Why: why, Bytes: size}
 }
 
 // sizeOf gives the bytes of a name's file on the disk, or as it is recorded.

@@ -1,8 +1,7 @@
-use Rattle.std.proofs.Common.{◌≤◌, sym, subst}
+use Rattle.std.proofs.Common.{sym, subst}
 use Rattle.bep_record.specs.Entry.{IsWellFormed}
 use Rattle.bep_record.specs.declared.entry.Entry.{Entry}
-use Rattle.bep_json.specs.Records.{is_record, read_record}
-use Rattle.bep_json.specs.Says.{Says}
+use Rattle.bep_json.specs.Back.{IsRecordBack}
 use Rattle.bep_json.specs.Written.{record_written}
 use Rattle.bep_json.proofs.RecordSays.{AreRead, AreTyped, hashes_say, record_says}
 use Rattle.bep_json.proofs.writing.record_value.Goals as goal
@@ -20,5 +19,5 @@ returns-clause-back c =
       version = told.version;
       hashes = hashes_say entry.blocks (subst AreRead c.as_slice.ensures c.in_ok-blocks.ensures.back);
     } in
-    subst (λ (e : Entry). e.sequence ≤ 9223372036854775807 → Says is_record read_record e (record_written e)) same
+    subst (λ (e : Entry). IsRecordBack e (record_written e)) same
     (record_says entry (subst IsWellFormed (sym same) c.entry-entry.ensures.well_formed) typed)

@@ -1,5 +1,8 @@
+use Rattle.bep_cut_document.proofs.ShortFacts.{short_where_room}
 use Rattle.bep_cut_document.proofs.back.ReadBack.{cut_read}
 use Rattle.bep_cut_document.proofs.value.CutCutValue.to_value.Goals as goal
 
 pub returns-clause-read_back : goal.returns-clause-read_back
-returns-clause-read_back c = cut_read c.faultless_parts_are_read.ensures.no_fault c.args.self.now c.in_ok-tree.ensures.told
+returns-clause-read_back c = λ version room.
+    let told = c.in_ok-tree.ensures.told in
+    cut_read c.faultless_parts_are_read.ensures.no_fault version c.args.self.now told (short_where_room version c.args.self.now told room)

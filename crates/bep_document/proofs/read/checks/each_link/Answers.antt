@@ -12,7 +12,7 @@ loop-item-preserved c =
     let links = c.loop-item.links.items in
     let item = c.in-Some.item in
     let left = c.next.new.self.rest.items in
-    ap (λ (read : List LinkParts). with_front read (read_items read_link (items_view left))) c.in_ok-push.ensures.items
-    ∙ one_more_is_read read_link (item ∷ left) 0 item links c.in_ok-link.link (omega arith) refl c.in_ok-link.ensures
-    ∙ ap (λ (values : List Value). with_front links (read_items read_link (items_view values))) (sym c.in-Some.ensures.steps.0)
+    ap (λ (read : List LinkParts). with_front read (read_items (read_link c.args.version) (items_view left))) c.in_ok-push.ensures.items
+    ∙ one_more_is_read (read_link c.args.version) (item ∷ left) 0 item links c.in_ok-link.link (omega arith) refl c.in_ok-link.ensures
+    ∙ ap (λ (values : List Value). with_front links (read_items (read_link c.args.version) (items_view values))) (sym c.in-Some.ensures.steps.0)
     ∙ c.loop-item.invariant

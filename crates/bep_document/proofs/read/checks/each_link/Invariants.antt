@@ -7,4 +7,4 @@ use Rattle.bep_document.proofs.read.checks.each_link.Given as goal
 
 -- those that were read, and what the rest gives, are what all give
 abbrev pub invariant-loop-item : goal.invariant-loop-item
-invariant-loop-item l = with_front l.links.items (read_items read_link (items_view l.item-iterator.rest.items)) ≡ read_items read_link (items_view l.fn.items.items)
+invariant-loop-item l = with_front l.links.items (read_items (read_link l.version) (items_view l.item-iterator.rest.items)) ≡ read_items (read_link l.version) (items_view l.fn.items.items)
