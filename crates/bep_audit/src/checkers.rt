@@ -42,7 +42,7 @@ pub const REASONS: [Reason; 12] = [
 ///
 /// Where it answers `Settled`, what the cluster holds stays put: after every list of further steps without local edits,
 /// from every sound cluster with the cut's tables, each folder holds byte for byte what it held, each name has its certified
-/// content, and the cluster is settled again, for the winners that it has then.
+/// content, and the cluster is settled again, for the winners that it has then, if no index was reset.
 pub fn check_plain<'a>(cut: &'a Cut, certificate: &'a Certificate) -> Verdict<'a>
     ensures verdict { IsVerdict (tables_of cut.now) certificate.now (verdict_shown result) }
     ensures settled { (result ≡ Settled) ↔ IsSettled (tables_of cut.now) certificate.now }

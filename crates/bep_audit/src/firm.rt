@@ -35,7 +35,7 @@ pub enum FirmVerdict<'a> {
 ///
 /// Where it answers `Firm`, nothing is recorded or written any more, whatever free peers do: each sharing device has the
 /// very records and files that it had, times included, and the cut is firm for the same rows. So it is after every list of
-/// further steps without local edits of this project's peers.
+/// further steps without local edits and index resets of this project's peers.
 pub fn firm_verdict<'a>(
     alloc: Global,
     cut: &'a Cut,
