@@ -3,6 +3,7 @@ use crate::made::{cluster, device, docs, file, hello, music, other_kinds};
 use crate::seen::{Held, held, next_cut};
 use bep_audit::{Certificate, Verdict, certify, check};
 use bep_blocks::OpenGate;
+use bep_index::IndexId;
 use bep_record::FolderName;
 use bep_run::Shared;
 use bep_run_cut::RunCut;
@@ -128,6 +129,34 @@ fn local<R: Threads + Wait + Sync>(rt: &R, alloc: Global) -> Option<[State; 5]> 
     shared.rebase_all(rt, 1).ok()?;
     let rebased = state(rt, alloc, &shared, &docs, 1)?;
     Some([removed, lost, connected, restarted, rebased])
+}
+
+// What is seen at device 1 where it isn't reset, since it has had the id; where it is; and after a scan.
+fn reset<R: Threads + Wait + Sync>(rt: &R, alloc: Global) -> Option<[State; 3]> {
+    let one = device(1)?;
+    let docs = docs(alloc)?;
+    let shared = exchanged(rt, alloc)?;
+    let _refused = shared.reset(rt, one, IndexId::read(11)?);
+    let refused = state(rt, alloc, &shared, &docs, 1)?;
+    shared.reset(rt, one, IndexId::read(21)?).ok()?;
+    let reset = state(rt, alloc, &shared, &docs, 1)?;
+    shared.scanner_turn(rt, one, &OpenGate).ok()?;
+    let scanned = state(rt, alloc, &shared, &docs, 1)?;
+    Some([refused, reset, scanned])
+}
+
+// The file stays, its record goes, and a scan brings it again.
+#[test]
+fn a_reset_leaves_its_event_and_effect(rt: HostRuntime) {
+    let there = (Some(3), Some(false));
+    assert_eq!(rt;
+        reset(&rt, rt.alloc()),
+        Some([
+            (18, there, true),
+            (19, (Some(3), None), false),
+            (20, there, false),
+        ])
+    );
 }
 
 // The record stays until a scan.
