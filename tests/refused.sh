@@ -4,7 +4,8 @@
 # or write with status 5, and it must have written nothing; or it made do without the call, and then answers as ever. An
 # interrupted read or write isn't tried again, nor one that takes nothing. Where each read gives and each write takes a few
 # bytes alone it answers as ever. SECOND, crates/second_try, asks once more for whatever memory was wanting for, and must then
-# tell as ever. The last line is 'N passed, M failed', a run each.
+# tell as ever; of bytes that are no document it tells what two workers make of them. The last line is 'N passed, M failed',
+# a run each.
 set -euo pipefail
 program=$(readlink -m "$1")
 second=$(readlink -m "$3")
@@ -157,6 +158,9 @@ for document in scenarios/a-file-is-taken-over scenarios/conflict scenarios/reve
   ahead-in-three-ways; do
   try_again "examples/$document.json"
 done
+# Three blocks for two workers.
+head -c 262145 /dev/zero > "$work/zeros"
+try_again "$work/zeros"
 cut_off examples/one-equal-file.json check
 REFUSE_WITH=interruption refuse READ 5 examples/one-equal-file.json check
 REFUSE_WITH=interruption refuse WRITE 5 examples/one-equal-file.json check

@@ -7,6 +7,7 @@
 #include <dlfcn.h>
 #include <errno.h>
 #include <fcntl.h>
+#include <stdatomic.h>
 #include <stddef.h>
 #include <stdlib.h>
 #include <string.h>
@@ -18,7 +19,8 @@ extern void *__libc_calloc(size_t count, size_t size);
 extern void *__libc_realloc(void *old, size_t size);
 
 // How many calls are left, the refused one among them; 0 where none is refused, and before the program begins.
-static long growth, reads, writes, room;
+static atomic_long growth, reads, writes;
+static long room;
 
 static long number_in(const char *name) {
   const char *text = getenv(name);
@@ -32,9 +34,12 @@ __attribute__((constructor)) static void begin(void) {
   room = number_in("REFUSE_ROOM");
 }
 
-// Whether this call is the one.
-static int is_due(long *left) {
-  if (*left == 0 || --*left > 0) return 0;
+// Whether this call is the one, whichever thread makes it.
+static int is_due(atomic_long *left) {
+  long now = atomic_load(left);
+  while (now > 0 && !atomic_compare_exchange_weak(left, &now, now - 1)) {
+  }
+  if (now != 1) return 0;
   const char *note = getenv("REFUSED");
   if (note) close(open(note, O_CREAT | O_WRONLY, 0600));
   return 1;

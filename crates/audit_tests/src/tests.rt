@@ -1,6 +1,7 @@
-//! A module for each crate, the report with the auditor. What is told of each reason, and explained, is compared on the
-//! examples.
+//! A module for each crate, the report with the auditor; and the calls that none of these makes (`memory`). What is told of
+//! each reason, and explained, is compared on the examples.
 mod answer;
 mod audit;
 mod document;
 mod firm;
+mod memory;

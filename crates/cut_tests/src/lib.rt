@@ -12,6 +12,8 @@ mod hostile;
 #[cfg(test)]
 mod made;
 #[cfg(test)]
+mod memory;
+#[cfg(test)]
 mod quiet;
 #[cfg(test)]
 mod resets;

@@ -107,7 +107,8 @@ pub(crate) fn put(letter: u8) -> (Kind, &'static [u8], &'static [u8], i64) {
     }
 }
 
-fn node(alloc: Global, letter: u8) -> Option<Node> {
+/// The same, as a node.
+pub(crate) fn node(alloc: Global, letter: u8) -> Option<Node> {
     let (kind, bytes, target, modified_s) = put(letter);
     let parts = NodeParts {
         kind,

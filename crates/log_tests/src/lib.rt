@@ -10,6 +10,8 @@ mod full;
 #[cfg(test)]
 mod made;
 #[cfg(test)]
+mod memory;
+#[cfg(test)]
 mod rebasing;
 #[cfg(test)]
 mod resetting;

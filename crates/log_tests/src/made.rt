@@ -48,11 +48,13 @@ fn devices(alloc: Global, numbers: &[u64]) -> Option<Vec<DeviceId>> {
     Some(devices)
 }
 
-// The device's part of the folder, which it shares with the others; this call of its store fails, or none for 0.
+// The device's part of the folder, which it has in this kind and shares with the others; this call of its store fails, or none
+// for 0.
 fn replica(
     alloc: Global,
     device: u64,
     others: &[u64],
+    kind: FolderKind,
     call: u64,
 ) -> Option<Replica<FaultStore<MemStore>>> {
     let store = FaultStore::new(MemStore::new(alloc), call);
@@ -60,15 +62,7 @@ fn replica(
     let id = IndexId::read(device)?;
     let others = devices(alloc, others)?;
     let docs = docs(alloc)?;
-    Replica::new(
-        alloc,
-        number,
-        docs,
-        FolderKind::SendReceive,
-        id,
-        others,
-        store,
-    )
+    Replica::new(alloc, number, docs, kind, id, others, store)
 }
 
 /// The device as it begins, with an empty log, linked with the others, with which it shares the folder; this call of its store
@@ -90,10 +84,19 @@ pub(crate) fn sharing(
     linked: &[u64],
     call: u64,
 ) -> Option<LoggedPeer<FaultStore<MemStore>>> {
+    let replica = replica(alloc, device, others, FolderKind::SendReceive, call)?;
+    begun(alloc, device, replica, linked)
+}
+
+// The device as it begins, with this part of the folder, linked with the others.
+fn begun(
+    alloc: Global,
+    device: u64,
+    replica: Replica<FaultStore<MemStore>>,
+    linked: &[u64],
+) -> Option<LoggedPeer<FaultStore<MemStore>>> {
     let mut folders = FolderMap::new(alloc);
-    folders
-        .insert(docs(alloc)?, replica(alloc, device, others, call)?)
-        .ok()?;
+    folders.insert(docs(alloc)?, replica).ok()?;
     let linked = devices(alloc, linked)?;
     let peer = Peer::new(alloc, DeviceId::read(device)?, folders, linked)?;
     LoggedPeer::new(alloc, peer).ok()
@@ -111,6 +114,16 @@ pub(crate) fn two_devices(alloc: Global, calls: [u64; 2]) -> Option<Pair> {
     Some(Pair {
         first: peer(alloc, 1, &[2], first)?,
         second: peer(alloc, 2, &[1], second)?,
+        link: link(alloc, 1, 2)?,
+    })
+}
+
+/// The two devices as they begin, of which the second has the folder in this kind.
+pub(crate) fn of_kinds(alloc: Global, kind: FolderKind) -> Option<Pair> {
+    let second = replica(alloc, 2, &[1], kind, 0)?;
+    Some(Pair {
+        first: peer(alloc, 1, &[2], 0)?,
+        second: begun(alloc, 2, second, &[1])?,
         link: link(alloc, 1, 2)?,
     })
 }
@@ -143,6 +156,8 @@ pub(crate) fn within(
             device.scan_commit(ticket, &docs, scan)
         }
         b'p' => device.pull(ticket, &docs, &name),
+        b'o' => device.override_one(ticket, &docs, &name),
+        b'v' => device.revert_one(ticket, &docs, &name),
         _ => device.finish(ticket, &docs, &name),
     })
 }

@@ -1,6 +1,7 @@
 //! The cut at the end, its certificate and verdict, and its document, each asked for once more where memory was wanting.
 ghost use Rattle.bep_cut.specs.Parts.{AreParts};
 
+use crate::logs::tell_logs;
 use crate::telling::Told;
 use crate::twice;
 use bep_audit::{Certificate, CertifyError, Verdict, certify, check};
@@ -15,7 +16,7 @@ use bep_tables::Cut;
 use serde_json::Value;
 use std::alloc::{AllocError, Global};
 
-/// The cluster's cut.
+/// The cluster's cut. Tells the run cut of its devices and links, too.
 pub(crate) fn cut_at_end(
     alloc: Global,
     cluster: Cluster<MemStore>,
@@ -23,7 +24,9 @@ pub(crate) fn cut_at_end(
 ) -> Result<Cut, AllocError> {
     clusters_are_parts();
     let (mut peers, links) = cluster.into_parts();
-    take(alloc, peers.as_mut_slice(), links.as_slice(), told)
+    let cut = take(alloc, peers.as_mut_slice(), links.as_slice(), told)?;
+    tell_logs(alloc, peers, links, told)?;
+    Ok(cut)
 }
 
 // The cut of these.

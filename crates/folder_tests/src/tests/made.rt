@@ -63,7 +63,8 @@ pub(crate) fn record(
     made.ok()
 }
 
-fn batch(alloc: Global, record: Record) -> Option<Batch> {
+/// An Index of this one record.
+pub(crate) fn batch(alloc: Global, record: Record) -> Option<Batch> {
     let records = Vec::from_array(alloc, [record]).ok()?;
     Batch::new(records).ok()
 }

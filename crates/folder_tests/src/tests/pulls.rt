@@ -2,6 +2,7 @@
 //! end leaves was worked out by hand, by BEP v1, 'Vector', and by this project's profile.
 use super::made::{Docs, Told, record, sent, told};
 use super::stories::{Story, told_of};
+use bep_folder::Pull;
 use bep_machine::Moved;
 use bep_record::{DeviceId, FolderKind, Record};
 use std::alloc::Global;
@@ -108,7 +109,7 @@ fn handed_bytes(docs: &mut Docs, bytes: &[u8]) -> Told {
 // Whether memory was there for a list of what is wanted, and for a copy of the pull.
 fn is_copied(alloc: Global, docs: &Docs) -> bool {
     match docs.folder.pull(&docs.notes) {
-        Some(pull) => pull.copy(alloc).is_ok() && docs.folder.wanted_names().is_ok(),
+        Some(pull) => Pull::copy(pull, alloc).is_ok() && docs.folder.wanted_names().is_ok(),
         None => false,
     }
 }

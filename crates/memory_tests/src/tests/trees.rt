@@ -1,0 +1,57 @@
+//! `bep_json`.
+use super::made::{name, node, record};
+use bep_json::{Members, Readable, Whole, member, member_or, node_value, record_value};
+use bep_record::{DeviceId, Name};
+use serde_json::Value;
+use std::alloc::Global;
+
+fn numbers(alloc: Global) -> Option<Members> {
+    let members = Members::with_number(Members::new(alloc), "device", 1).ok()?;
+    Members::with_signed(members, "modified_s", -1).ok()
+}
+
+fn texts(members: Members) -> Option<Members> {
+    let members = Members::with_flag(members, "deleted", false).ok()?;
+    Members::with_text(members, "name", "a").ok()
+}
+
+fn tree(alloc: Global) -> Option<Value> {
+    let members = texts(numbers(alloc)?)?;
+    let members = Members::with(members, "size", Value::from(5u64)).ok()?;
+    Some(Members::into_value(members))
+}
+
+fn named(alloc: Global, tree: &Value) -> Option<Name> {
+    member(alloc, tree, "name").ok()
+}
+
+fn device(alloc: Global, tree: &Value) -> Option<DeviceId> {
+    member_or(alloc, tree, "device", DeviceId::read(2)?).ok()
+}
+
+fn size(alloc: Global, tree: &Value) -> Option<Whole<0, 9>> {
+    Readable::read(alloc, tree.get("size")?).ok()
+}
+
+fn read(alloc: Global) -> Option<[bool; 3]> {
+    let tree = tree(alloc)?;
+    Some([
+        named(alloc, &tree).is_some(),
+        device(alloc, &tree).is_some(),
+        size(alloc, &tree).is_some(),
+    ])
+}
+
+fn written(alloc: Global) -> Option<[bool; 2]> {
+    let (record, name, node) = (record(alloc, 1)?, name(alloc)?, node(alloc)?);
+    Some([
+        record_value(alloc, &record).is_ok(),
+        node_value(alloc, &name, &node).is_ok(),
+    ])
+}
+
+#[test]
+fn trees_find_memory(rt: HostRuntime) {
+    assert!(rt; read(rt.alloc()) == Some([true; 3]));
+    assert!(rt; written(rt.alloc()) == Some([true; 2]));
+}
