@@ -31,7 +31,7 @@ impl Question<Firmness> for FirmnessOfCut {
             Ok((cut, rows)) => Ok((report_on(alloc, &cut, &Certificate::of(rows))?, None)),
             Err(DocError::Refused(fault)) => {
                 let refused = (Firmness::Refused, fault_line(alloc, &fault)?);
-                Ok((refused, hint_for(alloc, bytes, Expected::Check)))
+                Ok((refused, hint_for(alloc, bytes, &fault, Expected::Check)))
             }
             Err(DocError::Memory) => Err(AllocError),
         }

@@ -39,7 +39,7 @@ impl Question<Outcome> for ReasonsOfCut {
             )),
             Err(DocError::Refused(fault)) => {
                 let refused = refusal_in(alloc, form, &fault)?;
-                Ok((refused, hint_for(alloc, bytes, Expected::Check)))
+                Ok((refused, hint_for(alloc, bytes, &fault, Expected::Check)))
             }
             Err(DocError::Memory) => Err(AllocError),
         }

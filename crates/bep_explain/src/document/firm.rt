@@ -43,7 +43,7 @@ impl Question<Firmness> for FirmReasonsOfCut {
             )),
             Err(DocError::Refused(fault)) => {
                 let refused = (Firmness::Refused, fault_in(alloc, form, &fault)?);
-                Ok((refused, hint_for(alloc, bytes, Expected::Check)))
+                Ok((refused, hint_for(alloc, bytes, &fault, Expected::Check)))
             }
             Err(DocError::Memory) => Err(AllocError),
         }
