@@ -38,8 +38,8 @@ impl Question<Outcome> for AuditOfCut {
     }
 }
 
-// The outcome of the cut's audit, and the report.
-fn report_on<'a>(
+/// The outcome of the cut's audit, and the report.
+pub(crate) fn report_on<'a>(
     alloc: Global,
     cut: &'a Cut,
     certificate: &'a Certificate,
