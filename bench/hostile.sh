@@ -5,7 +5,7 @@
 #
 #     bench/hostile.sh [PROGRAM ..]
 #
-# KINDS names other documents than those below, as 'KIND MEGABYTES SUBCOMMAND' each; RUNS is 3 where it isn't set.
+# KINDS names other documents than those below, as 'KIND MEGABYTES SUBCOMMAND [FLAG ..]' each; RUNS is 3 where it isn't set.
 set -euo pipefail
 top=$(cd "$(dirname "$0")/.." && pwd)
 work=$(mktemp -d)
@@ -18,6 +18,7 @@ if [ $# = 0 ]; then
 fi
 kinds=${KINDS:-digits 60 check
 digits 60 certify
+digits 60 check --certify
 twice 60 check
 strangers 20 check
 nested 17 check
@@ -25,14 +26,15 @@ scans 16.783 run
 crowded 17.123 run
 asks 17 run}
 
-while read -r kind megabytes subcommand; do
+while read -r kind megabytes words; do
   python3 "$top/bench/make_hostile.py" "$kind" "$megabytes" > "$work/document"
   bytes=$(stat -c %s "$work/document")
-  echo "== $subcommand of $kind, $bytes bytes"
+  echo "== $words of $kind, $bytes bytes"
   rm -f "$work"/times.*
   for _ in $(seq "${RUNS:-3}"); do
     for place in $(seq $#); do
-      /usr/bin/time -a -o "$work/times.$place" -f '%U %S %M' "${!place}" "$subcommand" < "$work/document" > "$work/told.$place" 2> "$work/beside" || true
+      # shellcheck disable=SC2086 # the words are several
+      /usr/bin/time -a -o "$work/times.$place" -f '%U %S %M' "${!place}" $words < "$work/document" > "$work/told.$place" 2> "$work/beside" || true
     done
   done
   for place in $(seq $#); do

@@ -1,5 +1,5 @@
 #!/usr/bin/env python3
-"""Compares the program's answers, of `check`, `firm`, `explain` (with `--firm` too) and `certify` (with `--partial` too), with those of a second reading (reading.py): on the
+"""Compares the program's answers, of `check`, `firm`, `explain` (with `--firm` too), each with `--certify` too, and `certify` (with `--partial` too), with those of a second reading (reading.py): on the
 examples, on documents with something as great as it may be or one more, and on random documents.
 
     compare/compare.py [COUNT [SEED]]
@@ -17,6 +17,7 @@ import firm
 import reading
 import reports
 import things
+import under_winners
 from cluster.cut import NoWinner, certify, certify_part
 from documents import Documents, at_limits
 
@@ -104,6 +105,10 @@ def compare(document):
         told = run(command, document)
         if told != wanted:
             tell_difference(command, document, wanted, told)
+    for command, wanted in under_winners.answers(document).items():
+        told = run(f"{command} --certify", document)
+        if told != wanted:
+            tell_difference(f"{command} --certify", document, wanted, told)
     compare_certified(document)
     compare_part(document)
     return check[0]

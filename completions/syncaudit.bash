@@ -9,10 +9,12 @@ _syncaudit() {
     mapfile -t COMPREPLY < <(compgen -W 'check firm certify explain run help --help --version' -- "$word")
   elif [ "$COMP_CWORD" = 2 ] && [ "$before" = help ]; then
     mapfile -t COMPREPLY < <(compgen -W 'check firm certify explain run' -- "$word")
+  elif [ "$COMP_CWORD" = 2 ] && { [ "$before" = check ] || [ "$before" = firm ]; }; then
+    mapfile -t COMPREPLY < <(compgen -W '--certify --help' -- "$word")
   elif [ "$COMP_CWORD" = 2 ] && [ "$before" = certify ]; then
     mapfile -t COMPREPLY < <(compgen -W '--partial --help' -- "$word")
   elif [ "$COMP_CWORD" = 2 ] && [ "$before" = explain ]; then
-    mapfile -t COMPREPLY < <(compgen -W '--json --firm --help' -- "$word")
+    mapfile -t COMPREPLY < <(compgen -W '--json --firm --certify --help' -- "$word")
   elif [ "$COMP_CWORD" = 2 ] && [ "$before" = run ]; then
     mapfile -t COMPREPLY < <(compgen -W '--document --help' -- "$word")
   elif [ "$COMP_CWORD" = 2 ]; then

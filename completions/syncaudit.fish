@@ -8,6 +8,7 @@ complete -c syncaudit -n "not __fish_seen_subcommand_from $commands help" -a exp
 complete -c syncaudit -n "not __fish_seen_subcommand_from $commands help" -a run -d 'Make the steps of a scenario and audit where they lead'
 complete -c syncaudit -n "not __fish_seen_subcommand_from $commands help" -a help -d 'Tell how to use the program'
 complete -c syncaudit -n "__fish_seen_subcommand_from help; and not __fish_seen_subcommand_from $commands" -a "$commands"
+complete -c syncaudit -n "__fish_seen_subcommand_from check firm explain" -l certify -d 'Audit the cut under the certificate that is made of it'
 complete -c syncaudit -n "__fish_seen_subcommand_from certify" -l partial -d 'Leave out the names that have no winner'
 complete -c syncaudit -n "__fish_seen_subcommand_from explain" -l json -d 'Write one JSON document'
 complete -c syncaudit -n "__fish_seen_subcommand_from explain" -l firm -d 'Tell all that keeps it from being firm'

@@ -100,7 +100,7 @@ for command in $(helped); do
     done
   done
 done
-expect "no flag in the program's help" [ "$(for command in certify explain run; do flags_of "$command"; done | paste -sd ' ')" = 'partial json firm document' ]
+expect "no flag in the program's help" [ "$(for command in check firm certify explain run; do flags_of "$command"; done | paste -sd ' ')" = 'certify certify partial json firm certify document' ]
 for command in $(described); do
   expect "the program has no '$command', which the man page describes" is_one_of "$command" $(helped)
 done

@@ -22,7 +22,8 @@ SECONDS, LONGEST, AT_ONCE = 40, 5, 2
 # The statuses of each command where memory is there and nothing stands in the way of reading and writing.
 CHECKS = {"check": {0, 1, 2}, "firm": {0, 1, 2}, "explain": {0, 1, 2}, "explain --json": {0, 1, 2},
           "explain --firm": {0, 1, 2}, "explain --firm --json": {0, 1, 2}, "certify": {0, 1, 2},
-          "certify --partial": {0, 2, 6}}
+          "certify --partial": {0, 2, 6}, "check --certify": {0, 1, 2}, "firm --certify": {0, 1, 2},
+          "explain --certify": {0, 1, 2}, "explain --certify --json": {0, 1, 2}, "explain --certify --firm": {0, 1, 2}}
 RUNS = {"run": {0, 1, 2}, "run --document": {0, 1, 2}}
 ALL = CHECKS | RUNS
 
@@ -46,6 +47,11 @@ def fault(command, status):
     return "" if status in ALL[command] else f"it ends with status {status}"
 
 
+def first_reason(answer):
+    """The first reason that is told, with its place, by `check` or by `explain`; what else stands on the first line."""
+    return answer[0].partition(b"\n")[0].removeprefix(b"not settled: ")
+
+
 def contradictions(program, told):
     """The pairs of commands of which the one contradicts the other, each with whether it does."""
     status = {command: one[1] for command, one in told.items()}
@@ -54,8 +60,16 @@ def contradictions(program, told):
         yield "explain and explain --json", status["explain"] != status["explain --json"]
         yield "firm and explain --firm", status["firm"] != status["explain --firm"]
         yield "firm and check", status["firm"] == 0 != status["check"] or (status["firm"] == 2) != (status["check"] == 2)
+        yield "certify and check --certify", (status["certify"] == 2) != (status["check --certify"] == 2)
+        yield "check --certify and explain --certify", first_reason(told["check --certify"]) != first_reason(told["explain --certify"])
+        yield "explain --certify and --json", status["explain --certify"] != status["explain --certify --json"]
+        yield "firm --certify and explain --certify --firm", status["firm --certify"] != status["explain --certify --firm"]
         if status["certify"] == 0:
             yield "certify and check", run(program, "check", told["certify"][0])[1] not in (0, 1)
+            for word in ("check", "firm", "explain"):
+                yield f"certify then {word} and {word} --certify", run(program, word, told["certify"][0]) != told[f"{word} --certify"]
+        elif status["certify"] == 1:
+            yield "certify and the line of check --certify", told["certify"][0] != told["check --certify"][0].partition(b"\n")[0] + b"\n"
         yield "certify and certify --partial", (status["certify"] == 0) != (status["certify --partial"] == 0)
     if "run" in told:
         yield "run and run --document", (status["run"] == 2) != (status["run --document"] == 2)

@@ -1,13 +1,15 @@
 #!/usr/bin/env python3
-"""Stands for the program `syncaudit` where it isn't built: `certify`, `check`, `firm` and `explain`, by the second reading
-in compare/. It explains without what is indented.
+"""Stands for the program `syncaudit` where it isn't built: `certify`, and `check`, `firm` and `explain`, each also with
+`--certify`, by the second reading in compare/. It explains without what is indented.
 
     export/test/stand_in.py certify < CUT
     export/test/stand_in.py check < DOCUMENT
     export/test/stand_in.py firm < DOCUMENT
     export/test/stand_in.py explain < DOCUMENT
+    export/test/stand_in.py check --certify < CUT
 
-CUT is what is exported, without a certificate. Where $WITHOUT_FIRM is set, it doesn't know `firm`, as an older program.
+CUT is what is exported, without a certificate. Where $WITHOUT_FIRM is set, it doesn't know
+`firm` and `--certify`, as an older program.
 """
 
 import os
@@ -15,6 +17,7 @@ import sys
 
 from documents import certified  # first: it finds compare/
 import firm
+import under_winners
 from reports import answer, answers, printed, refusal
 from things import Fault
 
@@ -46,9 +49,11 @@ STATUS_OF_USAGE = 3
 
 
 def main():
-    if sys.argv[1] == "firm" and "WITHOUT_FIRM" in os.environ:
+    word, *flags = sys.argv[1:]
+    if (word == "firm" or flags) and "WITHOUT_FIRM" in os.environ:
         sys.exit(STATUS_OF_USAGE)
-    said, status = COMMANDS[sys.argv[1]](sys.stdin.buffer.read())
+    document = sys.stdin.buffer.read()
+    said, status = under_winners.answers(document)[word] if flags else COMMANDS[word](document)
     sys.stdout.buffer.write(said)
     sys.stdout.flush()
     sys.exit(status)

@@ -21,6 +21,9 @@ static const struct command commands[] = {
     {{"explain"}, "012"},         {{"explain", "--json"}, "012"},
     {{"explain", "--firm"}, "012"}, {{"explain", "--firm", "--json"}, "012"},
     {{"certify"}, "012"},         {{"certify", "--partial"}, "026"},
+    {{"check", "--certify"}, "012"}, {{"firm", "--certify"}, "012"},
+    {{"explain", "--certify"}, "012"}, {{"explain", "--certify", "--json"}, "012"},
+    {{"explain", "--certify", "--firm"}, "012"},
     {{"run"}, "012"},             {{"run", "--document"}, "012"},
 };
 

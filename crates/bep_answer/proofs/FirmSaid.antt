@@ -22,18 +22,21 @@ firm_judged cut rows (verdicts.Unsettled reason folder name device) judged told 
 firm_judged cut rows (verdicts.Loose reason folder name device) judged told = absurd (cc)
 
 module _ (firmly : FirmStaysFirm) (own : FirmCutsStayPut) (put : SettledStaysPut) (again : SettledStaysSettled) where
+  -- firm tables stay, so a reading that has them tells so
+  pub firm_tells : (cut : CutParts) (rows : List Row) → IsFirm (tables_of cut) rows → TellsFirm (Read (cut, rows))
+  firm_tells cut rows firm = record {
+    cut = cut;
+    rows = rows;
+    says = refl;
+    firm = firm;
+    stays_firm = firmly (tables_of cut) rows firm;
+    stays_put = own (tables_of cut) rows firm;
+    settled = settled_tells put again cut rows firm.settled;
+  }
+
   firm_reading : (reading : Reading (CutParts × List Row)) (outcome : Firmness) (text : List ℕ) → IsFirmAnswer reading outcome text → outcome ≡ outcomes.Firm → TellsFirm reading
   firm_reading (Read check) outcome text answer is =
-      let firm = firm_judged check.0 check.1 answer.verdict answer.judged (cc) in
-      record {
-        cut = check.0;
-        rows = check.1;
-        says = refl;
-        firm = firm;
-        stays_firm = firmly (tables_of check.0) check.1 firm;
-        stays_put = own (tables_of check.0) check.1 firm;
-        settled = settled_tells put again check.0 check.1 firm.settled;
-      }
+      firm_tells check.0 check.1 (firm_judged check.0 check.1 answer.verdict answer.judged (cc))
   firm_reading (Refused fault) outcome text answer is = let e = answer.0 in absurd (cc)
 
   pub firm_answer : (unread left held now : Option (List ℕ)) (outcome : Firmness) → IsWhole IsFirmAnswerOfBytes unread left held now outcome → outcome ≡ outcomes.Firm → SaysFirm unread left

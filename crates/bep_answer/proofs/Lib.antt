@@ -2,3 +2,4 @@ pub mod SettledSaid
 pub mod FirmSaid
 pub mod Statuses
 mod OneAnswer
+pub mod UnderWinners

@@ -24,7 +24,7 @@ use Rattle.bep_answer.specs.Laws.{AuditIsUnique, CutAnswerIsUnique, DocumentAnsw
 
 -- ---- audits
 
-one_audit : VerdictIsUnique → (reading : Reading (CutParts × List Row)) (one other : Outcome) (text more : List ℕ) → IsAnswer reading one text → IsAnswer reading other more → (one ≡ other) × (text ≡ more)
+pub one_audit : VerdictIsUnique → (reading : Reading (CutParts × List Row)) (one other : Outcome) (text more : List ℕ) → IsAnswer reading one text → IsAnswer reading other more → (one ≡ other) × (text ≡ more)
 one_audit unique (Read check) one other text more is also =
     let same = unique (tables_of check.0) check.1 is.verdict also.verdict is.judged also.judged in
     (is.told ∙ ap outcome_of same ∙ sym also.told, is.reported ∙ ap (report_text check.0) same ∙ sym also.reported)
@@ -33,7 +33,7 @@ one_audit unique (Refused fault) one other text more is also = (is.0 ∙ sym als
 pub audit_is_unique : VerdictIsUnique → AuditIsUnique
 audit_is_unique unique bytes = one_audit unique (check_of bytes)
 
-one_firm_audit : FirmVerdictIsUnique → (reading : Reading (CutParts × List Row)) (one other : Firmness) (text more : List ℕ) → IsFirmAnswer reading one text → IsFirmAnswer reading other more → (one ≡ other) × (text ≡ more)
+pub one_firm_audit : FirmVerdictIsUnique → (reading : Reading (CutParts × List Row)) (one other : Firmness) (text more : List ℕ) → IsFirmAnswer reading one text → IsFirmAnswer reading other more → (one ≡ other) × (text ≡ more)
 one_firm_audit unique (Read check) one other text more is also =
     let same = unique (tables_of check.0) check.1 is.verdict also.verdict is.judged also.judged in
     (is.told ∙ ap firmness_of same ∙ sym also.told, is.reported ∙ ap (firm_report_text check.0) same ∙ sym also.reported)

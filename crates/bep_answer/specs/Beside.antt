@@ -1,7 +1,9 @@
 -- What a person is told beside an answer (this project's profile).
-use Rattle.std.specs.Prelude.{◌≡◌, ⊤, ℕ, List, [], Option, Some, None}
+use Rattle.std.specs.Prelude.{◌≡◌, ⊤, ℕ, List, [], Option, Some, None, true}
 use Rattle.std.specs.String.{string_bytes}
+use Rattle.bep_document.specs.Fault.{has_place}
 use Rattle.bep_document.specs.Reading.{Reading, Read, Refused}
+use Rattle.bep_document.specs.declared.fault.DocFault.{DocFault}
 use Rattle.bep_hints.specs.declared.members.Expected.{Expected}
 use Rattle.bep_hints.specs.declared.members.Expected.TheVariants.{Check, Cut}
 use Rattle.bep_report.specs.Input.{IsRead}
@@ -14,6 +16,10 @@ abbrev pub IsHint : Expected → Option Beside → Type 0
 IsHint expected None = ⊤
 IsHint expected (Some (Hint hint)) = hint.expected ≡ expected
 IsHint expected (Some (Lines lines)) = ⊥
+
+-- beside a document that is refused for this fault: such a hint, and nothing where the fault has a place, which its line tells
+abbrev pub IsHintOn : Expected → DocFault → Option Beside → Type 0
+IsHintOn expected fault beside = IsHint expected beside × (has_place fault.fault ≡ true → beside ≡ None)
 
 -- these lines, or nothing where there are none
 abbrev pub AreLines : List ℕ → Option Beside → Type 0
@@ -30,12 +36,12 @@ AreSomeLines (Some (Lines lines)) = ⊤
 -- nothing beside the answer to a document that is read, and a hint for one that is refused
 abbrev pub IsHintOfRefused : {A : Type 0} → Expected → Reading A → Option Beside → Type 0
 IsHintOfRefused expected (Read says) beside = beside ≡ None
-IsHintOfRefused expected (Refused fault) beside = IsHint expected beside
+IsHintOfRefused expected (Refused fault) beside = IsHintOn expected fault beside
 
 -- the same where lines may be told of a document that is read
 abbrev pub IsHintOrLines : {A : Type 0} → Expected → Reading A → Option Beside → Type 0
 IsHintOrLines expected (Read says) beside = AreSomeLines beside
-IsHintOrLines expected (Refused fault) beside = IsHint expected beside
+IsHintOrLines expected (Refused fault) beside = IsHintOn expected fault beside
 
 -- beside the answer to the bytes of a check document
 abbrev pub TellsOfCheck : List ℕ → Option Beside → Type 0

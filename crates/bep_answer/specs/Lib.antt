@@ -6,3 +6,4 @@ pub mod Firm
 pub mod Partial
 pub mod Status
 pub mod Laws
+pub mod UnderWinners

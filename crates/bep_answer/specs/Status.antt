@@ -7,6 +7,7 @@ use Rattle.bep_answer.specs.Certified.{IsCertifiedOfBytes}
 use Rattle.bep_answer.specs.Exchange.{IsEndedEarly, IsWhole}
 use Rattle.bep_answer.specs.Firm.{IsFirmAnswerOfBytes}
 use Rattle.bep_answer.specs.Partial.{IsPartlyOfBytes}
+use Rattle.bep_answer.specs.UnderWinners.{IsAnswerUnderWinnersOfBytes, IsFirmAnswerUnderWinnersOfBytes}
 use Rattle.bep_answer.specs.declared.outcome.Certified.{Certified}
 use Rattle.bep_answer.specs.declared.outcome.Certified.TheVariants as certificates
 use Rattle.bep_answer.specs.declared.outcome.Firmness.{Firmness}
@@ -74,6 +75,14 @@ IsTold = IsToldAs IsAnswerOfBytes status_of
 -- a document was answered where firm was asked for
 abbrev pub IsFirmTold : Option (List ℕ) → Option (List ℕ) → Option (List ℕ) → Option (List ℕ) → ℕ → Type 0
 IsFirmTold = IsToldAs IsFirmAnswerOfBytes firm_status_of
+
+-- the cut of a document was certified and audited under that certificate
+abbrev pub IsToldUnderWinners : Option (List ℕ) → Option (List ℕ) → Option (List ℕ) → Option (List ℕ) → ℕ → Type 0
+IsToldUnderWinners = IsToldAs IsAnswerUnderWinnersOfBytes status_of
+
+-- the same where firm was asked for
+abbrev pub IsFirmToldUnderWinners : Option (List ℕ) → Option (List ℕ) → Option (List ℕ) → Option (List ℕ) → ℕ → Type 0
+IsFirmToldUnderWinners = IsToldAs IsFirmAnswerUnderWinnersOfBytes firm_status_of
 
 -- a certificate was written or refused
 abbrev pub IsCertificateTold : Option (List ℕ) → Option (List ℕ) → Option (List ℕ) → Option (List ℕ) → ℕ → Type 0

@@ -41,7 +41,7 @@ impl Question<Certified> for CertificateOfCut {
             Ok((version, cut)) => Ok((certify_cut(alloc, version, &cut)?, None)),
             Err(DocError::Refused(fault)) => {
                 let refused = (Certified::Refused, fault_line(alloc, &fault)?);
-                Ok((refused, hint_for(alloc, bytes, Expected::Cut)))
+                Ok((refused, hint_for(alloc, bytes, &fault, Expected::Cut)))
             }
             Err(DocError::Memory) => Err(AllocError),
         }

@@ -31,15 +31,15 @@ impl Question<Firmness> for FirmnessOfCut {
             Ok((cut, rows)) => Ok((report_on(alloc, &cut, &Certificate::of(rows))?, None)),
             Err(DocError::Refused(fault)) => {
                 let refused = (Firmness::Refused, fault_line(alloc, &fault)?);
-                Ok((refused, hint_for(alloc, bytes, Expected::Check)))
+                Ok((refused, hint_for(alloc, bytes, &fault, Expected::Check)))
             }
             Err(DocError::Memory) => Err(AllocError),
         }
     }
 }
 
-// The outcome of the cut's audit, and the report.
-fn report_on<'a>(
+/// The outcome of the cut's audit, and the report.
+pub(crate) fn report_on<'a>(
     alloc: Global,
     cut: &'a Cut,
     certificate: &'a Certificate,

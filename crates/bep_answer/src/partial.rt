@@ -33,7 +33,7 @@ impl Question<Partial> for PartOfCut {
             Ok((version, cut)) => certify_part(alloc, version, &cut),
             Err(DocError::Refused(fault)) => {
                 let refused = (Partial::Refused, fault_line(alloc, &fault)?);
-                Ok((refused, hint_for(alloc, bytes, Expected::Cut)))
+                Ok((refused, hint_for(alloc, bytes, &fault, Expected::Cut)))
             }
             Err(DocError::Memory) => Err(AllocError),
         }

@@ -1,7 +1,7 @@
 //! What is answered to a document that is refused.
 ghost use Rattle.std.specs.Prelude.{◌≡◌, IfOk};
 ghost use Rattle.bep_answer.specs.Answer.{fault_text};
-ghost use Rattle.bep_answer.specs.Beside.{IsHint};
+ghost use Rattle.bep_answer.specs.Beside.{IsHintOn};
 ghost use Rattle.bep_answer.specs.declared.outcome.Outcome.TheVariants as outcomes;
 
 use crate::exchanging::Beside;
@@ -36,10 +36,13 @@ pub fn fault_line(alloc: Global, fault: &DocFault) -> Result<Vec<u8>, AllocError
 }
 
 /// What is told beside the refusal: where these bytes are at fault as the document that was expected, if there is anything to
-/// say.
-pub fn hint_for(alloc: Global, bytes: &[u8], expected: Expected) -> Option<Beside>
-    ensures { IsHint expected result }
+/// say. Nothing is looked for where the fault has a place, since its line tells that.
+pub fn hint_for(alloc: Global, bytes: &[u8], fault: &DocFault, expected: Expected) -> Option<Beside>
+    ensures { IsHintOn expected fault.now result }
 {
+    if fault.has_place() {
+        return None;
+    }
     match hint_at(alloc, bytes, expected) {
         Some(hint) => Some(Beside::Hint(hint)),
         None => None,

@@ -2,8 +2,9 @@
 ghost use Rattle.std.specs.Prelude.{◌≡◌};
 ghost use Rattle.bep_answer.specs.Answer.{SaysSettled};
 ghost use Rattle.bep_answer.specs.Firm.{SaysFirm};
-ghost use Rattle.bep_answer.specs.Status.{IsCertificateTold, IsFirmTold, IsPartTold, IsTold, without_hint};
+ghost use Rattle.bep_answer.specs.Status.{IsCertificateTold, IsFirmTold, IsFirmToldUnderWinners, IsPartTold, IsTold, IsToldUnderWinners, without_hint};
 ghost use Rattle.bep_answer.specs.Status as spec;
+ghost use Rattle.bep_answer.specs.UnderWinners.{SaysFirmUnderWinners, SaysSettledUnderWinners};
 
 use crate::certify::CertificateOfCut;
 use crate::check::AuditOfCut;
@@ -12,6 +13,7 @@ use crate::firm::FirmnessOfCut;
 use crate::outcome::{Certified, Firmness, Outcome};
 use crate::partial::PartOfCut;
 use crate::status::{certified_status_of, firm_status_of, partial_status_of, status_of};
+use crate::under_winners::{AuditUnderWinners, FirmnessUnderWinners};
 use bep_machine::{firm_stays_put, settled_stays_put, settled_stays_settled};
 use bep_model::firm_stays_firm;
 use bep_report::ReportError;
@@ -46,6 +48,41 @@ pub fn firm_and_tell<P: AllocGlobal + Eprint, R: Read, W: Write>(
     settled_stays_put();
     settled_stays_settled();
     end_firm(rt, exchange(rt.alloc(), FirmnessOfCut, reader, writer))
+}
+
+/// Audits the cut of a document, whose certificate may be missing and isn't looked at, under the list of its names' winners,
+/// and writes the report, as `check_text` does of the document that `certify_text` makes of it; where a known name has no
+/// winner, the report tells the first one. Tells and answers what `check_and_tell` does.
+pub fn check_under_winners_and_tell<P: AllocGlobal + Eprint, R: Read, W: Write>(
+    rt: &P,
+    reader: &mut R,
+    writer: &mut W,
+) -> u8
+    ensures told { IsToldUnderWinners (R.remaining reader.old) (R.remaining reader.new) (W.contents writer.old) (W.contents writer.new) result }
+    ensures settled { result ≡ 0 → SaysSettledUnderWinners (R.remaining reader.old) (R.remaining reader.new) }
+{
+    settled_stays_put();
+    settled_stays_settled();
+    end(rt, exchange(rt.alloc(), AuditUnderWinners, reader, writer))
+}
+
+/// The same where firm is asked for, as `firm_text` does.
+pub fn firm_under_winners_and_tell<P: AllocGlobal + Eprint, R: Read, W: Write>(
+    rt: &P,
+    reader: &mut R,
+    writer: &mut W,
+) -> u8
+    ensures told { IsFirmToldUnderWinners (R.remaining reader.old) (R.remaining reader.new) (W.contents writer.old) (W.contents writer.new) result }
+    ensures firm { result ≡ 0 → SaysFirmUnderWinners (R.remaining reader.old) (R.remaining reader.new) }
+{
+    firm_stays_firm();
+    firm_stays_put();
+    settled_stays_put();
+    settled_stays_settled();
+    end_firm(
+        rt,
+        exchange(rt.alloc(), FirmnessUnderWinners, reader, writer),
+    )
 }
 
 /// The same for the certificate of a document's cut, as `certify_text` makes it.

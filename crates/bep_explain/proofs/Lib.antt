@@ -12,3 +12,4 @@ pub mod TwoContents
 pub mod NameSays
 pub mod RowLists
 pub mod GroupFound
+mod UnwonFacts

@@ -4,4 +4,5 @@ pub mod FirmTold
 pub mod Found
 pub mod Loose
 pub mod Told
+pub mod Unwon
 pub mod inner

@@ -2,3 +2,4 @@
 pub mod Explained
 pub mod FirmExplained
 pub mod Told
+pub mod UnderWinners

@@ -6,12 +6,14 @@ ghost use Rattle.bep_tables.specs.Cut.{tables_of};
 ghost use Rattle.bep_audit.specs.Walk.{failure_shown};
 ghost use Rattle.bep_explain.specs.Found.{AreFailures, verdict_of};
 ghost use Rattle.bep_explain.specs.Annotated.{failures_in, annotated_of};
+ghost use Rattle.bep_explain.specs.Unwon.{AreFailuresUnwon};
 
 use crate::collect::copy_of;
 use crate::details::details_of;
 use crate::failures;
 use crate::lookup::Lookup;
 use crate::trees::trees_of;
+use crate::unwon::failures_unwon;
 use bep_audit::{Certificate, Failure};
 use bep_model::Row;
 use bep_tables::Cut;
@@ -39,6 +41,19 @@ pub fn annotate<'a>(
 {
     let found = failures(alloc, cut, certificate)?;
     with_trees(alloc, cut, certificate.rows(), found.as_slice())
+}
+
+/// The same under the winners of the cut's names, which the certificate has: a name without one is told as that.
+pub(crate) fn annotate_unwon<'a>(
+    alloc: Global,
+    cut: &'a Cut,
+    certificate: &'a Certificate,
+) -> Result<Vec<Annotated<'a>>, AllocError>
+    ensures all { IfOk result (λ told. AreFailuresUnwon (tables_of cut.now) certificate.now (failures_in (map annotated_of told.items))) }
+    ensures settled { IfOk result (λ told. (failures_in (map annotated_of told.items) ≡ []) ↔ IsSettled (tables_of cut.now) certificate.now) }
+{
+    let unwon = failures_unwon(alloc, cut, certificate)?;
+    with_trees(alloc, cut, certificate.rows(), unwon.as_slice())
 }
 
 // These failures, each with the tree of its details.

@@ -25,7 +25,7 @@ pub(crate) fn details_of<'a>(
     for share in cut.shares(one.spot.folder) {
         if one.spot.device == Some(share.device) {
             add_share(&mut details, of, one, share)?;
-        } else if one.reason == Reason::NameMissing {
+        } else if of.row.is_none() {
             add_known(&mut details, of, one, share)?;
         }
     }

@@ -4,7 +4,12 @@ mod answers;
 mod explain;
 mod firm;
 mod json;
+mod under_winners;
 
-pub use answers::{explain_and_tell, explain_firm_and_tell, explain_text};
+pub use answers::{
+    explain_and_tell, explain_firm_and_tell, explain_firm_under_winners_and_tell, explain_text,
+    explain_under_winners_and_tell,
+};
 pub use explain::ReasonsOfCut;
 pub use firm::FirmReasonsOfCut;
+pub use under_winners::{FirmReasonsUnderWinners, ReasonsUnderWinners};

@@ -16,7 +16,8 @@
 //! and `firm_explanation` and `firm_explanation_json` print both.
 //!
 //! `document` answers so from the bytes that come in to the bytes that go out, as `bep_answer` does for the first reason:
-//! `explain_text`, and with the exit status `explain_and_tell` and `explain_firm_and_tell`.
+//! `explain_text`, and with the exit status `explain_and_tell` and `explain_firm_and_tell`;
+//! `explain_under_winners_and_tell` and `explain_firm_under_winners_and_tell` explain a cut under the winners of its names.
 #![tactic(auto)]
 
 mod annotated;
@@ -40,10 +41,13 @@ mod rows;
 mod sources;
 mod text;
 mod trees;
+mod unwon;
 
 pub use annotated::{Annotated, annotate};
 pub use document::{
-    FirmReasonsOfCut, ReasonsOfCut, explain_and_tell, explain_firm_and_tell, explain_text,
+    FirmReasonsOfCut, FirmReasonsUnderWinners, ReasonsOfCut, ReasonsUnderWinners, explain_and_tell,
+    explain_firm_and_tell, explain_firm_under_winners_and_tell, explain_text,
+    explain_under_winners_and_tell,
 };
 pub use explained::{Explained, explain};
 pub use firm::{AnnotatedLoose, ExplainedLoose, annotate_loose, explain_loose};

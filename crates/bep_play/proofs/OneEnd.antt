@@ -1,8 +1,7 @@
 -- A scenario has one end, and one answer.
-use Rattle.std.proofs.Common.{◌≡◌, ◌++◌, ◌∙◌, ℕ, List, [], ◌∷◌, map, None, sym, ap, subst, ⊎_elim}
-use Rattle.bep_answer.specs.Answer.{outcome_of}
+use Rattle.std.proofs.Common.{◌≡◌, ◌++◌, ◌∙◌, ℕ, List, [], ◌∷◌, map, sym, ap, subst}
 use Rattle.bep_answer.specs.Certified.{IsCertificate}
-use Rattle.bep_answer.specs.Laws.{CutAnswerIsUnique}
+use Rattle.bep_answer.specs.Laws.{CutAnswerIsUnique, ReportUnderIsUnique}
 use Rattle.bep_answer.specs.declared.outcome.Certified.{Certified}
 use Rattle.bep_answer.specs.declared.outcome.Outcome.{Outcome}
 use Rattle.bep_cut.specs.Cut.{cut_at}
@@ -10,19 +9,12 @@ use Rattle.bep_cut.specs.Laws.{SameClusterSameCut}
 use Rattle.bep_document.specs.Reading.{Reading, Read, Refused}
 use Rattle.bep_machine.specs.Determined.{HaveSameSteps, RunsAreDetermined}
 use Rattle.bep_machine.specs.Steps.{Event}
-use Rattle.bep_model.specs.Laws.{FirstWithoutIsUnique, ListOfWinnersIsUnique, VerdictIsUnique, WinnersLeaveNoneOut}
-use Rattle.bep_model.specs.Tables.{Folder, FileName}
-use Rattle.bep_model.specs.Verdict.{IsVerdict, Not}
-use Rattle.bep_model.specs.declared.reason.Reason.TheVariants.{NotWinner}
-use Rattle.bep_model.specs.declared.row.Row.{Row}
 use Rattle.bep_peer.specs.network.Network.{Network, cluster_of}
 use Rattle.bep_json.specs.declared.version.DocVersion.{DocVersion}
-use Rattle.bep_report.specs.Report.{report_text}
 use Rattle.bep_scenario.specs.Scenario.{Said, scenario_of}
-use Rattle.bep_tables.specs.Cut.{tables_of}
 use Rattle.bep_tables.specs.declared.cut.CutParts.{CutParts}
 use Rattle.bep_play.specs.Laws.{DocumentIsUnique, EndIsUnique, RunIsUnique}
-use Rattle.bep_play.specs.Played.{AreSure, IsAudited, IsEnd, IsEndOf, IsRunOf, IsUnwon, beginning_of, refused_lines, rows_told}
+use Rattle.bep_play.specs.Played.{AreSure, IsEnd, IsEndOf, IsRunOf, beginning_of, list_lines, refused_lines}
 
 -- ---- the cut to which it leads
 
@@ -48,49 +40,22 @@ module _ (determined : RunsAreDetermined) (same_cut : SameClusterSameCut) where
 
 -- ---- what is answered of a cut
 
-module _ (verdicts : VerdictIsUnique) (lists : ListOfWinnersIsUnique) (none_left_out : WinnersLeaveNoneOut) (first : FirstWithoutIsUnique) (version : DocVersion) (cut : CutParts) (told : List ℕ) (one other : Outcome) (text more : List ℕ) where
-  one_audit : IsAudited version cut told one text → IsAudited version cut told other more → (one ≡ other) × (text ≡ more)
-  one_audit is also =
-      let rows = lists (tables_of cut) is.rows also.rows is.winners also.winners in
-      let verdict =
-      verdicts (tables_of cut) is.rows is.verdict also.verdict is.judged (subst (λ (all : List Row). IsVerdict (tables_of cut) all also.verdict) (sym rows) also.judged) in (
-        is.outcome_is ∙ ap outcome_of verdict ∙ sym also.outcome_is,
-        is.reported ∙ (λ i. (told ++ report_text cut (verdict i)) ++ rows_told version (rows i)) ∙ sym also.reported,
-      )
-
-  one_without : IsUnwon cut told one text → IsUnwon cut told other more → (one ≡ other) × (text ≡ more)
-  one_without is also =
-      let place = first (tables_of cut) (is.folder, is.name) (also.folder, also.name) is.without also.without in (
-        is.outcome_is ∙ sym also.outcome_is,
-        is.reported ∙ ap (λ (at : Folder × FileName). told ++ report_text cut (Not NotWinner at.0 at.1 None)) place ∙ sym also.reported,
-      )
-
-  one_end : IsEnd version cut told one text → IsEnd version cut told other more → (one ≡ other) × (text ≡ more)
-  one_end is also =
-      ⊎_elim
-      (λ won.
-      ⊎_elim
-      (λ again. one_audit won again)
-      (λ unwon. absurd (none_left_out (tables_of cut) won.rows unwon.folder unwon.name won.winners unwon.without.without))
-      also)
-      (λ unwon.
-      ⊎_elim
-      (λ won. absurd (none_left_out (tables_of cut) won.rows unwon.folder unwon.name won.winners unwon.without.without))
-      (λ again. one_without unwon again)
-      also)
-      is
+one_end : ReportUnderIsUnique → (version : DocVersion) (cut : CutParts) (told : List ℕ) (one other : Outcome) (text more : List ℕ) → IsEnd version cut told one text → IsEnd version cut told other more → (one ≡ other) × (text ≡ more)
+one_end unique version cut told one other text more is also =
+    let same = unique cut is.rows also.rows one other is.report also.report is.audit also.audit in
+    (same.1, is.reported ∙ (λ i. (told ++ same.2 i) ++ list_lines version (same.0 i)) ∙ sym also.reported)
 
 -- ---- what is answered of bytes
 
 abbrev cut_of : Network → CutParts
 cut_of network = cut_at network.members network.links
 
-module _ (ends : EndIsUnique) (verdicts : VerdictIsUnique) (lists : ListOfWinnersIsUnique) (none_left_out : WinnersLeaveNoneOut) (first : FirstWithoutIsUnique) where
+module _ (ends : EndIsUnique) (reports : ReportUnderIsUnique) where
   one_run : (reading : Reading Said) (one other : Outcome) (text more : List ℕ) → IsRunOf reading one text → IsRunOf reading other more → (one ≡ other) × (text ≡ more)
   one_run (Read scenario) one other text more is also =
       let same = ends scenario is.last also.last is.told also.told is.leads also.leads in
-      one_end verdicts lists none_left_out first scenario.version (cut_of is.last) is.told one other text more is.end
-      (subst (λ (cut : CutParts). IsEnd scenario.version cut is.told other more) (sym same.0) (subst (λ (told : List ℕ). IsEnd scenario.version (cut_of also.last) told other more) (sym same.1) also.end))
+      one_end reports scenario.version (cut_of is.last) is.told one other text more is.end
+      (subst (λ (cut : CutParts). IsEnd version cut is.told other more) (sym same.0) (subst (λ (told : List ℕ). IsEnd scenario.version (cut_of also.last) told other more) (sym same.1) also.end))
   one_run (Refused fault) one other text more is also = (is.0 ∙ sym also.0, is.1 ∙ sym also.1)
 
   pub run_is_unique : RunIsUnique

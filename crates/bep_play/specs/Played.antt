@@ -1,7 +1,6 @@
 -- What the program answers to a scenario: the steps that are refused, then the report on the cut to which they lead, and
 -- the certificate of its winners (this project's profile).
-use Rattle.std.specs.Prelude.{◌≡◌, ◌⊎◌, ◌++◌, suc, ℕ, ⊤, List, [], ◌∷◌, map, codes, Option, None, Result, Ok, Err}
-use Rattle.bep_audit.specs.Certifier.{IsNeverSettled}
+use Rattle.std.specs.Prelude.{◌≡◌, ◌++◌, suc, ℕ, ⊤, List, [], ◌∷◌, map, codes, Option, Some, None, Result, Ok, Err}
 use Rattle.bep_core.specs.Begin.{begun}
 use Rattle.bep_peer.specs.network.Network.{Network, IsNetwork, cluster_of}
 use Rattle.bep_core.specs.Why.{name_of_refusal}
@@ -18,23 +17,19 @@ use Rattle.bep_machine.specs.Sound.{IsSound}
 use Rattle.bep_machine.specs.Steps.{Event, IsRun}
 use Rattle.bep_machine.specs.declared.moved.Moved.{Moved}
 use Rattle.bep_machine.specs.declared.step.Step.{Step}
-use Rattle.bep_model.specs.declared.reason.Reason.TheVariants.{NotWinner}
 use Rattle.bep_model.specs.declared.row.Row.{Row}
-use Rattle.bep_model.specs.Settled.{IsListOfWinners, IsSettled}
-use Rattle.bep_model.specs.Tables.{Folder, FileName}
-use Rattle.bep_model.specs.Verdict.{Verdict, IsVerdict, Not}
-use Rattle.bep_model.specs.WithoutWinner.{IsFirstWithoutWinner}
+use Rattle.bep_model.specs.Settled.{IsSettled}
 use Rattle.bep_report.specs.Certificate.{certificate_lines, certificate_lines_2}
 use Rattle.bep_json.specs.declared.version.DocVersion.{DocVersion}
 use Rattle.bep_json.specs.declared.version.DocVersion.TheVariants.{One, Two}
 use Rattle.bep_lines.specs.Lines.{step_line}
 use Rattle.bep_report.specs.Input.{IsRead}
-use Rattle.bep_report.specs.Report.{report_text}
 use Rattle.bep_scenario.specs.Scenario.{Said, scenario_of}
 use Rattle.bep_tables.specs.declared.cut.CutParts.{CutParts}
 use Rattle.bep_tables.specs.Cut.{tables_of}
-use Rattle.bep_answer.specs.Answer.{fault_text, outcome_of}
+use Rattle.bep_answer.specs.Answer.{fault_text}
 use Rattle.bep_answer.specs.Certified.{IsCertificate}
+use Rattle.bep_answer.specs.UnderWinners.{IsReportUnder}
 use Rattle.bep_answer.specs.declared.outcome.Certified.{Certified}
 use Rattle.bep_answer.specs.declared.outcome.Certified.TheVariants as certificates
 use Rattle.bep_answer.specs.declared.outcome.Outcome.{Outcome}
@@ -96,27 +91,17 @@ abbrev pub rows_told : DocVersion → List Row → List ℕ
 rows_told One rows = certificate_lines rows
 rows_told Two rows = certificate_lines_2 rows
 
--- the cut under the one list of its winners has this verdict; it is reported, and the list is told
-pub record IsAudited (version : DocVersion) (cut : CutParts) (told : List ℕ) (outcome : Outcome) (text : List ℕ) : Type 0 where
-  pub rows : List Row
-  pub winners : IsListOfWinners (tables_of cut) rows
-  pub verdict : Verdict
-  pub judged : IsVerdict (tables_of cut) rows verdict
-  pub outcome_is : outcome ≡ outcome_of verdict
-  pub reported : text ≡ (told ++ report_text cut verdict) ++ rows_told version rows
+-- the lines of the list of winners, if there is one
+abbrev pub list_lines : DocVersion → Option (List Row) → List ℕ
+list_lines version None = []
+list_lines version (Some rows) = rows_told version rows
 
--- the cut's first known name without a winner is reported, and it is settled for no list of rows
-pub record IsUnwon (cut : CutParts) (told : List ℕ) (outcome : Outcome) (text : List ℕ) : Type 0 where
-  pub folder : Folder
-  pub name : FileName
-  pub without : IsFirstWithoutWinner (tables_of cut) folder name
-  pub never_settled : IsNeverSettled (tables_of cut)
-  pub outcome_is : outcome ≡ outcomes.NotSettled
-  pub reported : text ≡ told ++ report_text cut (Not NotWinner folder name None)
-
--- the cut is audited under the list of its winners, if it has one
-abbrev pub IsEnd : DocVersion → CutParts → List ℕ → Outcome → List ℕ → Type 0
-IsEnd version cut told outcome text = IsAudited version cut told outcome text ⊎ IsUnwon cut told outcome text
+-- the cut is reported under the list of its winners, if it has one, and that list is told; before these stands what was told
+pub record IsEnd (version : DocVersion) (cut : CutParts) (told : List ℕ) (outcome : Outcome) (text : List ℕ) : Type 0 where
+  pub rows : Option (List Row)
+  pub report : List ℕ
+  pub audit : IsReportUnder cut rows outcome report
+  pub reported : text ≡ (told ++ report) ++ list_lines version rows
 
 -- the steps are made, and the cut to which they lead is reported
 pub record IsPlayed (scenario : Said) (outcome : Outcome) (text : List ℕ) : Type 0 where

@@ -28,7 +28,7 @@ impl Question<Certified> for DocumentOfEnd {
             Ok(scenario) => run(alloc, scenario),
             Err(DocError::Refused(fault)) => {
                 let refused = (Certified::Refused, fault_line(alloc, &fault)?);
-                Ok((refused, hint_for(alloc, bytes, Expected::Scenario)))
+                Ok((refused, hint_for(alloc, bytes, &fault, Expected::Scenario)))
             }
             Err(DocError::Memory) => Err(AllocError),
         }

@@ -1,25 +1,16 @@
 //! The cut to which a scenario leads, under the list of its winners: its report, or its document.
-ghost use Rattle.std.specs.Prelude.{◌≡◌, ◌++◌, None, IfOk};
-ghost use Rattle.bep_audit.specs.Shown.{verdict_shown};
+ghost use Rattle.std.specs.Prelude.{◌≡◌, ◌++◌, IfOk};
 ghost use Rattle.bep_cut.specs.Cut.{cut_at};
-ghost use Rattle.bep_model.specs.declared.reason.Reason.TheVariants.{NotWinner};
-ghost use Rattle.bep_model.specs.Settled.{IsListOfWinners};
-ghost use Rattle.bep_model.specs.Verdict.{Not};
 ghost use Rattle.bep_lines.specs.Text.{AppendsWhole};
-ghost use Rattle.bep_report.specs.Report.{report_text};
-ghost use Rattle.bep_tables.specs.Cut.{tables_of};
 ghost use Rattle.bep_answer.specs.Certified.{IsCertificate};
-ghost use Rattle.bep_play.specs.Played.{IsAudited, IsEnd, rows_told};
-ghost use Rattle.bep_answer.specs.declared.outcome.Outcome.TheVariants as outcomes;
+ghost use Rattle.bep_play.specs.Played.{IsEnd, list_lines, rows_told};
 
-use bep_answer::{Certified, Outcome, certify_cut, outcome_of};
-use bep_audit::{Certificate, CertifyError, Verdict, certify, check};
+use bep_answer::{Certified, Outcome, audit_under_winners, certify_cut};
+use bep_audit::Certificate;
 use bep_core::Cluster;
 use bep_cut::{clusters_are_parts, cut_of};
 use bep_json::DocVersion;
-use bep_model::Reason;
-use bep_record::{FolderName, Name};
-use bep_report::{push_certificate, push_certificate_2, push_report};
+use bep_report::{push_certificate, push_certificate_2};
 use bep_store::MemStore;
 use bep_tables::Cut;
 use std::alloc::{AllocError, Global};
@@ -34,7 +25,9 @@ pub(crate) fn report_on_end(
     ensures { IfOk result (λ answer. IsEnd version (cut_at cluster.members cluster.links) told.items answer.0 answer.1.items) }
 {
     let cut = end_of(alloc, cluster)?;
-    audit(alloc, version, &cut, told)
+    let (outcome, report, certificate) = audit_under_winners(alloc, &cut)?;
+    let text = with_report(version, told, report.as_slice(), certificate)?;
+    Ok((outcome, text))
 }
 
 /// The outcome for the cluster's cut, and its check document of this version with its certificate, or the line of a name
@@ -63,59 +56,23 @@ fn end_of(alloc: Global, cluster: Cluster<MemStore>) -> Result<Cut, AllocError>
     }
 }
 
-// The outcome for the cut, and the text.
-fn audit(
-    alloc: Global,
-    version: DocVersion,
-    cut: &Cut,
-    told: Vec<u8>,
-) -> Result<(Outcome, Vec<u8>), AllocError>
-    ensures { IfOk result (λ answer. IsEnd version cut.now told.items answer.0 answer.1.items) }
-{
-    match certify(alloc, cut) {
-        Ok(certificate) => report_under(alloc, version, cut, &certificate, told),
-        Err(CertifyError::NoWinner(folder, name)) => {
-            let text = report_without(alloc, cut, &folder, &name, told)?;
-            Ok((Outcome::NotSettled, text))
-        }
-        Err(CertifyError::Memory) => Err(AllocError),
-    }
-}
-
-// The outcome under the certificate, and the text.
-fn report_under<'a>(
-    alloc: Global,
-    version: DocVersion,
-    cut: &'a Cut,
-    certificate: &'a Certificate,
-    told: Vec<u8>,
-) -> Result<(Outcome, Vec<u8>), AllocError>
-    requires { IsListOfWinners (tables_of cut.now) certificate.now }
-    ensures { IfOk result (λ answer. IsAudited version cut.now told.items answer.0 answer.1.items) }
-{
-    match check(alloc, cut, certificate) {
-        Ok(verdict) => {
-            let text = with_report(alloc, version, cut, certificate, &verdict, told)?;
-            Ok((outcome_of(&verdict), text))
-        }
-        Err(_) => Err(AllocError),
-    }
-}
-
-// The text with the report of this verdict and the certificate.
+// The text with the report and the certificate, if there is one.
 fn with_report(
-    alloc: Global,
     version: DocVersion,
-    cut: &Cut,
-    certificate: &Certificate,
-    verdict: &Verdict<'_>,
     mut text: Vec<u8>,
+    report: &[u8],
+    certificate: Option<Certificate>,
 ) -> Result<Vec<u8>, AllocError>
-    ensures { IfOk result (λ whole. whole.items ≡ (text.items ++ report_text cut.now (verdict_shown verdict.now)) ++ rows_told version certificate.now) }
+    ensures { IfOk result (λ whole. whole.items ≡ (text.items ++ report.now) ++ list_lines version certificate) }
 {
-    push_report(alloc, &mut text, cut, verdict)?;
-    push_rows(version, &mut text, certificate)?;
-    Ok(text)
+    text.extend_from_slice(report)?;
+    match certificate {
+        Some(certificate) => {
+            push_rows(version, &mut text, &certificate)?;
+            Ok(text)
+        }
+        None => Ok(text),
+    }
 }
 
 // Appends the certificate, as the run of a scenario of this version tells it.
@@ -130,19 +87,4 @@ fn push_rows(
         DocVersion::One => push_certificate(text, certificate),
         DocVersion::Two => push_certificate_2(text, certificate),
     }
-}
-
-// The text where a name has no winner.
-fn report_without<'a>(
-    alloc: Global,
-    cut: &Cut,
-    folder: &'a FolderName,
-    name: &'a Name,
-    mut text: Vec<u8>,
-) -> Result<Vec<u8>, AllocError>
-    ensures { IfOk result (λ whole. whole.items ≡ text.items ++ report_text cut.now (Not NotWinner folder.now name.now None)) }
-{
-    let verdict = Verdict::Not(Reason::NotWinner, folder, name, None);
-    push_report(alloc, &mut text, cut, &verdict)?;
-    Ok(text)
 }

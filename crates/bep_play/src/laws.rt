@@ -4,7 +4,6 @@ ghost use Rattle.bep_play.specs.Laws.{DocumentIsUnique, EndIsUnique, RunIsUnique
 use bep_answer::answers_are_unique;
 use bep_cut::same_cluster_same_cut;
 use bep_machine::runs_are_determined;
-use bep_model::{certificate_is_unique, verdict_is_unique, winners_or_first_without};
 
 /// A scenario leads to one cut at most, of which its report and its document both tell; so its bytes have one run at most,
 /// outcome and text, and one document of its end.
@@ -15,8 +14,5 @@ pub fn ends_are_unique()
 {
     runs_are_determined();
     same_cluster_same_cut();
-    verdict_is_unique();
-    certificate_is_unique();
-    winners_or_first_without();
     answers_are_unique();
 }

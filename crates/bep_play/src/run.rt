@@ -26,7 +26,7 @@ impl Question<Outcome> for ReportOnEnd {
             Ok(scenario) => Ok((run(alloc, scenario)?, None)),
             Err(DocError::Refused(fault)) => {
                 let refused = refusal(alloc, &fault)?;
-                Ok((refused, hint_for(alloc, bytes, Expected::Scenario)))
+                Ok((refused, hint_for(alloc, bytes, &fault, Expected::Scenario)))
             }
             Err(DocError::Memory) => Err(AllocError),
         }

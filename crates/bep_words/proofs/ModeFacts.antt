@@ -14,7 +14,7 @@ use Rattle.clap.specs.declared.builder.arg.Arg.{Arg}
 use Rattle.clap.specs.declared.builder.command.Command.{Command}
 use Rattle.clap.specs.declared.parser.matches.ArgMatches.{ArgMatches}
 use Rattle.clap.specs.declared.parser.matches.ArgMatches.TheViews.{out-ArgMatches}
-use Rattle.bep_words.specs.Mode.{Asks, IsCommand, ending_of, extent_of, form_of, goal_of, program}
+use Rattle.bep_words.specs.Mode.{Asks, IsCommand, ending_of, extent_of, form_of, goal_of, program, under_of}
 use Rattle.bep_words.specs.declared.mode.Mode.{Mode}
 use Rattle.bep_words.specs.declared.mode.Mode.TheVariants.{Check, Firm, Certify, Explain, Run}
 
@@ -213,10 +213,10 @@ asks_mode words none =
     entered_mode stop (walk_is_own app.top (names_of app) IsMode only_modes (walk_from nothing_held) given tt level.0) level.1
 
 mode_named : (words : List Text) → NamesMode (option_map (λ met. met.0) (subcommand_of program words)) → (mode : Mode) × Asks words mode
-mode_named words (inl is) = (Check, is)
-mode_named words (inr (inl is)) = (Firm, is)
+mode_named words (inl is) = (Check (under_of (subcommand_of program words)), (is, refl))
+mode_named words (inr (inl is)) = (Firm (under_of (subcommand_of program words)), (is, refl))
 mode_named words (inr (inr (inl is))) = (Certify (extent_of (subcommand_of program words)), (is, refl))
-mode_named words (inr (inr (inr (inl is)))) = (Explain (goal_of (subcommand_of program words)) (form_of (subcommand_of program words)), (is, refl, refl))
+mode_named words (inr (inr (inr (inl is)))) = (Explain (goal_of (subcommand_of program words)) (under_of (subcommand_of program words)) (form_of (subcommand_of program words)), (is, refl, refl, refl))
 mode_named words (inr (inr (inr (inr is)))) = (Run (ending_of (subcommand_of program words)), (is, refl))
 
 -- so they ask for a mode

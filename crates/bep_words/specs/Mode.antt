@@ -15,6 +15,8 @@ use Rattle.bep_words.specs.declared.mode.Goal.{Goal}
 use Rattle.bep_words.specs.declared.mode.Goal.TheVariants as goals
 use Rattle.bep_words.specs.declared.mode.Mode.{Mode}
 use Rattle.bep_words.specs.declared.mode.Mode.TheVariants.{Check, Firm, Certify, Explain, Run}
+use Rattle.bep_words.specs.declared.mode.Under.{Under}
+use Rattle.bep_words.specs.declared.mode.Under.TheVariants.{Given, Winners}
 
 -- the program's own level: it has a version, and wants a subcommand
 abbrev pub top_level : App
@@ -26,9 +28,13 @@ top_level =
 abbrev pub flag : Text → Rule
 flag name = record (new_rule name) { long = Some name; action = Some SetTrue }
 
--- the subcommands that take flags
+-- a subcommand of this name that takes only the flag which says under which rows a cut is audited
+abbrev pub audit_app : Text → App
+audit_app name = with_rule (new_app name) (flag (codes "certify"))
+
+-- the other subcommands
 abbrev pub explain_app : App
-explain_app = with_rule (with_rule (new_app (codes "explain")) (flag (codes "json"))) (flag (codes "firm"))
+explain_app = with_rule (with_rule (with_rule (new_app (codes "explain")) (flag (codes "json"))) (flag (codes "firm"))) (flag (codes "certify"))
 
 abbrev pub certify_app : App
 certify_app = with_rule (new_app (codes "certify")) (flag (codes "partial"))
@@ -39,8 +45,8 @@ run_app = with_rule (new_app (codes "run")) (flag (codes "document"))
 -- what the command line of the program is
 abbrev pub program : App
 program =
-    let check = with_subcommand top_level (new_app (codes "check")).top in
-    let firm = with_subcommand check (new_app (codes "firm")).top in
+    let check = with_subcommand top_level (audit_app (codes "check")).top in
+    let firm = with_subcommand check (audit_app (codes "firm")).top in
     let certify = with_subcommand firm certify_app.top in
     let explain = with_subcommand certify explain_app.top in
     with_subcommand explain run_app.top
@@ -76,6 +82,10 @@ form_of met = if is_set (codes "json") met then forms.Json else forms.Text
 abbrev pub goal_of : Option (Text × List Row) → Goal
 goal_of met = if is_set (codes "firm") met then goals.Firm else goals.Settled
 
+-- under which rows the subcommand in the words asks for an audit
+abbrev pub under_of : Option (Text × List Row) → Under
+under_of met = if is_set (codes "certify") met then Winners else Given
+
 -- for which names the subcommand in the words asks for rows
 abbrev pub extent_of : Option (Text × List Row) → Extent
 extent_of met = if is_set (codes "partial") met then Won else All
@@ -86,11 +96,12 @@ ending_of met = if is_set (codes "document") met then Document else Report
 
 -- the words name the subcommand of this mode, and ask for what it says
 abbrev pub Asks : List Text → Mode → Type 0
-Asks words Check = named words ≡ Some (codes "check")
-Asks words Firm = named words ≡ Some (codes "firm")
+Asks words (Check under) = (named words ≡ Some (codes "check")) × (under ≡ under_of (subcommand_of program words))
+Asks words (Firm under) = (named words ≡ Some (codes "firm")) × (under ≡ under_of (subcommand_of program words))
 Asks words (Certify extent) = (named words ≡ Some (codes "certify")) × (extent ≡ extent_of (subcommand_of program words))
-Asks words (Explain goal form) =
-    (named words ≡ Some (codes "explain")) × (goal ≡ goal_of (subcommand_of program words)) × (form ≡ form_of (subcommand_of program words))
+Asks words (Explain goal under form) =
+    (named words ≡ Some (codes "explain"))
+    × (goal ≡ goal_of (subcommand_of program words)) × (under ≡ under_of (subcommand_of program words)) × (form ≡ form_of (subcommand_of program words))
 Asks words (Run ending) = (named words ≡ Some (codes "run")) × (ending ≡ ending_of (subcommand_of program words))
 
 -- words in which nothing is at fault ask for some mode

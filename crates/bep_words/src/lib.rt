@@ -4,10 +4,10 @@
 //! proved:
 //!
 //!     match mode_of(alloc, &words)? {
-//!         Mode::Check => ..,
-//!         Mode::Firm => ..,
+//!         Mode::Check(under) => ..,
+//!         Mode::Firm(under) => ..,
 //!         Mode::Certify(extent) => ..,
-//!         Mode::Explain(goal, form) => ..,
+//!         Mode::Explain(goal, under, form) => ..,
 //!         Mode::Run(ending) => ..,
 //!     }
 #![tactic(auto)]
@@ -16,5 +16,5 @@ mod mode;
 mod release;
 mod told;
 
-pub use mode::{Ending, Extent, Goal, Mode, faultless_words_ask, mode_of};
+pub use mode::{Ending, Extent, Goal, Mode, Under, faultless_words_ask, mode_of};
 pub use told::{Unfollowed, mode_told, why_of};

@@ -1,7 +1,7 @@
 //! What the words of the command line ask for.
-ghost use Rattle.std.specs.Prelude.{◌≡◌, IfOk, false, map};
+ghost use Rattle.std.specs.Prelude.{◌≡◌, IfOk, codes, false, map};
 ghost use Rattle.clap.specs.Words.{FailsBy, app_of, fault_of, first_value, found_of, new_app, rule_of, subcommand_rows_of};
-ghost use Rattle.bep_words.specs.Mode.{Asks, FaultlessWordsAsk, IsCommand, certify_app, ending_of, explain_app, extent_of, flag, form_of, goal_of, is_set, is_true, program, run_app, top_level};
+ghost use Rattle.bep_words.specs.Mode.{Asks, FaultlessWordsAsk, IsCommand, audit_app, certify_app, ending_of, explain_app, extent_of, flag, form_of, goal_of, is_set, is_true, program, run_app, top_level, under_of};
 
 use crate::release::RELEASE;
 use bep_lines::Form;
@@ -12,16 +12,25 @@ use std::convert::AsStr;
 /// What the program is asked to do.
 #[derive(Clone, Copy, Debug, PartialEq, Eq)]
 pub enum Mode {
-    /// Audit the check document that comes on standard input.
-    Check,
-    /// Ask whether the check document that comes on standard input is firm.
-    Firm,
+    /// Audit the check document that comes on standard input, under these rows.
+    Check(Under),
+    /// Ask whether the check document that comes on standard input is firm, under these rows.
+    Firm(Under),
     /// Write the cut that comes on standard input as a check document, with the winners of these names.
     Certify(Extent),
-    /// Tell all that keeps the check document that comes on standard input from this, in this form.
-    Explain(Goal, Form),
+    /// Tell all that keeps the check document that comes on standard input from this, under these rows, in this form.
+    Explain(Goal, Under, Form),
     /// Make the steps of the scenario that comes on standard input, and write this of where they lead.
     Run(Ending),
+}
+
+/// Under which rows a cut is audited.
+#[derive(Clone, Copy, Debug, PartialEq, Eq)]
+pub enum Under {
+    /// Under those of the document's certificate.
+    Given,
+    /// Under the winners of its names, as `certify` writes them.
+    Winners,
 }
 
 /// Of which known names a certificate has rows.
@@ -59,14 +68,16 @@ const COMMANDS_HELP: &str =
 
 const CHECK_HELP: &str =
     "The document FILE is a cut of the cluster with its certificate: documents.md describes it.\n\n\
-     Example: syncaudit check < examples/one-equal-file.json\n\n\
+     Example: syncaudit check < examples/one-equal-file.json\n\
+     With --certify it answers as it would to what 'syncaudit certify' writes, and nothing is written in between.\n\n\
      Exit status: 0 settled, 1 not settled, 2 document refused, 3 usage or help, 4 out of memory, \
      5 read or write fault";
 
 const FIRM_HELP: &str =
     "The document FILE is a cut of the cluster with its certificate: documents.md describes it, and reasons.md what \
      firm is.\n\n\
-     Example: syncaudit firm < examples/same-bytes-concurrent-versions.json\n\n\
+     Example: syncaudit firm < examples/same-bytes-concurrent-versions.json\n\
+     With --certify it answers as it would to what 'syncaudit certify' writes, and nothing is written in between.\n\n\
      Exit status: 0 firm, 1 not firm, 2 document refused, 3 usage or help, 4 out of memory, \
      5 read or write fault";
 
@@ -83,6 +94,7 @@ const EXPLAIN_HELP: &str =
      is told.\n\n\
      Example: syncaudit explain < examples/file-missing-in-store.json\n\
      With --firm it tells all that keeps it from being firm.\n\
+     With --certify it audits the cut under the winners of its names, and tells of each name without one.\n\
      With --json it writes one JSON document on a line: explanation.schema.json describes it.\n\n\
      Exit status: 0 settled, or firm, 1 not, 2 document refused, 3 usage or help, 4 out of memory, \
      5 read or write fault";
@@ -100,21 +112,21 @@ fn command<'a>(alloc: Global) -> Result<Command<'a>, AllocError>
     ensures { IfOk result (λ made. app_of made ≡ program) }
 {
     let top = top_command(alloc)?;
-    let check = plain_command(
+    let check = audit_command(
         alloc,
         "check",
         "Audits the check document on standard input",
-        "syncaudit check < FILE",
+        "syncaudit check [--certify] < FILE",
         CHECK_HELP,
-    );
+    )?;
     let checks = top.subcommand(check)?;
-    let firm = plain_command(
+    let firm = audit_command(
         alloc,
         "firm",
         "Says whether the check document on standard input is firm too, and if not, why",
-        "syncaudit firm < FILE",
+        "syncaudit firm [--certify] < FILE",
         FIRM_HELP,
-    );
+    )?;
     let firms = checks.subcommand(firm)?;
     let certify = certify_command(alloc)?;
     let certifies = firms.subcommand(certify)?;
@@ -155,6 +167,20 @@ fn plain_command<'a>(
         .after_help(end)
 }
 
+// A subcommand whose only flag says under which rows a cut is audited.
+fn audit_command<'a>(
+    alloc: Global,
+    name: &'a str,
+    about: &'a str,
+    usage: &'a str,
+    end: &'a str,
+) -> Result<Command<'a>, AllocError>
+    ensures { IfOk result (IsCommand (audit_app name.now)) }
+{
+    let certify = certify_flag(alloc);
+    plain_command(alloc, name, about, usage, end).arg(certify)
+}
+
 fn certify_command<'a>(alloc: Global) -> Result<Command<'a>, AllocError>
     ensures { IfOk result (IsCommand certify_app) }
 {
@@ -174,15 +200,17 @@ fn explain_command<'a>(alloc: Global) -> Result<Command<'a>, AllocError>
 {
     let json = flag(alloc, "json", "Writes one JSON document");
     let firm = flag(alloc, "firm", "Tells all that keeps it from being firm");
+    let certify = certify_flag(alloc);
     let with_json = plain_command(
         alloc,
         "explain",
         "Tells all that keeps the check document on standard input from being settled",
-        "syncaudit explain [--json] [--firm] < FILE",
+        "syncaudit explain [--json] [--firm] [--certify] < FILE",
         EXPLAIN_HELP,
     )
     .arg(json)?;
-    with_json.arg(firm)
+    let with_firm = with_json.arg(firm)?;
+    with_firm.arg(certify)
 }
 
 fn run_command<'a>(alloc: Global) -> Result<Command<'a>, AllocError>
@@ -197,6 +225,18 @@ fn run_command<'a>(alloc: Global) -> Result<Command<'a>, AllocError>
         RUN_HELP,
     )
     .arg(document)
+}
+
+// The flag that says under which rows a cut is audited.
+fn certify_flag<'a>(alloc: Global) -> Arg<'a>
+    ensures rule { rule_of result ≡ flag (codes "certify") }
+    ensures local { result.global ≡ false }
+{
+    flag(
+        alloc,
+        "certify",
+        "Audits the cut under the certificate that is made of it",
+    )
 }
 
 // A flag of this name.
@@ -220,10 +260,14 @@ pub fn mode_of<'a, S: AsStr>(alloc: Global, words: &'a [S]) -> Result<Mode, Erro
 {
     let matches = command(alloc)?.try_get_matches_from(words)?;
     match matches.subcommand_name() {
-        Some("check") => Ok(Mode::Check),
-        Some("firm") => Ok(Mode::Firm),
+        Some("check") => Ok(Mode::Check(under_of(&matches))),
+        Some("firm") => Ok(Mode::Firm(under_of(&matches))),
         Some("certify") => Ok(Mode::Certify(extent_of(&matches))),
-        Some("explain") => Ok(Mode::Explain(goal_of(&matches), form_of(&matches))),
+        Some("explain") => Ok(Mode::Explain(
+            goal_of(&matches),
+            under_of(&matches),
+            form_of(&matches),
+        )),
         Some("run") => Ok(Mode::Run(ending_of(&matches))),
         _ => unreachable!(),
     }
@@ -242,6 +286,17 @@ fn form_of(matches: &ArgMatches<'_>) -> Form
         Form::Json
     } else {
         Form::Text
+    }
+}
+
+// Under which rows the subcommand's words ask for an audit.
+fn under_of(matches: &ArgMatches<'_>) -> Under
+    ensures { result ≡ under_of (subcommand_rows_of matches.now) }
+{
+    if is_set(matches, "certify") {
+        Under::Winners
+    } else {
+        Under::Given
     }
 }
 

@@ -67,7 +67,7 @@ fn tell_document(alloc: Global, bytes: &[u8], told: &mut Told) -> Result<(), All
     match read_scenario(alloc, bytes) {
         Ok(scenario) => tell_run(alloc, scenario, told),
         Err(_) => match read_cut(alloc, bytes) {
-            Ok(cut) => audit(alloc, &cut, told),
+            Ok((_, cut)) => audit(alloc, &cut, told),
             Err(_) => Err(AllocError),
         },
     }

@@ -12,14 +12,19 @@ use Rattle.bep_words.specs.declared.mode.Goal.TheVariants.{Settled}
 use Rattle.bep_words.specs.declared.mode.Goal.TheVariants as goals
 use Rattle.bep_words.specs.declared.mode.Mode.{Mode}
 use Rattle.bep_words.specs.declared.mode.Mode.TheVariants.{Check, Firm, Certify, Explain, Run}
+use Rattle.bep_words.specs.declared.mode.Under.TheVariants.{Given, Winners}
 
 done_without_memory : (mode : Mode) (unread held : Option (List ℕ)) (status : ℕ) → status ≡ status_of (Err Memory) → IsDone mode unread unread held held status
-done_without_memory Check unread held status told = record { answer = Err Memory; told = told; done = Keeps-refl held }
-done_without_memory Firm unread held status told = record { answer = Err Memory; told = told; done = Keeps-refl held }
+done_without_memory (Check Given) unread held status told = record { answer = Err Memory; told = told; done = Keeps-refl held }
+done_without_memory (Check Winners) unread held status told = record { answer = Err Memory; told = told; done = Keeps-refl held }
+done_without_memory (Firm Given) unread held status told = record { answer = Err Memory; told = told; done = Keeps-refl held }
+done_without_memory (Firm Winners) unread held status told = record { answer = Err Memory; told = told; done = Keeps-refl held }
 done_without_memory (Certify All) unread held status told = record { answer = Err Memory; told = told; done = Keeps-refl held }
 done_without_memory (Certify Won) unread held status told = record { answer = Err Memory; told = told; done = Keeps-refl held }
-done_without_memory (Explain Settled form) unread held status told = record { answer = Err Memory; told = told; done = Keeps-refl held }
-done_without_memory (Explain goals.Firm form) unread held status told = record { answer = Err Memory; told = told; done = Keeps-refl held }
+done_without_memory (Explain Settled Given form) unread held status told = record { answer = Err Memory; told = told; done = Keeps-refl held }
+done_without_memory (Explain Settled Winners form) unread held status told = record { answer = Err Memory; told = told; done = Keeps-refl held }
+done_without_memory (Explain goals.Firm Given form) unread held status told = record { answer = Err Memory; told = told; done = Keeps-refl held }
+done_without_memory (Explain goals.Firm Winners form) unread held status told = record { answer = Err Memory; told = told; done = Keeps-refl held }
 done_without_memory (Run Report) unread held status told = record { answer = Err Memory; told = told; done = Keeps-refl held }
 done_without_memory (Run Document) unread held status told = record { answer = Err Memory; told = told; done = Keeps-refl held }
 
@@ -37,6 +42,8 @@ run_without_memory ask words unread held status told =
       followed = followed_without_memory ask words unread held status told;
       end = inl (inr told, refl, Keeps-refl held);
       settled = λ asks zero. absurd (isnt zero);
+      settled_under_winners = λ asks zero. absurd (isnt zero);
       firm = λ asks zero. absurd (isnt zero);
+      firm_under_winners = λ asks zero. absurd (isnt zero);
       ends_settled = λ asks zero. absurd (isnt zero);
     }

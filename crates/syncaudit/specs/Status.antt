@@ -5,12 +5,14 @@ use Rattle.std.specs.declared.io.ErrorKind.{ErrorKind}
 use Rattle.std.specs.declared.io.ErrorKind.TheVariants.{OutOfMemory}
 use Rattle.bep_answer.specs.Answer.{SaysSettled}
 use Rattle.bep_answer.specs.Firm.{SaysFirm}
-use Rattle.bep_answer.specs.Status.{IsCertificateTold, IsFirmTold, IsPartTold, IsTold, status_of, usage}
+use Rattle.bep_answer.specs.Status.{IsCertificateTold, IsFirmTold, IsFirmToldUnderWinners, IsPartTold, IsTold, IsToldUnderWinners, status_of, usage}
+use Rattle.bep_answer.specs.UnderWinners.{SaysFirmUnderWinners, SaysSettledUnderWinners}
 use Rattle.bep_lines.specs.declared.form.Form.{Form}
 use Rattle.bep_play.specs.Played.{EndsSettled}
 use Rattle.bep_play.specs.Told.{IsEndTold, IsRunTold}
 use Rattle.bep_explain.specs.document.FirmExplained.{IsFirmExplanationTold}
 use Rattle.bep_explain.specs.document.Told.{IsExplanationTold}
+use Rattle.bep_explain.specs.document.UnderWinners.{IsExplanationToldUnderWinners, IsFirmExplanationToldUnderWinners}
 use Rattle.bep_report.specs.declared.error.ReportError.TheVariants.{Memory}
 use Rattle.clap.specs.Words.{Text, fault_of}
 use Rattle.bep_words.specs.Mode.{Asks, program}
@@ -23,11 +25,23 @@ use Rattle.bep_words.specs.declared.mode.Goal.TheVariants.{Settled}
 use Rattle.bep_words.specs.declared.mode.Goal.TheVariants as goals
 use Rattle.bep_words.specs.declared.mode.Mode.{Mode}
 use Rattle.bep_words.specs.declared.mode.Mode.TheVariants.{Check, Firm, Certify, Explain, Run}
+use Rattle.bep_words.specs.declared.mode.Under.{Under}
+use Rattle.bep_words.specs.declared.mode.Under.TheVariants.{Given, Winners}
 
 -- what came of a scenario for each ending that is asked for
 abbrev pub IsEnding : Ending → Option (List ℕ) → Option (List ℕ) → Option (List ℕ) → Option (List ℕ) → ℕ → Type 0
 IsEnding Report = IsRunTold
 IsEnding Document = IsEndTold
+
+-- what came of the document for the rows under which an audit is asked for
+abbrev pub IsChecking : Under → Option (List ℕ) → Option (List ℕ) → Option (List ℕ) → Option (List ℕ) → ℕ → Type 0
+IsChecking Given = IsTold
+IsChecking Winners = IsToldUnderWinners
+
+-- the same where firm is asked for
+abbrev pub IsFirming : Under → Option (List ℕ) → Option (List ℕ) → Option (List ℕ) → Option (List ℕ) → ℕ → Type 0
+IsFirming Given = IsFirmTold
+IsFirming Winners = IsFirmToldUnderWinners
 
 -- what came of the document for the certificate that is asked for
 abbrev pub IsCertifying : Extent → Option (List ℕ) → Option (List ℕ) → Option (List ℕ) → Option (List ℕ) → ℕ → Type 0
@@ -35,16 +49,26 @@ IsCertifying All = IsCertificateTold
 IsCertifying Won = IsPartTold
 
 -- what came of the document for what is to be explained, in the form that is asked for
-abbrev pub IsExplaining : Goal → Form → Option (List ℕ) → Option (List ℕ) → Option (List ℕ) → Option (List ℕ) → ℕ → Type 0
-IsExplaining Settled form = IsExplanationTold form
-IsExplaining goals.Firm form = IsFirmExplanationTold form
+abbrev pub IsExplainingGiven : Goal → Form → Option (List ℕ) → Option (List ℕ) → Option (List ℕ) → Option (List ℕ) → ℕ → Type 0
+IsExplainingGiven Settled form = IsExplanationTold form
+IsExplainingGiven goals.Firm form = IsFirmExplanationTold form
+
+-- the same under the winners of its names
+abbrev pub IsExplainingUnderWinners : Goal → Form → Option (List ℕ) → Option (List ℕ) → Option (List ℕ) → Option (List ℕ) → ℕ → Type 0
+IsExplainingUnderWinners Settled form = IsExplanationToldUnderWinners form
+IsExplainingUnderWinners goals.Firm form = IsFirmExplanationToldUnderWinners form
+
+-- one of the two
+abbrev pub IsExplaining : Goal → Under → Form → Option (List ℕ) → Option (List ℕ) → Option (List ℕ) → Option (List ℕ) → ℕ → Type 0
+IsExplaining goal Given form = IsExplainingGiven goal form
+IsExplaining goal Winners form = IsExplainingUnderWinners goal form
 
 -- what came of the document in each mode
 abbrev pub IsDone : Mode → Option (List ℕ) → Option (List ℕ) → Option (List ℕ) → Option (List ℕ) → ℕ → Type 0
-IsDone Check = IsTold
-IsDone Firm = IsFirmTold
+IsDone (Check under) = IsChecking under
+IsDone (Firm under) = IsFirming under
 IsDone (Certify extent) = IsCertifying extent
-IsDone (Explain goal form) = IsExplaining goal form
+IsDone (Explain goal under form) = IsExplaining goal under form
 IsDone (Run ending) = IsEnding ending
 
 -- the words ask for a mode, and this came of the document in it
@@ -62,8 +86,10 @@ pub record IsProgramRun (words : List Text) (unread left held now : Option (List
   -- those in which nothing is at fault are followed
   pub followed : fault_of program words ≡ [] → IsFollowed words unread left held now status
   pub end : IsEnd words unread left held now status
-  pub settled : Asks words Check → status ≡ 0 → SaysSettled unread left
-  pub firm : Asks words Firm → status ≡ 0 → SaysFirm unread left
+  pub settled : Asks words (Check Given) → status ≡ 0 → SaysSettled unread left
+  pub settled_under_winners : Asks words (Check Winners) → status ≡ 0 → SaysSettledUnderWinners unread left
+  pub firm : Asks words (Firm Given) → status ≡ 0 → SaysFirm unread left
+  pub firm_under_winners : Asks words (Firm Winners) → status ≡ 0 → SaysFirmUnderWinners unread left
   pub ends_settled : Asks words (Run Report) → status ≡ 0 → EndsSettled unread left
 
 -- the status where the system gave the program no words, by the kind of its error

@@ -6,20 +6,26 @@ ghost use Rattle.std.specs.Vec.Iter.{into_iter_items};
 ghost use Rattle.clap.specs.Words.{fault_of};
 ghost use Rattle.bep_answer.specs.Answer.{SaysSettled};
 ghost use Rattle.bep_answer.specs.Firm.{SaysFirm};
+ghost use Rattle.bep_answer.specs.UnderWinners.{SaysFirmUnderWinners, SaysSettledUnderWinners};
 ghost use Rattle.bep_play.specs.Played.{EndsSettled};
 ghost use Rattle.bep_words.specs.Mode.{Asks, program};
-ghost use Rattle.syncaudit.specs.Status.{IsCertifying, IsEnd, IsEnding, IsExplaining, IsFollowed, IsProgramRun, IsWithoutWords, status_without};
+ghost use Rattle.syncaudit.specs.Status.{IsCertifying, IsChecking, IsEnd, IsEnding, IsExplaining, IsExplainingGiven, IsExplainingUnderWinners, IsFirming, IsFollowed, IsProgramRun, IsWithoutWords, status_without};
 ghost use Rattle.bep_words.specs.declared.mode.Ending.TheVariants.{Report};
 ghost use Rattle.bep_words.specs.declared.mode.Mode.TheVariants.{Check, Firm, Run};
+ghost use Rattle.bep_words.specs.declared.mode.Under.TheVariants.{Given, Winners};
 
 use bep_answer::{
-    USAGE, certify_and_tell, certify_partly_and_tell, check_and_tell, end, firm_and_tell,
+    USAGE, certify_and_tell, certify_partly_and_tell, check_and_tell, check_under_winners_and_tell,
+    end, firm_and_tell, firm_under_winners_and_tell,
 };
-use bep_explain::{explain_and_tell, explain_firm_and_tell};
+use bep_explain::{
+    explain_and_tell, explain_firm_and_tell, explain_firm_under_winners_and_tell,
+    explain_under_winners_and_tell,
+};
 use bep_lines::Form;
 use bep_play::{run_and_tell, run_document_and_tell};
 use bep_report::ReportError;
-use bep_words::{Ending, Extent, Goal, Mode, Unfollowed, faultless_words_ask, mode_told};
+use bep_words::{Ending, Extent, Goal, Mode, Under, Unfollowed, faultless_words_ask, mode_told};
 use std::alloc::{AllocError, Global};
 use std::convert::AsStr;
 use std::env::Args;
@@ -71,19 +77,23 @@ pub fn run<P: AllocGlobal + Eprint, R: Read, W: Write, S: AsStr>(
     ensures followed { fault_of program (map S.text words.entry.now) ≡ []
         → IsFollowed (map S.text words.entry.now) (R.remaining reader.old) (R.remaining reader.new) (W.contents writer.old) (W.contents writer.new) result }
     ensures end { IsEnd (map S.text words.entry.now) (R.remaining reader.old) (R.remaining reader.new) (W.contents writer.old) (W.contents writer.new) result }
-    ensures settled { Asks (map S.text words.entry.now) Check
+    ensures settled { Asks (map S.text words.entry.now) (Check Given)
         → result ≡ 0 → SaysSettled (R.remaining reader.old) (R.remaining reader.new) }
-    ensures firm { Asks (map S.text words.entry.now) Firm
+    ensures settled_under_winners { Asks (map S.text words.entry.now) (Check Winners)
+        → result ≡ 0 → SaysSettledUnderWinners (R.remaining reader.old) (R.remaining reader.new) }
+    ensures firm { Asks (map S.text words.entry.now) (Firm Given)
         → result ≡ 0 → SaysFirm (R.remaining reader.old) (R.remaining reader.new) }
+    ensures firm_under_winners { Asks (map S.text words.entry.now) (Firm Winners)
+        → result ≡ 0 → SaysFirmUnderWinners (R.remaining reader.old) (R.remaining reader.new) }
     ensures ends_settled { Asks (map S.text words.entry.now) (Run Report)
         → result ≡ 0 → EndsSettled (R.remaining reader.old) (R.remaining reader.new) }
 {
     faultless_words_ask();
     match mode_told(rt, words) {
-        Ok(Mode::Check) => check_and_tell(rt, reader, writer),
-        Ok(Mode::Firm) => firm_and_tell(rt, reader, writer),
+        Ok(Mode::Check(under)) => check(rt, under, reader, writer),
+        Ok(Mode::Firm(under)) => firm(rt, under, reader, writer),
         Ok(Mode::Certify(extent)) => certify(rt, extent, reader, writer),
-        Ok(Mode::Explain(goal, form)) => explain(rt, goal, form, reader, writer),
+        Ok(Mode::Explain(goal, under, form)) => explain(rt, goal, under, form, reader, writer),
         Ok(Mode::Run(ending)) => run_scenario(rt, ending, reader, writer),
         Err(Unfollowed::Memory) => end(rt, Err(ReportError::Memory)),
         Err(Unfollowed::Usage) => USAGE,
@@ -110,6 +120,40 @@ fn run_without_words<P: Eprint>(rt: &P, error: io::Error) -> u8
     }
 }
 
+// Audits a document, and writes its report.
+fn check<P: AllocGlobal + Eprint, R: Read, W: Write>(
+    rt: &P,
+    under: Under,
+    reader: &mut R,
+    writer: &mut W,
+) -> u8
+    ensures told { IsChecking under (R.remaining reader.old) (R.remaining reader.new) (W.contents writer.old) (W.contents writer.new) result }
+    ensures settled { under ≡ Given → result ≡ 0 → SaysSettled (R.remaining reader.old) (R.remaining reader.new) }
+    ensures settled_under_winners { under ≡ Winners → result ≡ 0 → SaysSettledUnderWinners (R.remaining reader.old) (R.remaining reader.new) }
+{
+    match under {
+        Under::Given => check_and_tell(rt, reader, writer),
+        Under::Winners => check_under_winners_and_tell(rt, reader, writer),
+    }
+}
+
+// The same where firm is asked for.
+fn firm<P: AllocGlobal + Eprint, R: Read, W: Write>(
+    rt: &P,
+    under: Under,
+    reader: &mut R,
+    writer: &mut W,
+) -> u8
+    ensures told { IsFirming under (R.remaining reader.old) (R.remaining reader.new) (W.contents writer.old) (W.contents writer.new) result }
+    ensures firm { under ≡ Given → result ≡ 0 → SaysFirm (R.remaining reader.old) (R.remaining reader.new) }
+    ensures firm_under_winners { under ≡ Winners → result ≡ 0 → SaysFirmUnderWinners (R.remaining reader.old) (R.remaining reader.new) }
+{
+    match under {
+        Under::Given => firm_and_tell(rt, reader, writer),
+        Under::Winners => firm_under_winners_and_tell(rt, reader, writer),
+    }
+}
+
 // Certifies a document, and writes as much of the certificate as is asked for.
 fn certify<P: AllocGlobal + Eprint, R: Read, W: Write>(
     rt: &P,
@@ -129,15 +173,48 @@ fn certify<P: AllocGlobal + Eprint, R: Read, W: Write>(
 fn explain<P: AllocGlobal + Eprint, R: Read, W: Write>(
     rt: &P,
     goal: Goal,
+    under: Under,
     form: Form,
     reader: &mut R,
     writer: &mut W,
 ) -> u8
-    ensures { IsExplaining goal form (R.remaining reader.old) (R.remaining reader.new) (W.contents writer.old) (W.contents writer.new) result }
+    ensures { IsExplaining goal under form (R.remaining reader.old) (R.remaining reader.new) (W.contents writer.old) (W.contents writer.new) result }
+{
+    match under {
+        Under::Given => explain_given(rt, goal, form, reader, writer),
+        Under::Winners => explain_under_winners(rt, goal, form, reader, writer),
+    }
+}
+
+// Explains a document under its own rows.
+fn explain_given<P: AllocGlobal + Eprint, R: Read, W: Write>(
+    rt: &P,
+    goal: Goal,
+    form: Form,
+    reader: &mut R,
+    writer: &mut W,
+) -> u8
+    ensures { IsExplainingGiven goal form (R.remaining reader.old) (R.remaining reader.new) (W.contents writer.old) (W.contents writer.new) result }
 {
     match goal {
         Goal::Settled => explain_and_tell(rt, form, reader, writer),
         Goal::Firm => explain_firm_and_tell(rt, form, reader, writer),
+    }
+}
+
+// Explains a document under the winners of its names.
+fn explain_under_winners<P: AllocGlobal + Eprint, R: Read, W: Write>(
+    rt: &P,
+    goal: Goal,
+    form: Form,
+    reader: &mut R,
+    writer: &mut W,
+) -> u8
+    ensures { IsExplainingUnderWinners goal form (R.remaining reader.old) (R.remaining reader.new) (W.contents writer.old) (W.contents writer.new) result }
+{
+    match goal {
+        Goal::Settled => explain_under_winners_and_tell(rt, form, reader, writer),
+        Goal::Firm => explain_firm_under_winners_and_tell(rt, form, reader, writer),
     }
 }
 

@@ -4,10 +4,12 @@ ghost use Rattle.bep_answer.specs.Exchange.{IsEndedEarly, IsWhole};
 ghost use Rattle.bep_explain.specs.document.Explained.{IsExplainedOfBytes};
 ghost use Rattle.bep_explain.specs.document.FirmExplained.{IsFirmExplanationTold};
 ghost use Rattle.bep_explain.specs.document.Told.{IsExplanationTold};
+ghost use Rattle.bep_explain.specs.document.UnderWinners.{IsExplanationToldUnderWinners, IsFirmExplanationToldUnderWinners};
 ghost use Rattle.bep_lines.specs.declared.form.Form.TheVariants.{Text};
 
 use crate::document::explain::ReasonsOfCut;
 use crate::document::firm::FirmReasonsOfCut;
+use crate::document::under_winners::{FirmReasonsUnderWinners, ReasonsUnderWinners};
 use bep_answer::{Outcome, end, end_firm, exchange};
 use bep_lines::Form;
 use bep_report::ReportError;
@@ -64,4 +66,31 @@ pub fn explain_firm_and_tell<P: AllocGlobal + Eprint, R: Read, W: Write>(
         rt,
         exchange(rt.alloc(), FirmReasonsOfCut { form }, reader, writer),
     )
+}
+
+/// What `explain_and_tell` does, of the cut alone under the winners of its names: the document's certificate may be missing
+/// and isn't looked at. A name without a winner, for which no row can stand, is told as that.
+pub fn explain_under_winners_and_tell<P: AllocGlobal + Eprint, R: Read, W: Write>(
+    rt: &P,
+    form: Form,
+    reader: &mut R,
+    writer: &mut W,
+) -> u8
+    ensures { IsExplanationToldUnderWinners form (R.remaining reader.old) (R.remaining reader.new) (W.contents writer.old) (W.contents writer.new) result }
+{
+    let answer = exchange(rt.alloc(), ReasonsUnderWinners { form }, reader, writer);
+    end(rt, answer)
+}
+
+/// The same of all that keeps the cut from being firm, as `explain_firm_and_tell` does.
+pub fn explain_firm_under_winners_and_tell<P: AllocGlobal + Eprint, R: Read, W: Write>(
+    rt: &P,
+    form: Form,
+    reader: &mut R,
+    writer: &mut W,
+) -> u8
+    ensures { IsFirmExplanationToldUnderWinners form (R.remaining reader.old) (R.remaining reader.new) (W.contents writer.old) (W.contents writer.new) result }
+{
+    let answer = exchange(rt.alloc(), FirmReasonsUnderWinners { form }, reader, writer);
+    end_firm(rt, answer)
 }

@@ -39,7 +39,7 @@ impl Question<Outcome> for ReasonsOfCut {
             )),
             Err(DocError::Refused(fault)) => {
                 let refused = refusal_in(alloc, form, &fault)?;
-                Ok((refused, hint_for(alloc, bytes, Expected::Check)))
+                Ok((refused, hint_for(alloc, bytes, &fault, Expected::Check)))
             }
             Err(DocError::Memory) => Err(AllocError),
         }
@@ -65,8 +65,8 @@ fn explain_cut(
     }
 }
 
-// Settled where nothing is told.
-fn outcome_for(told: &[Explained<'_>]) -> Outcome
+/// Settled where nothing is told.
+pub(crate) fn outcome_for(told: &[Explained<'_>]) -> Outcome
     ensures { result ≡ outcome_of (verdict_of (failures_of (map told_of told.now))) }
 {
     match told {
@@ -75,8 +75,12 @@ fn outcome_for(told: &[Explained<'_>]) -> Outcome
     }
 }
 
-// That the document is refused, and the fault in this form.
-fn refusal_in(alloc: Global, form: Form, fault: &DocFault) -> Result<(Outcome, Vec<u8>), AllocError>
+/// That the document is refused, and the fault in this form.
+pub(crate) fn refusal_in(
+    alloc: Global,
+    form: Form,
+    fault: &DocFault,
+) -> Result<(Outcome, Vec<u8>), AllocError>
     ensures { IfOk result (λ answer. (answer.0 ≡ outcomes.Refused) × IsRefusal form fault.now answer.1.items) }
 {
     let text = fault_in(alloc, form, fault)?;

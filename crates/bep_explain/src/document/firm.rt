@@ -43,7 +43,7 @@ impl Question<Firmness> for FirmReasonsOfCut {
             )),
             Err(DocError::Refused(fault)) => {
                 let refused = (Firmness::Refused, fault_in(alloc, form, &fault)?);
-                Ok((refused, hint_for(alloc, bytes, Expected::Check)))
+                Ok((refused, hint_for(alloc, bytes, &fault, Expected::Check)))
             }
             Err(DocError::Memory) => Err(AllocError),
         }
@@ -96,8 +96,8 @@ fn explain_in_json(
     Ok((outcome, text))
 }
 
-// Firm where nothing is told.
-fn firmness_for(told: &[Explained<'_>], loose: &[ExplainedLoose<'_>]) -> Firmness
+/// Firm where nothing is told.
+pub(crate) fn firmness_for(told: &[Explained<'_>], loose: &[ExplainedLoose<'_>]) -> Firmness
     ensures { result ≡ firmness_told (failures_of (map told_of told.now)) (loosenings_of (map loose_told_of loose.now)) }
 {
     match (told, loose) {
@@ -107,8 +107,8 @@ fn firmness_for(told: &[Explained<'_>], loose: &[ExplainedLoose<'_>]) -> Firmnes
     }
 }
 
-// The same of what is told by trees.
-fn firmness_in(told: &[Annotated<'_>], loose: &[AnnotatedLoose<'_>]) -> Firmness
+/// The same of what is told by trees.
+pub(crate) fn firmness_in(told: &[Annotated<'_>], loose: &[AnnotatedLoose<'_>]) -> Firmness
     ensures { result ≡ firmness_told (failures_in (map annotated_of told.now)) (loosenings_in (map loose_annotated_of loose.now)) }
 {
     match (told, loose) {

@@ -32,8 +32,8 @@ pub(crate) fn explain_in_json(
     Ok((outcome, text))
 }
 
-// Settled where nothing is told.
-fn outcome_for(told: &[Annotated<'_>]) -> Outcome
+/// Settled where nothing is told.
+pub(crate) fn outcome_for(told: &[Annotated<'_>]) -> Outcome
     ensures { result ≡ outcome_of (verdict_of (failures_in (map annotated_of told.now))) }
 {
     match told {

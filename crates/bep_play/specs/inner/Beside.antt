@@ -1,6 +1,6 @@
 -- What a person is told beside the answer to a scenario (this project's profile).
 use Rattle.std.specs.Prelude.{ℕ, List, Option}
-use Rattle.bep_answer.specs.Beside.{AreLines, IsHint, IsHintOfRefused}
+use Rattle.bep_answer.specs.Beside.{AreLines, IsHintOfRefused, IsHintOn}
 use Rattle.bep_answer.specs.declared.exchanging.Beside.{Beside}
 use Rattle.bep_document.specs.Reading.{Reading, Read, Refused}
 use Rattle.bep_hints.specs.declared.members.Expected.TheVariants.{Scenario}
@@ -22,7 +22,7 @@ pub record TellsSteps (scenario : Said) (beside : Option Beside) : Type 0 where
 -- beside the document of its end the refused steps are told, and a hint where it is refused
 abbrev pub TellsOfEndOf : Reading Said → Option Beside → Type 0
 TellsOfEndOf (Read scenario) beside = TellsSteps scenario beside
-TellsOfEndOf (Refused fault) beside = IsHint Scenario beside
+TellsOfEndOf (Refused fault) beside = IsHintOn Scenario fault beside
 
 -- the same of the bytes of a document
 abbrev pub TellsOfEnd : List ℕ → Option Beside → Type 0

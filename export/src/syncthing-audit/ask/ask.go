@@ -45,9 +45,15 @@ type Reply struct {
 
 // Program is the syncaudit that is asked.
 type Program struct {
-	Path      string
-	lacksFirm *atomic.Bool // it was asked for 'firm' and doesn't know that; nothing where it is asked each time
+	Path  string
+	lacks *lacks // nothing where it is asked each time
 }
+
+// lacks is what a program was asked for and doesn't know, as it is too old.
+type lacks struct{ certify, firm atomic.Bool }
+
+// certifying is the flag by which a document is audited under the certificate that is made of it.
+const certifying = "--certify"
 
 // Find says why the program can't be run, if so.
 func (p Program) Find() error {
@@ -58,19 +64,34 @@ func (p Program) Find() error {
 	return nil
 }
 
-// Ask has the program certify a document, each of whose names has a winner, and asks whether it is firm. What is firm is
-// settled, too. What isn't firm for a reason of 'check' isn't settled. Otherwise the program is asked whether it is
-// settled. If it isn't, all that fails is explained.
+// Ask has the program certify a document, each of whose names has a winner, and audit it under that certificate at once. A
+// program that is too old for that first writes the document with its certificate.
 func (p Program) Ask(folder string, document []byte) (*Reply, error) {
-	status, certified, err := p.run("certify", document)
+	if p.lacks == nil || !p.lacks.certify.Load() {
+		reply, err := p.audit(folder, document, certifying)
+		if !isUsage(err) {
+			return reply, err
+		}
+		if p.lacks != nil {
+			p.lacks.certify.Store(true)
+		}
+	}
+	status, certified, err := p.run(document, "certify")
 	if err != nil {
 		return nil, err
 	}
 	if status != 0 {
 		return nil, &Failed{statusRefused, fmt.Sprintf("'%s certify' answered %q", p.Path, firstLine(certified))}
 	}
+	return p.audit(folder, certified)
+}
+
+// audit asks whether a document is firm. What is firm is settled, too. What isn't firm for a reason of 'check' isn't settled.
+// Otherwise the program is asked whether it is settled. If it isn't, all that fails is explained.
+func (p Program) audit(folder string, document []byte, flags ...string) (*Reply, error) {
+	var err error
 	said := answers{}
-	if said.firm, err = p.firm(certified); err != nil {
+	if said.firm, err = p.firm(document, flags); err != nil {
 		return nil, err
 	}
 	line := firstLine([]byte(said.firm))
@@ -79,13 +100,13 @@ func (p Program) Ask(folder string, document []byte) (*Reply, error) {
 	}
 	isUnsettled := finding.Place(reasonIn(line)) >= 0
 	if !isUnsettled {
-		if said.check, err = p.text("check", certified); err != nil {
+		if said.check, err = p.text(document, "check", flags); err != nil {
 			return nil, err
 		}
 		isUnsettled = firstLine([]byte(said.check)) != settled
 	}
 	if isUnsettled {
-		if said.explanation, err = p.text("explain", certified); err != nil {
+		if said.explanation, err = p.text(document, "explain", flags); err != nil {
 			return nil, err
 		}
 	}
@@ -98,32 +119,38 @@ func reasonIn(line string) string {
 	return reason
 }
 
-// firm has the program say whether a document is firm; nothing where it is too old to know what that is.
-func (p Program) firm(certified []byte) (string, error) {
-	if p.lacksFirm != nil && p.lacksFirm.Load() {
+// firm has the program say whether a document is firm; nothing where it is too old to know what that is. Where it knows a
+// flag, it knows firm.
+func (p Program) firm(document []byte, flags []string) (string, error) {
+	if p.lacks != nil && p.lacks.firm.Load() {
 		return "", nil
 	}
-	text, err := p.text("firm", certified)
-	var failed *Failed
-	if errors.As(err, &failed) && failed.Status == statusUsage {
-		if p.lacksFirm != nil {
-			p.lacksFirm.Store(true)
+	text, err := p.text(document, "firm", flags)
+	if len(flags) == 0 && isUsage(err) {
+		if p.lacks != nil {
+			p.lacks.firm.Store(true)
 		}
 		return "", nil
 	}
 	return text, err
 }
 
+// isUsage says whether the program didn't know the words that it was asked by.
+func isUsage(err error) bool {
+	var failed *Failed
+	return errors.As(err, &failed) && failed.Status == statusUsage
+}
+
 // text gives what the program writes of a document for this command.
-func (p Program) text(word string, document []byte) (string, error) {
-	_, written, err := p.run(word, document)
+func (p Program) text(document []byte, word string, flags []string) (string, error) {
+	_, written, err := p.run(document, append([]string{word}, flags...)...)
 	return string(written), err
 }
 
 // run runs the program on a document, and gives its status, 0 or 1, and what it wrote.
-func (p Program) run(word string, document []byte) (int, []byte, error) {
+func (p Program) run(document []byte, words ...string) (int, []byte, error) {
 	var written, told bytes.Buffer
-	asked := exec.Command(p.Path, word)
+	asked := exec.Command(p.Path, words...)
 	asked.Stdin, asked.Stdout, asked.Stderr = bytes.NewReader(document), &written, &told
 	err := leftover.Run(asked)
 	var ended *exec.ExitError
@@ -139,7 +166,7 @@ func (p Program) run(word string, document []byte) (int, []byte, error) {
 	if status < 0 {
 		status = StatusCannotRun
 	}
-	return 0, nil, &Failed{status, fmt.Sprintf("'%s %s' ended with %v: %s", p.Path, word, ended,
+	return 0, nil, &Failed{status, fmt.Sprintf("'%s %s' ended with %v: %s", p.Path, strings.Join(words, " "), ended,
 		firstLine(append(written.Bytes(), told.Bytes()...)))}
 }
 

@@ -137,16 +137,25 @@ func TestRepliesOnFirmness(t *testing.T) {
 // A program is asked for no more than its answers ask for: what is firm is settled, and what isn't settled isn't firm.
 func TestWhatAProgramIsAsked(t *testing.T) {
 	const counts = "echo 'folder docs: 1 names, 0 deleted, 2 devices'"
-	cases := []struct{ firm, check, explain, asked string }{
-		{"echo firm; " + counts, "exit 9", "exit 9", "certify firm "},
-		{"echo 'not firm: ViewNotBelow docs a on 1'; " + counts + "; exit 1", "echo settled; " + counts, "exit 9", "certify firm check "},
-		{"echo 'not firm: NotWinner docs a'; " + counts + "; exit 1", "exit 9", "echo NotWinner docs a; exit 1", "certify firm explain "},
-		{"exit 3", "echo settled; " + counts, "exit 9", "certify firm check "},
-		{"exit 3", "echo 'not settled: NotWinner docs a'; " + counts + "; exit 1", "echo NotWinner docs a; exit 1", "certify firm check explain "},
+	const firm, settled, loose, unwon = "echo firm; " + counts, "echo settled; " + counts,
+		"echo 'not firm: ViewNotBelow docs a on 1'; " + counts + "; exit 1", "echo 'not firm: NotWinner docs a'; " + counts + "; exit 1"
+	const unsettled, explained = "echo 'not settled: NotWinner docs a'; " + counts + "; exit 1", "echo NotWinner docs a; exit 1"
+	cases := []struct{ flag, firm, check, explain, asked string }{
+		{"", firm, "exit 9", "exit 9", "firm --certify,"},
+		{"", loose, settled, "exit 9", "firm --certify,check --certify,"},
+		{"", unwon, "exit 9", explained, "firm --certify,explain --certify,"},
+		// A program that is too old for the flag.
+		{"exit 3", firm, "exit 9", "exit 9", "firm --certify,certify,firm,"},
+		{"exit 3", loose, settled, "exit 9", "firm --certify,certify,firm,check,"},
+		{"exit 3", unwon, "exit 9", explained, "firm --certify,certify,firm,explain,"},
+		// One that is too old for firm.
+		{"exit 3", "exit 3", settled, "exit 9", "firm --certify,certify,firm,check,"},
+		{"exit 3", "exit 3", unsettled, explained, "firm --certify,certify,firm,check,explain,"},
 	}
 	for _, one := range cases {
 		log := filepath.Join(t.TempDir(), "log")
-		program := aProgram(t, "printf '%s ' $1 >> '"+log+"'\ncase $1 in certify) cat;; firm) "+one.firm+";; check) "+one.check+";; explain) "+one.explain+";; esac")
+		program := aProgram(t, "printf '%s,' \"$*\" >> '"+log+"'\ncase \"$2\" in --certify) "+one.flag+";; esac\n"+
+			"case $1 in certify) cat;; firm) "+one.firm+";; check) "+one.check+";; explain) "+one.explain+";; esac")
 		_, err := program.Ask("docs", []byte("{}"))
 		asked, _ := os.ReadFile(log)
 		if err != nil || string(asked) != one.asked {
@@ -167,10 +176,11 @@ func TestAProgramThatFailsInFirm(t *testing.T) {
 	}
 }
 
-// A program that is too old to say whether something is firm is asked for that once.
+// A program that is too old to audit under the certificate that it makes, and to say whether something is firm, is asked for
+// each of these once.
 func TestAnOldProgram(t *testing.T) {
 	log := filepath.Join(t.TempDir(), "log")
-	program := aProgram(t, "echo $1 >> '"+log+`'
+	program := aProgram(t, "echo $* >> '"+log+`'
 case $1 in certify) cat;; firm) exit 3;; *) echo settled; echo "folder docs: 1 names, 0 deleted, 2 devices";; esac`)
 	unasked := 0
 	pool := NewPool(program, 1, func(_ *document.Document, reply *Reply) {
@@ -185,7 +195,7 @@ case $1 in certify) cat;; firm) exit 3;; *) echo settled; echo "folder docs: 1 n
 	}
 	err := pool.Close()
 	asked, _ := os.ReadFile(log)
-	if err != nil || unasked != 3 || strings.Count(string(asked), "firm") != 1 {
+	if err != nil || unasked != 3 || strings.Count(string(asked), "firm\n") != 1 || strings.Count(string(asked), "firm --certify\n") != 1 {
 		t.Errorf("%d weren't asked, by %q: %v", unasked, asked, err)
 	}
 }

@@ -2,7 +2,6 @@ package ask
 
 import (
 	"sync"
-	"sync/atomic"
 
 	"syncthing-audit/document"
 )
@@ -32,7 +31,7 @@ const ahead = 3
 
 // NewPool starts so many workers; each reply is given to take, one at a time, in the order of the documents' places.
 func NewPool(program Program, workers int, take func(*document.Document, *Reply)) *Pool {
-	program.lacksFirm = &atomic.Bool{}
+	program.lacks = &lacks{}
 	made := &Pool{program: program, asked: make(chan *document.Document), most: ahead * workers, take: take, early: map[int]answered{}}
 	made.changed = sync.NewCond(&made.mutex)
 	for next := 0; next < workers; next++ {

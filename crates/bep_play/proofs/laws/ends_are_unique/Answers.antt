@@ -5,8 +5,7 @@ pub returns-clause-end : goal.returns-clause-end
 returns-clause-end c = end_is_unique c.runs_are_determined.ensures c.same_cluster_same_cut.ensures
 
 pub returns-clause-run : goal.returns-clause-run
-returns-clause-run c =
-    run_is_unique (returns-clause-end c) c.verdict_is_unique.ensures c.certificate_is_unique.ensures.one_list c.winners_or_first_without.ensures.not_both c.winners_or_first_without.ensures.one_first
+returns-clause-run c = run_is_unique (returns-clause-end c) c.answers_are_unique.ensures.report_under
 
 pub returns-clause-document : goal.returns-clause-document
 returns-clause-document c = document_is_unique (returns-clause-end c) c.answers_are_unique.ensures.of_cut

@@ -1,5 +1,5 @@
 use Rattle.std.proofs.Common.{◌≡◌, inl, inr, Some, option_map, codes, sym, ap, subst, ◌∙◌, rules}
-use Rattle.bep_words.specs.Mode.{ending_of, extent_of, form_of, goal_of}
+use Rattle.bep_words.specs.Mode.{ending_of, extent_of, form_of, goal_of, under_of}
 use Rattle.bep_words.proofs.ModeFacts.{no_fault, name_told, rows_told, tells_mode, NamesMode, not_named}
 use Rattle.bep_words.proofs.mode.mode_of.Goals as goal
 use Rattle.bep_words.proofs.mode.mode_of.Goals.{in_default-via-in-Some+in_default, in_default-via-in_default}
@@ -19,6 +19,22 @@ returns-in-Some-explain-clause-faults g c = no_fault _ _ c.in_ok-command.ensures
 pub returns-in-Some-run-clause-faults : goal.returns-in-Some-run-clause-faults
 returns-in-Some-run-clause-faults g c = no_fault _ _ c.in_ok-command.ensures c.in_ok-matches.ensures.kinds
 
+pub returns-in-Some-check-clause-asked : goal.returns-in-Some-check-clause-asked
+returns-in-Some-check-clause-asked g c =
+    let lent = sym (ap (option_map (λ s. s.now)) c.in-Some-check.is) ∙ c.subcommand_name.ensures in
+    let named : c.in-Some-check.field-0.now ≡ codes "check" = search (rules, c.in-Some-check.is-check) in (
+      name_told _ _ _ c.in_ok-command.ensures c.in_ok-matches.ensures.matches ∙ sym lent ∙ ap Some named,
+      c.under_of.ensures ∙ ap under_of (rows_told _ _ _ c.in_ok-command.ensures c.in_ok-matches.ensures.matches),
+    )
+
+pub returns-in-Some-firm-clause-asked : goal.returns-in-Some-firm-clause-asked
+returns-in-Some-firm-clause-asked g c =
+    let lent = sym (ap (option_map (λ s. s.now)) c.in-Some-firm.is) ∙ c.subcommand_name.ensures in
+    let named : c.in-Some-firm.field-0.now ≡ codes "firm" = search (rules, c.in-Some-firm.is-firm) in (
+      name_told _ _ _ c.in_ok-command.ensures c.in_ok-matches.ensures.matches ∙ sym lent ∙ ap Some named,
+      c.under_of-in-Some-firm.ensures ∙ ap under_of (rows_told _ _ _ c.in_ok-command.ensures c.in_ok-matches.ensures.matches),
+    )
+
 pub returns-in-Some-certify-clause-asked : goal.returns-in-Some-certify-clause-asked
 returns-in-Some-certify-clause-asked g c =
     let lent = sym (ap (option_map (λ s. s.now)) c.in-Some-certify.is) ∙ c.subcommand_name.ensures in
@@ -33,6 +49,7 @@ returns-in-Some-explain-clause-asked g c =
     let named : c.in-Some-explain.field-0.now ≡ codes "explain" = search (rules, c.in-Some-explain.is-explain) in (
       name_told _ _ _ c.in_ok-command.ensures c.in_ok-matches.ensures.matches ∙ sym lent ∙ ap Some named,
       c.goal_of.ensures ∙ ap goal_of (rows_told _ _ _ c.in_ok-command.ensures c.in_ok-matches.ensures.matches),
+      c.under_of-in-Some-explain.ensures ∙ ap under_of (rows_told _ _ _ c.in_ok-command.ensures c.in_ok-matches.ensures.matches),
       c.form_of.ensures ∙ ap form_of (rows_told _ _ _ c.in_ok-command.ensures c.in_ok-matches.ensures.matches),
     )
 

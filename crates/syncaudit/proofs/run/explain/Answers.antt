@@ -2,10 +2,10 @@ use Rattle.std.proofs.Common.{sym, subst}
 use Rattle.syncaudit.specs.Status.{IsExplaining}
 use Rattle.syncaudit.proofs.run.explain.Goals as goal
 
-pub returns-in-Settled : goal.returns-in-Settled
-returns-in-Settled g c =
-    subst (λ one. IsExplaining one c.args.form (g.R.Read.remaining c.args.reader.now) (g.R.Read.remaining c.explain_and_tell.new.reader) (g.W.Write.contents c.args.writer.now) (g.W.Write.contents c.explain_and_tell.new.writer) c.explain_and_tell.result) (sym c.in-Settled.is) c.explain_and_tell.ensures
+pub returns-in-Given : goal.returns-in-Given
+returns-in-Given g c =
+    subst (λ one. IsExplaining c.args.goal one c.args.form (g.R.Read.remaining c.args.reader.now) (g.R.Read.remaining c.explain_given.new.reader) (g.W.Write.contents c.args.writer.now) (g.W.Write.contents c.explain_given.new.writer) c.explain_given.result) (sym c.in-Given.is) c.explain_given.ensures
 
-pub returns-in-Firm : goal.returns-in-Firm
-returns-in-Firm g c =
-    subst (λ one. IsExplaining one c.args.form (g.R.Read.remaining c.args.reader.now) (g.R.Read.remaining c.explain_firm_and_tell.new.reader) (g.W.Write.contents c.args.writer.now) (g.W.Write.contents c.explain_firm_and_tell.new.writer) c.explain_firm_and_tell.result) (sym c.in-Firm.is) c.explain_firm_and_tell.ensures
+pub returns-in-Winners : goal.returns-in-Winners
+returns-in-Winners g c =
+    subst (λ one. IsExplaining c.args.goal one c.args.form (g.R.Read.remaining c.args.reader.now) (g.R.Read.remaining c.explain_under_winners.new.reader) (g.W.Write.contents c.args.writer.now) (g.W.Write.contents c.explain_under_winners.new.writer) c.explain_under_winners.result) (sym c.in-Winners.is) c.explain_under_winners.ensures

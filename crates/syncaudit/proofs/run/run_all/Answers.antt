@@ -12,7 +12,9 @@ returns-in-Ok g c =
       followed = c.run.ensures.followed;
       end = c.run.ensures.end;
       settled = c.run.ensures.settled;
+      settled_under_winners = c.run.ensures.settled_under_winners;
       firm = c.run.ensures.firm;
+      firm_under_winners = c.run.ensures.firm_under_winners;
       ends_settled = c.run.ensures.ends_settled;
     })
 

@@ -1,0 +1,11 @@
+use Rattle.std.proofs.Common.{sym, ◌∙◌}
+use Rattle.std.proofs.lemmas.Result.{IfOk-weaker}
+use Rattle.bep_answer.proofs.Statuses.{settled_by_status}
+use Rattle.bep_answer.proofs.UnderWinners.{settled_answer_under}
+use Rattle.bep_answer.proofs.told.check_under_winners_and_tell.Goals as goal
+
+pub returns-clause-settled : goal.returns-clause-settled
+returns-clause-settled g c = λ zero.
+    settled_by_status c.exchange.result
+    (IfOk-weaker c.exchange.result _ _ (λ told whole. settled_answer_under c.settled_stays_put.ensures c.settled_stays_settled.ensures _ _ _ _ told.0 whole) c.exchange.ensures.ok)
+    (sym c.end.ensures ∙ zero)

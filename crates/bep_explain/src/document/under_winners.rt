@@ -1,0 +1,140 @@
+//! All reasons why a document's cut isn't settled, or firm, under the winners of its names.
+ghost use Rattle.std.specs.Prelude.{IfOk};
+ghost use Rattle.bep_answer.specs.Beside.{TellsOfCut};
+ghost use Rattle.bep_explain.specs.document.UnderWinners.{IsExplainedUnderWinnersOfBytes, IsExplanationUnderWinners, IsFirmExplainedUnderWinnersOfBytes, IsFirmExplanationUnderWinners};
+ghost use Rattle.bep_lines.specs.declared.form.Form.TheVariants.{Json, Text};
+
+use crate::annotated::annotate_unwon;
+use crate::document::explain::{fault_in, outcome_for, refusal_in};
+use crate::document::firm::{firmness_for, firmness_in};
+use crate::document::json;
+use crate::explained::explain_unwon;
+use crate::{
+    annotate_loose, explain_loose, explanation, explanation_json, firm_explanation,
+    firm_explanation_json,
+};
+use bep_answer::{Answer, Firmness, Outcome, Question, hint_for};
+use bep_audit::winners;
+use bep_cut_document::{DocError, read_cut};
+use bep_hints::Expected;
+use bep_lines::Form;
+use bep_model::firm_is_faultless;
+use bep_tables::Cut;
+use std::alloc::{AllocError, Global};
+
+/// All that keeps a document's cut from being settled under the winners of its names, in this form; a name without a winner
+/// is told as that. Where the document is refused, a hint on where it is at fault.
+#[derive(Drop)]
+pub struct ReasonsUnderWinners {
+    /// How it is written.
+    pub form: Form,
+}
+
+impl Question<Outcome> for ReasonsUnderWinners {
+    ghost says = { λ asked. IsExplainedUnderWinnersOfBytes asked.form };
+
+    ghost tells = { λ _. TellsOfCut };
+
+    fn answer(self, alloc: Global, bytes: &[u8]) -> Result<Answer<Outcome>, AllocError> {
+        let form = self.form;
+        match read_cut(alloc, bytes) {
+            Ok(cut) => Ok((explain_cut(alloc, form, &cut)?, None)),
+            Err(DocError::Refused(fault)) => {
+                let refused = refusal_in(alloc, form, &fault)?;
+                Ok((refused, hint_for(alloc, bytes, &fault, Expected::Cut)))
+            }
+            Err(DocError::Memory) => Err(AllocError),
+        }
+    }
+}
+
+/// The same of all that keeps it from being firm.
+#[derive(Drop)]
+pub struct FirmReasonsUnderWinners {
+    /// How it is written.
+    pub form: Form,
+}
+
+impl Question<Firmness> for FirmReasonsUnderWinners {
+    ghost says = { λ asked. IsFirmExplainedUnderWinnersOfBytes asked.form };
+
+    ghost tells = { λ _. TellsOfCut };
+
+    fn answer(self, alloc: Global, bytes: &[u8]) -> Result<Answer<Firmness>, AllocError> {
+        let form = self.form;
+        match read_cut(alloc, bytes) {
+            Ok(cut) => Ok((explain_firm_cut(alloc, form, &cut)?, None)),
+            Err(DocError::Refused(fault)) => {
+                let refused = (Firmness::Refused, fault_in(alloc, form, &fault)?);
+                Ok((refused, hint_for(alloc, bytes, &fault, Expected::Cut)))
+            }
+            Err(DocError::Memory) => Err(AllocError),
+        }
+    }
+}
+
+// The outcome for a cut, and the text.
+fn explain_cut(alloc: Global, form: Form, cut: &Cut) -> Result<(Outcome, Vec<u8>), AllocError>
+    ensures { IfOk result (λ answer. IsExplanationUnderWinners form cut.now answer.0 answer.1.items) }
+{
+    match form {
+        Form::Text => explain_in_lines(alloc, cut),
+        Form::Json => explain_in_json(alloc, cut),
+    }
+}
+
+// The same in lines.
+fn explain_in_lines(alloc: Global, cut: &Cut) -> Result<(Outcome, Vec<u8>), AllocError>
+    ensures { IfOk result (λ answer. IsExplanationUnderWinners Text cut.now answer.0 answer.1.items) }
+{
+    let (certificate, _) = winners(alloc, cut)?;
+    let told = explain_unwon(alloc, cut, &certificate)?;
+    let text = explanation(alloc, told.as_slice())?;
+    Ok((outcome_for(told.as_slice()), text))
+}
+
+// The same as one JSON document.
+fn explain_in_json(alloc: Global, cut: &Cut) -> Result<(Outcome, Vec<u8>), AllocError>
+    ensures { IfOk result (λ answer. IsExplanationUnderWinners Json cut.now answer.0 answer.1.items) }
+{
+    let (certificate, _) = winners(alloc, cut)?;
+    let told = annotate_unwon(alloc, cut, &certificate)?;
+    let outcome = json::outcome_for(told.as_slice());
+    let text = explanation_json(alloc, told)?;
+    Ok((outcome, text))
+}
+
+// The outcome for a cut where firm is asked for, and the text.
+fn explain_firm_cut(alloc: Global, form: Form, cut: &Cut) -> Result<(Firmness, Vec<u8>), AllocError>
+    ensures { IfOk result (λ answer. IsFirmExplanationUnderWinners form cut.now answer.0 answer.1.items) }
+{
+    match form {
+        Form::Text => explain_firm_in_lines(alloc, cut),
+        Form::Json => explain_firm_in_json(alloc, cut),
+    }
+}
+
+// The same in lines.
+fn explain_firm_in_lines(alloc: Global, cut: &Cut) -> Result<(Firmness, Vec<u8>), AllocError>
+    ensures { IfOk result (λ answer. IsFirmExplanationUnderWinners Text cut.now answer.0 answer.1.items) }
+{
+    firm_is_faultless();
+    let (certificate, _) = winners(alloc, cut)?;
+    let told = explain_unwon(alloc, cut, &certificate)?;
+    let loose = explain_loose(alloc, cut, &certificate)?;
+    let text = firm_explanation(alloc, told.as_slice(), loose.as_slice())?;
+    Ok((firmness_for(told.as_slice(), loose.as_slice()), text))
+}
+
+// The same as one JSON document.
+fn explain_firm_in_json(alloc: Global, cut: &Cut) -> Result<(Firmness, Vec<u8>), AllocError>
+    ensures { IfOk result (λ answer. IsFirmExplanationUnderWinners Json cut.now answer.0 answer.1.items) }
+{
+    firm_is_faultless();
+    let (certificate, _) = winners(alloc, cut)?;
+    let told = annotate_unwon(alloc, cut, &certificate)?;
+    let loose = annotate_loose(alloc, cut, &certificate)?;
+    let outcome = firmness_in(told.as_slice(), loose.as_slice());
+    let text = firm_explanation_json(alloc, told, loose)?;
+    Ok((outcome, text))
+}

@@ -1,0 +1,7 @@
+use Rattle.std.proofs.lemmas.Result.{IfOk-weaker}
+use Rattle.bep_words.proofs.ModeFacts.{flagged}
+use Rattle.bep_words.proofs.mode.audit_command.Goals as goal
+
+pub returns : goal.returns
+returns c =
+    IfOk-weaker c.arg.result _ _ (λ made. flagged _ _ _ made _ c.plain_command.ensures c.certify_flag-certify.ensures.rule c.certify_flag-certify.ensures.local) c.arg.ensures

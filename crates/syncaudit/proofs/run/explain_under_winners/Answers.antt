@@ -1,0 +1,11 @@
+use Rattle.std.proofs.Common.{sym, subst}
+use Rattle.syncaudit.specs.Status.{IsExplainingUnderWinners}
+use Rattle.syncaudit.proofs.run.explain_under_winners.Goals as goal
+
+pub returns-in-Settled : goal.returns-in-Settled
+returns-in-Settled g c =
+    subst (λ one. IsExplainingUnderWinners one c.args.form (g.R.Read.remaining c.args.reader.now) (g.R.Read.remaining c.explain_under_winners_and_tell.new.reader) (g.W.Write.contents c.args.writer.now) (g.W.Write.contents c.explain_under_winners_and_tell.new.writer) c.explain_under_winners_and_tell.result) (sym c.in-Settled.is) c.explain_under_winners_and_tell.ensures
+
+pub returns-in-Firm : goal.returns-in-Firm
+returns-in-Firm g c =
+    subst (λ one. IsExplainingUnderWinners one c.args.form (g.R.Read.remaining c.args.reader.now) (g.R.Read.remaining c.explain_firm_under_winners_and_tell.new.reader) (g.W.Write.contents c.args.writer.now) (g.W.Write.contents c.explain_firm_under_winners_and_tell.new.writer) c.explain_firm_under_winners_and_tell.result) (sym c.in-Firm.is) c.explain_firm_under_winners_and_tell.ensures
