@@ -14,7 +14,7 @@ _syncaudit() {
   elif [ "$COMP_CWORD" = 2 ] && [ "$before" = explain ]; then
     mapfile -t COMPREPLY < <(compgen -W '--json --firm --help' -- "$word")
   elif [ "$COMP_CWORD" = 2 ] && [ "$before" = run ]; then
-    mapfile -t COMPREPLY < <(compgen -W '--document --help' -- "$word")
+    mapfile -t COMPREPLY < <(compgen -W '--document --turns --help' -- "$word")
   elif [ "$COMP_CWORD" = 2 ]; then
     mapfile -t COMPREPLY < <(compgen -W '--help' -- "$word")
   fi

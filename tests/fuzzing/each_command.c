@@ -22,6 +22,7 @@ static const struct command commands[] = {
     {{"explain", "--firm"}, "012"}, {{"explain", "--firm", "--json"}, "012"},
     {{"certify"}, "012"},         {{"certify", "--partial"}, "026"},
     {{"run"}, "012"},             {{"run", "--document"}, "012"},
+    {{"run", "--turns", "1"}, "012"},
 };
 
 static int document(void) {

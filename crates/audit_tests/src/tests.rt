@@ -4,3 +4,4 @@ mod answer;
 mod audit;
 mod document;
 mod firm;
+mod live;

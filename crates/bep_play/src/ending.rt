@@ -32,7 +32,7 @@ pub(crate) fn report_on_end(
     ensures { IfOk result (λ answer. IsEnd (cut_at cluster.members cluster.links) told.items answer.0 answer.1.items) }
 {
     let cut = end_of(alloc, cluster)?;
-    audit(alloc, &cut, told)
+    report_on_cut(alloc, &cut, told)
 }
 
 /// The outcome for the cluster's cut, and its check document with its certificate, or the line of a name without a winner.
@@ -59,8 +59,13 @@ fn end_of(alloc: Global, cluster: Cluster<MemStore>) -> Result<Cut, AllocError>
     }
 }
 
-// The outcome for the cut, and the text.
-fn audit(alloc: Global, cut: &Cut, told: Vec<u8>) -> Result<(Outcome, Vec<u8>), AllocError>
+/// The outcome for the cut under the list of its winners, and the text: what was told before, the report, and the certificate,
+/// if there is one.
+pub fn report_on_cut(
+    alloc: Global,
+    cut: &Cut,
+    told: Vec<u8>,
+) -> Result<(Outcome, Vec<u8>), AllocError>
     ensures { IfOk result (λ answer. IsEnd cut.now told.items answer.0 answer.1.items) }
 {
     match certify(alloc, cut) {

@@ -8,7 +8,7 @@
 //!         Mode::Firm => ..,
 //!         Mode::Certify(extent) => ..,
 //!         Mode::Explain(goal, form) => ..,
-//!         Mode::Run(ending) => ..,
+//!         Mode::Run(ending, turns) => ..,
 //!     }
 #![tactic(auto)]
 
@@ -16,5 +16,5 @@ mod mode;
 mod release;
 mod told;
 
-pub use mode::{Ending, Extent, Goal, Mode, faultless_words_ask, mode_of};
+pub use mode::{Ending, Extent, Goal, MAX_TURNS, Mode, faultless_words_ask, mode_of};
 pub use told::{Unfollowed, mode_told, why_of};

@@ -20,8 +20,14 @@ done_without_memory (Certify All) unread held status told = record { answer = Er
 done_without_memory (Certify Won) unread held status told = record { answer = Err Memory; told = told; done = Keeps-refl held }
 done_without_memory (Explain Settled form) unread held status told = record { answer = Err Memory; told = told; done = Keeps-refl held }
 done_without_memory (Explain goals.Firm form) unread held status told = record { answer = Err Memory; told = told; done = Keeps-refl held }
-done_without_memory (Run Report) unread held status told = record { answer = Err Memory; told = told; done = Keeps-refl held }
-done_without_memory (Run Document) unread held status told = record { answer = Err Memory; told = told; done = Keeps-refl held }
+done_without_memory (Run Report turns) unread held status told = record {
+  at_rest = λ none. record { answer = Err Memory; told = told; done = Keeps-refl held };
+  live = λ some. record { answer = Err Memory; told = told; done = Keeps-refl held };
+}
+done_without_memory (Run Document turns) unread held status told = record {
+  at_rest = λ none. record { answer = Err Memory; told = told; done = Keeps-refl held };
+  live = λ some. record { answer = Err Memory; told = told; done = Keeps-refl held };
+}
 
 -- words at which nothing is at fault are followed, also where memory ran out first
 pub followed_without_memory : FaultlessWordsAsk → (words : List Text) (unread held : Option (List ℕ)) (status : ℕ) → status ≡ status_of (Err Memory) → fault_of program words ≡ []

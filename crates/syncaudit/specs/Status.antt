@@ -1,5 +1,5 @@
 -- What came of the words of the command line (this project's profile).
-use Rattle.std.specs.Prelude.{◌≡◌, ◌⊎◌, ℕ, List, [], Option, Err}
+use Rattle.std.specs.Prelude.{◌≡◌, ◌⊎◌, ◌<◌, ℕ, List, [], Option, Err}
 use Rattle.std.specs.Io.KnownBytes.{Keeps}
 use Rattle.std.specs.declared.io.ErrorKind.{ErrorKind}
 use Rattle.std.specs.declared.io.ErrorKind.TheVariants.{OutOfMemory}
@@ -7,6 +7,7 @@ use Rattle.bep_answer.specs.Answer.{SaysSettled}
 use Rattle.bep_answer.specs.Firm.{SaysFirm}
 use Rattle.bep_answer.specs.Status.{IsCertificateTold, IsFirmTold, IsPartTold, IsTold, status_of, usage}
 use Rattle.bep_lines.specs.declared.form.Form.{Form}
+use Rattle.bep_live.specs.Told.{IsLiveEndTold, IsLiveTold}
 use Rattle.bep_play.specs.Played.{EndsSettled}
 use Rattle.bep_play.specs.Told.{IsEndTold, IsRunTold}
 use Rattle.bep_explain.specs.document.FirmExplained.{IsFirmExplanationTold}
@@ -29,6 +30,16 @@ abbrev pub IsEnding : Ending → Option (List ℕ) → Option (List ℕ) → Opt
 IsEnding Report = IsRunTold
 IsEnding Document = IsEndTold
 
+-- the same where threads run its cluster after the steps
+abbrev pub IsLiveEnding : Ending → Option (List ℕ) → Option (List ℕ) → Option (List ℕ) → Option (List ℕ) → ℕ → Type 0
+IsLiveEnding Report = IsLiveTold
+IsLiveEnding Document = IsLiveEndTold
+
+-- what came of a scenario for the turns that threads are to make: without turns exactly what its steps lead to
+pub record IsRunning (ending : Ending) (turns : ℕ) (unread left held now : Option (List ℕ)) (status : ℕ) : Type 0 where
+  pub at_rest : turns ≡ 0 → IsEnding ending unread left held now status
+  pub live : 0 < turns → IsLiveEnding ending unread left held now status
+
 -- what came of the document for the certificate that is asked for
 abbrev pub IsCertifying : Extent → Option (List ℕ) → Option (List ℕ) → Option (List ℕ) → Option (List ℕ) → ℕ → Type 0
 IsCertifying All = IsCertificateTold
@@ -45,7 +56,7 @@ IsDone Check = IsTold
 IsDone Firm = IsFirmTold
 IsDone (Certify extent) = IsCertifying extent
 IsDone (Explain goal form) = IsExplaining goal form
-IsDone (Run ending) = IsEnding ending
+IsDone (Run ending turns) = IsRunning ending turns
 
 -- the words ask for a mode, and this came of the document in it
 abbrev pub IsFollowed : List Text → Option (List ℕ) → Option (List ℕ) → Option (List ℕ) → Option (List ℕ) → ℕ → Type 0
@@ -64,7 +75,7 @@ pub record IsProgramRun (words : List Text) (unread left held now : Option (List
   pub end : IsEnd words unread left held now status
   pub settled : Asks words Check → status ≡ 0 → SaysSettled unread left
   pub firm : Asks words Firm → status ≡ 0 → SaysFirm unread left
-  pub ends_settled : Asks words (Run Report) → status ≡ 0 → EndsSettled unread left
+  pub ends_settled : Asks words (Run Report 0) → status ≡ 0 → EndsSettled unread left
 
 -- the status where the system gave the program no words, by the kind of its error
 abbrev pub status_without : ErrorKind → ℕ
