@@ -9,7 +9,9 @@ A run of the first kind begins at a settled cluster made at random and takes qui
 them. After each one the stores must be kept, the cut settled for the list of its own winners, with the same names and
 contents, and no own record gone.
 
-A run of the second kind has index resets too. After each step the stores must be kept, and nothing else is asked.
+A run of the second kind begins at a settled cluster, or at a calm one made at random, and has index resets too. After
+each step the stores must be kept, and the cluster calm for the same contents, where only the devices that were reset
+lack a record.
 
 A run of the third kind begins at the empty cluster and takes local and quiet steps, some of them resets too. After
 each one no view may have a gap, the other rules of every cluster must hold, and no node may be lost that wasn't clean
@@ -27,6 +29,7 @@ from collections import Counter
 from collections.abc import Iterator
 from unittest import mock
 
+from calm import CalmMaking, Contents, broken_calm, calm_cluster
 from cluster import exchange, index, link, replica, rules, version
 from cluster.choice import FolderKind
 from cluster.core import Cluster
@@ -227,15 +230,38 @@ def run_from_settled(making: Making, answers: Counter) -> None:
     answers.update(walk.answers)
 
 
-def run_with_resets(making: Making, answers: Counter) -> None:
-    """A run of quiet steps and resets from a settled cluster made at random: the stores are kept."""
-    walk = Walk(making, settled_cluster(making), with_resets=True)
-    stores = stores_of(walk.cluster)
+class Calm:
+    """A cluster at a moment at which it was calm, and the devices that were reset by then or since."""
+
+    def __init__(self, cluster: Cluster, contents: Contents, reset: set[int]):
+        self.contents = contents
+        self.reset = reset
+        self.stores = stores_of(cluster)
+
+    def check(self, cluster: Cluster, step: Step | None, answer: Moved | Why | None) -> None:
+        """Looks that the stores are kept, and the cluster is calm for the same contents."""
+        if isinstance(step, Reset) and answer == Moved.Changed:
+            self.reset.add(step.device)
+        if stores_of(cluster) != self.stores:
+            raise Contradiction("the stores weren't kept", step)
+        broken = broken_calm(cluster, self.contents, self.reset)
+        if broken:
+            raise Contradiction("the cluster isn't calm", broken, step, answer)
+
+
+def run_with_resets(making: CalmMaking, answers: Counter, from_settled: bool) -> None:
+    """A run of quiet steps and resets from a settled cluster made at random, or from a calm one."""
+    if from_settled:
+        cluster = settled_cluster(Making(making.random))
+        contents = settled_contents(cluster)
+    else:
+        cluster, contents = calm_cluster(making)
+    walk = Walk(making, cluster, with_resets=True)
+    calm = Calm(cluster, contents, making.reset)
+    calm.check(cluster, None, None)
     for _ in range(making.random.choice([40, 80, 120])):
         step = walk.quiet_step()
-        walk.take(step)
-        if stores_of(walk.cluster) != stores:
-            raise Contradiction("the stores weren't kept", step)
+        calm.check(cluster, step, walk.take(step))
     answers.update(walk.answers)
 
 
@@ -298,12 +324,12 @@ def main() -> None:
         with small_limits() if number % 2 else contextlib.nullcontext():
             try:
                 run_from_settled(Making(random.Random(number)), from_settled)
-                run_with_resets(Making(random.Random(number)), with_resets)
+                run_with_resets(CalmMaking(random.Random(number)), with_resets, from_settled=number % 4 < 2)
                 agreed += run_from_empty(Making(random.Random(number)), from_empty)
             except Contradiction as found:
                 sys.exit(f"run {number}: {found}")
     for title, answers in (("from settled clusters", from_settled),
-                           ("with resets from settled clusters", with_resets), ("from the empty cluster", from_empty)):
+                           ("with resets from settled and calm clusters", with_resets), ("from the empty cluster", from_empty)):
         print(f"{count} runs {title}, {sum(answers.values())} steps")
         for (step, answer), times in sorted(answers.items()):
             print(f"{times:9} {step} {answer}")

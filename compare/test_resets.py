@@ -8,14 +8,14 @@ import random
 import unittest
 from collections import Counter
 
+from calm import CalmMaking, broken_calm
 from cases import DOCS, StepTest, docs, one_file_on_both
 from cluster.core import Cluster
-from cluster.cut import certify, cut_of
+from cluster.cut import certify, cut_of, settled_contents
 from cluster.index import View
 from cluster.refusal import Why
 from cluster.step import Finish, Reset, Scan
 from runs import run_with_resets
-from settled import Making
 
 
 class Resets(StepTest):
@@ -68,6 +68,19 @@ class Resets(StepTest):
         self.assertEqual(docs(cluster, 2).views[1].point, (12, 1))
         self.assertEqual(self.verdict(cluster), "settled")
 
+    def test_a_settled_cluster_is_calm_whichever_devices_were_reset(self):
+        cluster = self.in_step()
+        for reset in (set(), {1}, {1, 2}):
+            self.assertIsNone(broken_calm(cluster, settled_contents(cluster), reset))
+
+    def test_only_a_device_that_was_reset_may_lack_a_record(self):
+        cluster = self.in_step()
+        contents = settled_contents(cluster)
+        self.answers(cluster, Reset(2, 13))
+        self.assertIsNone(broken_calm(cluster, contents, {2}))
+        self.assertEqual(broken_calm(cluster, contents, {1}),
+                         ("an own record is there", DOCS.encode(), 2, b"hello"))
+
     def test_what_is_not_scanned_yet_is_not_overwritten(self):
         cluster = self.in_step()
         self.answers(cluster, Reset(2, 13))
@@ -79,10 +92,10 @@ class Resets(StepTest):
 class Runs(unittest.TestCase):
     """Some of the runs that runs.py makes by the thousand."""
 
-    def test_resets_keep_the_stores_of_settled_clusters(self):
+    def test_resets_keep_the_stores_of_settled_and_calm_clusters(self):
         answers = Counter()
         for number in range(10):
-            run_with_resets(Making(random.Random(number)), answers)
+            run_with_resets(CalmMaking(random.Random(number)), answers, from_settled=number % 2 == 0)
         self.assertLess({("Reset", "Changed"), ("Scan", "Changed"), ("Finish", "Changed")}, set(answers))
 
 

@@ -16,7 +16,8 @@ from cluster.link import Index, IndexUpdate
 from cluster.record import Kind, Node, deletion
 from cluster.refusal import Moved, Why
 from cluster.replica import Pull
-from cluster.step import Announce, Ask, Begin, Connect, Deliver, Finish, Lose, Restart, Scan, StartPull, Step
+from calm import broken_calm
+from cluster.step import Announce, Ask, Begin, Connect, Deliver, Finish, Lose, Reset, Restart, Scan, StartPull, Step
 
 NAMES = ["file", "gone", "folder", "link", "empty"]
 
@@ -67,8 +68,22 @@ TAKEN = {(StartPull, Moved.Changed), (Finish, Moved.Changed), (Finish, Moved.Dro
          (Scan, Moved.Unchanged), (Scan, Why.StoreFault), (Deliver, Moved.LinkLost), (Ask, Moved.Changed)}
 
 
+
+
+def scans(device: int) -> list[Step]:
+    """A scan of each name."""
+    return [Scan(device, DOCS, name) for name in NAMES]
+
+
+RESETS = [*WAITING, *OLD_FILE, Reset(2, 102), *ROUNDS, *scans(2), *round_of(1, 2), *PULLS, Reset(3, 103),
+          *round_of(2, 3), *scans(3), Reset(1, 101), *round_of(1, 3), *scans(1), Reset(1, 101), *round_of(1, 2)[:17]]
+TAKEN_WITH_RESETS = {(Reset, Moved.Changed), (Reset, Why.IndexIdOld), (Scan, Moved.Changed), (Scan, Why.StoreFault),
+                     (StartPull, Moved.Changed), (Finish, Moved.Changed), (Finish, Why.Unscanned)}
+
+
 class WhatIsSettledStaysPut(unittest.TestCase):
-    """After each step the stores are kept, and the cut is settled for the list of its own winners."""
+    """After each step the stores are kept, and the cut is settled for the list of its own winners; where devices are
+    reset, it is calm for the same contents."""
 
     def test_two_hundred_quiet_steps_while_stores_fail(self):
         cluster = settled_cluster()
@@ -81,6 +96,19 @@ class WhatIsSettledStaysPut(unittest.TestCase):
             self.assertEqual(stores_of(cluster), stores, (place, step))
             self.assertEqual(settled_contents(cluster), contents, (place, step, first_fault(cluster)))
         self.assertLessEqual(TAKEN, answers)
+
+    def test_two_hundred_quiet_steps_with_resets_and_scans_while_stores_fail(self):
+        cluster = settled_cluster()
+        stores, contents = stores_of(cluster), settled_contents(cluster)
+        self.assertEqual(len(RESETS), 200)
+        answers, reset = set(), set()
+        for place, step in enumerate(RESETS, start=1):
+            answers.add((type(step), cluster.apply(step)))
+            if isinstance(step, Reset):
+                reset.add(step.device)
+            self.assertEqual(stores_of(cluster), stores, (place, step))
+            self.assertIsNone(broken_calm(cluster, contents, reset), (place, step))
+        self.assertLessEqual(TAKEN_WITH_RESETS, answers)
 
 
 if __name__ == "__main__":

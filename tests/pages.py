@@ -2,7 +2,8 @@
 """pages.py: says whether the pages that are written by hand fit one another and the code: each link leads to a file and a
 heading, developing.md's map has each crate as crates.txt does, the functions on its three ways are there, and its counts are
 theirs; trust.md names each law of the reference, and no name or test that isn't there; documents.md has the schemas' members
-and the numbers of refusals, and reasons.md the reasons (documented.py). The last line is 'N passed, M failed'."""
+and the numbers of refusals, and reasons.md the reasons (documented.py); README.md is one screen, of at most 500 words. The
+last line is 'N passed, M failed'."""
 
 import re
 import sys
@@ -17,6 +18,7 @@ PAGES = [*sorted(TOP.glob("docs/*.md")), *sorted(TOP.glob("*.md")),
          *(TOP / folder / "README.md" for folder in ("bench", "compare", "contrib", "examples", "export", "tests"))]
 LINK = re.compile(r"\]\(([^)\s]+)\)")
 CODE = re.compile(r"^```.*?^```|`[^`\n]*`", re.MULTILINE | re.DOTALL)
+MOST_OF_README = 500
 STEP = re.compile(r"`([\w/]+\.rt):(\w+)`")
 
 
@@ -89,7 +91,7 @@ def check_trust(count, crates):
     for page in reference:
         for law in laws(page):
             count.says(f"docs/trust.md: {law} of {page.stem}", "" if law in told else "it isn't named")
-    known = {*crates, "bep_log", "bep_run"}.union(*(names(page.read_text()) for page in reference))
+    known = set(crates).union(*(names(page.read_text()) for page in reference))
     for name in sorted(told):
         count.says(f"docs/trust.md: {name}", "" if name in known else "the reference has no such name")
 
@@ -123,6 +125,8 @@ def main():
     for page in PAGES:
         for link in sorted(set(LINK.findall(CODE.sub("", page.read_text())))):
             count.says(f"{page.relative_to(TOP)}: {link}", broken(page, link))
+    words = len((TOP / "README.md").read_text().split())
+    count.says("README.md: length", "" if words <= MOST_OF_README else f"{words} words are more than {MOST_OF_README}")
     developing = (TOP / "docs/developing.md").read_text()
     crates, mapped = subjects((TOP / "crates.txt").read_text()), on_map(developing)
     for crate in sorted(crates.keys() | mapped.keys()):

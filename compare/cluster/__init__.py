@@ -9,6 +9,6 @@ store.py     a store in memory, whose calls may fail
 link.py      messages and links
 replica.py   one folder at one device: scan, override, revert, pull, finish
 exchange.py  sessions: begin, announce, ask, deliver
-step.py      the fourteen steps and the index reset, as values
+step.py      the fifteen steps, as values
 core.py      the cluster, and what each step does to it
 """

@@ -46,6 +46,7 @@ def rules_of_replica(cluster: Cluster, folder: str, replica: Replica) -> Iterato
         yield "viewed records are numbered", are_numbered(view.records, view.sequence)
         yield "views are of other devices that share the folder", cluster.peers[other].shares(folder, replica.me)
         index = cluster.peers[other].replicas[folder].index
+        yield "views are of no index that is still to come", view.id <= index.id
         yield "views have no gap", is_gapless(view, index)
         yield "a view at its index's point is that index", view.point != index.point or view.records == index.records
     yield "pulls stand under their names, well formed", are_in_place({name: one.target for name, one in pulls.items()})

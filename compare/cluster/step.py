@@ -1,4 +1,4 @@
-"""The steps of a cluster, as values: fourteen, and the index reset."""
+"""The fifteen steps of a cluster, as values."""
 
 from dataclasses import dataclass
 

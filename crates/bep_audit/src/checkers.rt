@@ -1,5 +1,5 @@
 //! The checkers: whether a cut and a certificate are settled, or why not.
-ghost use Rattle.std.specs.Prelude.{◌≡◌, ◌↔◌, IfOk};
+ghost use Rattle.std.specs.Prelude.{◌≡◌, ◌↔◌, [], IfOk};
 ghost use Rattle.bep_model.specs.Calm.{IsCalm, contents_of};
 ghost use Rattle.bep_model.specs.Settled.{IsSettled};
 ghost use Rattle.bep_model.specs.Verdict.{IsVerdict};
@@ -46,7 +46,7 @@ pub const REASONS: [Reason; 12] = [
 pub fn check_plain<'a>(cut: &'a Cut, certificate: &'a Certificate) -> Verdict<'a>
     ensures verdict { IsVerdict (tables_of cut.now) certificate.now (verdict_shown result) }
     ensures settled { (result ≡ Settled) ↔ IsSettled (tables_of cut.now) certificate.now }
-    ensures calm { result ≡ Settled → IsCalm (tables_of cut.now) (contents_of certificate.now) }
+    ensures calm { result ≡ Settled → IsCalm (tables_of cut.now) (contents_of certificate.now) [] }
     ensures stays_put { result ≡ Settled → StaysPut (tables_of cut.now) certificate.now }
     ensures stays_settled { result ≡ Settled → StaysSettled (tables_of cut.now) certificate.now }
 {
@@ -74,7 +74,7 @@ pub fn check<'a>(
 ) -> Result<Verdict<'a>, AllocError>
     ensures verdict { IfOk result (λ verdict. IsVerdict (tables_of cut.now) certificate.now (verdict_shown verdict)) }
     ensures settled { IfOk result (λ verdict. (verdict ≡ Settled) ↔ IsSettled (tables_of cut.now) certificate.now) }
-    ensures calm { IfOk result (λ verdict. verdict ≡ Settled → IsCalm (tables_of cut.now) (contents_of certificate.now)) }
+    ensures calm { IfOk result (λ verdict. verdict ≡ Settled → IsCalm (tables_of cut.now) (contents_of certificate.now) []) }
     ensures stays_put { IfOk result (λ verdict. verdict ≡ Settled → StaysPut (tables_of cut.now) certificate.now) }
     ensures stays_settled { IfOk result (λ verdict. verdict ≡ Settled → StaysSettled (tables_of cut.now) certificate.now) }
 {

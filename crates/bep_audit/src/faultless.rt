@@ -42,7 +42,7 @@ fn are_met(shares: &[Share], group: &[TableEntry<'_>], row: &Row) -> bool
 }
 
 // Whether the device does.
-#[tactic(auto, unfolding(crate::specs::Faultless::AsksAll))]
+#[tactic(auto, unfolding(crate::specs::inner::Faultless::AsksAll))]
 fn is_met(share: &Share, group: &[TableEntry<'_>], row: &Row) -> bool
     ensures { IsTrue result ↔ AsksAll row.now (map listed group.now) share.now }
 {
@@ -53,7 +53,7 @@ fn is_met(share: &Share, group: &[TableEntry<'_>], row: &Row) -> bool
 }
 
 // Whether the device meets it by its own record and its node.
-#[tactic(auto, unfolding(crate::specs::Faultless::AsksAllHere))]
+#[tactic(auto, unfolding(crate::specs::inner::Faultless::AsksAllHere))]
 fn meets_here(own: Option<&Record>, node: Option<&Node>, winner: &Record) -> bool
     ensures { IsTrue result ↔ AsksAllHere (option_copied own.entry) (option_copied node.entry) winner.now }
 {

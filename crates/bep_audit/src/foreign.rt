@@ -40,7 +40,7 @@ fn links_pass(row: &Row, own: Option<&Record>, device: DeviceId, links: &[LinkSt
     links.iter().all(|link| link_passes(row, own, device, link))
 }
 
-#[tactic(auto, unfolding(crate::specs::Foreign::LinkPasses))]
+#[tactic(auto, unfolding(crate::specs::inner::Foreign::LinkPasses))]
 fn link_passes(row: &Row, own: Option<&Record>, device: DeviceId, link: &LinkState) -> bool
     ensures { IsTrue result ↔ LinkPasses row.now (option_copied own.entry) device link.now }
 {

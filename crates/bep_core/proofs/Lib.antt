@@ -18,6 +18,7 @@ mod SessionSteps
 mod LinkSteps
 mod BegunJoined
 mod Restarted
+mod Resetted
 mod ListDone
 mod Reaching
 mod BegunFresh

@@ -42,7 +42,7 @@ restart_keeps old new is folder =
     outlines (Some replica) = refl
 
 module _ (device : Device) where
-  left_ends : (between : LinkBetween) → (left_by device between).ends ≡ between.ends
+  pub left_ends : (between : LinkBetween) → (left_by device between).ends ≡ between.ends
   left_ends between = cases ((between.ends.0 == device) || (between.ends.1 == device))
     where
       cases : (b : Bool) → (if b then record between { link = lost between.link } else between).ends ≡ between.ends
@@ -50,7 +50,7 @@ module _ (device : Device) where
       cases false = refl
 
   -- the links have the same ends as before
-  ends_left : (links : List LinkBetween) → ends_of (map (left_by device) links) ≡ ends_of links
+  pub ends_left : (links : List LinkBetween) → ends_of (map (left_by device) links) ≡ ends_of links
   ends_left [] = refl
   ends_left (between ∷ links) = λ i. left_ends between i ∷ ends_left links i
 
@@ -76,7 +76,7 @@ module _ (device : Device) where
       cases false is rest = rest
 
 -- each link of the device is lost, and all else stays
-links_left : (network : Network) (device : Device) → cluster_of (record network { links = map (left_by device) network.links }) ≡ without_links (cluster_of network) device
+pub links_left : (network : Network) (device : Device) → cluster_of (record network { links = map (left_by device) network.links }) ≡ without_links (cluster_of network) device
 links_left network device = λ i. record {
   config = record { devices = numbers_of network.members; sharing = sharing_of network.members; links = ends_left device network.links i };
   peer = λ one. peer_of (member_at network.members one);

@@ -2,7 +2,7 @@
 use Rattle.std.specs.Prelude.{ℕ, List, Option, Some, None}
 use Rattle.bep_model.specs.Tables.{Device}
 use Rattle.bep_machine.specs.declared.step.Step.{Step}
-use Rattle.bep_machine.specs.declared.step.Step.TheVariants.{Edit, Remove, Scan, Override, Revert, Connect, Lose, Begin, Deliver, Announce, StartPull, Ask, Finish, Restart}
+use Rattle.bep_machine.specs.declared.step.Step.TheVariants.{Edit, Remove, Scan, Override, Revert, Connect, Lose, Begin, Deliver, Announce, StartPull, Ask, Finish, Restart, Reset}
 use Rattle.bep_peer.specs.Member.{Member}
 use Rattle.bep_peer.specs.network.Network.{failed_at}
 
@@ -22,6 +22,7 @@ maker_of (StartPull device folder name) = Some device
 maker_of (Ask device other folder name) = Some device
 maker_of (Finish device folder name) = Some device
 maker_of (Restart device) = Some device
+maker_of (Reset device id) = Some device
 
 -- which call of its store failed in this device
 abbrev pub failed_in : Option Device → List Member → Option ℕ

@@ -7,7 +7,7 @@ use Rattle.bep_machine.specs.declared.moved.Moved.{Moved}
 use Rattle.bep_machine.specs.declared.moved.Moved.TheVariants.{Changed}
 use Rattle.bep_machine.specs.declared.refusal.Refusal.TheVariants.{StoreFault}
 use Rattle.bep_machine.specs.declared.step.Step.{Step}
-use Rattle.bep_machine.specs.declared.step.Step.TheVariants.{Edit, Remove, Scan, Override, Revert, Connect, Lose, Begin, Deliver, Announce, StartPull, Ask, Finish, Restart}
+use Rattle.bep_machine.specs.declared.step.Step.TheVariants.{Edit, Remove, Scan, Override, Revert, Connect, Lose, Begin, Deliver, Announce, StartPull, Ask, Finish, Restart, Reset}
 use Rattle.bep_machine.specs.Cluster.{Cluster, link_between}
 use Rattle.bep_machine.specs.Link.{end_of, sight_of}
 use Rattle.bep_peer.specs.network.Network.{Network, cluster_of, member_at}
@@ -57,6 +57,7 @@ TellsFault (StartPull device folder name) old = AnswersFault
 TellsFault (Ask device other folder name) old = CallsNone
 TellsFault (Finish device folder name) old = AnswersFault
 TellsFault (Restart device) old = CallsNone
+TellsFault (Reset device id) old = CallsNone
 
 -- ---- what the stores count
 

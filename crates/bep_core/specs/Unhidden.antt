@@ -2,7 +2,7 @@
 use Rattle.std.specs.Prelude.{⊤, ℕ, Option, Result, IsErrOf}
 use Rattle.bep_machine.specs.declared.moved.Moved.{Moved}
 use Rattle.bep_machine.specs.declared.step.Step.{Step}
-use Rattle.bep_machine.specs.declared.step.Step.TheVariants.{Edit, Remove, Scan, Override, Revert, Connect, Lose, Begin, Deliver, Announce, StartPull, Ask, Finish, Restart}
+use Rattle.bep_machine.specs.declared.step.Step.TheVariants.{Edit, Remove, Scan, Override, Revert, Connect, Lose, Begin, Deliver, Announce, StartPull, Ask, Finish, Restart, Reset}
 use Rattle.bep_machine.specs.Cluster.{Cluster}
 use Rattle.bep_machine.specs.Steps.{IsStep}
 use Rattle.bep_folder.specs.Unhidden.{RefusesNone}
@@ -28,6 +28,7 @@ TestsFirst (StartPull device folder name) = ⊤
 TestsFirst (Ask device other folder name) = ⊤
 TestsFirst (Finish device folder name) = ⊥
 TestsFirst (Restart device) = ⊥
+TestsFirst (Reset device id) = ⊥
 
 -- so of what a device does within a folder
 abbrev pub TestsWithin : Within → Type 0

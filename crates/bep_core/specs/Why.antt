@@ -1,7 +1,7 @@
 -- The numbers and the names of refusals, as the product prints them.
 use Rattle.std.specs.Prelude.{ℕ, List, Option, Some, None, Result, Ok, Err, codes}
 use Rattle.bep_machine.specs.declared.refusal.Refusal.{Refusal}
-use Rattle.bep_machine.specs.declared.refusal.Refusal.TheVariants.{CounterFull, TooManyCounters, NameBad, SequenceFull, IndexFull, StoreFault, Unscanned, NotNeeded, BlocksMissing, CopyExists, PullsFull, KindForbids, LinkDown, LinkFull, EpochFull, NotBegun, NotShared, NothingToDo}
+use Rattle.bep_machine.specs.declared.refusal.Refusal.TheVariants.{CounterFull, TooManyCounters, NameBad, SequenceFull, IndexFull, StoreFault, Unscanned, NotNeeded, BlocksMissing, CopyExists, PullsFull, KindForbids, IndexIdOld, LinkDown, LinkFull, EpochFull, NotBegun, NotShared, NothingToDo}
 use Rattle.bep_machine.specs.declared.moved.Moved.{Moved}
 use Rattle.bep_machine.specs.Answer.{Row, Done, Refused as Refuses, OutOfMemory, number_of as number_of_refusal}
 use Rattle.bep_peer.specs.declared.error.PeerError.{PeerError}
@@ -28,6 +28,7 @@ name_of_refusal BlocksMissing = codes "BlocksMissing"
 name_of_refusal CopyExists = codes "CopyExists"
 name_of_refusal PullsFull = codes "PullsFull"
 name_of_refusal KindForbids = codes "KindForbids"
+name_of_refusal IndexIdOld = codes "IndexIdOld"
 name_of_refusal LinkDown = codes "LinkDown"
 name_of_refusal LinkFull = codes "LinkFull"
 name_of_refusal EpochFull = codes "EpochFull"

@@ -98,6 +98,7 @@ impl<S: Store> Cluster<S> {
             ),
             Step::Finish(device, folder, name) => self.within(device, folder, Within::Finish(name)),
             Step::Restart(device) => self.restart(device),
+            Step::Reset(device, id) => self.reset(device, id),
         }
     }
 }
@@ -118,7 +119,8 @@ fn maker_of(step: &Step) -> Option<DeviceId>
         | Step::StartPull(device, _, _)
         | Step::Ask(device, _, _, _)
         | Step::Finish(device, _, _)
-        | Step::Restart(device) => Some(*device),
+        | Step::Restart(device)
+        | Step::Reset(device, _) => Some(*device),
         Step::Connect(_, _) | Step::Lose(_, _) => None,
     }
 }

@@ -16,6 +16,7 @@ mod folders;
 mod laws;
 mod link_steps;
 mod others;
+mod resetting;
 mod restarting;
 mod session_steps;
 mod why;

@@ -30,7 +30,7 @@ impl<S: Store> Cluster<S> {
 }
 
 // Each link of the device is lost.
-fn lose_links(links: &mut Vec<Link>, device: DeviceId)
+pub(crate) fn lose_links(links: &mut Vec<Link>, device: DeviceId)
     ensures { links.new.items ≡ map (left_by device) links.old.items }
 {
     for link in links.iter_mut() {

@@ -60,6 +60,7 @@ fn name_of(refusal: Refusal) -> &'static str
         Refusal::CopyExists => "CopyExists",
         Refusal::PullsFull => "PullsFull",
         Refusal::KindForbids => "KindForbids",
+        Refusal::IndexIdOld => "IndexIdOld",
         Refusal::LinkDown => "LinkDown",
         Refusal::LinkFull => "LinkFull",
         Refusal::EpochFull => "EpochFull",

@@ -5,8 +5,6 @@ use Rattle.std.specs.List.{filter}
 use Rattle.bep_facts.specs.Members.{Contains-cons_cases, Contains-first, Contains-from_image, Contains-image, Contains-more, not_in_none}
 use Rattle.bep_model.specs.Tables.{Device}
 use Rattle.bep_machine.specs.declared.logged.Logged.{Logged}
-use Rattle.bep_machine.specs.declared.step.Step.{Step}
-use Rattle.bep_machine.specs.declared.step.Step.TheVariants.{Restart}
 use Rattle.bep_machine.specs.Cluster.{Cluster, Config}
 use Rattle.bep_machine.specs.HalfLaws.{AreHeld, AreOfCluster, DevicesReplayTheirOwn, IsReplayed, LinksReplayTheirOwn, ReplaysAreThere, ReplaysRun}
 use Rattle.bep_machine.specs.Halves.{PeerHalf, LinkHalf, LinkReplays, LinkStep, OnlyIf, PeerReplays, PeerStep, Replays, SaysNoMore, events_of_device, guards_of, touches_device, touches_link}
@@ -23,7 +21,7 @@ use Rattle.bep_fit.specs.Replayed.{AreReplayed, AreSoundLogs, ObjectReplays}
 use Rattle.bep_fit.proofs.Faultless.{entries_of, faultless_agree, in_no_other, named_there, ticket_of}
 use Rattle.bep_fit.proofs.Merged.{is_part}
 use Rattle.bep_fit.proofs.ThereObjects.{are_held, device_has_log, device_or_not, device_there, link_has_log, link_or_not, link_there}
-use Rattle.bep_fit.proofs.Touched.{device_named, link_named}
+use Rattle.bep_fit.proofs.Touched.{LosesLinks, device_named, link_named}
 
 -- ---- lists of events
 
@@ -150,19 +148,19 @@ module _ (logs : List ObjectLog) (bases present : Cluster) (replayed : AreReplay
           let made = step_in (LinkStep lower upper) (bases.link lower upper) (events_of in_log.0.events) (present.link lower upper) replays one.event stands in
           (half_of (SaysNoMore one.event.step one.event.failed one.event.kept one.event.traffic × LinkHalf one.event.step one.event.traffic made.0 made.1) made.0 made.1 (touches_link (guards_of one.event.step) lower upper) touching made.2).0
 
-  -- only restarts touch a link that isn't there, which has nothing to lose
+  -- only restarts and resets touch a link that isn't there, which has nothing to lose
   stays_idle : (lower upper : Device) (absent : ¬ Contains bases.config.links (lower, upper)) (one : Stamped) → IsLogged entries_of logs one → LinkStep lower upper one.event (bases.link lower upper) (bases.link lower upper)
   stays_idle lower upper absent one in_log = ⊎_elim touched untouched (cases_Bool (touches_link (guards_of one.event.step) lower upper))
     where
-      restarts : (device : Device) × (one.event.step ≡ Restart device) → LinkMade one.event (bases.link lower upper)
-      restarts restart = (says one in_log, subst (λ (s : Step). LinkHalf s one.event.traffic (bases.link lower upper) (bases.link lower upper)) (sym restart.1) (sym (replayed.no_link lower upper absent).1))
+      loses : LosesLinks one.event.step → LinkMade one.event (bases.link lower upper)
+      loses all = (says one in_log, all one.event.traffic (bases.link lower upper) (bases.link lower upper) (sym (replayed.no_link lower upper absent).1))
 
       touched : touches_link (guards_of one.event.step) lower upper ≡ true → LinkStep lower upper one.event (bases.link lower upper) (bases.link lower upper)
       touched touching =
           from_half (LinkMade one.event (bases.link lower upper)) (bases.link lower upper) (bases.link lower upper) (touches_link (guards_of one.event.step) lower upper) touching
           (⊎_elim
           (λ named. absurd (absent (link_there bases.config logs replayed.objects lower upper (named_there logs faultless one in_log (objects.Link lower upper) named))))
-          restarts
+          loses
           (link_named one.event.step lower upper touching))
 
       untouched : touches_link (guards_of one.event.step) lower upper ≡ false → LinkStep lower upper one.event (bases.link lower upper) (bases.link lower upper)

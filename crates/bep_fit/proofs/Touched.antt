@@ -1,11 +1,13 @@
--- What a step touches it names, save the links of a device that restarts.
-use Rattle.std.proofs.Common.{◌≡◌, ◌⊎◌, ◌==◌, ◌&&◌, Bool, true, false, nat_lt, if◌then◌else◌, List, [], ◌∷◌, Contains, refl, sym, ap, subst, inl, inr, eqb-true}
+-- What a step touches it names, save the links of a device that restarts or is reset.
+use Rattle.std.proofs.Common.{◌≡◌, ◌⊎◌, ◌==◌, ◌&&◌, Bool, true, false, nat_lt, if◌then◌else◌, List, [], ◌∷◌, Option, Contains, refl, sym, subst, inl, inr, eqb-true}
 use Rattle.std.proofs.lemmas.Bool.{and_parts}
 use Rattle.bep_facts.specs.Members.{Contains-first, Contains-more}
 use Rattle.bep_model.specs.Tables.{Device}
 use Rattle.bep_machine.specs.declared.step.Step.{Step}
-use Rattle.bep_machine.specs.declared.step.Step.TheVariants.{Edit, Remove, Scan, Override, Revert, Connect, Lose, Begin, Deliver, Announce, StartPull, Ask, Finish, Restart}
-use Rattle.bep_machine.specs.Halves.{Guards, OfDevice, OfDeviceAndLink, OfLink, OfDeviceAndLinks, guards_of, touches_device, touches_link}
+use Rattle.bep_machine.specs.declared.step.Step.TheVariants.{Edit, Remove, Scan, Override, Revert, Connect, Lose, Begin, Deliver, Announce, StartPull, Ask, Finish, Restart, Reset}
+use Rattle.bep_machine.specs.declared.logged.Traffic.{Traffic}
+use Rattle.bep_machine.specs.Halves.{Guards, OfDevice, OfDeviceAndLink, OfLink, OfDeviceAndLinks, LinkHalf, guards_of, touches_device, touches_link}
+use Rattle.bep_machine.specs.Link.{Link, lost}
 use Rattle.bep_fit.specs.declared.object.Object.{Object}
 use Rattle.bep_fit.specs.declared.object.Object.TheVariants as objects
 use Rattle.bep_fit.specs.Logs.{link_of, named_by}
@@ -34,32 +36,37 @@ link_same : (device other a b : Device) (lt : Bool) → (if lt then (a == device
 link_same device other a b true is = same_link a b device other is
 link_same device other a b false is = same_link a b other device is
 
--- the guards are those of a restart
-abbrev OfRestart : Guards → Type 0
-OfRestart guards = (device : Device) × (guards ≡ OfDeviceAndLinks device)
+-- the guards are those of a restart or a reset
+abbrev OfAllLinks : Guards → Type 0
+OfAllLinks guards = (device : Device) × (guards ≡ OfDeviceAndLinks device)
 
-link_named_by : (guards : Guards) (a b : Device) → touches_link guards a b ≡ true → Contains (named_by guards) (objects.Link a b) ⊎ OfRestart guards
+link_named_by : (guards : Guards) (a b : Device) → touches_link guards a b ≡ true → Contains (named_by guards) (objects.Link a b) ⊎ OfAllLinks guards
 link_named_by (OfDevice device) a b is = absurd (cc)
 link_named_by (OfDeviceAndLink device other) a b is =
     inl (Contains-more (objects.Device device) (link_of device other ∷ []) (objects.Link a b) (subst (Contains (link_of device other ∷ [])) (link_same device other a b (nat_lt device other) is) (Contains-first (link_of device other) [])))
 link_named_by (OfLink lower upper) a b is = inl (subst (Contains (objects.Link lower upper ∷ [])) (same_link a b lower upper is) (Contains-first (objects.Link lower upper) []))
 link_named_by (OfDeviceAndLinks device) a b is = inr (device, refl)
 
-restart_of : (step : Step) (device : Device) → guards_of step ≡ OfDeviceAndLinks device → step ≡ Restart device
-restart_of (Edit one folder name node) device is = absurd (cc)
-restart_of (Remove one folder name) device is = absurd (cc)
-restart_of (Scan one folder name) device is = absurd (cc)
-restart_of (Override one folder name) device is = absurd (cc)
-restart_of (Revert one folder name) device is = absurd (cc)
-restart_of (Connect one other) device is = absurd (cc)
-restart_of (Lose one other) device is = absurd (cc)
-restart_of (Begin one other) device is = absurd (cc)
-restart_of (Deliver one other) device is = absurd (cc)
-restart_of (Announce one other folder) device is = absurd (cc)
-restart_of (StartPull one folder name) device is = absurd (cc)
-restart_of (Ask one other folder name) device is = absurd (cc)
-restart_of (Finish one folder name) device is = absurd (cc)
-restart_of (Restart one) device is = let same : one ≡ device = cc in ap Restart same
+-- the step loses each link that it touches
+abbrev pub LosesLinks : Step → Type 0
+LosesLinks step = (traffic : Option Traffic) (old new : Link) → new ≡ lost old → LinkHalf step traffic old new
 
-pub link_named : (step : Step) (a b : Device) → touches_link (guards_of step) a b ≡ true → Contains (named_by (guards_of step)) (objects.Link a b) ⊎ ((device : Device) × (step ≡ Restart device))
-link_named step a b is = elim (link_named_by (guards_of step) a b is) [ inl named ↦ inl named | inr restart ↦ inr (restart.0, restart_of step restart.0 restart.1) ]
+loses_links : (step : Step) (device : Device) → guards_of step ≡ OfDeviceAndLinks device → LosesLinks step
+loses_links (Edit one folder name node) device is = absurd (cc)
+loses_links (Remove one folder name) device is = absurd (cc)
+loses_links (Scan one folder name) device is = absurd (cc)
+loses_links (Override one folder name) device is = absurd (cc)
+loses_links (Revert one folder name) device is = absurd (cc)
+loses_links (Connect one other) device is = absurd (cc)
+loses_links (Lose one other) device is = absurd (cc)
+loses_links (Begin one other) device is = absurd (cc)
+loses_links (Deliver one other) device is = absurd (cc)
+loses_links (Announce one other folder) device is = absurd (cc)
+loses_links (StartPull one folder name) device is = absurd (cc)
+loses_links (Ask one other folder name) device is = absurd (cc)
+loses_links (Finish one folder name) device is = absurd (cc)
+loses_links (Restart one) device is = λ traffic old new loses. loses
+loses_links (Reset one id) device is = λ traffic old new loses. loses
+
+pub link_named : (step : Step) (a b : Device) → touches_link (guards_of step) a b ≡ true → Contains (named_by (guards_of step)) (objects.Link a b) ⊎ LosesLinks step
+link_named step a b is = elim (link_named_by (guards_of step) a b is) [ inl named ↦ inl named | inr all ↦ inr (loses_links step all.0 all.1) ]

@@ -3,7 +3,7 @@ use Rattle.std.specs.Prelude.{◌≡◌, ◌↔◌, ℕ, List, length, Contains}
 use Rattle.bep_model.specs.declared.row.Row.{Row}
 use Rattle.bep_model.specs.Settled.{IsSettled}
 use Rattle.bep_model.specs.Stays.{Stays}
-use Rattle.bep_model.specs.Tables.{Tables}
+use Rattle.bep_model.specs.Tables.{Tables, Device}
 use Rattle.bep_machine.specs.Cluster.{Cluster}
 use Rattle.bep_machine.specs.HalfLaws.{HasStepsOf}
 use Rattle.bep_machine.specs.Said.{tables_of_cluster}
@@ -15,7 +15,7 @@ use Rattle.bep_fit.specs.declared.verdict.RunVerdict.{RunVerdict}
 use Rattle.bep_fit.specs.Fit.{AreFaultless, AreOfOneRound, DoAgree, Fits, IsMerged, IsRunVerdict}
 use Rattle.bep_fit.specs.Logs.{HasLog, ObjectLog, events_of, named, touches}
 use Rattle.bep_fit.specs.Merge as lists
-use Rattle.bep_fit.specs.Replayed.{AreQuietLogs, AreReplayed, AreSoundLogs}
+use Rattle.bep_fit.specs.Replayed.{AreQuietLogs, AreReplayed, AreResetOf, AreSoundLogs}
 
 -- ---- the merged list
 
@@ -76,8 +76,9 @@ FittingLogsAreOneRun = (logs : List ObjectLog) (bases present : Cluster) (count 
     IsSound bases → AreReplayed logs bases present → AreSoundLogs logs → Fits logs count →
     (merged : List Stamped) × (length merged ≡ count) × IsOneRun logs merged bases present
 
--- if the cut of the bases is settled for some rows, and no event is a local step, each store holds what it held
+-- if the cut of the bases is settled for some rows, and no event is a local step, each store holds what it held, and only
+-- these devices, which were reset, may lack records
 abbrev pub SettledLogsStayPut : Type 0
-SettledLogsStayPut = (logs : List ObjectLog) (bases present : Cluster) (count : ℕ) (tables : Tables) (rows : List Row) →
-    IsSound bases → AreReplayed logs bases present → Fits logs count → AreQuietLogs logs →
-    tables_of_cluster bases ≡ tables → IsSettled tables rows → Stays tables rows (tables_of_cluster present)
+SettledLogsStayPut = (logs : List ObjectLog) (bases present : Cluster) (count : ℕ) (tables : Tables) (rows : List Row) (reset : List Device) →
+    IsSound bases → AreReplayed logs bases present → Fits logs count → AreQuietLogs logs → AreResetOf logs reset →
+    tables_of_cluster bases ≡ tables → IsSettled tables rows → Stays tables rows reset (tables_of_cluster present)

@@ -3,9 +3,9 @@ use Rattle.std.specs.Prelude.{◌≡◌, List, ◌++◌, map, Contains}
 use Rattle.bep_model.specs.Tables.{Device}
 use Rattle.bep_machine.specs.Cluster.{Config, Cluster}
 use Rattle.bep_machine.specs.Halves.{PeerReplays, LinkReplays}
-use Rattle.bep_machine.specs.Laws.{IsSoundStep}
+use Rattle.bep_machine.specs.Laws.{AreAmong, IsSoundStep}
 use Rattle.bep_machine.specs.Link.{lost}
-use Rattle.bep_machine.specs.Steps.{IsQuiet}
+use Rattle.bep_machine.specs.Steps.{IsQuiet, reset_by}
 use Rattle.bep_fit.specs.declared.object.Object.{Object}
 use Rattle.bep_fit.specs.declared.object.Object.TheVariants as objects
 use Rattle.bep_fit.specs.declared.stamped.Stamped.{Stamped}
@@ -38,3 +38,8 @@ AreSoundLogs logs = (log : ObjectLog) (one : Stamped) → Contains logs log → 
 -- no event is a local step
 abbrev pub AreQuietLogs : List ObjectLog → Type 0
 AreQuietLogs logs = (log : ObjectLog) (one : Stamped) → Contains logs log → Contains log.events one → IsQuiet one.event.step
+
+-- no device but these is reset
+abbrev pub AreResetOf : List ObjectLog → List Device → Type 0
+AreResetOf logs reset =
+    (log : ObjectLog) (one : Stamped) → Contains logs log → Contains log.events one → AreAmong (reset_by one.event.step) reset

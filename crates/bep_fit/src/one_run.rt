@@ -14,7 +14,7 @@ pub fn fitting_logs_are_one_run()
 }
 
 /// If, moreover, the cut of the bases is settled for some rows, and no event is a local step, then each store holds byte for
-/// byte what it held, and each row's name has its certified content.
+/// byte what it held, and each row's name has its certified content. Only devices that were reset may lack records.
 pub fn settled_logs_stay_put()
     ensures { SettledLogsStayPut }
 {

@@ -19,6 +19,7 @@ mod pull;
 mod reading;
 mod record_of;
 mod replica;
+mod resetting;
 mod scan;
 mod scan_result;
 mod sound;

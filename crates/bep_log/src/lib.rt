@@ -23,6 +23,7 @@ mod logged_peer;
 mod looking;
 mod over;
 mod ready;
+mod resetting;
 mod restarting;
 
 pub use copying::{LinkCopy, LinkParts, PeerCopy, PeerParts};

@@ -1,6 +1,7 @@
 //! Starting again, under one ticket: the device by itself, and each of its links by itself.
 ghost use Rattle.std.specs.Prelude.{◌≡◌, ◌⊎◌, ◌↔◌, IsTrue};
-ghost use Rattle.bep_log.specs.Restart.{LinkRestarts, Restarts};
+ghost use Rattle.bep_log.specs.Restart.{LinkLeaves, LinkRestarts, Restarts};
+ghost use Rattle.bep_log.specs.inner.Leaving.{LosesLinks};
 ghost use Rattle.bep_machine.specs.Link.{lost};
 
 use crate::event::event_in_folder;
@@ -36,12 +37,25 @@ impl LoggedLink {
     {
         // the event that is logged makes the step that was made
         actions_are_told();
+        self.leave(ticket, device, Step::Restart(device))
+    }
+
+    // The device at one end of the link leaves all its links in this step, under a ticket: the link is lost if it is up.
+    pub(crate) fn leave(
+        &mut self,
+        ticket: u64,
+        device: DeviceId,
+        step: Step,
+    ) -> Result<(), LogError>
+        requires { LosesLinks device step }
+        ensures logs { LinkLeaves step device ticket self.old self.new result }
+    {
         self.history.open(ticket)?;
         if !is_end(&self.link, device) {
             return Err(LogError::Refused(Refusal::NotShared));
         }
         go_down(&mut self.link);
-        let event = event_in_folder(Step::Restart(device), None, false);
+        let event = event_in_folder(step, None, false);
         self.history.tell(ticket, event);
         Ok(())
     }

@@ -15,7 +15,7 @@ use Rattle.bep_machine.specs.Peer.{Peer, with_replica}
 use Rattle.bep_machine.specs.declared.logged.Exchanged.TheVariants.{Sent, Took, Broke}
 use Rattle.bep_machine.specs.declared.logged.Traffic.{Traffic}
 use Rattle.bep_machine.specs.Halves.{has_answered, kept_told, only_call, IsSeen, IsDone, SaysNoMore, InFolder, OnlyIf}
-use Rattle.bep_machine.specs.HalfLaws.{EditIsTold, RemoveIsTold, ScanIsTold, OverrideIsTold, RevertIsTold, StartPullIsTold, FinishIsTold, BeginIsTold, DeliverIsTold, AnnounceIsTold, AskIsTold, TrafficIsOne, ConnectIsTold, LoseIsTold, RestartIsTold}
+use Rattle.bep_machine.specs.HalfLaws.{EditIsTold, RemoveIsTold, ScanIsTold, OverrideIsTold, RevertIsTold, StartPullIsTold, FinishIsTold, BeginIsTold, DeliverIsTold, AnnounceIsTold, AskIsTold, TrafficIsOne, ConnectIsTold, LoseIsTold, RestartIsTold, ResetIsTold}
 use Rattle.bep_machine.proofs.CallsTold.{call_is_told}
 use Rattle.bep_machine.proofs.LinkDeeds.{past, begin_tells, announce_tells, ask_tells, deliver_tells}
 use Rattle.bep_machine.proofs.OnlyCall.{told_may_fail}
@@ -143,5 +143,11 @@ lose_is_told lower upper old new moved made =
 pub restart_is_told : RestartIsTold
 restart_is_told device = (
   (λ old. make_own device old _ ((refl, refl, refl), refl)),
+  (λ lower upper old touched. make_touched old _ _ touched ((refl, refl, refl), refl)),
+)
+
+pub reset_is_told : ResetIsTold
+reset_is_told device id = (
+  (λ old above. make_own device old _ ((refl, refl, refl), (above, refl))),
   (λ lower upper old touched. make_touched old _ _ touched ((refl, refl, refl), refl)),
 )

@@ -33,22 +33,22 @@ target_before old name chosen known other entry is =
     (λ before. inr (target_at_pull old other found.0 before ∙ ap (λ (e : Entry). Some e) found.2))
     (with_pull_found old name (new_pull chosen) other found.0 found.1)
 
-abbrev pub StartPullIsQuiet : Type 0
-StartPullIsQuiet = (contents : FileName → Option Content) (device : Device) (name : FileName) (old new : Replica) (answer : Answer) →
-    IsSoundReplica device old → IsCalmReplica contents old → StartPullRow device name old new answer → IsQuietChange old new
+abbrev pub StartPullIsQuiet : Type 1
+StartPullIsQuiet = (reset receives : Type 0) (contents : FileName → Option Content) (device : Device) (name : FileName) (old new : Replica) (answer : Answer) →
+    IsSoundReplica device old → IsCalmReplica reset receives contents old → StartPullRow device name old new answer → IsQuietChange receives old new
 
 pub start_pull_is_quiet : StartPullIsQuiet
-start_pull_is_quiet contents device name old new answer sound calm row =
-    let stays = nothing_is_quiet contents old calm in
-    at_answers (IsQuietChange old) row stays
+start_pull_is_quiet reset receives contents device name old new answer sound calm row =
+    let stays = nothing_is_quiet reset receives contents old calm in
+    at_answers (IsQuietChange receives old) row stays
     (λ _ chosen.
-    at_answers (IsQuietChange old) chosen.2 stays
+    at_answers (IsQuietChange receives old) chosen.2 stays
     (λ _ needed.
-    at_answers (IsQuietChange old) needed stays
+    at_answers (IsQuietChange receives old) needed stays
     (λ not_none full.
-    at_answers (IsQuietChange old) full stays
+    at_answers (IsQuietChange receives old) full stays
     (λ _ begun.
-    at_becomes (IsQuietChange old) begun
+    at_becomes (IsQuietChange receives old) begun
     (record {
       own = λ other. inl refl;
       file = λ other. same_file (node_at old other);

@@ -16,7 +16,7 @@ use Rattle.bep_machine.specs.Pull.{timed}
 
 -- ---- deleted or not
 
-there_is_not_deleted : (kind : Kind) (blocks : List Block) (target : List ℕ) → content_of_kind kind blocks target ≢ Deleted
+pub there_is_not_deleted : (kind : Kind) (blocks : List Block) (target : List ℕ) → content_of_kind kind blocks target ≢ Deleted
 there_is_not_deleted kinds.File blocks target e = cc
 there_is_not_deleted kinds.Directory blocks target e = cc
 there_is_not_deleted kinds.Symlink blocks target e = cc

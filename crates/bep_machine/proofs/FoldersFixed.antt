@@ -1,7 +1,9 @@
--- No event changes a folder's kind, who shares it, or the id of its index.
-use Rattle.std.proofs.Common.{◌≡◌, ◌∙◌, ℕ, Bool, true, false, List, [], ◌∷◌, Option, Some, None, option_map, refl, sym, ap, subst, inl, inr, ⊎_elim}
+-- No event changes a folder's kind or who shares it, and only a reset the id of its index.
+use Rattle.std.proofs.Common.{◌≡◌, ◌⊎◌, ◌∙◌, ◌==◌, ℕ, Bool, true, false, List, [], ◌∷◌, Option, Some, None, Contains, option_map, refl, sym, ap, subst, inl, inr, ⊎_elim, eqb-true}
+use Rattle.std.proofs.lemmas.List.Elements.{Contains-append_left, Contains-append_right}
 use Rattle.std.specs.Cmp.Lexicographic.{nat_list_cmp_total}
 use Rattle.std.specs.FinMap.{get, insert}
+use Rattle.bep_facts.specs.Members.{Contains-first}
 use Rattle.bep_map.specs.NameMap.{ByName}
 use Rattle.bep_index.specs.declared.send.Plan.{Plan}
 use Rattle.bep_index.specs.Listing.{Listing}
@@ -16,7 +18,7 @@ use Rattle.bep_machine.specs.declared.message.Message.TheVariants as messages
 use Rattle.bep_machine.specs.declared.message.Request.{Request}
 use Rattle.bep_machine.specs.declared.message.Response.{Response}
 use Rattle.bep_machine.specs.declared.step.Step.{Step}
-use Rattle.bep_machine.specs.declared.step.Step.TheVariants.{Edit, Remove, Scan, Override, Revert, Connect, Lose, Begin, Deliver, Announce, StartPull, Ask, Finish, Restart}
+use Rattle.bep_machine.specs.declared.step.Step.TheVariants.{Edit, Remove, Scan, Override, Revert, Connect, Lose, Begin, Deliver, Announce, StartPull, Ask, Finish, Restart, Reset}
 use Rattle.bep_machine.specs.Answer.{Answer, Done, Row}
 use Rattle.bep_machine.specs.Replica.{Pull, Replica, own_at, node_at, pull_at, view_of, with_node, with_view}
 use Rattle.bep_machine.specs.Local.{EditRow, RemoveRow, PutRow, FoundRow, ScanRow, OverridingRow, OverrideRow, RevertedRow, RevertRow}
@@ -24,10 +26,10 @@ use Rattle.bep_machine.specs.Pull.{ChosenRow, StartPullRow, SettlingRow, RoomRow
 use Rattle.bep_machine.specs.Link.{Sight}
 use Rattle.bep_machine.specs.Peer.{Session, Peer, Acted}
 use Rattle.bep_machine.specs.Exchange.{SessionRow, BeginRow, ViewRow, with_block, with_received, AskedRow, asked_for, MessageRow, WaitingRow, DeliverRow, known_under, renewed, all_renewed, CursorRow, AnnounceRow, AskingRow, AskRow}
-use Rattle.bep_machine.specs.Steps.{without_pulls, restarted}
+use Rattle.bep_machine.specs.Steps.{without_pulls, restarted, anew_under, reset_to, reset_by}
 use Rattle.bep_machine.specs.declared.logged.Logged.{Logged}
 use Rattle.bep_machine.specs.declared.logged.Traffic.{Traffic}
-use Rattle.bep_machine.specs.Halves.{guards_of, touches_device, SaysNoMore, InFolder, ByTraffic, PeerHalf, OnlyIf, PeerStep, PeerReplays}
+use Rattle.bep_machine.specs.Halves.{guards_of, touches_device, SaysNoMore, InFolder, ByTraffic, PeerHalf, OnlyIf, PeerStep, reset_in_log}
 use Rattle.bep_machine.specs.HalfLaws.{Keeps, shared_as, index_id, ReplaysKeepSharing, ReplaysKeepIds}
 use Rattle.bep_machine.proofs.CalmRows.{at_becomes, at_answers, CopiedRow}
 use Rattle.bep_machine.proofs.FoundAfter.{get-mapped}
@@ -247,35 +249,38 @@ restarted_alike old new same folder =
     cases None = refl
     cases (Some replica) = refl
 
-half_alike : (step : Step) (failed : Option ℕ) (kept : Bool) (traffic : Option Traffic) (old new : Peer) → PeerHalf step failed kept traffic old new → AreAlike old.replicas new.replicas
-half_alike (Edit device folder name node) failed kept traffic old new = folder_alike folder (EditRow name node failed) kept old new (edit_alike name node failed)
-half_alike (Remove device folder name) failed kept traffic old new = folder_alike folder (RemoveRow name failed) kept old new (remove_alike name failed)
-half_alike (Scan device folder name) failed kept traffic old new = folder_alike folder (ScanRow device name failed) kept old new (scan_alike device name failed)
-half_alike (Override device folder name) failed kept traffic old new = folder_alike folder (OverrideRow device name) kept old new (override_alike device name)
-half_alike (Revert device folder name) failed kept traffic old new = folder_alike folder (RevertRow device name failed) kept old new (revert_alike device name failed)
+-- a reset gives each index another id, and keeps all else that is fixed
+abbrev IsAnew : Step → Peer → Peer → Type 0
+IsAnew step old new = (device : Device) × (id : ℕ) × (step ≡ Reset device id) × (new ≡ reset_to id old)
+
+half_alike : (step : Step) (failed : Option ℕ) (kept : Bool) (traffic : Option Traffic) (old new : Peer) → PeerHalf step failed kept traffic old new → AreAlike old.replicas new.replicas ⊎ IsAnew step old new
+half_alike (Edit device folder name node) failed kept traffic old new = λ half. inl (folder_alike folder (EditRow name node failed) kept old new (edit_alike name node failed) half)
+half_alike (Remove device folder name) failed kept traffic old new = λ half. inl (folder_alike folder (RemoveRow name failed) kept old new (remove_alike name failed) half)
+half_alike (Scan device folder name) failed kept traffic old new = λ half. inl (folder_alike folder (ScanRow device name failed) kept old new (scan_alike device name failed) half)
+half_alike (Override device folder name) failed kept traffic old new = λ half. inl (folder_alike folder (OverrideRow device name) kept old new (override_alike device name) half)
+half_alike (Revert device folder name) failed kept traffic old new = λ half. inl (folder_alike folder (RevertRow device name failed) kept old new (revert_alike device name failed) half)
 half_alike (Connect one other) failed kept traffic old new = λ half. absurd half
 half_alike (Lose one other) failed kept traffic old new = λ half. absurd half
-half_alike (Begin device other) failed kept traffic old new = traffic_alike (BeginRow other) traffic old new (begin_alike other)
-half_alike (Deliver device other) failed kept traffic old new = traffic_alike (DeliverRow other failed) traffic old new (deliver_alike other failed)
-half_alike (Announce device other folder) failed kept traffic old new = traffic_alike (AnnounceRow other folder) traffic old new (announce_alike other folder)
-half_alike (StartPull device folder name) failed kept traffic old new = folder_alike folder (StartPullRow device name) kept old new (start_pull_alike device name)
-half_alike (Ask device other folder name) failed kept traffic old new = traffic_alike (AskRow other folder name) traffic old new (ask_alike other folder name)
-half_alike (Finish device folder name) failed kept traffic old new = folder_alike folder (FinishRow device name failed) kept old new (finish_alike device name failed)
-half_alike (Restart device) failed kept traffic old new = restarted_alike old new
+half_alike (Begin device other) failed kept traffic old new = λ half. inl (traffic_alike (BeginRow other) traffic old new (begin_alike other) half)
+half_alike (Deliver device other) failed kept traffic old new = λ half. inl (traffic_alike (DeliverRow other failed) traffic old new (deliver_alike other failed) half)
+half_alike (Announce device other folder) failed kept traffic old new = λ half. inl (traffic_alike (AnnounceRow other folder) traffic old new (announce_alike other folder) half)
+half_alike (StartPull device folder name) failed kept traffic old new = λ half. inl (folder_alike folder (StartPullRow device name) kept old new (start_pull_alike device name) half)
+half_alike (Ask device other folder name) failed kept traffic old new = λ half. inl (traffic_alike (AskRow other folder name) traffic old new (ask_alike other folder name) half)
+half_alike (Finish device folder name) failed kept traffic old new = λ half. inl (folder_alike folder (FinishRow device name failed) kept old new (finish_alike device name failed) half)
+half_alike (Restart device) failed kept traffic old new = λ half. inl (restarted_alike old new half)
+half_alike (Reset device id) failed kept traffic old new = λ half. inr (device, id, refl, half.1)
 
-step_alike : (device : Device) (one : Logged) (old new : Peer) → PeerStep device one old new → AreAlike old.replicas new.replicas
-step_alike device one old new = cases (touches_device (guards_of one.step) device)
+-- what an event keeps of each folder, where what its step keeps is so
+step_keeps : {X : Type 0} (read : Replica → X) (device : Device) (one : Logged) (old new : Peer) →
+    (touches_device (guards_of one.step) device ≡ true → PeerHalf one.step one.failed one.kept one.traffic old new → Keeps read old new) → PeerStep device one old new → Keeps read old new
+step_keeps read device one old new keeps = cases (touches_device (guards_of one.step) device) refl
   where
     Half : Type 0
     Half = SaysNoMore one.step one.failed one.kept one.traffic × PeerHalf one.step one.failed one.kept one.traffic old new
 
-    cases : (b : Bool) → OnlyIf b Half old new → AreAlike old.replicas new.replicas
-    cases true half folder = half_alike one.step one.failed one.kept one.traffic old new half.1 folder
-    cases false same folder = ap (λ (p : Peer). option_map fixed (get p.replicas folder)) same
-
-replays_alike : (device : Device) (old new : Peer) (logged : List Logged) → PeerReplays device old logged new → AreAlike old.replicas new.replicas
-replays_alike device old new [] same folder = ap (λ (p : Peer). option_map fixed (get p.replicas folder)) same
-replays_alike device old new (one ∷ more) (next, step, rest) folder = replays_alike device next new more rest folder ∙ step_alike device one old next step folder
+    cases : (b : Bool) → touches_device (guards_of one.step) device ≡ b → OnlyIf b Half old new → Keeps read old new
+    cases true here half = keeps here half.1
+    cases false apart same = λ folder. ap (λ (p : Peer). option_map read (get p.replicas folder)) same
 
 -- what is read of what is fixed is fixed
 kept_of : {X : Type 0} (read : Fixed → X) (old new : Peer) → AreAlike old.replicas new.replicas → Keeps (λ replica. read (fixed replica)) old new
@@ -285,11 +290,48 @@ kept_of read old new alike folder = through (get new.replicas folder) ∙ ap (op
     through None = refl
     through (Some replica) = refl
 
+anew_shares : (id : ℕ) (old new : Peer) → new ≡ reset_to id old → Keeps shared_as old new
+anew_shares id old new same folder =
+    ap (λ (p : Peer). option_map shared_as (get p.replicas folder)) same
+    ∙ ap (option_map shared_as) (get-mapped nat_list_cmp_total (anew_under id) old.replicas folder)
+    ∙ cases (get old.replicas folder)
+  where
+    cases : (found : Option Replica) → option_map shared_as (option_map (anew_under id) found) ≡ option_map shared_as found
+    cases None = refl
+    cases (Some replica) = refl
+
 pub step_keeps_sharing : (device : Device) (one : Logged) (old new : Peer) → PeerStep device one old new → Keeps shared_as old new
-step_keeps_sharing device one old new step = kept_of (λ f. f.0) old new (step_alike device one old new step)
+step_keeps_sharing device one old new =
+    step_keeps shared_as device one old new
+    (λ here half.
+    ⊎_elim
+    (λ alike. kept_of (λ f. f.0) old new alike)
+    (λ anew. anew_shares anew.1 old new anew.3)
+    (half_alike one.step one.failed one.kept one.traffic old new half))
+
+-- a device that is touched by a reset is the one that is reset
+reset_here : (device at : Device) (id : ℕ) (step : Step) → step ≡ Reset at id → touches_device (guards_of step) device ≡ true → Contains (reset_by step) device
+reset_here device at id step is here =
+    let touched : (device == at) ≡ true = sym (ap (λ (s : Step). touches_device (guards_of s) device) is) ∙ here in
+    subst (λ (s : Step). Contains (reset_by s) device) (sym is)
+    (subst (λ (d : Device). Contains (d ∷ []) device) (eqb-true device at touched) (Contains-first device []))
+
+step_keeps_ids : (device : Device) (one : Logged) (old new : Peer) → ¬ Contains (reset_by one.step) device → PeerStep device one old new → Keeps index_id old new
+step_keeps_ids device one old new unreset =
+    step_keeps index_id device one old new
+    (λ here half.
+    ⊎_elim
+    (λ alike. kept_of (λ f. f.1) old new alike)
+    (λ anew. absurd (unreset (reset_here device anew.0 anew.1 one.step anew.2 here)))
+    (half_alike one.step one.failed one.kept one.traffic old new half))
 
 pub replays_keep_sharing_lem : ReplaysKeepSharing
-replays_keep_sharing_lem device old new logged replayed = kept_of (λ f. f.0) old new (replays_alike device old new logged replayed)
+replays_keep_sharing_lem device old new [] same folder = ap (λ (p : Peer). option_map shared_as (get p.replicas folder)) same
+replays_keep_sharing_lem device old new (one ∷ more) (next, step, rest) folder =
+    replays_keep_sharing_lem device next new more rest folder ∙ step_keeps_sharing device one old next step folder
 
 pub replays_keep_ids_lem : ReplaysKeepIds
-replays_keep_ids_lem device old new logged replayed = kept_of (λ f. f.1) old new (replays_alike device old new logged replayed)
+replays_keep_ids_lem device old new [] same unreset folder = ap (λ (p : Peer). option_map index_id (get p.replicas folder)) same
+replays_keep_ids_lem device old new (one ∷ more) (next, step, rest) unreset folder =
+    replays_keep_ids_lem device next new more rest (λ later. unreset (Contains-append_right (reset_by one.step) (reset_in_log more) device later)) folder
+    ∙ step_keeps_ids device one old next (λ now. unreset (Contains-append_left (reset_by one.step) (reset_in_log more) device now)) step folder

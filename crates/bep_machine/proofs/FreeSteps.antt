@@ -14,14 +14,14 @@ use Rattle.bep_model.specs.Laws.{FirmStaysFirm}
 use Rattle.bep_machine.specs.declared.message.Message.{Message}
 use Rattle.bep_machine.specs.declared.message.Message.TheVariants as messages
 use Rattle.bep_machine.specs.declared.step.Step.{Step}
-use Rattle.bep_machine.specs.declared.step.Step.TheVariants.{Edit, Remove, Scan, Override, Revert, Connect, Lose, Begin, Deliver, Announce, StartPull, Ask, Finish, Restart}
+use Rattle.bep_machine.specs.declared.step.Step.TheVariants.{Edit, Remove, Scan, Override, Revert, Connect, Lose, Begin, Deliver, Announce, StartPull, Ask, Finish, Restart, Reset}
 use Rattle.bep_machine.specs.Answer.{Answer, Row}
 use Rattle.bep_machine.specs.Replica.{Replica, own_at}
 use Rattle.bep_machine.specs.Local.{ScanRow}
 use Rattle.bep_machine.specs.Pull.{StartPullRow, FinishRow}
 use Rattle.bep_machine.specs.Peer.{with_replica}
 use Rattle.bep_machine.specs.Cluster.{Config, Cluster, with_peer}
-use Rattle.bep_machine.specs.Steps.{SharesFolder, IsThere, AtReplica, StepRow, IsQuiet}
+use Rattle.bep_machine.specs.Steps.{SharesFolder, IsThere, AtReplica, StepRow, IsQuiet, reset_by}
 use Rattle.bep_machine.specs.Said.{looked_up, replica_said, both_share, flight_when, flights_of, on_its_way, tables_of_cluster}
 use Rattle.bep_machine.specs.Sound.{IsSound, IsSoundReplica}
 use Rattle.bep_machine.specs.Laws.{StepsKeepSound}
@@ -33,7 +33,7 @@ use Rattle.bep_machine.proofs.FreeRows.{scan_is_free, start_pull_is_free, finish
 use Rattle.bep_machine.proofs.LinkSteps.{AreOwn}
 use Rattle.bep_machine.proofs.Places.{each_name_after_insert, each_after_change}
 use Rattle.bep_machine.proofs.ReadingSteps.{SendsOwn, IsReadingStep, nothing_happens, connect_reads, lose_reads, restart_reads, begin_reads, announce_reads, ask_reads, deliver_reads}
-use Rattle.bep_machine.proofs.RunFacts.{quiet_is_sound}
+use Rattle.bep_machine.proofs.RunFacts.{quiet_is_sound, no_reset_parts}
 use Rattle.bep_machine.proofs.SaidReplicas.{said_where_shared}
 
 -- ---- from the parts of a cluster to its tables
@@ -132,43 +132,45 @@ module _ (found : FoundIsOfBatchOrBefore) (among : AmongIsContained) (old new : 
   abbrev IsFree : Type 0
   IsFree = MayBecome (tables_of_cluster old) (tables_of_cluster new)
 
-  row_is_free : (step : Step) → IsQuiet step → IsThere old.config step → StepRow step failed old new answer → IsFree
-  row_is_free (Edit device folder name node) quiet there made = absurd quiet
-  row_is_free (Remove device folder name) quiet there made = absurd quiet
-  row_is_free (Scan device folder name) quiet there made =
+  row_is_free : (step : Step) → IsQuiet step → reset_by step ≡ [] → IsThere old.config step → StepRow step failed old new answer → IsFree
+  row_is_free (Edit device folder name node) quiet unreset there made = absurd quiet
+  row_is_free (Remove device folder name) quiet unreset there made = absurd quiet
+  row_is_free (Scan device folder name) quiet unreset there made =
       replica_is_free old sound new device folder (ScanRow device name failed) answer (λ before after. scan_is_free _ device name failed before after answer) there made
-  row_is_free (Override device folder name) quiet there made = absurd quiet
-  row_is_free (Revert device folder name) quiet there made = absurd quiet
-  row_is_free (Connect one other) quiet there made = reading_is_free old sound among new (connect_reads old new one other answer made)
-  row_is_free (Lose one other) quiet there made = reading_is_free old sound among new (lose_reads old new one other answer made)
-  row_is_free (Begin device other) quiet there made = reading_is_free old sound among new (begin_reads old sound device other there new answer made)
-  row_is_free (Deliver device other) quiet there made = reading_is_free old sound among new (deliver_reads old sound device other there found among failed new answer made)
-  row_is_free (Announce device other folder) quiet there made = reading_is_free old sound among new (announce_reads old sound device other there.0 folder new answer made)
-  row_is_free (StartPull device folder name) quiet there made =
+  row_is_free (Override device folder name) quiet unreset there made = absurd quiet
+  row_is_free (Revert device folder name) quiet unreset there made = absurd quiet
+  row_is_free (Connect one other) quiet unreset there made = reading_is_free old sound among new (connect_reads old new one other answer made)
+  row_is_free (Lose one other) quiet unreset there made = reading_is_free old sound among new (lose_reads old new one other answer made)
+  row_is_free (Begin device other) quiet unreset there made = reading_is_free old sound among new (begin_reads old sound device other there new answer made)
+  row_is_free (Deliver device other) quiet unreset there made = reading_is_free old sound among new (deliver_reads old sound device other there found among failed new answer made)
+  row_is_free (Announce device other folder) quiet unreset there made = reading_is_free old sound among new (announce_reads old sound device other there.0 folder new answer made)
+  row_is_free (StartPull device folder name) quiet unreset there made =
       replica_is_free old sound new device folder (StartPullRow device name) answer (λ before after. start_pull_is_free _ device name before after answer) there made
-  row_is_free (Ask device other folder name) quiet there made = reading_is_free old sound among new (ask_reads old sound device other there.0 folder name new answer made)
-  row_is_free (Finish device folder name) quiet there made =
+  row_is_free (Ask device other folder name) quiet unreset there made = reading_is_free old sound among new (ask_reads old sound device other there.0 folder name new answer made)
+  row_is_free (Finish device folder name) quiet unreset there made =
       replica_is_free old sound new device folder (FinishRow device name failed) answer (λ before after. finish_is_free _ device name failed before after answer) there made
-  row_is_free (Restart device) quiet there made = reading_is_free old sound among new (restart_reads old new device answer made)
+  row_is_free (Restart device) quiet unreset there made = reading_is_free old sound among new (restart_reads old new device answer made)
+  row_is_free (Reset device id) quiet unreset there made = absurd (let none : device ∷ [] ≡ [] = unreset in cc)
 
 pub steps_are_free_lem : FoundIsOfBatchOrBefore → AmongIsContained → StepsAreFree
-steps_are_free_lem found among step failed old new answer quiet sound made =
+steps_are_free_lem found among step failed old new answer quiet unreset sound made =
     step_or_nothing (λ one. MayBecome (tables_of_cluster old) (tables_of_cluster one)) step failed old new answer
     (reading_is_free old sound among old (nothing_happens old))
-    (λ there row. row_is_free found among old new answer failed sound step quiet there row)
+    (λ there row. row_is_free found among old new answer failed sound step quiet unreset there row)
     made
 
 -- ---- runs
 
 pub runs_are_free_lem : StepsKeepSound → StepsAreFree → RunsAreFree
-runs_are_free_lem keep_sound free cluster later [] sound run quiet = ([], ap tables_of_cluster run)
-runs_are_free_lem keep_sound free cluster later (event ∷ more) sound run quiet =
+runs_are_free_lem keep_sound free cluster later [] sound run quiet unreset = ([], ap tables_of_cluster run)
+runs_are_free_lem keep_sound free cluster later (event ∷ more) sound run quiet unreset =
+    let parts = no_reset_parts event more unreset in
     let next = run.0 in
     let sound_next = keep_sound event.step event.failed cluster next event.answer (quiet_is_sound event.step quiet.0) sound run.1 in
-    let rest = runs_are_free_lem keep_sound free next later more sound_next run.2 quiet.1 in
-    (tables_of_cluster next ∷ rest.0, (free event.step event.failed cluster next event.answer quiet.0 sound run.1, rest.1))
+    let rest = runs_are_free_lem keep_sound free next later more sound_next run.2 quiet.1 parts.1 in
+    (tables_of_cluster next ∷ rest.0, (free event.step event.failed cluster next event.answer quiet.0 parts.0 sound run.1, rest.1))
 
 pub firm_stays_put_lem : RunsAreFree → FirmStaysFirm → (tables : Tables) (rows : List CertificateRow) → IsFirm tables rows → FirmStaysPut tables rows
-firm_stays_put_lem free stays tables rows firm cluster later events sound says run quiet =
-    let between = free cluster later events sound run quiet in
+firm_stays_put_lem free stays tables rows firm cluster later events sound says run quiet unreset =
+    let between = free cluster later events sound run quiet unreset in
     stays tables rows firm (tables_of_cluster later) between.0 (subst (λ (t : Tables). IsFreeRun t between.0 (tables_of_cluster later)) says between.1)

@@ -1,5 +1,5 @@
 -- Every step of a cluster keeps each folder in step between each two devices.
-use Rattle.std.proofs.Common.{◌≡◌, ◌≢◌, ◌⊎◌, ◌+◌, ℕ, Bool, true, false, List, [], Option, Some, None, IsSome, Contains, refl, sym, ap, subst, ◌∙◌, inl, inr, ⊎_elim, arith, unwrap_or}
+use Rattle.std.proofs.Common.{◌≡◌, ◌≢◌, ◌⊎◌, ◌≤◌, ◌+◌, ℕ, Bool, true, false, List, [], Option, Some, None, IsSome, Contains, refl, sym, ap, subst, ◌∙◌, inl, inr, ⊎_elim, arith, unwrap_or}
 use Rattle.std.proofs.lemmas.Bool.{cases_eq}
 use Rattle.std.specs.FinMap.{get}
 use Rattle.bep_index.specs.declared.send.Plan.{Plan}
@@ -33,7 +33,7 @@ pub record IsExchanging (cluster : Cluster) : Type 0 where
       Exchanges device other (link_between cluster device other) (cluster.peer device) (cluster.peer other)
   pub epochs : (device other : Device) → Contains cluster.config.devices device → device ≢ other → IsOfEpoch (link_between cluster device other).epoch (get (cluster.peer device).sessions other)
 
-index_of : (cluster : Cluster) → IsSound cluster → (device : Device) → Contains cluster.config.devices device → (folder : Folder) (replica : Replica) → get (cluster.peer device).replicas folder ≡ Some replica → IsIndex replica.index
+pub index_of : (cluster : Cluster) → IsSound cluster → (device : Device) → Contains cluster.config.devices device → (folder : Folder) (replica : Replica) → get (cluster.peer device).replicas folder ≡ Some replica → IsIndex replica.index
 index_of cluster sound device member folder replica there = ((sound.peers device member).replicas folder replica there).index
 
 -- what the folder was before
@@ -251,6 +251,7 @@ grown_between folder up index view cursor named queue back index_now is_index (i
 grown_between folder up index view cursor named queue back index_now is_index (inr (put, same)) between =
     subst (λ (i : Listing). IsBetween folder up i view cursor named queue back) (sym same)
     (record {
+      earlier = between.earlier;
       keeps_up = λ equal. keeps_up_after_put index view put is_index (between.keeps_up equal);
       in_step = λ up_now. in_step_after_put folder index view cursor (IsSome named) queue back put is_index (between.in_step up_now);
     })
@@ -264,15 +265,15 @@ not_yet epoch folder (Some session) is =
     epoch_of None = 0
     epoch_of (Some one) = one.epoch
 
-anew : (folder : Folder) (end : End) (link : Link) (index view : Listing) (sender receiver : Option Session) → IsOfEpoch link.epoch sender → IsOfEpoch link.epoch receiver → (view.id ≡ index.id → HasNoGap index view) → IsPair folder end (connected link) index view sender receiver
-anew folder end link index view sender receiver sends receives keeps =
+anew : (folder : Folder) (end : End) (link : Link) (index view : Listing) (sender receiver : Option Session) → IsOfEpoch link.epoch sender → IsOfEpoch link.epoch receiver → view.id ≤ index.id → (view.id ≡ index.id → HasNoGap index view) → IsPair folder end (connected link) index view sender receiver
+anew folder end link index view sender receiver sends receives earlier keeps =
     subst (λ (cursor : Option Plan). IsBetween folder true index view cursor (cursor_at (link.epoch + 1) folder receiver) (queue_to end (connected link)) (queue_from end (connected link))) (sym (not_yet link.epoch folder sender sends))
     (subst (λ (named : Option Plan). IsBetween folder true index view None named (queue_to end (connected link)) (queue_from end (connected link))) (sym (not_yet link.epoch folder receiver receives))
     (empty_queues end))
   where
     empty_queues : (end : End) → IsBetween folder true index view None None (queue_to end (connected link)) (queue_from end (connected link))
-    empty_queues Lower = between_in_step folder true index view None None [] [] (in_step_anew folder index view (IsSome {T = Plan} None) (λ named. cc) keeps)
-    empty_queues Upper = between_in_step folder true index view None None [] [] (in_step_anew folder index view (IsSome {T = Plan} None) (λ named. cc) keeps)
+    empty_queues Lower = between_in_step folder true index view None None [] [] (in_step_anew folder index view (IsSome {T = Plan} None) (λ named. cc) earlier keeps)
+    empty_queues Upper = between_in_step folder true index view None None [] [] (in_step_anew folder index view (IsSome {T = Plan} None) (λ named. cc) earlier keeps)
 
 moved_pair : (folder : Folder) (end : End) (old new : Link) (index view : Listing) (mine theirs mine_now theirs_now : Option Session) → IsOfEpoch old.epoch mine → IsOfEpoch old.epoch theirs → LinkMove old new mine theirs mine_now theirs_now →
     IsPair folder end old index view theirs mine → IsPair folder end new index view theirs_now mine_now
@@ -281,12 +282,12 @@ moved_pair folder end old new index view mine theirs mine_now theirs_now of_mine
     (subst (λ (s : Option Session). IsPair folder end old index view s mine_now) (sym there)
     (subst (λ (r : Option Session). IsPair folder end old index view theirs r) (sym here) pair))
 moved_pair folder end old new index view mine theirs mine_now theirs_now of_mine of_theirs (GoesDown down) pair =
-    record { keeps_up = pair.keeps_up; in_step = λ up. let never : true ≡ false = sym up ∙ down in absurd (cc) }
+    record { earlier = pair.earlier; keeps_up = pair.keeps_up; in_step = λ up. let never : true ≡ false = sym up ∙ down in absurd (cc) }
 moved_pair folder end old new index view mine theirs mine_now theirs_now of_mine of_theirs (ComesUp same here there) pair =
     subst (λ (l : Link). IsPair folder end l index view theirs_now mine_now) (sym same)
     (subst (λ (s : Option Session). IsPair folder end (connected old) index view s mine_now) (sym there)
     (subst (λ (r : Option Session). IsPair folder end (connected old) index view theirs r) (sym here)
-    (anew folder end old index view theirs mine of_theirs of_mine pair.keeps_up)))
+    (anew folder end old index view theirs mine of_theirs of_mine pair.earlier pair.keeps_up)))
 
 pub loose_exchanging : (old new : Cluster) → IsSound old → IsLooseStep old new → IsExchanging old → IsExchanging new
 loose_exchanging old new sound step exchanging = record {

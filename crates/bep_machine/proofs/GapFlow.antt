@@ -128,9 +128,10 @@ IsFlow folder index start queue None = NoneFlows folder queue
 IsFlow folder index start queue (Some Full) = NoneFlows folder queue
 IsFlow folder index start queue (Some (Above end)) = Flows folder index start queue end × (end ≤ index.sequence)
 
--- the sender's index and cursor, what is on its way to the receiver, the receiver's view, what is on its way back, and
--- that the receiver's session names the folder
+-- the sender's index and cursor, what is on its way to the receiver, the receiver's view, which is of no later index, what
+-- is on its way back, and that the receiver's session names the folder
 pub record IsInStep (folder : Folder) (index view : Listing) (cursor : Option Plan) (Named : Type 0) (queue back : List Message) : Type 0 where
+  pub earlier : view.id ≤ index.id
   pub keeps_up : view.id ≡ index.id → HasNoGap index view
   pub flow : IsFlow folder index (start_of index view) queue cursor
   pub ids : ConfigsSay folder (SaysId index) queue

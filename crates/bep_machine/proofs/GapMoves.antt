@@ -48,6 +48,7 @@ same_id_or_not index view =
 -- it puts a record
 pub in_step_after_put : (folder : Folder) (index view : Listing) (cursor : Option Plan) (Named : Type 0) (queue back : List Message) (put : Entry) → IsIndex index → IsInStep folder index view cursor Named queue back → IsInStep folder (after_put index put) view cursor Named queue back
 in_step_after_put folder index view cursor Named queue back put is_index step = record {
+  earlier = step.earlier;
   keeps_up = λ same. keeps_up_after_put index view put is_index (step.keeps_up same);
   flow = flow cursor step.flow;
   ids = step.ids;
@@ -63,6 +64,7 @@ in_step_after_put folder index view cursor Named queue back put is_index step = 
 -- it sends what isn't of the folder's index
 pub in_step_sending_other : (folder : Folder) (index view : Listing) (cursor : Option Plan) (Named : Type 0) (queue back : List Message) (message : Message) → part_of folder message ≡ Other → ConfigSays folder (SaysId index) message → IsInStep folder index view cursor Named queue back → IsInStep folder index view cursor Named (queue ++ message ∷ []) back
 in_step_sending_other folder index view cursor Named queue back message other says step = record {
+  earlier = step.earlier;
   keeps_up = step.keeps_up;
   flow = flow cursor step.flow;
   ids = configs_say_with folder (SaysId index) queue message says step.ids;
@@ -78,6 +80,7 @@ in_step_sending_other folder index view cursor Named queue back message other sa
 -- it announces the whole index, or what is above its cursor
 pub in_step_sending_whole : (folder : Folder) (index view : Listing) (Named : Type 0) (queue back : List Message) (message : Message) (batch : List Entry) → part_of folder message ≡ Whole batch → ConfigSays folder (SaysId index) message → IsSent index 0 batch → IsInStep folder index view (Some Full) Named queue back → IsInStep folder index view (Some (Above (last_sequence 0 batch))) Named (queue ++ message ∷ []) back
 in_step_sending_whole folder index view Named queue back message batch whole says sent step = record {
+  earlier = step.earlier;
   keeps_up = step.keeps_up;
   flow = (flows_with_whole folder index (start_of index view) queue message batch whole sent step.flow, sent.behind);
   ids = configs_say_with folder (SaysId index) queue message says step.ids;
@@ -87,6 +90,7 @@ in_step_sending_whole folder index view Named queue back message batch whole say
 
 pub in_step_sending_further : (folder : Folder) (index view : Listing) (end : ℕ) (Named : Type 0) (queue back : List Message) (message : Message) (batch : List Entry) → part_of folder message ≡ Further batch → ConfigSays folder (SaysId index) message → IsSent index end batch → IsInStep folder index view (Some (Above end)) Named queue back → IsInStep folder index view (Some (Above (last_sequence end batch))) Named (queue ++ message ∷ []) back
 in_step_sending_further folder index view end Named queue back message batch further says sent step = record {
+  earlier = step.earlier;
   keeps_up = step.keeps_up;
   flow = (flows_with_further folder index (start_of index view) queue end message batch further sent step.flow.0, sent.behind);
   ids = configs_say_with folder (SaysId index) queue message says step.ids;
@@ -97,6 +101,7 @@ in_step_sending_further folder index view end Named queue back message batch fur
 -- it takes the receiver's ClusterConfig, which tells its cursor
 pub in_step_with_cursor : (folder : Folder) (index view : Listing) (Named : Type 0) (queue back : List Message) (one : Announced) → SaysPoint index view one → IsInStep folder index view None Named queue back → IsInStep folder index view (Some (cursor_after index one.known_id one.known_sequence)) Named queue back
 in_step_with_cursor folder index view Named queue back one says step = record {
+  earlier = step.earlier;
   keeps_up = step.keeps_up;
   flow = flow ((index.id == one.known_id) && (nat_le 1 one.known_sequence && nat_le one.known_sequence index.sequence)) refl;
   ids = step.ids;
@@ -115,6 +120,7 @@ in_step_with_cursor folder index view Named queue back one says step = record {
 -- it takes another message
 pub in_step_less_back : (folder : Folder) (index view : Listing) (cursor : Option Plan) (Named : Type 0) (queue : List Message) (first : Message) (back : List Message) → IsInStep folder index view cursor Named queue (first ∷ back) → IsInStep folder index view cursor Named queue back
 in_step_less_back folder index view cursor Named queue first back step = record {
+  earlier = step.earlier;
   keeps_up = step.keeps_up;
   flow = step.flow;
   ids = step.ids;
@@ -127,6 +133,7 @@ in_step_less_back folder index view cursor Named queue first back step = record 
 -- it sends a message, which tells its point if it is a ClusterConfig
 pub in_step_more_back : (folder : Folder) (index view : Listing) (cursor : Option Plan) (Named : Type 0) (queue back : List Message) (message : Message) → ConfigSays folder (SaysPoint index view) message → IsInStep folder index view cursor Named queue back → IsInStep folder index view cursor Named queue (back ++ message ∷ [])
 in_step_more_back folder index view cursor Named queue back message says step = record {
+  earlier = step.earlier;
   keeps_up = step.keeps_up;
   flow = step.flow;
   ids = step.ids;
@@ -144,6 +151,7 @@ rest_of_flow folder index start first queue (Some (Above end)) other flows =
 -- it takes what isn't of the folder's index, and keeps its view
 pub in_step_taking_other : (folder : Folder) (index view : Listing) (cursor : Option Plan) (Named : Type 0) (first : Message) (queue back : List Message) → part_of folder first ≡ Other → IsInStep folder index view cursor Named (first ∷ queue) back → IsInStep folder index view cursor Named queue back
 in_step_taking_other folder index view cursor Named first queue back other step = record {
+  earlier = step.earlier;
   keeps_up = step.keeps_up;
   flow = rest_of_flow folder index (start_of index view) first queue cursor other step.flow;
   ids = step.ids.1;
@@ -193,6 +201,7 @@ flow_from_nowhere folder index start queue (Some (Above end)) flows = (from_nowh
 -- it takes a ClusterConfig that tells another id than that of its view
 pub in_step_cleared : (folder : Folder) (index view : Listing) (cursor : Option Plan) (Named Later : Type 0) (first : Message) (queue back : List Message) → part_of folder first ≡ Other → view.id ≢ index.id → IsIndex index → IsInStep folder index view cursor Named (first ∷ queue) back → IsInStep folder index (cleared index.id) cursor Later queue back
 in_step_cleared folder index view cursor Named Later first queue back other apart is_index step = record {
+  earlier = omega arith;
   keeps_up = λ same. nothing_known index view apart is_index;
   flow =
       flow_from_nowhere folder index (start_of index (cleared index.id)) queue cursor
@@ -206,6 +215,7 @@ in_step_cleared folder index view cursor Named Later first queue back other apar
 -- the session names it, or doesn't, where the view is of this index
 pub in_step_named : (folder : Folder) (index view : Listing) (cursor : Option Plan) (Named Later : Type 0) (queue back : List Message) → (Later → view.id ≡ index.id) → IsInStep folder index view cursor Named queue back → IsInStep folder index view cursor Later queue back
 in_step_named folder index view cursor Named Later queue back named step = record {
+  earlier = step.earlier;
   keeps_up = step.keeps_up;
   flow = step.flow;
   ids = step.ids;
@@ -214,8 +224,9 @@ in_step_named folder index view cursor Named Later queue back named step = recor
 }
 
 -- nothing is on its way, and no session was begun
-pub in_step_anew : (folder : Folder) (index view : Listing) (Named : Type 0) → (¬ Named) → (view.id ≡ index.id → HasNoGap index view) → IsInStep folder index view None Named [] []
-in_step_anew folder index view Named never keeps = record {
+pub in_step_anew : (folder : Folder) (index view : Listing) (Named : Type 0) → (¬ Named) → view.id ≤ index.id → (view.id ≡ index.id → HasNoGap index view) → IsInStep folder index view None Named [] []
+in_step_anew folder index view Named never earlier keeps = record {
+  earlier = earlier;
   keeps_up = keeps;
   flow = tt;
   ids = tt;
@@ -248,6 +259,7 @@ module _ (found : FoundIsOfBatchOrBefore) (taken : BatchIsFound) (others : Other
       let same = step.named named in
       let comes = whole_taken folder index first queue batch (start_of index view) cursor whole step.flow in
       record {
+        earlier = step.earlier;
         keeps_up = λ _. keeps_up_when_replaced found taken others index view batch is_index comes.0;
         flow = subst (λ (start : Option ℕ). IsFlow folder index start queue cursor) (sym (same_id index (replaced view batch) same)) comes.1;
         ids = step.ids.1;
@@ -262,6 +274,7 @@ module _ (found : FoundIsOfBatchOrBefore) (taken : BatchIsFound) (others : Other
       let comes = further_taken folder index first queue batch view.sequence cursor further
       (subst (λ (start : Option ℕ). IsFlow folder index start (first ∷ queue) cursor) (same_id index view same) step.flow) in
       record {
+        earlier = step.earlier;
         keeps_up = λ _. keeps_up_when_amended found taken others index view batch is_index (step.keeps_up same) comes.0;
         flow = subst (λ (start : Option ℕ). IsFlow folder index start queue cursor) (sym (same_id index (amended view batch) same)) comes.1;
         ids = step.ids.1;

@@ -21,17 +21,18 @@ abbrev pub cursor_at : ℕ → Folder → Option Session → Option Plan
 cursor_at epoch folder None = None
 cursor_at epoch folder (Some session) = if session.epoch == epoch then get session.cursors folder else None
 
--- One folder, from a sender to a receiver: the view doesn't get ahead of the index, and while the link is up the two are
--- in step. The sender's cursor and the receiver's are those of the sessions of this epoch.
+-- One folder, from a sender to a receiver: the view is of no later index, it doesn't get ahead of the index, and while the
+-- link is up the two are in step. The sender's cursor and the receiver's are those of the sessions of this epoch.
 pub record IsBetween (folder : Folder) (up : Bool) (index view : Listing) (cursor named : Option Plan) (queue back : List Message) : Type 0 where
+  pub earlier : view.id ≤ index.id
   pub keeps_up : view.id ≡ index.id → HasNoGap index view
   pub in_step : up ≡ true → IsInStep folder index view cursor (IsSome named) queue back
 
 pub between_in_step : (folder : Folder) (up : Bool) (index view : Listing) (cursor named : Option Plan) (queue back : List Message) → IsInStep folder index view cursor (IsSome named) queue back → IsBetween folder up index view cursor named queue back
-between_in_step folder up index view cursor named queue back step = record { keeps_up = step.keeps_up; in_step = λ _. step }
+between_in_step folder up index view cursor named queue back step = record { earlier = step.earlier; keeps_up = step.keeps_up; in_step = λ _. step }
 
-pub between_down : (folder : Folder) (index view : Listing) (cursor named : Option Plan) (queue back : List Message) → (view.id ≡ index.id → HasNoGap index view) → IsBetween folder false index view cursor named queue back
-between_down folder index view cursor named queue back keeps = record { keeps_up = keeps; in_step = λ up. absurd (cc) }
+pub between_down : (folder : Folder) (index view : Listing) (cursor named : Option Plan) (queue back : List Message) → view.id ≤ index.id → (view.id ≡ index.id → HasNoGap index view) → IsBetween folder false index view cursor named queue back
+between_down folder index view cursor named queue back earlier keeps = record { earlier = earlier; keeps_up = keeps; in_step = λ up. absurd (cc) }
 
 -- ---- the link after a deed
 
@@ -118,8 +119,8 @@ module _ (other : Device) (up : Bool) (epoch : ℕ) (queue back : List Message) 
     folders = λ folder. of_same _ (get old.replicas folder) (λ replica here. record {
       same_index = refl;
       views = λ third apart. refl;
-      receives = λ index theirs is_index between. between_down folder index (view_of replica other) theirs _ [] [] between.keeps_up;
-      sends = λ view theirs between. between_down folder replica.index view _ theirs [] [] between.keeps_up;
+      receives = λ index theirs is_index between. between_down folder index (view_of replica other) theirs _ [] [] between.earlier between.keeps_up;
+      sends = λ view theirs between. between_down folder replica.index view _ theirs [] [] between.earlier between.keeps_up;
     });
     sessions = λ third apart. refl;
     epochs = λ is. is;

@@ -34,6 +34,10 @@ shares_with_other cluster sound device other folder replica others member member
 apart_exchanging : (cluster : Cluster) → IsSound cluster → IsApart cluster → IsExchanging cluster
 apart_exchanging cluster sound parted = record {
   between = λ device other member member_too apart folder replica others there there_too. record {
+    earlier =
+        let fit = (sound.peers device member).fit folder replica there in
+        parted.earlier device other folder replica others (replica.kind, fit.kind) there there_too
+        (shares_with_other cluster sound device other folder replica others member member_too apart there there_too);
     keeps_up = λ same.
         let fit = (sound.peers device member).fit folder replica there in
         parted.gapless device other folder replica others (replica.kind, fit.kind) there there_too
@@ -58,6 +62,9 @@ fresh_is_apart cluster sound fresh = record {
       let beside = (((sound.peers device (sound.config.sharing folder device shares)).fit folder replica there).others other).0 among in
       let id = ((sound.peers other (sound.config.sharing folder other beside.1)).replicas folder others there_too).id in
       absurd (omega (arith, known, id, same));
+  earlier = λ device other folder replica others shares there there_too among.
+      let known = ap (λ (view : Listing). view.id) (fresh.views device other folder replica there) in
+      omega (arith, known);
   sessions = λ device other session is. nothing_in_empty nat_cmp other session (subst (λ s. get s other ≡ Some session) (fresh.sessions device) is);
   links = fresh.links;
 }

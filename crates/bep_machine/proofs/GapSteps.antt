@@ -1,14 +1,13 @@
 -- Each step of a cluster keeps each folder in step between each two devices.
-use Rattle.std.proofs.Common.{◌≡◌, ◌≢◌, ◌⊎◌, ◌≤◌, ◌+◌, ◌==◌, ◌&&◌, ◌||◌, ℕ, Bool, true, false, nat_lt, Option, Some, None, if◌then◌else◌, refl, sym, ap, subst, ◌∙◌, inl, inr, ⊎_elim, arith, eqb-true, option_map}
+use Rattle.std.proofs.Common.{◌≡◌, ◌≢◌, ◌⊎◌, ◌≤◌, ◌+◌, ◌==◌, ◌&&◌, ℕ, Bool, true, false, nat_lt, Option, Some, None, if◌then◌else◌, refl, sym, ap, subst, ◌∙◌, inl, inr, ⊎_elim, arith, eqb-true, option_map}
 use Rattle.std.proofs.lemmas.Bool.{cases_eq}
-use Rattle.std.proofs.lemmas.Bool.Decides.{nat_tests}
 use Rattle.std.specs.Ordering.{nat_cmp}
 use Rattle.std.specs.Cmp.Lexicographic.{nat_list_cmp_total}
 use Rattle.std.specs.FinMap.{get, get-empty}
 use Rattle.bep_index.specs.Laws.{FoundIsOfBatchOrBefore, BatchIsFound, OthersAreKept}
 use Rattle.bep_model.specs.Tables.{Device, Folder}
 use Rattle.bep_machine.specs.declared.step.Step.{Step}
-use Rattle.bep_machine.specs.declared.step.Step.TheVariants.{Edit, Remove, Scan, Override, Revert, Connect, Lose, Begin, Deliver, Announce, StartPull, Ask, Finish, Restart}
+use Rattle.bep_machine.specs.declared.step.Step.TheVariants.{Edit, Remove, Scan, Override, Revert, Connect, Lose, Begin, Deliver, Announce, StartPull, Ask, Finish, Restart, Reset}
 use Rattle.bep_machine.specs.Answer.{Answer, Row}
 use Rattle.bep_machine.specs.Replica.{Replica}
 use Rattle.bep_machine.specs.Local.{EditRow, RemoveRow, ScanRow, OverrideRow, RevertRow}
@@ -26,6 +25,7 @@ use Rattle.bep_machine.proofs.GapSend.{begin_keeps, announce_keeps, ask_keeps}
 use Rattle.bep_machine.proofs.GapTake.{deliver_keeps}
 use Rattle.bep_machine.proofs.GapRows.{IsGrown, nothing_grown, RowGrows, edit_grows, remove_grows, scan_grows, override_grows, revert_grows, start_pull_grows, finish_grows}
 use Rattle.bep_machine.proofs.GapLinks.{peer_here, peer_apart}
+use Rattle.bep_machine.proofs.GapReset.{LinksOfLost, links_of_lost, reset_step}
 use Rattle.bep_machine.proofs.GapCluster.{IsExchanging, LinkMove, Stays, GoesDown, ComesUp, IsLooseStep, acted_exchanging, loose_exchanging}
 
 all_grown : (found : Option Replica) → OfBoth IsGrown found found
@@ -118,6 +118,9 @@ restart_step device old new answer sound exchanging made =
     after : Cluster
     after = without_links (with_peer old device (restarted (old.peer device))) device
 
+    links : (one other : Device) → LinksOfLost device old after one other
+    links = links_of_lost device old (restarted (old.peer device))
+
     grown : (found : Option Replica) → OfBoth IsGrown found (option_map without_pulls found)
     grown None = tt
     grown (Some replica) = record { views = refl; index = inl refl }
@@ -127,48 +130,6 @@ restart_step device old new answer sound exchanging made =
 
     peer_now : after.peer device ≡ restarted (old.peer device)
     peer_now = peer_here old device (restarted (old.peer device))
-
-    links : (one other : Device) → ((one ≡ device) ⊎ (other ≡ device) → (link_between after one other).up ≡ false) × ((¬ (one ≡ device)) → (¬ (other ≡ device)) → link_between after one other ≡ link_between old one other) × ((link_between after one other).epoch ≡ (link_between old one other).epoch)
-    links one other = (
-      (λ touched. down_between touched (nat_lt one other)),
-      (λ not_one not_other. still_between not_one not_other (nat_lt one other)),
-      epoch_between (nat_lt one other),
-    )
-      where
-        down : (a b : Device) → (a ≡ device) ⊎ (b ≡ device) → (after.link a b).up ≡ false
-        down a b touched = cases (a == device) (b == device) refl refl
-          where
-            cases : (p q : Bool) → (a == device) ≡ p → (b == device) ≡ q → (if p || q then lost (old.link a b) else old.link a b).up ≡ false
-            cases true q e f = refl
-            cases false true e f = refl
-            cases false false e f = absurd (⊎_elim (λ same. grind (arith, nat_tests)) (λ same. grind (arith, nat_tests)) touched)
-
-        still : (a b : Device) → ¬ (a ≡ device) → ¬ (b ≡ device) → after.link a b ≡ old.link a b
-        still a b not_a not_b = cases (a == device) (b == device) refl refl
-          where
-            cases : (p q : Bool) → (a == device) ≡ p → (b == device) ≡ q → (if p || q then lost (old.link a b) else old.link a b) ≡ old.link a b
-            cases true q e f = absurd (not_a (eqb-true a device e))
-            cases false true e f = absurd (not_b (eqb-true b device f))
-            cases false false e f = refl
-
-        epoch : (a b : Device) → (after.link a b).epoch ≡ (old.link a b).epoch
-        epoch a b = cases ((a == device) || (b == device))
-          where
-            cases : (p : Bool) → (if p then lost (old.link a b) else old.link a b).epoch ≡ (old.link a b).epoch
-            cases true = refl
-            cases false = refl
-
-        down_between : (one ≡ device) ⊎ (other ≡ device) → (b : Bool) → (if b then after.link one other else after.link other one).up ≡ false
-        down_between touched true = down one other touched
-        down_between touched false = down other one (⊎_elim (λ e. inr e) (λ e. inl e) touched)
-
-        still_between : ¬ (one ≡ device) → ¬ (other ≡ device) → (b : Bool) → (if b then after.link one other else after.link other one) ≡ (if b then old.link one other else old.link other one)
-        still_between not_one not_other true = still one other not_one not_other
-        still_between not_one not_other false = still other one not_other not_one
-
-        epoch_between : (b : Bool) → (if b then after.link one other else after.link other one).epoch ≡ (if b then old.link one other else old.link other one).epoch
-        epoch_between true = epoch one other
-        epoch_between false = epoch other one
 
     step : IsLooseStep old after
     step = record {
@@ -231,6 +192,7 @@ module _ (found : FoundIsOfBatchOrBefore) (taken : BatchIsFound) (others : Other
       (λ acted peer made. ask_keeps other _ _ _ _ _ (old.peer device) acted answer folder name made) row
   row_exchanging (Finish device folder name) failed old new answer sound exchanging row = replica_step device folder (FinishRow device name failed) (finish_grows device name failed) old new answer sound exchanging row
   row_exchanging (Restart device) failed old new answer sound exchanging row = restart_step device old new answer sound exchanging row
+  row_exchanging (Reset device id) failed old new answer sound exchanging row = reset_step device id old new answer sound exchanging row
 
   pub step_exchanging : (step : Step) (failed : Option ℕ) (old new : Cluster) (answer : Answer) → IsSound old → IsExchanging old → IsStep step failed old new answer → IsExchanging new
   step_exchanging step failed old new answer sound exchanging (inl (grows, same)) = subst IsExchanging (sym same.0) exchanging

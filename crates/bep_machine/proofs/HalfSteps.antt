@@ -8,7 +8,7 @@ use Rattle.std.proofs.lemmas.Option.{same_Some}
 use Rattle.bep_facts.specs.Maps.{get-insert_here}
 use Rattle.bep_model.specs.Tables.{Device, Folder}
 use Rattle.bep_machine.specs.declared.step.Step.{Step}
-use Rattle.bep_machine.specs.declared.step.Step.TheVariants.{Edit, Remove, Scan, Override, Revert, Connect, Lose, Begin, Deliver, Announce, StartPull, Ask, Finish, Restart}
+use Rattle.bep_machine.specs.declared.step.Step.TheVariants.{Edit, Remove, Scan, Override, Revert, Connect, Lose, Begin, Deliver, Announce, StartPull, Ask, Finish, Restart, Reset}
 use Rattle.bep_machine.specs.declared.moved.Moved.TheVariants.{Changed}
 use Rattle.bep_machine.specs.Answer.{Answer, Done, Refused, OutOfMemory, Row}
 use Rattle.bep_machine.specs.Replica.{Replica}
@@ -18,7 +18,7 @@ use Rattle.bep_machine.specs.Link.{Link, End, Lower, Upper, Sight, lost, sight_o
 use Rattle.bep_machine.specs.Peer.{Peer, Acted, with_replica}
 use Rattle.bep_machine.specs.Exchange.{BeginRow, DeliverRow, AnnounceRow, AskRow}
 use Rattle.bep_machine.specs.Cluster.{Cluster, with_link, with_peer, without_links}
-use Rattle.bep_machine.specs.Steps.{AtReplica, OverLink, AtLink, ConnectRow, LoseRow, RestartRow, restarted, StepRow}
+use Rattle.bep_machine.specs.Steps.{AtReplica, OverLink, AtLink, ConnectRow, LoseRow, RestartRow, restarted, HasIdFrom, ResetRow, reset_to, StepRow}
 use Rattle.bep_machine.specs.declared.logged.Traffic.{Traffic}
 use Rattle.bep_machine.specs.Halves.{has_answered, kept_told, failed_told, IsDone, SaysNoMore, deed_told, Ends, InFolder, ByTraffic, Carries, OnlyIf}
 use Rattle.bep_machine.specs.HalfLaws.{IsMadeBy, HalvesMakeTheStep}
@@ -174,6 +174,14 @@ module _ (old new : Cluster) (config : new.config ≡ old.config) (Says : Type 0
 
   -- ---- a device with its links
 
+  links_lost : (device : Device) → ((a b : Device) → OnlyIf ((a == device) || (b == device)) (Says × (new.link a b ≡ lost (old.link a b))) (old.link a b) (new.link a b))
+      → (a b : Device) → new.link a b ≡ (if (a == device) || (b == device) then lost (old.link a b) else old.link a b)
+  links_lost device links a b = cases ((a == device) || (b == device)) (links a b)
+    where
+      cases : (t : Bool) → OnlyIf t (Says × (new.link a b ≡ lost (old.link a b))) (old.link a b) (new.link a b) → new.link a b ≡ (if t then lost (old.link a b) else old.link a b)
+      cases true step = step.1
+      cases false step = step
+
   of_restart : (device : Device)
       → ((one : Device) → OnlyIf (one == device) (Says × (new.peer one ≡ restarted (old.peer one))) (old.peer one) (new.peer one))
       → ((a b : Device) → OnlyIf ((a == device) || (b == device)) (Says × (new.link a b ≡ lost (old.link a b))) (old.link a b) (new.link a b))
@@ -184,16 +192,32 @@ module _ (old new : Cluster) (config : new.config ≡ old.config) (Says : Type 0
         (
           same_cluster new (without_links (with_peer old device (restarted (old.peer device))) device) config
               (other_devices old new device (λ one. Says × (new.peer one ≡ restarted (old.peer one))) peers (restarted (old.peer device)) both.1)
-              (λ a b. cases a b ((a == device) || (b == device)) (links a b)),
+              (links_lost device links),
           refl,
         ),
         both.0,
         tt,
       )
-    where
-      cases : (a b : Device) (t : Bool) → OnlyIf t (Says × (new.link a b ≡ lost (old.link a b))) (old.link a b) (new.link a b) → new.link a b ≡ (if t then lost (old.link a b) else old.link a b)
-      cases a b true step = step.1
-      cases a b false step = step
+
+  of_reset : (device : Device) (id : ℕ)
+      → ((one : Device) → OnlyIf (one == device) (Says × ((¬ HasIdFrom id (old.peer one)) × (new.peer one ≡ reset_to id (old.peer one)))) (old.peer one) (new.peer one))
+      → ((a b : Device) → OnlyIf ((a == device) || (b == device)) (Says × (new.link a b ≡ lost (old.link a b))) (old.link a b) (new.link a b))
+      → (answer : Answer) × ResetRow device id old new answer × Says × IsDone answer
+  of_reset device id peers links =
+      let both = at_device old new device (λ one. Says × ((¬ HasIdFrom id (old.peer one)) × (new.peer one ≡ reset_to id (old.peer one)))) peers in (
+        Done Changed,
+        inr (
+          both.1.0,
+          (
+            same_cluster new (without_links (with_peer old device (reset_to id (old.peer device))) device) config
+                (other_devices old new device (λ one. Says × ((¬ HasIdFrom id (old.peer one)) × (new.peer one ≡ reset_to id (old.peer one)))) peers (reset_to id (old.peer device)) both.1.1)
+                (links_lost device links),
+            refl,
+          ),
+        ),
+        both.0,
+        tt,
+      )
 
 -- ---- every step
 
@@ -213,6 +237,7 @@ says_call (StartPull device folder name) failed kept traffic says = says.0
 says_call (Ask device other folder name) failed kept traffic says = says.0
 says_call (Finish device folder name) failed kept traffic says = may_fail_told kept 4 failed says.0
 says_call (Restart device) failed kept traffic says = says.0
+says_call (Reset device id) failed kept traffic says = says.0
 
 -- what an event makes of a cluster
 abbrev Makes : Step → Option ℕ → Bool → Option Traffic → Cluster → Cluster → Type 0
@@ -253,6 +278,9 @@ halves_make_row (Finish device folder name) failed kept traffic old new made = i
 halves_make_row (Restart device) failed kept traffic old new made =
     done_makes (Restart device) failed kept traffic old new (λ says. says.1)
     (of_restart old new made.config (SaysNoMore (Restart device) failed kept traffic) device made.peers made.links)
+halves_make_row (Reset device id) failed kept traffic old new made =
+    done_makes (Reset device id) failed kept traffic old new (λ says. says.1)
+    (of_reset old new made.config (SaysNoMore (Reset device id) failed kept traffic) device id made.peers made.links)
 
 pub halves_make_the_step_lem : HalvesMakeTheStep
 halves_make_the_step_lem one old new there made =

@@ -37,11 +37,13 @@ mod SaidReplicas
 mod Arrivals
 mod ReadingSteps
 mod ThereDecided
+mod CalmReset
 pub mod CalmStep
 mod FoundAfter
 mod FoldersKept
 mod PeerKept
 mod RestartKept
+mod ResetKept
 mod LinkKept
 mod ActedKept
 mod BeginKept
@@ -75,6 +77,7 @@ mod GapTake
 mod GapRows
 mod GapLinks
 mod GapCluster
+mod GapReset
 mod GapSteps
 mod GapRun
 mod KeptFiles

@@ -5,7 +5,7 @@ use Rattle.std.specs.FinMap.{get}
 use Rattle.bep_record.specs.Laws.{MergeIsUnique, BumpIsUnique}
 use Rattle.bep_model.specs.Tables.{Device, Folder}
 use Rattle.bep_machine.specs.declared.step.Step.{Step}
-use Rattle.bep_machine.specs.declared.step.Step.TheVariants.{Edit, Remove, Scan, Override, Revert, Connect, Lose, Begin, Deliver, Announce, StartPull, Ask, Finish, Restart}
+use Rattle.bep_machine.specs.declared.step.Step.TheVariants.{Edit, Remove, Scan, Override, Revert, Connect, Lose, Begin, Deliver, Announce, StartPull, Ask, Finish, Restart, Reset}
 use Rattle.bep_machine.specs.Answer.{Row}
 use Rattle.bep_machine.specs.Replica.{Replica}
 use Rattle.bep_machine.specs.Local.{EditRow, RemoveRow, ScanRow, OverrideRow, RevertRow}
@@ -14,7 +14,7 @@ use Rattle.bep_machine.specs.Link.{Link, Sight, end_of, sight_of, after_deed}
 use Rattle.bep_machine.specs.Peer.{Peer, Acted, with_replica}
 use Rattle.bep_machine.specs.Exchange.{BeginRow, DeliverRow, AnnounceRow, AskRow}
 use Rattle.bep_machine.specs.Cluster.{Cluster, link_between, with_link, with_link_between, with_peer}
-use Rattle.bep_machine.specs.Steps.{SharesFolder, IsThere, AtReplica, OverLink, AtLink, ConnectRow, LoseRow, RestartRow, StepRow}
+use Rattle.bep_machine.specs.Steps.{SharesFolder, IsThere, AtReplica, OverLink, AtLink, ConnectRow, LoseRow, RestartRow, ResetRow, StepRow}
 use Rattle.bep_machine.specs.Sound.{IsSound}
 use Rattle.bep_machine.specs.Determined.{StepsAreDetermined}
 use Rattle.bep_machine.proofs.ThereDecided.{there_decided}
@@ -52,10 +52,13 @@ connect_one_outcome old one other answer reply row again = same_or row again (λ
 lose_one_outcome : (old : Link) → HasOneOutcome (LoseRow old)
 lose_one_outcome old one other answer reply row again = same_or row again (λ made too. same_made made too)
 
--- ---- restart
+-- ---- restart and reset
 
 restart_one_outcome : (device : Device) (old : Cluster) → HasOneOutcome (RestartRow device old)
 restart_one_outcome device old one other answer reply row again = same_made row again
+
+reset_one_outcome : (device : Device) (id : ℕ) (old : Cluster) → HasOneOutcome (ResetRow device id old)
+reset_one_outcome device id old one other answer reply row again = same_or row again (λ made too. same_made made too)
 
 -- ---- the whole
 
@@ -83,6 +86,7 @@ module _ (choice : ChoiceIsUnique) (merge : MergeIsUnique) (bump : BumpIsUnique)
   row_one_outcome (Ask device other folder name) failed old sound there = over_link old device other (AskRow other folder name) (ask_one_outcome other folder name)
   row_one_outcome (Finish device folder name) failed old sound there = at_replica old device folder (FinishRow device name failed) (λ before is. finish_one_outcome merge device name failed before)
   row_one_outcome (Restart device) failed old sound there = restart_one_outcome device old
+  row_one_outcome (Reset device id) failed old sound there = reset_one_outcome device id old
 
   pub steps_are_determined_lem : StepsAreDetermined
   steps_are_determined_lem step failed old one other answer reply sound (inl grows) again enough enough_too = absurd (enough grows.1.1)

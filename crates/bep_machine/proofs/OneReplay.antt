@@ -6,7 +6,7 @@ use Rattle.bep_record.specs.declared.folder_kind.FolderKind.{FolderKind}
 use Rattle.bep_record.specs.Laws.{MergeIsUnique, BumpIsUnique}
 use Rattle.bep_model.specs.Tables.{Device, Folder, FileName}
 use Rattle.bep_machine.specs.declared.step.Step.{Step}
-use Rattle.bep_machine.specs.declared.step.Step.TheVariants.{Edit, Remove, Scan, Override, Revert, Connect, Lose, Begin, Deliver, Announce, StartPull, Ask, Finish, Restart}
+use Rattle.bep_machine.specs.declared.step.Step.TheVariants.{Edit, Remove, Scan, Override, Revert, Connect, Lose, Begin, Deliver, Announce, StartPull, Ask, Finish, Restart, Reset}
 use Rattle.bep_machine.specs.Answer.{Answer, Done, OutOfMemory, Row}
 use Rattle.bep_machine.specs.Replica.{Replica, own_at, node_at, with_node}
 use Rattle.bep_machine.specs.Local.{EditRow, RemoveRow, ScanRow, OverrideRow, RevertRow}
@@ -110,6 +110,7 @@ module _ (choice : ChoiceIsUnique) (merge : MergeIsUnique) (bump : BumpIsUnique)
       ended false before = done_end (FinishRow at name failed) before (finish_one_outcome merge at name failed before)
       ended true before = copy_end at name failed before
   half_once device (Restart at) failed kept traffic old one other apart here says = λ made too. made ∙ sym too
+  half_once device (Reset at id) failed kept traffic old one other apart here says = λ made too. made.1 ∙ sym too.1
 
   device_once : (device : Device) (event : Logged) (old one other : Peer) → SharesWithOthers device old → PeerStep device event old one → PeerStep device event old other → one ≡ other
   device_once device event old one other apart = cases (touches_device (guards_of event.step) device) refl
@@ -148,6 +149,7 @@ link_once (StartPull device folder name) traffic old one other = λ half. absurd
 link_once (Ask device with folder name) traffic old one other = carries_once (end_of device with) traffic old one other
 link_once (Finish device folder name) traffic old one other = λ half. absurd half
 link_once (Restart device) traffic old one other = λ made too. made ∙ sym too
+link_once (Reset device id) traffic old one other = λ made too. made ∙ sym too
 
 link_step_once : (lower upper : Device) (event : Logged) (old one other : Link) → LinkStep lower upper event old one → LinkStep lower upper event old other → one ≡ other
 link_step_once lower upper event old one other = cases (touches_link (guards_of event.step) lower upper)

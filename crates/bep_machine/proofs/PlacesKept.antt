@@ -1,16 +1,17 @@
 -- A step that changes one replica, or what one device does over one link, keeps a cluster sound where its row does.
-use Rattle.std.proofs.Common.{Contains, sym, subst, inl, inr}
+use Rattle.std.proofs.Common.{Contains, ℕ, sym, subst, inl, inr}
 use Rattle.bep_model.specs.Tables.{Device, Folder}
 use Rattle.bep_machine.specs.Answer.{Answer, Row}
 use Rattle.bep_machine.specs.Replica.{Replica}
 use Rattle.bep_machine.specs.Link.{Link, Sight, end_of, sight_of, after_deed}
 use Rattle.bep_machine.specs.Peer.{Peer, Acted, with_replica}
 use Rattle.bep_machine.specs.Cluster.{Cluster, link_between, with_peer}
-use Rattle.bep_machine.specs.Steps.{AreLinked, AtReplica, OverLink, AtLink, ConnectRow, LoseRow, RestartRow, restarted}
+use Rattle.bep_machine.specs.Steps.{AreLinked, AtReplica, OverLink, AtLink, ConnectRow, LoseRow, RestartRow, restarted, ResetRow, reset_to}
 use Rattle.bep_machine.specs.Sound.{IsSoundReplica, IsSoundPeer, IsSoundLink, IsSound}
 use Rattle.bep_machine.proofs.SoundParts.{SoundChange}
 use Rattle.bep_machine.proofs.PeerKept.{sound_with_replica}
 use Rattle.bep_machine.proofs.RestartKept.{sound_after_restart}
+use Rattle.bep_machine.proofs.ResetKept.{sound_after_reset}
 use Rattle.bep_machine.proofs.LinkKept.{sound_connected, sound_lost, sound_after_deed, waiting_is_sound}
 use Rattle.bep_machine.proofs.ActedKept.{SoundActed, KeepsPeer}
 use Rattle.bep_machine.proofs.ClusterKept.{sound_with_peer, sound_with_link, sound_with_link_between, sound_without_links, linked_is_sound}
@@ -61,10 +62,17 @@ module _ (one other : Device) (old new : Cluster) (answer : Answer) (sound : IsS
   losing_keeps (after, made, same) =
       subst (λ c. IsSound c) (sym same) (sound_with_link old one other after sound (λ member. lose_keeps (old.link one other) after answer (sound.links one other member) made))
 
--- ---- restart
+-- ---- restart and reset
 
 pub restart_keeps : (device : Device) (old new : Cluster) (answer : Answer) → IsSound old → RestartRow device old new answer → IsSound new
 restart_keeps device old new answer sound made =
     subst (λ c. IsSound c) (sym made.0)
     (sound_without_links (with_peer old device (restarted (old.peer device))) device
     (sound_with_peer old device (restarted (old.peer device)) sound (λ member. sound_after_restart old.config device (old.peer device) (sound.peers device member))))
+
+pub reset_keeps : (device : Device) (id : ℕ) (old new : Cluster) (answer : Answer) → IsSound old → ResetRow device id old new answer → IsSound new
+reset_keeps device id old new answer sound (inl refused) = subst (λ c. IsSound c) (sym refused.1.0) sound
+reset_keeps device id old new answer sound (inr (above, made)) =
+    subst (λ c. IsSound c) (sym made.0)
+    (sound_without_links (with_peer old device (reset_to id (old.peer device))) device
+    (sound_with_peer old device (reset_to id (old.peer device)) sound (λ member. sound_after_reset old.config device id (old.peer device) above (sound.peers device member))))

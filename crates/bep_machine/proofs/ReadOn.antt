@@ -6,11 +6,10 @@ use Rattle.std.specs.FinMap.{get, insert}
 use Rattle.bep_facts.specs.Maps.{nothing_in_empty}
 use Rattle.bep_map.specs.NameMap.{ByName}
 use Rattle.bep_record.specs.declared.entry.Entry.{Entry}
-use Rattle.bep_record.specs.Node.{IsClean}
 use Rattle.bep_index.specs.Listing.{Listing}
 use Rattle.bep_index.specs.View.{cleared}
 use Rattle.bep_model.specs.Tables.{Device, Folder, FileName}
-use Rattle.bep_model.specs.Calm.{SameFile}
+use Rattle.bep_model.specs.Calm.{NodeIsCalm, SameFile}
 use Rattle.bep_machine.specs.declared.message.Announced.{Announced}
 use Rattle.bep_machine.specs.declared.message.Request.{Request}
 use Rattle.bep_machine.specs.Replica.{Pull, Replica, own_at, node_at, pull_at, target_at, view_of, viewed_at, with_view, with_pull}
@@ -38,11 +37,11 @@ read_then Comes first second third one two = record {
 }
 
 -- it is a quiet change
-pub quiet_where_read : (Comes More : FileName → Entry → Type 0) → ((name : FileName) (entry : Entry) → Comes name entry → More name entry) → (old new : Option Replica) → IsReadOn Comes old new → IsQuietPlace More old new
-quiet_where_read Comes More more old new read = record {
+pub quiet_where_read : (Comes More : FileName → Entry → Type 0) (receives : Type 0) → ((name : FileName) (entry : Entry) → Comes name entry → More name entry) → (old new : Option Replica) → IsReadOn Comes old new → IsQuietPlace More receives old new
+quiet_where_read Comes More receives more old new read = record {
   own = λ name. inl (read.own name);
   file = λ name. subst (λ node. SameFile (looked_up node_at name old) node) (sym (read.node name)) (same_file _);
-  clean = λ name clean. subst (λ node. IsClean node (looked_up own_at name new)) (sym (read.node name)) (subst (λ own. IsClean (looked_up node_at name old) own) (sym (read.own name)) clean);
+  clean = λ name clean. subst (λ node. NodeIsCalm node (looked_up own_at name new)) (sym (read.node name)) (subst (λ own. NodeIsCalm (looked_up node_at name old) own) (sym (read.own name)) clean);
   elsewhere = λ name entry has. ⊎_elim (λ was. inl was) (λ comes. inr (more name entry comes)) (read.elsewhere name entry has);
 }
 

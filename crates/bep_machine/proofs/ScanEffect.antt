@@ -36,7 +36,7 @@ content_recorded kinds.Directory bytes target = refl
 content_recorded kinds.Symlink bytes target = refl
 
 -- a record that a scan may find, and the node is clean against it
-record IsFound (device : Device) (name : FileName) (node : Option NodeParts) (own : Option Entry) (version : List (ℕ × ℕ)) (entry : Entry) : Type 0 where
+pub record IsFound (device : Device) (name : FileName) (node : Option NodeParts) (own : Option Entry) (version : List (ℕ × ℕ)) (entry : Entry) : Type 0 where
   pub finds : Finds device name node own version entry
   pub content : content_of entry ≡ content_of_node node
   pub there : (entry.deleted ≡ false) ↔ IsSome node
@@ -75,6 +75,15 @@ found_exists device name None (Some own) version unclean = (
 )
 found_exists device name None None version unclean = absurd (unclean tt)
 
+-- whatever a scan finds is what is there
+pub found_says : (device : Device) (name : FileName) (node : Option NodeParts) (own : Option Entry) (version : List (ℕ × ℕ)) (entry : Entry) → ¬ IsClean node own → Finds device name node own version entry → IsFound device name node own version entry
+unfolding found_exists
+found_says device name (Some node) own version entry unclean finds =
+    subst (λ (e : Entry). IsFound device name (Some node) own version e) (sym finds) (found_exists device name (Some node) own version unclean).1
+found_says device name None (Some own) version entry unclean finds =
+    subst (λ (e : Entry). IsFound device name None (Some own) version e) (sym finds) (found_exists device name None (Some own) version unclean).1
+found_says device name None None version entry unclean finds = absurd finds
+
 looks_marked : (kind : Kind) (node : NodeParts) (entry : Entry) (mark : Bool) (sequence : ℕ) → LooksSame kind node entry → LooksSame kind node (numbered (record entry { invalid = mark }) sequence)
 looks_marked kinds.File node entry mark sequence looks = looks
 looks_marked kinds.Directory node entry mark sequence looks = looks
@@ -85,7 +94,7 @@ clean_marked : (node : Option NodeParts) (entry : Entry) (mark : Bool) (sequence
 clean_marked None entry mark sequence clean = clean
 clean_marked (Some node) entry mark sequence clean = (clean.0, clean.1, looks_marked node.kind node entry mark sequence clean.2)
 
-recorded : (device : Device) (name : FileName) (old : Replica) (version : List (ℕ × ℕ)) (entry : Entry) (mark : Bool) → IsFound device name (node_at old name) (own_at old name) version entry → HasRecorded device name old (with_record old (record entry { invalid = mark })) (numbered (record entry { invalid = mark }) (old.index.sequence + 1))
+pub recorded : (device : Device) (name : FileName) (old : Replica) (version : List (ℕ × ℕ)) (entry : Entry) (mark : Bool) → IsFound device name (node_at old name) (own_at old name) version entry → HasRecorded device name old (with_record old (record entry { invalid = mark })) (numbered (record entry { invalid = mark }) (old.index.sequence + 1))
 recorded device name old version entry mark found = record {
   own = subst (λ (n : FileName). own_at (with_record old (record entry { invalid = mark })) n ≡ Some (numbered (record entry { invalid = mark }) (old.index.sequence + 1))) found.named (with_record_here old (record entry { invalid = mark }));
   content = found.content;
@@ -113,7 +122,7 @@ raising_row SendOnly device name old new answer not_that not_full not_crowded pu
 as_it_is : (entry : Entry) → entry.invalid ≡ false → record entry { invalid = false } ≡ entry
 as_it_is entry valid = λ i. record entry { invalid = sym valid i }
 
-recorded_as_is : (device : Device) (name : FileName) (old : Replica) (version : List (ℕ × ℕ)) (entry : Entry) → IsFound device name (node_at old name) (own_at old name) version entry → HasRecorded device name old (with_record old entry) (numbered entry (old.index.sequence + 1))
+pub recorded_as_is : (device : Device) (name : FileName) (old : Replica) (version : List (ℕ × ℕ)) (entry : Entry) → IsFound device name (node_at old name) (own_at old name) version entry → HasRecorded device name old (with_record old entry) (numbered entry (old.index.sequence + 1))
 recorded_as_is device name old version entry found =
     subst (λ (e : Entry). HasRecorded device name old (with_record old e) (numbered e (old.index.sequence + 1))) (as_it_is entry found.valid) (recorded device name old version entry false found)
 

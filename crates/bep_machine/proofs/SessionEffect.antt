@@ -1,5 +1,5 @@
--- Links come and go, devices restart, and sessions begin.
-use Rattle.std.proofs.Common.{◌≡◌, ◌==◌, ◌||◌, Bool, true, false, cond, List, [], ◌∷◌, ◌++◌, map, Some, Contains, option_map, refl, sym, ap, subst, ◌∙◌, inr, if◌then◌else◌, eq-eqb}
+-- Links come and go, devices restart or are reset, and sessions begin.
+use Rattle.std.proofs.Common.{◌≡◌, ◌==◌, ◌||◌, Bool, true, false, cond, List, [], ◌∷◌, ◌++◌, map, Some, Contains, option_map, refl, sym, ap, subst, ◌∙◌, inr, ⊎_elim, if◌then◌else◌, eq-eqb}
 use Rattle.std.proofs.lemmas.Bool.{ne_eqb}
 use Rattle.std.proofs.Math.Dec.{T}
 use Rattle.std.specs.declared.cmp.Ordering.TheVariants.{Less}
@@ -23,8 +23,8 @@ use Rattle.bep_machine.specs.Link.{Link, connected, lost}
 use Rattle.bep_machine.specs.Peer.{Peer, new_session, is_shared_with, announced, config_for}
 use Rattle.bep_machine.specs.Cluster.{Cluster, with_peer, without_links}
 use Rattle.bep_machine.specs.Exchange.{NamesNot, NamesOnce}
-use Rattle.bep_machine.specs.Steps.{without_pulls, restarted}
-use Rattle.bep_machine.specs.LinkEffects.{ConnectOpens, LoseEmpties, IsEmpty, RestartForgets, IsConfigFor, BeginOpens}
+use Rattle.bep_machine.specs.Steps.{without_pulls, restarted, anew_under, reset_to}
+use Rattle.bep_machine.specs.LinkEffects.{ConnectOpens, LoseEmpties, IsEmpty, RestartForgets, ResetStartsOver, IsConfigFor, BeginOpens}
 use Rattle.bep_machine.proofs.FoundAfter.{get-mapped}
 use Rattle.bep_machine.proofs.GapEntries.{entry_is_found}
 use Rattle.bep_machine.proofs.GapLinks.{peer_here, peer_apart}
@@ -80,6 +80,31 @@ restart_forgets device old = (
 
     here : new.peer device ≡ restarted (old.peer device)
     here = peer_here old device (restarted (old.peer device))
+
+pub reset_starts_over : ResetStartsOver
+reset_starts_over device id old above = record {
+  made = new;
+  comes = inr (above, (refl, refl));
+  fits = record {
+    sessions = ap (λ (p : Peer). p.sessions) here;
+    replicas = λ folder replica there. (
+      anew_under id replica,
+      ap (λ (p : Peer). get p.replicas folder) here ∙ get-mapped nat_list_cmp_total (anew_under id) (old.peer device).replicas folder ∙ ap (option_map (anew_under id)) there,
+      record { kind = refl; others = refl; index = refl; views = refl; store = refl; pulls = refl },
+    );
+    lower = λ other. lost_where (old.link device other) ((device == device) || (other == device)) (either_true (device == device) (other == device) (eq-eqb device device refl)).0;
+    upper = λ other. lost_where (old.link other device) ((other == device) || (device == device)) (either_true (device == device) (other == device) (eq-eqb device device refl)).1;
+    others = λ other apart. peer_apart old device (reset_to id (old.peer device)) other apart;
+    apart = λ one other one_apart other_apart. stays_unless (old.link one other) ((one == device) || (other == device)) (neither_true (one == device) (other == device) (ne_eqb one device one_apart) (ne_eqb other device other_apart));
+  };
+  only = λ state answer row. ⊎_elim (λ refused. absurd (above refused.0)) (λ resets. resets.1) row;
+}
+  where
+    new : Cluster
+    new = without_links (with_peer old device (reset_to id (old.peer device))) device
+
+    here : new.peer device ≡ reset_to id (old.peer device)
+    here = peer_here old device (reset_to id (old.peer device))
 
 -- ---- what a ClusterConfig tells
 

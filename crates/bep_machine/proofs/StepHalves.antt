@@ -9,7 +9,7 @@ use Rattle.bep_facts.specs.Maps.{same_key}
 use Rattle.bep_map.specs.NameMap.{ByName}
 use Rattle.bep_model.specs.Tables.{Device, Folder}
 use Rattle.bep_machine.specs.declared.step.Step.{Step}
-use Rattle.bep_machine.specs.declared.step.Step.TheVariants.{Edit, Remove, Scan, Override, Revert, Connect, Lose, Begin, Deliver, Announce, StartPull, Ask, Finish, Restart}
+use Rattle.bep_machine.specs.declared.step.Step.TheVariants.{Edit, Remove, Scan, Override, Revert, Connect, Lose, Begin, Deliver, Announce, StartPull, Ask, Finish, Restart, Reset}
 use Rattle.bep_machine.specs.declared.moved.Moved.TheVariants.{Changed}
 use Rattle.bep_machine.specs.Answer.{Answer, Done, Refused, OutOfMemory, Row}
 use Rattle.bep_machine.specs.Replica.{Replica}
@@ -19,7 +19,7 @@ use Rattle.bep_machine.specs.Link.{Link, End, Lower, Upper, Sight, lost, nothing
 use Rattle.bep_machine.specs.Peer.{Peer, Acted, idle, with_replica}
 use Rattle.bep_machine.specs.Exchange.{BeginRow, DeliverRow, AnnounceRow, AskRow}
 use Rattle.bep_machine.specs.Cluster.{Cluster, link_between, with_link, with_link_between, with_peer}
-use Rattle.bep_machine.specs.Steps.{IsThere, AtReplica, OverLink, AtLink, ConnectRow, LoseRow, RestartRow, restarted, StepRow}
+use Rattle.bep_machine.specs.Steps.{IsThere, AtReplica, OverLink, AtLink, ConnectRow, LoseRow, RestartRow, restarted, HasIdFrom, ResetRow, reset_to, StepRow}
 use Rattle.bep_machine.specs.declared.logged.Logged.{Logged}
 use Rattle.bep_machine.specs.declared.logged.Traffic.{Traffic}
 use Rattle.bep_machine.specs.Halves.{has_answered, kept_told, only_call, failed_told, logged_of, IsDone, SaysNoMore, Ends, InFolder, ByTraffic, Carries, OnlyIf}
@@ -285,6 +285,27 @@ module _ (old new : Cluster) (answer : Answer) where
       cases link true = (says, refl)
       cases link false = refl
 
+  of_reset : (device : Device) (id : ℕ) → IsThere old.config (Reset device id) → (failed : Option ℕ) → ResetRow device id old new answer → HasHalves (Reset device id) failed old new answer
+  of_reset device id there failed (inl refused) = inl ((λ done. subst IsDone refused.1.1 done), refused.1.0)
+  of_reset device id there failed (inr (above, made)) =
+      inr (
+        None,
+        there,
+        subst (λ c. IsMadeBy (event_of (Reset device id) failed None) old c) (sym made.0)
+            (record {
+              config = refl;
+              peers = peers_made old device (reset_to id (old.peer device)) (λ was is. SaysRight (Reset device id) failed None × ((¬ HasIdFrom id was) × (is ≡ reset_to id was))) (says, (above, refl));
+              links = λ a b. cases (old.link a b) ((a == device) || (b == device));
+            }),
+      )
+    where
+      says : SaysRight (Reset device id) failed None
+      says = (refl, done_told answer (subst IsDone (sym made.1) tt), refl)
+
+      cases : (link : Link) (t : Bool) → OnlyIf t (SaysRight (Reset device id) failed None × ((if t then lost link else link) ≡ lost link)) link (if t then lost link else link)
+      cases link true = (says, refl)
+      cases link false = refl
+
   row_has_halves : (step : Step) → IsThere old.config step → (failed : Option ℕ) → StepRow step failed old new answer → HasHalves step failed old new answer
   row_has_halves (Edit device folder name node) there failed =
       of_folder device folder (EditRow name node failed) (EditRow name node None) (Edit device folder name node) there failed
@@ -324,6 +345,7 @@ module _ (old new : Cluster) (answer : Answer) where
       of_folder device folder (FinishRow device name failed) (FinishRow device name (only_call (kept_told answer) 4 failed)) (Finish device folder name) there failed
       (λ half. record { config = half.config; peers = half.peers; links = half.links }) (λ before after made. finished_told device folder name failed before after answer made)
   row_has_halves (Restart device) there failed = of_restart device there failed
+  row_has_halves (Reset device id) there failed = of_reset device id there failed
 
 pub step_has_halves_lem : StepHasHalves
 step_has_halves_lem made old new (inl (grows, same)) = inl ((λ done. subst IsDone same.1 done), same.0)

@@ -1,7 +1,7 @@
 -- No step breaks what holds of every cluster.
 use Rattle.std.proofs.Common.{ℕ, Option, sym, subst, inl, inr}
 use Rattle.bep_machine.specs.declared.step.Step.{Step}
-use Rattle.bep_machine.specs.declared.step.Step.TheVariants.{Edit, Remove, Scan, Override, Revert, Connect, Lose, Begin, Deliver, Announce, StartPull, Ask, Finish, Restart}
+use Rattle.bep_machine.specs.declared.step.Step.TheVariants.{Edit, Remove, Scan, Override, Revert, Connect, Lose, Begin, Deliver, Announce, StartPull, Ask, Finish, Restart, Reset}
 use Rattle.bep_machine.specs.Answer.{Answer}
 use Rattle.bep_machine.specs.Local.{EditRow, RemoveRow, ScanRow, OverrideRow, RevertRow}
 use Rattle.bep_machine.specs.Pull.{StartPullRow, FinishRow}
@@ -17,7 +17,7 @@ use Rattle.bep_machine.proofs.BeginKept.{begin_keeps, ask_keeps}
 use Rattle.bep_machine.proofs.AnnounceKept.{announce_keeps}
 use Rattle.bep_machine.proofs.DeliverKept.{deliver_keeps}
 use Rattle.bep_machine.proofs.ClusterKept.{linked_if_not_apart}
-use Rattle.bep_machine.proofs.PlacesKept.{replica_row_keeps, link_row_keeps, connecting_keeps, losing_keeps, restart_keeps}
+use Rattle.bep_machine.proofs.PlacesKept.{replica_row_keeps, link_row_keeps, connecting_keeps, losing_keeps, restart_keeps, reset_keeps}
 
 module _ (laws : LowerLaws) where
   row_keeps : (step : Step) (failed : Option ℕ) (old new : Cluster) (answer : Answer) → IsSoundStep step → IsSound old → ¬ (¬ IsThere old.config step) → StepRow step failed old new answer → IsSound new
@@ -41,6 +41,7 @@ module _ (laws : LowerLaws) where
       (linked_if_not_apart old.config device other (λ apart. there (λ all. apart all.0))) row
   row_keeps (Finish device folder name) failed old new answer user sound there row = replica_row_keeps device folder (FinishRow device name failed) (finish_is_sound laws device name failed) old new answer sound row
   row_keeps (Restart device) failed old new answer user sound there row = restart_keeps device old new answer sound row
+  row_keeps (Reset device id) failed old new answer user sound there row = reset_keeps device id old new answer sound row
 
   pub steps_keep_sound_lem : StepsKeepSound
   steps_keep_sound_lem step failed old new answer user sound (inl (grows, same)) = subst (λ c. IsSound c) (sym same.0) sound

@@ -5,7 +5,7 @@ use Rattle.std.specs.List.{list_any}
 use Rattle.bep_record.specs.declared.folder_kind.FolderKind.{FolderKind}
 use Rattle.bep_model.specs.Tables.{Device, Folder}
 use Rattle.bep_machine.specs.declared.step.Step.{Step}
-use Rattle.bep_machine.specs.declared.step.Step.TheVariants.{Edit, Remove, Scan, Override, Revert, Connect, Lose, Begin, Deliver, Announce, StartPull, Ask, Finish, Restart}
+use Rattle.bep_machine.specs.declared.step.Step.TheVariants.{Edit, Remove, Scan, Override, Revert, Connect, Lose, Begin, Deliver, Announce, StartPull, Ask, Finish, Restart, Reset}
 use Rattle.bep_machine.specs.Cluster.{Config}
 use Rattle.bep_machine.specs.Steps.{SharesFolder, AreLinked, IsThere}
 use Rattle.bep_machine.proofs.LinkSteps.{any_from_member, member_from_any}
@@ -94,3 +94,4 @@ there_decided config (StartPull device folder name) = shares_decided config devi
 there_decided config (Ask device other folder name) = all_decided (linked_decided config device other) (shares_decided config device folder) (shares_decided config other folder)
 there_decided config (Finish device folder name) = shares_decided config device folder
 there_decided config (Restart device) = device_decided config.devices device
+there_decided config (Reset device id) = device_decided config.devices device

@@ -11,7 +11,7 @@ use Rattle.bep_index.specs.View.{cleared}
 use Rattle.bep_model.specs.Tables.{Device, Folder, FileName}
 use Rattle.bep_machine.specs.declared.moved.Moved.{Moved}
 use Rattle.bep_machine.specs.declared.step.Step.{Step}
-use Rattle.bep_machine.specs.declared.step.Step.TheVariants.{Edit, Remove, Scan, Override, Revert, Connect, Lose, Begin, Deliver, Announce, StartPull, Ask, Finish, Restart}
+use Rattle.bep_machine.specs.declared.step.Step.TheVariants.{Edit, Remove, Scan, Override, Revert, Connect, Lose, Begin, Deliver, Announce, StartPull, Ask, Finish, Restart, Reset}
 use Rattle.bep_machine.specs.Answer.{Done, Row}
 use Rattle.bep_machine.specs.Replica.{Replica, viewed_at}
 use Rattle.bep_machine.specs.Local.{EditRow, RemoveRow, ScanRow, OverrideRow, RevertRow}
@@ -109,6 +109,7 @@ module _ (old new : Cluster) (sound : IsSound old) where
       (held.1, shared.0, shared.1)
   there_made (Finish device folder name) failed kept traffic held made = at_folder device folder (FinishRow device name failed) kept (SaysNoMore (Finish device folder name) failed kept traffic) held (made.peers device)
   there_made (Restart device) failed kept traffic held made = held
+  there_made (Reset device id) failed kept traffic held made = held
 
 -- ---- every log
 

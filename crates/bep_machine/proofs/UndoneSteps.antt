@@ -5,7 +5,7 @@ use Rattle.bep_record.specs.declared.entry.Entry.{Entry}
 use Rattle.bep_record.specs.declared.node.NodeParts.{NodeParts}
 use Rattle.bep_model.specs.Tables.{Device, Folder, FileName}
 use Rattle.bep_machine.specs.declared.step.Step.{Step}
-use Rattle.bep_machine.specs.declared.step.Step.TheVariants.{Edit, Remove, Scan, Override, Revert, Connect, Lose, Begin, Deliver, Announce, StartPull, Ask, Finish, Restart}
+use Rattle.bep_machine.specs.declared.step.Step.TheVariants.{Edit, Remove, Scan, Override, Revert, Connect, Lose, Begin, Deliver, Announce, StartPull, Ask, Finish, Restart, Reset}
 use Rattle.bep_machine.specs.Answer.{Answer, Row, becomes}
 use Rattle.bep_machine.specs.Cluster.{Cluster, with_link}
 use Rattle.bep_machine.specs.Exchange.{BeginRow, DeliverRow, AnnounceRow, AskRow}
@@ -100,6 +100,7 @@ module _ (old new : Cluster) (answer : Answer) where
   row_left (Ask device other folder name) failed = over_link device other (AskRow other folder name) (ask_rests other folder name)
   row_left (Finish device folder name) failed = finished device folder name failed
   row_left (Restart device) failed = λ made undone. stays_done made undone
+  row_left (Reset device id) failed = λ made. stays_or made (λ resets. stays_done resets)
 
 -- where all is as before, nothing was kept
 all_left : (step : Step) (old new : Cluster) → new ≡ old → LeavesAll step old new

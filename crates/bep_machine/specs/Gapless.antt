@@ -26,10 +26,19 @@ IsGapless cluster =
     Contains replica.others other → (view_of replica other).id ≡ others.index.id →
     HasNoGap others.index (view_of replica other)
 
--- Where all links are down: no view has a gap, and no session is of an epoch that its link is still to have. Views of
--- other indexes than the present ones may have any records and be at any point.
+-- no view that a device has of another one in a folder that both share is under an id above that of that one's own index:
+-- it is of this index, or of one before it
+abbrev pub IsOfNoLaterIndex : Cluster → Type 0
+IsOfNoLaterIndex cluster =
+    (device other : Device) (folder : Folder) (replica others : Replica) → SharesFolder cluster.config device folder →
+    get (cluster.peer device).replicas folder ≡ Some replica → get (cluster.peer other).replicas folder ≡ Some others →
+    Contains replica.others other → (view_of replica other).id ≤ others.index.id
+
+-- Where all links are down: no view has a gap, none is of an index that is still to come, and no session is of an epoch that
+-- its link is still to have. Views of earlier indexes than the present ones may have any records and be at any point.
 pub record IsApart (cluster : Cluster) : Type 0 where
   pub gapless : IsGapless cluster
+  pub earlier : IsOfNoLaterIndex cluster
   pub sessions : (device other : Device) (session : Session) → get (cluster.peer device).sessions other ≡ Some session →
       session.epoch ≤ (link_between cluster device other).epoch
   pub links : (one other : Device) → (cluster.link one other).up ≡ false

@@ -6,7 +6,7 @@ use Rattle.bep_record.specs.declared.folder_kind.FolderKind.{FolderKind}
 use Rattle.bep_record.specs.declared.node.NodeParts.{NodeParts}
 use Rattle.bep_model.specs.Tables.{Device, Folder, FileName}
 use Rattle.bep_machine.specs.declared.step.Step.{Step}
-use Rattle.bep_machine.specs.declared.step.Step.TheVariants.{Edit, Remove, Scan, Override, Revert, Connect, Lose, Begin, Deliver, Announce, StartPull, Ask, Finish, Restart}
+use Rattle.bep_machine.specs.declared.step.Step.TheVariants.{Edit, Remove, Scan, Override, Revert, Connect, Lose, Begin, Deliver, Announce, StartPull, Ask, Finish, Restart, Reset}
 use Rattle.bep_machine.specs.declared.moved.Moved.{Moved}
 use Rattle.bep_machine.specs.declared.moved.Moved.TheVariants.{Changed}
 use Rattle.bep_machine.specs.Answer.{Answer, Done, Row}
@@ -17,13 +17,13 @@ use Rattle.bep_machine.specs.Link.{Link, Sight, lost, end_of, sight_of, after_de
 use Rattle.bep_machine.specs.Peer.{Peer, Acted, with_replica}
 use Rattle.bep_machine.specs.Exchange.{BeginRow, DeliverRow, AnnounceRow, AskRow}
 use Rattle.bep_machine.specs.Cluster.{Config, Cluster}
-use Rattle.bep_machine.specs.Steps.{AreLinked, IsThere, ConnectRow, LoseRow, restarted, IsStep, Event, IsRun}
+use Rattle.bep_machine.specs.Steps.{AreLinked, IsThere, ConnectRow, LoseRow, restarted, HasIdFrom, reset_to, IsStep, Event, IsRun}
 use Rattle.bep_machine.specs.Sound.{IsSound}
 use Rattle.bep_machine.specs.Laws.{IsSoundStep}
 use Rattle.bep_machine.specs.declared.logged.Exchanged.{Exchanged}
 use Rattle.bep_machine.specs.declared.logged.Logged.{Logged}
 use Rattle.bep_machine.specs.declared.logged.Traffic.{Traffic}
-use Rattle.bep_machine.specs.Halves.{Guards, OfDevice, OfDeviceAndLink, OfLink, OfDeviceAndLinks, guards_of, touches_link, logged_of, deed_told, IsSeen, IsDone, PeerStep, LinkStep, PeerReplays, LinkReplays, events_of_device, events_of_link}
+use Rattle.bep_machine.specs.Halves.{Guards, OfDevice, OfDeviceAndLink, OfLink, OfDeviceAndLinks, guards_of, touches_link, logged_of, deed_told, IsSeen, IsDone, PeerStep, LinkStep, PeerReplays, LinkReplays, events_of_device, reset_in_log, events_of_link}
 
 -- ---- one step
 
@@ -134,6 +134,13 @@ RestartIsTold = (device : Device) →
     ((old : Peer) → PeerStep device one old (restarted old)) ×
     ((lower upper : Device) (old : Link) → touches_link (OfDeviceAndLinks device) lower upper ≡ true → LinkStep lower upper one old (lost old))
 
+-- what is logged of a reset makes it of the device, where the id is above those of its indexes, and of each of its links
+abbrev pub ResetIsTold : Type 0
+ResetIsTold = (device : Device) (id : ℕ) →
+    let one = logged_of (record { step = Reset device id; failed = None; answer = Done Changed }) None in
+    ((old : Peer) → ¬ HasIdFrom id old → PeerStep device one old (reset_to id old)) ×
+    ((lower upper : Device) (old : Link) → touches_link (OfDeviceAndLinks device) lower upper ≡ true → LinkStep lower upper one old (lost old))
+
 -- ---- one object
 
 -- a device, or a link, replays a log where it replays its own events in it
@@ -156,12 +163,14 @@ shared_as replica = (replica.kind, replica.others)
 abbrev pub index_id : Replica → ℕ
 index_id replica = replica.index.id
 
--- no event changes these of a folder
+-- no event changes who shares a folder, and in which kind
 abbrev pub ReplaysKeepSharing : Type 0
 ReplaysKeepSharing = (device : Device) (old new : Peer) (logged : List Logged) → PeerReplays device old logged new → Keeps shared_as old new
 
+-- and only a reset of the device changes the id of an index
 abbrev pub ReplaysKeepIds : Type 0
-ReplaysKeepIds = (device : Device) (old new : Peer) (logged : List Logged) → PeerReplays device old logged new → Keeps index_id old new
+ReplaysKeepIds = (device : Device) (old new : Peer) (logged : List Logged) →
+    PeerReplays device old logged new → ¬ Contains (reset_in_log logged) device → Keeps index_id old new
 
 -- ---- runs
 

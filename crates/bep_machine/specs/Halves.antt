@@ -1,6 +1,6 @@
 -- What a step does to one device and to one link, what is logged of it there, and what the events of a log make of a device
 -- or a link (this project's profile).
-use Rattle.std.specs.Prelude.{◌≡◌, ◌≢◌, ◌⊎◌, ◌==◌, ◌&&◌, ◌||◌, nat_lt, ℕ, Bool, true, false, ⊤, List, [], ◌∷◌, Option, Some, None, if◌then◌else◌}
+use Rattle.std.specs.Prelude.{◌≡◌, ◌≢◌, ◌⊎◌, ◌==◌, ◌&&◌, ◌||◌, nat_lt, ℕ, Bool, true, false, ⊤, List, [], ◌∷◌, ◌++◌, Option, Some, None, if◌then◌else◌}
 use Rattle.std.specs.List.{filter}
 use Rattle.std.specs.FinMap.{get}
 use Rattle.bep_model.specs.Tables.{Device, Folder}
@@ -12,7 +12,7 @@ use Rattle.bep_machine.specs.declared.message.Message.{Message}
 use Rattle.bep_machine.specs.declared.moved.Moved.{Moved}
 use Rattle.bep_machine.specs.declared.moved.Moved.TheVariants.{Changed}
 use Rattle.bep_machine.specs.declared.step.Step.{Step}
-use Rattle.bep_machine.specs.declared.step.Step.TheVariants.{Edit, Remove, Scan, Override, Revert, Connect, Lose, Begin, Deliver, Announce, StartPull, Ask, Finish, Restart}
+use Rattle.bep_machine.specs.declared.step.Step.TheVariants.{Edit, Remove, Scan, Override, Revert, Connect, Lose, Begin, Deliver, Announce, StartPull, Ask, Finish, Restart, Reset}
 use Rattle.bep_machine.specs.Answer.{Answer, Done, Refused, OutOfMemory, Row}
 use Rattle.bep_machine.specs.Replica.{Replica}
 use Rattle.bep_machine.specs.Local.{EditRow, RemoveRow, ScanRow, OverrideRow, RevertRow}
@@ -20,7 +20,7 @@ use Rattle.bep_machine.specs.Pull.{StartPullRow, FinishRow}
 use Rattle.bep_machine.specs.Link.{Link, End, Sight, Deed, lost, end_of, sight_of, sending, losing, after_deed}
 use Rattle.bep_machine.specs.Peer.{Peer, Acted, with_replica}
 use Rattle.bep_machine.specs.Exchange.{BeginRow, DeliverRow, AnnounceRow, AskRow}
-use Rattle.bep_machine.specs.Steps.{ConnectRow, LoseRow, restarted, Event}
+use Rattle.bep_machine.specs.Steps.{ConnectRow, LoseRow, restarted, HasIdFrom, reset_to, reset_by, Event}
 
 -- ---- what a step touches
 
@@ -47,6 +47,7 @@ guards_of (StartPull device folder name) = OfDevice device
 guards_of (Ask device other folder name) = OfDeviceAndLink device other
 guards_of (Finish device folder name) = OfDevice device
 guards_of (Restart device) = OfDeviceAndLinks device
+guards_of (Reset device id) = OfDeviceAndLinks device
 
 -- whether the device is among them
 abbrev pub touches_device : Guards → Device → Bool
@@ -103,6 +104,7 @@ failed_told (StartPull device folder name) kept traffic failed = None
 failed_told (Ask device other folder name) kept traffic failed = None
 failed_told (Finish device folder name) kept traffic failed = only_call kept 4 failed
 failed_told (Restart device) kept traffic failed = None
+failed_told (Reset device id) kept traffic failed = None
 
 -- what is logged of a step that was made, and of what it did over a link
 abbrev pub logged_of : Event → Option Traffic → Logged
@@ -134,6 +136,7 @@ SaysNoMore (StartPull device folder name) failed kept traffic = (failed ≡ None
 SaysNoMore (Ask device other folder name) failed kept traffic = (failed ≡ None) × (kept ≡ false)
 SaysNoMore (Finish device folder name) failed kept traffic = MayFail kept 4 failed × (traffic ≡ None)
 SaysNoMore (Restart device) failed kept traffic = (failed ≡ None) × (kept ≡ false) × (traffic ≡ None)
+SaysNoMore (Reset device id) failed kept traffic = (failed ≡ None) × (kept ≡ false) × (traffic ≡ None)
 
 -- what was done to the link
 abbrev pub deed_told : Exchanged → Deed
@@ -189,6 +192,7 @@ PeerHalf (StartPull device folder name) failed kept traffic = InFolder folder (S
 PeerHalf (Ask device other folder name) failed kept traffic = ByTraffic (AskRow other folder name) traffic
 PeerHalf (Finish device folder name) failed kept traffic = InFolder folder (FinishRow device name failed) kept
 PeerHalf (Restart device) failed kept traffic = λ old new. new ≡ restarted old
+PeerHalf (Reset device id) failed kept traffic = λ old new. (¬ HasIdFrom id old) × (new ≡ reset_to id old)
 
 -- ---- the half of a link
 
@@ -222,6 +226,7 @@ LinkHalf (StartPull device folder name) traffic = λ old new. ⊥
 LinkHalf (Ask device other folder name) traffic = Carries (end_of device other) traffic
 LinkHalf (Finish device folder name) traffic = λ old new. ⊥
 LinkHalf (Restart device) traffic = λ old new. new ≡ lost old
+LinkHalf (Reset device id) traffic = λ old new. new ≡ lost old
 
 -- ---- replay
 
@@ -258,3 +263,8 @@ events_of_device device logged = filter (λ event. touches_device (guards_of eve
 
 abbrev pub events_of_link : Device → Device → List Logged → List Logged
 events_of_link lower upper logged = filter (λ event. touches_link (guards_of event.step) lower upper) logged
+
+-- the devices of the resets in a log
+abbrev pub reset_in_log : List Logged → List Device
+reset_in_log [] = []
+reset_in_log (event ∷ more) = reset_by event.step ++ reset_in_log more

@@ -1,21 +1,21 @@
 -- What follows from the definitions, for every cluster and every list of steps; the functions of src/ have these as
 -- contracts.
-use Rattle.std.specs.Prelude.{◌≡◌, ℕ, ⊤, List, [], ◌∷◌, Option}
+use Rattle.std.specs.Prelude.{◌≡◌, ℕ, ⊤, List, [], ◌∷◌, Option, Contains}
 use Rattle.bep_record.specs.Node.{IsNode}
 use Rattle.bep_index.specs.Listing.{Listing}
 use Rattle.bep_index.specs.Index.{IsIndex}
 use Rattle.bep_index.specs.View.{IsView}
 use Rattle.bep_model.specs.declared.row.Row.{Row}
-use Rattle.bep_model.specs.Tables.{Tables}
+use Rattle.bep_model.specs.Tables.{Tables, Device}
 use Rattle.bep_model.specs.Foreign.{IsFinite}
 use Rattle.bep_model.specs.Settled.{IsSettled}
 use Rattle.bep_model.specs.Calm.{Contents, IsCalm, Kept}
 use Rattle.bep_model.specs.Stays.{Stays, KeepsRecords, SameContents}
 use Rattle.bep_machine.specs.declared.step.Step.{Step}
-use Rattle.bep_machine.specs.declared.step.Step.TheVariants.{Edit, Remove, Scan, Override, Revert, Connect, Lose, Begin, Deliver, Announce, StartPull, Ask, Finish, Restart}
+use Rattle.bep_machine.specs.declared.step.Step.TheVariants.{Edit, Remove, Scan, Override, Revert, Connect, Lose, Begin, Deliver, Announce, StartPull, Ask, Finish, Restart, Reset}
 use Rattle.bep_machine.specs.Answer.{Answer}
 use Rattle.bep_machine.specs.Cluster.{Cluster}
-use Rattle.bep_machine.specs.Steps.{IsStep, Event, IsRun, IsQuiet, AreQuiet}
+use Rattle.bep_machine.specs.Steps.{IsStep, Event, IsRun, IsQuiet, AreQuiet, reset_by, reset_in, HasNoReset}
 use Rattle.bep_machine.specs.Said.{tables_of_cluster}
 use Rattle.bep_machine.specs.Sound.{IsSound}
 use Rattle.bep_machine.specs.Gapless.{HasNoGap, IsGapless, IsApart, IsFresh}
@@ -36,12 +36,17 @@ IsSoundStep (StartPull device folder name) = ⊤
 IsSoundStep (Ask device other folder name) = ⊤
 IsSoundStep (Finish device folder name) = ⊤
 IsSoundStep (Restart device) = ⊤
+IsSoundStep (Reset device id) = ⊤
 
 abbrev pub AreSound : List Event → Type 0
 AreSound [] = ⊤
 AreSound (event ∷ more) = IsSoundStep event.step × AreSound more
 
 -- ---- every cluster
+
+-- all devices of the one list are in the other
+abbrev pub AreAmong : List Device → List Device → Type 0
+AreAmong some all = (device : Device) → Contains some device → Contains all device
 
 -- a cluster's tables are finite, as every cut's are: only these devices are viewed, and only these names known
 abbrev pub ClusterIsFinite : Type 0
@@ -54,16 +59,18 @@ abbrev pub StepsKeepSound : Type 0
 StepsKeepSound = (step : Step) (failed : Option ℕ) (old new : Cluster) (answer : Answer) →
     IsSoundStep step → IsSound old → IsStep step failed old new answer → IsSound new
 
--- a quiet step keeps calm, and each store byte for byte
+-- a quiet step keeps calm, where the device that it resets is one of those that may lack records, and each store byte for
+-- byte
 abbrev pub QuietStepsKeepCalm : Type 0
-QuietStepsKeepCalm = (contents : Contents) (step : Step) (failed : Option ℕ) (old new : Cluster) (answer : Answer) →
-    IsQuiet step → IsSound old → IsCalm (tables_of_cluster old) contents → IsStep step failed old new answer →
-    IsCalm (tables_of_cluster new) contents × Kept (tables_of_cluster old) (tables_of_cluster new)
+QuietStepsKeepCalm =
+    (contents : Contents) (reset : List Device) (step : Step) (failed : Option ℕ) (old new : Cluster) (answer : Answer) →
+    IsQuiet step → AreAmong (reset_by step) reset → IsSound old → IsCalm (tables_of_cluster old) contents reset → IsStep step failed old new answer →
+    IsCalm (tables_of_cluster new) contents reset × Kept (tables_of_cluster old) (tables_of_cluster new)
 
--- a quiet step takes no own record away
+-- a quiet step that is no reset takes no own record away
 abbrev pub QuietStepsKeepRecords : Type 0
 QuietStepsKeepRecords = (step : Step) (failed : Option ℕ) (old new : Cluster) (answer : Answer) →
-    IsQuiet step → IsSound old → IsStep step failed old new answer →
+    IsQuiet step → reset_by step ≡ [] → IsSound old → IsStep step failed old new answer →
     KeepsRecords (tables_of_cluster old) (tables_of_cluster new)
 
 -- no view has a gap, in every cluster that a run reaches from one without a gap whose links are all down
@@ -83,16 +90,18 @@ SamePointSameIndex = (index view : Listing) →
 -- ---- the headline
 
 -- After every quiet run from a cluster with these tables, in any interleaving and with any failing calls of the stores:
--- each store holds byte for byte what it held, and each row's name has its certified content.
+-- each store holds byte for byte what it held, and each row's name has its certified content. Only a device that was reset
+-- in the run may lack an own record of it.
 abbrev pub StaysPut : Tables → List Row → Type 0
 StaysPut tables rows = (cluster later : Cluster) (events : List Event) →
     IsSound cluster → tables_of_cluster cluster ≡ tables → IsRun cluster events later → AreQuiet events →
-    Stays tables rows (tables_of_cluster later)
+    Stays tables rows (reset_in events) (tables_of_cluster later)
 
--- And the later cluster is settled for its own winners, whose names and contents are those of the rows.
+-- And where no device was reset, the later cluster is settled for its own winners, whose names and contents are those of the
+-- rows.
 abbrev pub StaysSettled : Tables → List Row → Type 0
 StaysSettled tables rows = (cluster later : Cluster) (events : List Event) →
-    IsSound cluster → tables_of_cluster cluster ≡ tables → IsRun cluster events later → AreQuiet events →
+    IsSound cluster → tables_of_cluster cluster ≡ tables → IsRun cluster events later → AreQuiet events → HasNoReset events →
     (others : List Row) × IsSettled (tables_of_cluster later) others × SameContents rows others
 
 abbrev pub SettledStaysPut : Type 0

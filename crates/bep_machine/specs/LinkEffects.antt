@@ -36,7 +36,7 @@ use Rattle.bep_machine.specs.Link.{Link, Sight}
 use Rattle.bep_machine.specs.Peer.{Session, Peer, Acted, is_shared_with}
 use Rattle.bep_machine.specs.Exchange.{IsGoodConfig, IsInSession, HasSession, SharesWith, NamesNot, NamesOnce, NamesShared, BeginRow, DeliverRow, AnnounceRow, AskRow, CanAsk, asked_for, without}
 use Rattle.bep_machine.specs.Cluster.{Cluster}
-use Rattle.bep_machine.specs.Steps.{ConnectRow, LoseRow, RestartRow}
+use Rattle.bep_machine.specs.Steps.{ConnectRow, LoseRow, RestartRow, HasIdFrom, ResetRow}
 use Rattle.bep_machine.specs.Sound.{IsSoundPull}
 use Rattle.bep_machine.specs.Effects.{LeadsTo}
 
@@ -79,6 +79,31 @@ pub record HasRestarted (device : Device) (old new : Cluster) : Type 0 where
 abbrev pub RestartForgets : Type 0
 RestartForgets = (device : Device) (old : Cluster) →
     (new : Cluster) × RestartRow device old new (Done Changed) × HasRestarted device old new
+
+-- what a reset leaves of a replica: its kind, who shares it, and its store; the index has the new id and no record
+pub record IsBegunAnew (id : ℕ) (old new : Replica) : Type 0 where
+  pub kind : new.kind ≡ old.kind
+  pub others : new.others ≡ old.others
+  pub index : new.index ≡ record { id = id; sequence = 0; records = empty }
+  pub views : new.views ≡ empty
+  pub store : new.store ≡ old.store
+  pub pulls : new.pulls ≡ empty
+
+-- a reset takes the device's sessions, pulls, views and records, and each link of it is down then, with nothing on its way;
+-- the other devices, and the links between them, stay
+pub record HasStartedOver (device : Device) (id : ℕ) (old new : Cluster) : Type 0 where
+  pub sessions : (new.peer device).sessions ≡ empty
+  pub replicas : (folder : Folder) (replica : Replica) → get (old.peer device).replicas folder ≡ Some replica →
+      (later : Replica) × (get (new.peer device).replicas folder ≡ Some later) × IsBegunAnew id replica later
+  pub lower : (other : Device) → ((new.link device other).up ≡ false) × IsEmpty (new.link device other)
+  pub upper : (other : Device) → ((new.link other device).up ≡ false) × IsEmpty (new.link other device)
+  pub others : (other : Device) → other ≢ device → new.peer other ≡ old.peer other
+  pub apart : (one other : Device) → one ≢ device → other ≢ device → new.link one other ≡ old.link one other
+
+-- so it is where the id is above that of each index of the device
+abbrev pub ResetStartsOver : Type 0
+ResetStartsOver = (device : Device) (id : ℕ) (old : Cluster) → ¬ HasIdFrom id (old.peer device) →
+    LeadsTo (ResetRow device id old) (Done Changed) (HasStartedOver device id old)
 
 -- ---- beginning a session
 

@@ -1,14 +1,15 @@
 -- The steps of a cluster, each a row of refusals and effect, and runs of steps (BEP v1; the steps are this project's
 -- profile).
-use Rattle.std.specs.Prelude.{◌≡◌, ◌⊎◌, ℕ, true, false, ⊤, List, [], ◌∷◌, map, Option, Some, Contains}
+use Rattle.std.specs.Prelude.{◌≡◌, ◌⊎◌, ◌≤◌, ℕ, true, false, ⊤, List, [], ◌∷◌, ◌++◌, map, Option, Some, Contains}
 use Rattle.std.specs.FinMap.{empty, get, entries, from_entries}
 use Rattle.bep_record.specs.declared.folder_kind.FolderKind.{FolderKind}
+use Rattle.bep_index.specs.View.{cleared}
 use Rattle.bep_model.specs.Tables.{Device, Folder}
 use Rattle.bep_machine.specs.declared.limits.TheConstants.{MAX_EPOCH}
 use Rattle.bep_machine.specs.declared.moved.Moved.TheVariants.{Changed}
-use Rattle.bep_machine.specs.declared.refusal.Refusal.TheVariants.{EpochFull, LinkDown, NotShared, NothingToDo}
+use Rattle.bep_machine.specs.declared.refusal.Refusal.TheVariants.{EpochFull, IndexIdOld, LinkDown, NotShared, NothingToDo}
 use Rattle.bep_machine.specs.declared.step.Step.{Step}
-use Rattle.bep_machine.specs.declared.step.Step.TheVariants.{Edit, Remove, Scan, Override, Revert, Connect, Lose, Begin, Deliver, Announce, StartPull, Ask, Finish, Restart}
+use Rattle.bep_machine.specs.declared.step.Step.TheVariants.{Edit, Remove, Scan, Override, Revert, Connect, Lose, Begin, Deliver, Announce, StartPull, Ask, Finish, Restart, Reset}
 use Rattle.bep_machine.specs.Answer.{Answer, Done, Refused, OutOfMemory, Row, becomes, ◌answers◌when◌else◌}
 use Rattle.bep_machine.specs.Replica.{Replica}
 use Rattle.bep_machine.specs.Local.{EditRow, RemoveRow, ScanRow, OverrideRow, RevertRow}
@@ -46,6 +47,7 @@ IsThere config (Ask device other folder name) =
     AreLinked config device other × SharesFolder config device folder × SharesFolder config other folder
 IsThere config (Finish device folder name) = SharesFolder config device folder
 IsThere config (Restart device) = Contains config.devices device
+IsThere config (Reset device id) = Contains config.devices device
 
 -- ---- which part of the cluster a step changes
 
@@ -93,6 +95,26 @@ restarted peer = record { replicas = from_entries (map (λ one. (one.0, without_
 abbrev pub RestartRow : Device → Cluster → Row Cluster
 RestartRow device old = becomes (without_links (with_peer old device (restarted (old.peer device))) device) (Done Changed)
 
+-- ---- reset
+
+-- some index of the device has this id, or one above it
+abbrev pub HasIdFrom : ℕ → Peer → Type 0
+HasIdFrom id peer = (folder : Folder) × (replica : Replica) × (get peer.replicas folder ≡ Some replica) × (id ≤ replica.index.id)
+
+-- an empty index under this id, nothing known of what others have, and no pulls; the store stays (BEP v1, 'Fields
+-- (ClusterConfig)', field 'index_id')
+abbrev pub anew_under : ℕ → Replica → Replica
+anew_under id replica = record replica { index = cleared id; views = empty; pulls = empty }
+
+abbrev pub reset_to : ℕ → Peer → Peer
+reset_to id peer = record { replicas = from_entries (map (λ one. (one.0, anew_under id one.1)) (entries peer.replicas)); sessions = empty }
+
+-- an id that isn't above each present one of the device would let others take the new index for an old one
+abbrev pub ResetRow : Device → ℕ → Cluster → Row Cluster
+ResetRow device id old =
+    old answers Refused IndexIdOld when HasIdFrom id (old.peer device) else
+    becomes (without_links (with_peer old device (reset_to id (old.peer device))) device) (Done Changed)
+
 -- ---- steps
 
 -- what a step does where all that it names is there; the store call with the number `failed` fails, if there is one
@@ -111,6 +133,7 @@ StepRow (StartPull device folder name) failed = AtReplica device folder (StartPu
 StepRow (Ask device other folder name) failed = OverLink device other (AskRow other folder name)
 StepRow (Finish device folder name) failed = AtReplica device folder (FinishRow device name failed)
 StepRow (Restart device) failed = RestartRow device
+StepRow (Reset device id) failed = ResetRow device id
 
 -- steps that grow nothing never want memory
 abbrev pub Grows : Step → Type 0
@@ -128,6 +151,7 @@ Grows (StartPull device folder name) = ⊤
 Grows (Ask device other folder name) = ⊤
 Grows (Finish device folder name) = ⊤
 Grows (Restart device) = ⊥
+Grows (Reset device id) = ⊥
 
 -- a step may want memory, and leaves all as it was then; else it is refused where something that it names isn't there,
 -- or makes its row
@@ -165,7 +189,35 @@ IsQuiet (StartPull device folder name) = ⊤
 IsQuiet (Ask device other folder name) = ⊤
 IsQuiet (Finish device folder name) = ⊤
 IsQuiet (Restart device) = ⊤
+IsQuiet (Reset device id) = ⊤
 
 abbrev pub AreQuiet : List Event → Type 0
 AreQuiet [] = ⊤
 AreQuiet (event ∷ more) = IsQuiet event.step × AreQuiet more
+
+-- the device whose indexes a step resets, if it is a reset
+abbrev pub reset_by : Step → List Device
+reset_by (Edit device folder name node) = []
+reset_by (Remove device folder name) = []
+reset_by (Scan device folder name) = []
+reset_by (Override device folder name) = []
+reset_by (Revert device folder name) = []
+reset_by (Connect one other) = []
+reset_by (Lose one other) = []
+reset_by (Begin device other) = []
+reset_by (Deliver device other) = []
+reset_by (Announce device other folder) = []
+reset_by (StartPull device folder name) = []
+reset_by (Ask device other folder name) = []
+reset_by (Finish device folder name) = []
+reset_by (Restart device) = []
+reset_by (Reset device id) = device ∷ []
+
+-- the devices of the resets in a run
+abbrev pub reset_in : List Event → List Device
+reset_in [] = []
+reset_in (event ∷ more) = reset_by event.step ++ reset_in more
+
+-- a run without a reset
+abbrev pub HasNoReset : List Event → Type 0
+HasNoReset events = reset_in events ≡ []

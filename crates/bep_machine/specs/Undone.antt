@@ -4,7 +4,7 @@ use Rattle.std.specs.Prelude.{◌≡◌, ◌⊎◌, ℕ, Option, Some, None}
 use Rattle.std.specs.FinMap.{get}
 use Rattle.bep_model.specs.Tables.{Device, FileName}
 use Rattle.bep_machine.specs.declared.step.Step.{Step}
-use Rattle.bep_machine.specs.declared.step.Step.TheVariants.{Edit, Remove, Scan, Override, Revert, Connect, Lose, Begin, Deliver, Announce, StartPull, Ask, Finish, Restart}
+use Rattle.bep_machine.specs.declared.step.Step.TheVariants.{Edit, Remove, Scan, Override, Revert, Connect, Lose, Begin, Deliver, Announce, StartPull, Ask, Finish, Restart, Reset}
 use Rattle.bep_machine.specs.Answer.{Answer}
 use Rattle.bep_machine.specs.Cluster.{Cluster, with_peer}
 use Rattle.bep_machine.specs.Halves.{IsDone}
@@ -38,6 +38,7 @@ LeavesAll (Finish device folder name) old new =
     (new ≡ old) ⊎ ((before after : Replica) × (get (old.peer device).replicas folder ≡ Some before) × KeepsCopy device name before after ×
     (new ≡ with_peer old device (with_replica (old.peer device) folder after)))
 LeavesAll (Restart device) old new = new ≡ old
+LeavesAll (Reset device id) old new = new ≡ old
 
 -- a step that is refused, or wants memory
 abbrev pub UndoneStepsLeaveAll : Type 0

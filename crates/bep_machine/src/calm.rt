@@ -5,7 +5,7 @@ use bep_index::batch_records_are_found;
 use bep_record::cut_is_of_one_length;
 
 /// Each quiet step of a sound cluster that is calm leaves it calm for the same contents, and each store byte for byte as
-/// it was.
+/// it was. Only devices that were reset lack records that they should have, those that the step resets among them.
 pub fn quiet_steps_keep_calm()
     ensures { QuietStepsKeepCalm }
 {
@@ -13,7 +13,7 @@ pub fn quiet_steps_keep_calm()
     cut_is_of_one_length();
 }
 
-/// A quiet step takes no own record away.
+/// A quiet step that resets no device takes no own record away.
 pub fn quiet_steps_keep_records()
     ensures { QuietStepsKeepRecords }
 {

@@ -1,6 +1,6 @@
 //! A step is what it does to each device and each link, and a run is what its events make of each. Each function does
 //! nothing; its contract is the law.
-ghost use Rattle.bep_machine.specs.HalfLaws.{HalvesMakeTheStep, StepHasHalves, EditIsTold, RemoveIsTold, ScanIsTold, OverrideIsTold, RevertIsTold, StartPullIsTold, FinishIsTold, BeginIsTold, DeliverIsTold, AnnounceIsTold, AskIsTold, TrafficIsOne, ConnectIsTold, LoseIsTold, RestartIsTold, DevicesReplayTheirOwn, LinksReplayTheirOwn, ReplaysKeepSharing, ReplaysKeepIds, RunReplays, ReplaysRun, ReplaysAreThere};
+ghost use Rattle.bep_machine.specs.HalfLaws.{HalvesMakeTheStep, StepHasHalves, EditIsTold, RemoveIsTold, ScanIsTold, OverrideIsTold, RevertIsTold, StartPullIsTold, FinishIsTold, BeginIsTold, DeliverIsTold, AnnounceIsTold, AskIsTold, TrafficIsOne, ConnectIsTold, LoseIsTold, RestartIsTold, ResetIsTold, DevicesReplayTheirOwn, LinksReplayTheirOwn, ReplaysKeepSharing, ReplaysKeepIds, RunReplays, ReplaysRun, ReplaysAreThere};
 
 use crate::steps_keep_sound;
 
@@ -17,8 +17,8 @@ pub fn step_has_halves()
 
 /// What is logged of an action makes of the device, and of the link that it was lent, what the action did. This holds
 /// of a step in a folder that is done, or that fails and yet changed something; of a step over a link that is done; of
-/// a link that comes up or is lost; and of a restart, at the device and at each of its links. What was done to a link
-/// tells its traffic: no other traffic would.
+/// a link that comes up or is lost; and of a restart or a reset, at the device and at each of its links. What was done to
+/// a link tells its traffic: no other traffic would.
 pub fn actions_are_told()
     ensures edit { EditIsTold }
     ensures remove { RemoveIsTold }
@@ -35,6 +35,7 @@ pub fn actions_are_told()
     ensures connect { ConnectIsTold }
     ensures lose { LoseIsTold }
     ensures restart { RestartIsTold }
+    ensures reset { ResetIsTold }
 {}
 
 /// A device, or a link, replays a log exactly where it replays those events of it that touch it.
@@ -43,7 +44,8 @@ pub fn own_events_replay()
     ensures links { LinksReplayTheirOwn }
 {}
 
-/// A replay changes neither which folders a device has nor, of each, its kind, who shares it, and the id of its index.
+/// A replay changes neither which folders a device has nor, of each, its kind and who shares it. Where no event resets the
+/// device, it changes the id of no index either.
 pub fn replays_keep_folders()
     ensures sharing { ReplaysKeepSharing }
     ensures ids { ReplaysKeepIds }

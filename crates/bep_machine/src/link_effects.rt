@@ -1,15 +1,17 @@
 //! That each step over a link does what it is for, where nothing stands in its way, and what loses the link. Each function
 //! does nothing; its contract is the law.
-ghost use Rattle.bep_machine.specs.LinkEffects.{ConnectOpens, LoseEmpties, RestartForgets, BeginOpens, UnnamedLosesLink, SecondConfigLosesLink, UnsharedLosesLink, TwiceLosesLink, OldUpdateLosesLink, BreachAloneLosesLink, ConfigIsTaken, IndexBringsView, UpdateAddsToView, RequestIsAnswered, WholeIsAnnounced, FurtherIsAnnounced, AskSendsRequest, BlockIsReceived, UnaskedIsIgnored};
+ghost use Rattle.bep_machine.specs.LinkEffects.{ConnectOpens, LoseEmpties, RestartForgets, ResetStartsOver, BeginOpens, UnnamedLosesLink, SecondConfigLosesLink, UnsharedLosesLink, TwiceLosesLink, OldUpdateLosesLink, BreachAloneLosesLink, ConfigIsTaken, IndexBringsView, UpdateAddsToView, RequestIsAnswered, WholeIsAnnounced, FurtherIsAnnounced, AskSendsRequest, BlockIsReceived, UnaskedIsIgnored};
 
 use bep_index::{batch_records_are_found, records_make_an_index};
 
 /// A link comes up with the next epoch and nothing on its way. A lost link has nothing on its way, and a restarted device
-/// neither sessions, pulls nor links; other devices and their links stay.
+/// neither sessions, pulls nor links; other devices and their links stay. A device that is reset has none of these either,
+/// an empty index under the new id for each folder, and nothing of what others have.
 pub fn links_come_and_go()
     ensures connect { ConnectOpens }
     ensures lose { LoseEmpties }
     ensures restart { RestartForgets }
+    ensures reset { ResetStartsOver }
 {}
 
 /// A new session waits for the other device's ClusterConfig and has no cursor yet; its own tells of each folder that both

@@ -27,6 +27,8 @@ pub enum Refusal {
     PullsFull,
     /// The folder's kind forbids it.
     KindForbids,
+    /// The id isn't above that of each index of the device.
+    IndexIdOld,
     /// The link is down.
     LinkDown,
     /// 1024 messages are on their way already.

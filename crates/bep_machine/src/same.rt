@@ -51,7 +51,8 @@ impl Same for Message {
     }
 }
 
-// A letter is the device, the other end, the folder or the name of the first step, and the word is that of the second.
+// A letter is the device, the other end, the folder, the name or the id of the first step, and the word is that of the
+// second.
 impl Same for Step {
     fn same(&self, other: &Step) -> bool {
         match (self, other) {
@@ -77,6 +78,7 @@ impl Same for Step {
                 d == device && e == end && f == folder && n == name
             }
             (Step::Restart(d), Step::Restart(device)) => d == device,
+            (Step::Reset(d, i), Step::Reset(device, id)) => d == device && i == id,
             _ => false,
         }
     }

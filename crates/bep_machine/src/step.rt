@@ -1,6 +1,7 @@
 //! The steps of a cluster.
 ghost use Rattle.std.specs.Prelude.{◌≡◌, IfOk};
 
+use bep_index::IndexId;
 use bep_record::{DeviceId, FolderName, Name, Node};
 use std::alloc::{AllocError, Global};
 
@@ -35,6 +36,9 @@ pub enum Step {
     Finish(DeviceId, FolderName, Name),
     /// The device starts anew: sessions, pulls and links are gone, and what is stored stays.
     Restart(DeviceId),
+    /// The device has lost all its indexes, and begins each anew under this id: with no record, and knowing nothing of what
+    /// others have. Sessions, pulls and links are gone, and what its stores hold stays.
+    Reset(DeviceId, IndexId),
 }
 
 impl Step {
@@ -83,6 +87,7 @@ impl Step {
                 Step::Finish(*device, folder, name)
             }
             Step::Restart(device) => Step::Restart(*device),
+            Step::Reset(device, id) => Step::Reset(*device, *id),
         })
     }
 }

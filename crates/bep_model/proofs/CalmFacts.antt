@@ -9,11 +9,13 @@ use Rattle.bep_facts.specs.Orders.{texts_exact, Equal_from_same, texts_total}
 use Rattle.bep_record.specs.declared.entry.Entry.{Entry}
 use Rattle.bep_record.specs.declared.node.NodeParts.{NodeParts}
 use Rattle.bep_record.specs.Content.{Content, Deleted, content_of}
+use Rattle.bep_record.specs.Node.{IsClean}
 use Rattle.bep_model.specs.declared.row.Row.{Row}
 use Rattle.bep_model.specs.Tables.{Tables, Device, Folder, FileName, Shares}
-use Rattle.bep_model.specs.Foreign.{IsKnown}
+use Rattle.bep_model.specs.Foreign.{IsHarmless, IsKnown}
 use Rattle.bep_model.specs.Settled.{IsSettled, HasRow, OwnAgrees, key_of, key_cmp}
-use Rattle.bep_model.specs.Calm.{Contents, OwnIsCalm, StoreIsCalm, NodeIsCalm, ForeignIsCalm, IsCalm, IsCalmAt, content_due, contents_of}
+use Rattle.bep_model.specs.Calm.{Contents, OwnIsCalm, WasReset, OnlyReceives, StoreIsCalm, NodeIsCalm, IsCalmBeside, ForeignIsCalm, IsCalmAt, content_due, contents_of}
+use Rattle.bep_model.specs.Laws.{SettledIsCalm}
 
 -- a row of the name, and its content is the name's
 pub record HasContent (rows : List Row) (folder : Folder) (name : FileName) : Type 0 where
@@ -68,26 +70,37 @@ content_or_none (row ∷ more) folder name =
     (content_or_none more folder name))
     (cases_Bool (is_eq (key_cmp (key_of row) (folder, name))))
 
-own_where_agreed : (own : Option Entry) (content : Content) → OwnAgrees own content → OwnIsCalm own content
-own_where_agreed None content agrees = agrees
-own_where_agreed (Some own) content agrees = agrees
+own_where_agreed : (reset receives : Type 0) (own : Option Entry) (content : Content) → OwnAgrees own content → OwnIsCalm reset receives own content
+own_where_agreed reset receives None content agrees = inl agrees
+own_where_agreed reset receives (Some own) content agrees = (inl agrees.0, agrees.1)
 
-calm_at_row : (t : Tables) (rows : List Row) (contents : Contents) → IsSettled t rows → (row : Row) (device : Device) → Contains rows row → Shares t device row.folder → contents row.folder row.entry.name ≡ Some (content_of row.entry) → IsCalmAt t contents device row.folder row.entry.name
-calm_at_row t rows contents settled row device member shares e =
+node_where_clean : (node : Option NodeParts) (own : Option Entry) → IsClean node own → NodeIsCalm node own
+node_where_clean node None clean = tt
+node_where_clean node (Some own) clean = clean
+
+beside_where_harmless : (own : Option Entry) (content : Content) (entry : Entry) → OwnAgrees own content → IsHarmless own content entry → IsCalmBeside own content entry
+beside_where_harmless None content entry agrees harmless = harmless
+beside_where_harmless (Some own) content entry agrees harmless = ⊎_elim (λ has. inl has) (λ below. inr (agrees.0, below)) harmless
+
+calm_at_row : (t : Tables) (rows : List Row) (contents : Contents) (reset : List Device) → IsSettled t rows → (row : Row) (device : Device) → Contains rows row → Shares t device row.folder → contents row.folder row.entry.name ≡ Some (content_of row.entry) → IsCalmAt t contents reset device row.folder row.entry.name
+calm_at_row t rows contents reset settled row device member shares e =
     let due : content_of row.entry ≡ content_due (contents row.folder row.entry.name) = sym (ap content_due e) in
     let store = settled.store row device member shares in
+    let agrees = settled.own row device member shares in
     record {
-      own = subst (λ content. OwnIsCalm (t.own device row.folder row.entry.name) content) due (own_where_agreed _ _ (settled.own row device member shares));
+      own = subst (λ content. OwnIsCalm (WasReset reset device) (OnlyReceives t device row.folder) (t.own device row.folder row.entry.name) content) due
+          (own_where_agreed _ _ _ _ agrees);
       store = subst (λ content. StoreIsCalm (t.node device row.folder row.entry.name) content) due store.holds;
-      node = store.clean;
-      foreign = subst (λ content. ForeignIsCalm t device row.folder row.entry.name content) due (settled.foreign row device member shares);
+      node = node_where_clean _ _ store.clean;
+      foreign = subst (λ content. ForeignIsCalm t device row.folder row.entry.name content) due
+          (λ entry is_foreign. beside_where_harmless _ _ entry agrees (settled.foreign row device member shares entry is_foreign));
       unlisted = λ none. absurd (cc);
     }
 
 -- nothing is recorded or held, and nothing is due
-own_of_nothing : (own : Option Entry) (content : Content) → own ≡ None → content ≡ Deleted → OwnIsCalm own content
-own_of_nothing None content none due = due
-own_of_nothing (Some own) content none due = absurd (cc)
+own_of_nothing : (reset receives : Type 0) (own : Option Entry) (content : Content) → own ≡ None → content ≡ Deleted → OwnIsCalm reset receives own content
+own_of_nothing reset receives None content none due = inl due
+own_of_nothing reset receives (Some own) content none due = absurd (cc)
 
 store_of_nothing : (node : Option NodeParts) (content : Content) → node ≡ None → content ≡ Deleted → StoreIsCalm node content
 store_of_nothing None content none due = sym due
@@ -98,26 +111,26 @@ node_of_nothing None None no_node no_own = tt
 node_of_nothing (Some node) own no_node no_own = absurd (cc)
 node_of_nothing None (Some own) no_node no_own = absurd (cc)
 
-calm_where_unknown : (t : Tables) (contents : Contents) (device : Device) (folder : Folder) (name : FileName) → Shares t device folder → ¬ IsKnown t folder name → contents folder name ≡ None → IsCalmAt t contents device folder name
-calm_where_unknown t contents device folder name shares unknown e =
+calm_where_unknown : (t : Tables) (contents : Contents) (reset : List Device) (device : Device) (folder : Folder) (name : FileName) → Shares t device folder → ¬ IsKnown t folder name → contents folder name ≡ None → IsCalmAt t contents reset device folder name
+calm_where_unknown t contents reset device folder name shares unknown e =
     let due : content_due (contents folder name) ≡ Deleted = ap content_due e in
     let no_node = none_from_not_some (t.node device folder name) (λ some. unknown (device, shares, inl some)) in
     let no_own = none_from_not_some (t.own device folder name) (λ some. unknown (device, shares, inr (inl some))) in
     record {
-      own = own_of_nothing _ _ no_own due;
+      own = own_of_nothing _ _ _ _ no_own due;
       store = store_of_nothing _ _ no_node due;
       node = node_of_nothing _ _ no_node no_own;
       foreign = λ entry is_foreign. absurd (unknown (device, shares, inr (inr (entry, is_foreign))));
       unlisted = λ _. record { own = no_own; foreign = λ entry is_foreign. unknown (device, shares, inr (inr (entry, is_foreign))) };
     }
 
-pub settled_is_calm_lem : (t : Tables) (rows : List Row) → IsSettled t rows → IsCalm t (contents_of rows)
-settled_is_calm_lem t rows settled device folder name shares =
+pub settled_is_calm_lem : SettledIsCalm
+settled_is_calm_lem t rows reset settled device folder name shares =
     ⊎_elim
     (λ some.
-    subst (λ (key : Folder × FileName). Shares t device key.0 → contents_of rows key.0 key.1 ≡ Some (content_of some.row.entry) → IsCalmAt t (contents_of rows) device key.0 key.1)
+    subst (λ (key : Folder × FileName). Shares t device key.0 → contents_of rows key.0 key.1 ≡ Some (content_of some.row.entry) → IsCalmAt t (contents_of rows) reset device key.0 key.1)
     some.key
-    (λ shares content. calm_at_row t rows (contents_of rows) settled some.row device some.member shares content)
+    (λ shares content. calm_at_row t rows (contents_of rows) reset settled some.row device some.member shares content)
     shares some.content)
-    (λ none. calm_where_unknown t (contents_of rows) device folder name shares (λ known. none.no_row ((settled.certificate.names folder name).0 known)) none.content)
+    (λ none. calm_where_unknown t (contents_of rows) reset device folder name shares (λ known. none.no_row ((settled.certificate.names folder name).0 known)) none.content)
     (content_or_none rows folder name)

@@ -12,14 +12,15 @@ use Rattle.bep_record.specs.Block.{base_block_size}
 use Rattle.bep_record.specs.declared.block.Block.{Block}
 use Rattle.bep_record.specs.declared.kind.Kind.{Kind}
 use Rattle.bep_record.specs.Content.{Content, Deleted, content_of, content_of_kind}
+use Rattle.bep_record.specs.Node.{IsClean}
 use Rattle.bep_blocks.specs.Plain.{plain_blocks}
 use Rattle.bep_choice.specs.Choice.{Candidate}
 use Rattle.bep_model.specs.declared.row.Row.{Row}
 use Rattle.bep_model.specs.Tables.{Tables, Device, Folder, FileName, Shares}
-use Rattle.bep_model.specs.Foreign.{IsKnown}
+use Rattle.bep_model.specs.Foreign.{IsHarmless, IsKnown}
 use Rattle.bep_model.specs.Winner.{IsWinner, beside, owned, own_candidates, smallest}
-use Rattle.bep_model.specs.Settled.{IsSettled, IsListOfWinners, HasRow, Rise, OwnAgrees, content_of_node, key_of, key_cmp}
-use Rattle.bep_model.specs.Calm.{OwnIsCalm, StoreIsCalm, NodeIsCalm, ForeignIsCalm, IsCalm, content_due, contents_of}
+use Rattle.bep_model.specs.Settled.{IsSettled, IsListOfWinners, HasRow, Rise, OwnAgrees, StoreAgrees, ForeignAgrees, content_of_node, key_of, key_cmp}
+use Rattle.bep_model.specs.Calm.{OwnIsCalm, WasReset, StoreIsCalm, NodeIsCalm, IsCalmBeside, IsCalm, content_due, contents_of}
 use Rattle.bep_model.specs.Stays.{OwnHas, KeepsRecords, SameShares, RecordsAreNamed, SameContents}
 use Rattle.bep_model.specs.Laws.{CalmStays, CalmIsSettledAgain}
 use Rattle.bep_model.proofs.CalmFacts.{content_or_none}
@@ -50,9 +51,9 @@ content_at_row unique t rows list row member =
     (λ none. absurd (none.no_row (row, member, refl)))
     (content_or_none rows row.folder row.entry.name)
 
-own_has : (own : Option Entry) (content : Content) → OwnIsCalm own content → OwnHas own content
-own_has None content calm = calm
-own_has (Some own) content calm = calm.1
+own_has : (reset receives : Type 0) (own : Option Entry) (content : Content) → OwnIsCalm reset receives own content → OwnHas reset own content
+own_has reset receives None content calm = calm
+own_has reset receives (Some own) content calm = calm.1
 
 -- who shared a folder still does
 still : (t later : Tables) → SameShares t later → (device : Device) (folder : Folder) → Shares t device folder → Shares later device folder
@@ -60,15 +61,15 @@ still t later shares device folder sharing =
     (sharing.0, subst (λ (s : List (Device × FolderKind)). Contains s (device, sharing.0)) (shares folder) sharing.1)
 
 pub calm_stays_lem : OneChoice → CalmStays
-calm_stays_lem unique t later rows settled shares calm kept =
+calm_stays_lem unique t later rows reset settled shares calm kept =
     let due = λ (row : Row) (member : Contains rows row). ap content_due (content_at_row unique t rows settled.certificate row member) in
     record {
       kept = kept;
       store = λ row device member sharing.
           (calm device row.folder row.entry.name (still t later shares device row.folder sharing)).store ∙ due row member;
       own = λ row device member sharing.
-          subst (OwnHas (later.own device row.folder row.entry.name)) (due row member)
-          (own_has _ _ (calm device row.folder row.entry.name (still t later shares device row.folder sharing)).own);
+          subst (OwnHas (WasReset reset device) (later.own device row.folder row.entry.name)) (due row member)
+          (own_has _ _ _ _ (calm device row.folder row.entry.name (still t later shares device row.folder sharing)).own);
       unlisted = λ device folder name sharing no_row.
           ⊎_elim
           (λ some. absurd (no_row (some.row, some.member, some.key)))
@@ -80,9 +81,23 @@ calm_stays_lem unique t later rows settled shares calm kept =
 
 -- ---- settled again
 
-own_agrees : (own : Option Entry) (content : Content) → OwnIsCalm own content → OwnAgrees own content
-own_agrees None content calm = calm
-own_agrees (Some own) content calm = calm
+-- no device's index was reset
+not_reset : (device : Device) → ¬ WasReset [] device
+not_reset device = not_in_none device
+
+own_agrees : (reset receives : Type 0) (own : Option Entry) (content : Content) → ¬ reset → OwnIsCalm reset receives own content → OwnAgrees own content
+own_agrees reset receives None content unreset calm = ⊎_elim (λ deleted. deleted) (λ was. absurd (unreset was)) calm
+own_agrees reset receives (Some own) content unreset calm = (⊎_elim (λ valid. valid) (λ marked. absurd (unreset marked.0)) calm.0, calm.1)
+
+node_is_clean : (node : Option NodeParts) (own : Option Entry) (content : Content) → OwnAgrees own content → StoreIsCalm node content → NodeIsCalm node own → IsClean node own
+node_is_clean None None content agrees holds calm = tt
+node_is_clean (Some node) None content agrees holds calm = absurd (let none = nothing_held (Some node) (holds ∙ agrees) in cc)
+node_is_clean None (Some own) content agrees holds calm = calm
+node_is_clean (Some node) (Some own) content agrees holds calm = calm
+
+harmless_where_calm : (own : Option Entry) (content : Content) (entry : Entry) → IsCalmBeside own content entry → IsHarmless own content entry
+harmless_where_calm None content entry calm = calm
+harmless_where_calm (Some own) content entry calm = ⊎_elim (λ has. inl has) (λ below. inr below.1) calm
 
 -- who has a candidate shares the folder, and who shares it and has a record has a candidate
 pub owner_shares : (t : Tables) (folder : Folder) (name : FileName) (shares : List (Device × FolderKind)) (one : Candidate) → Contains (owned t folder name shares) one → (kind : FolderKind) × Contains shares (one.0, kind)
@@ -162,7 +177,7 @@ counterpart_back rows others same other member =
     let found = counterpart others rows (same_back rows others same) other member in
     (found.0, found.1, record { key = sym found.2.key; content = sym found.2.content })
 
-module _ (some_choice : SomeChoice) (unique : OneChoice) (t later : Tables) (rows : List Row) (settled : IsSettled t rows) (shares : SameShares t later) (keeps : KeepsRecords t later) (named : RecordsAreNamed later) (calm : IsCalm later (contents_of rows)) where
+module _ (some_choice : SomeChoice) (unique : OneChoice) (t later : Tables) (rows : List Row) (settled : IsSettled t rows) (shares : SameShares t later) (keeps : KeepsRecords t later) (named : RecordsAreNamed later) (calm : IsCalm later (contents_of rows) []) where
   -- a row's name has a winner later on, of the same content
   record IsNewRow (row other : Row) : Type 0 where
     folder : row.folder ≡ other.folder
@@ -176,7 +191,8 @@ module _ (some_choice : SomeChoice) (unique : OneChoice) (t later : Tables) (row
   -- a sharing device's record of a row's name is valid and has the row's content
   own_later : (row : Row) → Contains rows row → (device : Device) (entry : Entry) → Shares later device row.folder → later.own device row.folder row.entry.name ≡ Some entry → (entry.invalid ≡ false) × (content_of entry ≡ content_of row.entry)
   own_later row member device entry sharing own =
-      let at = subst (λ (o : Option Entry). OwnIsCalm o (content_due (contents_of rows row.folder row.entry.name))) own (calm device row.folder row.entry.name sharing).own in
+      let agrees = own_agrees _ _ _ _ (not_reset device) (calm device row.folder row.entry.name sharing).own in
+      let at = subst (λ (o : Option Entry). OwnAgrees o (content_due (contents_of rows row.folder row.entry.name))) own agrees in
       (at.0, at.1 ∙ due row member)
 
   new_row : (row : Row) → Contains rows row → (other : Row) × IsNewRow row other
@@ -249,22 +265,22 @@ module _ (some_choice : SomeChoice) (unique : OneChoice) (t later : Tables) (row
       not_some (Some x) none some = cc
 
   module _ (others : List Row) (new : AreNewRows rows others) where
-    record IsCalmRow (other : Row) (device : Device) : Type 0 where
-      own : OwnIsCalm (later.own device other.folder other.entry.name) (content_of other.entry)
-      store : StoreIsCalm (later.node device other.folder other.entry.name) (content_of other.entry)
-      node : NodeIsCalm (later.node device other.folder other.entry.name) (later.own device other.folder other.entry.name)
-      foreign : ForeignIsCalm later device other.folder other.entry.name (content_of other.entry)
+    record IsSettledRow (other : Row) (device : Device) : Type 0 where
+      own : OwnAgrees (later.own device other.folder other.entry.name) (content_of other.entry)
+      store : StoreAgrees (later.node device other.folder other.entry.name) (later.own device other.folder other.entry.name) (content_of other.entry)
+      foreign : ForeignAgrees later device other.folder other.entry.name (content_of other.entry)
 
-    calm_at : (other : Row) → Contains others other → (device : Device) → Shares later device other.folder → IsCalmRow other device
-    calm_at other member device sharing =
+    settled_at : (other : Row) → Contains others other → (device : Device) → Shares later device other.folder → IsSettledRow other device
+    settled_at other member device sharing =
         let row = counterpart_back rows others new.same other member in
         let content = ap (λ (k : Folder × FileName). content_due (contents_of rows k.0 k.1)) (sym row.2.key) ∙ due row.0 row.1 ∙ row.2.content in
         let here = calm device other.folder other.entry.name sharing in
+        let agrees = own_agrees _ _ _ _ (not_reset device) here.own in
         record {
-          own = subst (OwnIsCalm (later.own device other.folder other.entry.name)) content here.own;
-          store = here.store ∙ content;
-          node = here.node;
-          foreign = subst (ForeignIsCalm later device other.folder other.entry.name) content here.foreign;
+          own = subst (OwnAgrees (later.own device other.folder other.entry.name)) content agrees;
+          store = record { holds = here.store ∙ content; clean = node_is_clean _ _ _ agrees here.store here.node };
+          foreign = λ entry is_foreign. subst (λ (c : Content). IsHarmless (later.own device other.folder other.entry.name) c entry) content
+              (harmless_where_calm _ _ entry (here.foreign entry is_foreign));
         }
 
     known_has_row : (folder : Folder) (name : FileName) → IsKnown later folder name → HasRow others folder name
@@ -290,9 +306,9 @@ module _ (some_choice : SomeChoice) (unique : OneChoice) (t later : Tables) (row
         names = λ folder name. (known_has_row folder name, row_is_known folder name);
         winners = new.winners;
       };
-      own = λ other device member sharing. own_agrees _ _ (calm_at other member device sharing).own;
-      store = λ other device member sharing. record { holds = (calm_at other member device sharing).store; clean = (calm_at other member device sharing).node };
-      foreign = λ other device member sharing. (calm_at other member device sharing).foreign;
+      own = λ other device member sharing. (settled_at other member device sharing).own;
+      store = λ other device member sharing. (settled_at other member device sharing).store;
+      foreign = λ other device member sharing. (settled_at other member device sharing).foreign;
     }
 
 pub calm_is_settled_again_lem : SomeChoice → OneChoice → CalmIsSettledAgain

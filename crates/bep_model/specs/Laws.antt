@@ -1,9 +1,9 @@
 -- What follows from the definitions alone; the functions of src/laws.rt have these as contracts.
-use Rattle.std.specs.Prelude.{◌≡◌, ◌⊎◌, ◌↔◌, ◌≤◌, List, None}
+use Rattle.std.specs.Prelude.{◌≡◌, ◌⊎◌, ◌↔◌, ◌≤◌, List, [], None}
 use Rattle.bep_choice.specs.Choice.{Candidate}
 use Rattle.bep_model.specs.declared.row.Row.{Row}
 use Rattle.bep_model.specs.declared.reason.Reason.{Reason}
-use Rattle.bep_model.specs.Tables.{Tables, Folder, FileName}
+use Rattle.bep_model.specs.Tables.{Tables, Device, Folder, FileName}
 use Rattle.bep_model.specs.Foreign.{IsFinite}
 use Rattle.bep_model.specs.Winner.{IsWinner}
 use Rattle.bep_model.specs.Settled.{Rise, IsListOfWinners, IsSettled}
@@ -75,18 +75,19 @@ WinnersOrFirstWithout =
     (t : Tables) → IsFinite t → OwnRecordsAreNamed t →
     ((rows : List Row) × IsListOfWinners t rows) ⊎ ((key : Folder × FileName) × IsFirstWithoutWinner t key.0 key.1)
 
--- what is settled is calm for the contents of its rows
+-- what is settled is calm for the contents of its rows, whichever devices were reset
 abbrev pub SettledIsCalm : Type 0
-SettledIsCalm = (t : Tables) (rows : List Row) → IsSettled t rows → IsCalm t (contents_of rows)
+SettledIsCalm = (t : Tables) (rows : List Row) (reset : List Device) → IsSettled t rows → IsCalm t (contents_of rows) reset
 
 -- a later cut that is calm for a settled cut's contents, and whose stores are kept, is as the certificate says
 abbrev pub CalmStays : Type 0
-CalmStays = (t later : Tables) (rows : List Row) → IsSettled t rows → SameShares t later → IsCalm later (contents_of rows) → Kept t later → Stays t rows later
+CalmStays = (t later : Tables) (rows : List Row) (reset : List Device) →
+    IsSettled t rows → SameShares t later → IsCalm later (contents_of rows) reset → Kept t later → Stays t rows reset later
 
--- and it is settled for its own winners, if no record went away
+-- and it is settled for its own winners, if no device was reset and no record went away
 abbrev pub CalmIsSettledAgain : Type 0
 CalmIsSettledAgain =
-    (t later : Tables) (rows : List Row) → IsSettled t rows → SameShares t later → KeepsRecords t later → RecordsAreNamed later → IsCalm later (contents_of rows) →
+    (t later : Tables) (rows : List Row) → IsSettled t rows → SameShares t later → KeepsRecords t later → RecordsAreNamed later → IsCalm later (contents_of rows) [] →
     (others : List Row) × IsSettled later others × SameContents rows others
 
 -- what is firm stays firm, under the same rows, and nothing changes, whatever free peers do

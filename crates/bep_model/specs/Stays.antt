@@ -1,25 +1,27 @@
 -- What stays of a settled cut in a later one (this project's profile).
-use Rattle.std.specs.Prelude.{◌≡◌, ⊤, List, [], ◌∷◌, Option, Some, None, IsSome, Contains}
+use Rattle.std.specs.Prelude.{◌≡◌, ◌⊎◌, ⊤, List, [], ◌∷◌, Option, Some, None, IsSome, Contains}
 use Rattle.bep_record.specs.declared.entry.Entry.{Entry}
 use Rattle.bep_record.specs.Content.{Content, Deleted, content_of}
 use Rattle.bep_model.specs.declared.row.Row.{Row}
 use Rattle.bep_model.specs.Tables.{Tables, Device, Folder, FileName, Shares}
 use Rattle.bep_model.specs.Settled.{content_of_node, HasRow}
-use Rattle.bep_model.specs.Calm.{Kept}
+use Rattle.bep_model.specs.Calm.{WasReset, Kept}
 
--- the own record, where there is one, has this content; there is none only where the content is Deleted
-abbrev pub OwnHas : Option Entry → Content → Type 0
-OwnHas None content = content ≡ Deleted
-OwnHas (Some own) content = content_of own ≡ content
+-- the own record, where there is one, has this content; there is none only where the content is Deleted, or the device was
+-- reset
+abbrev pub OwnHas : Type 0 → Option Entry → Content → Type 0
+OwnHas reset None content = (content ≡ Deleted) ⊎ reset
+OwnHas reset (Some own) content = content_of own ≡ content
 
 -- Each store holds byte for byte what it held; each row's name has its certified content in every sharing device's store
--- and own record; a name without a row has neither node nor record.
-pub record Stays (before : Tables) (rows : List Row) (after : Tables) : Type 0 where
+-- and own record, where only one of these devices, which were reset, may lack a record that the content asks for; a name
+-- without a row has neither node nor record.
+pub record Stays (before : Tables) (rows : List Row) (reset : List Device) (after : Tables) : Type 0 where
   pub kept : Kept before after
   pub store : (row : Row) (device : Device) → Contains rows row → Shares before device row.folder →
       content_of_node (after.node device row.folder row.entry.name) ≡ content_of row.entry
   pub own : (row : Row) (device : Device) → Contains rows row → Shares before device row.folder →
-      OwnHas (after.own device row.folder row.entry.name) (content_of row.entry)
+      OwnHas (WasReset reset device) (after.own device row.folder row.entry.name) (content_of row.entry)
   pub unlisted : (device : Device) (folder : Folder) (name : FileName) → Shares before device folder → (¬ HasRow rows folder name) →
       (after.node device folder name ≡ None) × (after.own device folder name ≡ None)
 

@@ -61,19 +61,21 @@ pub fn winners_or_first_without()
     choice_exists();
 }
 
-/// A settled cut is calm for the contents that its rows name.
+/// A settled cut is calm for the contents that its rows name, whichever devices were reset.
 pub fn settled_is_calm()
     ensures { SettledIsCalm }
 {}
 
-/// A later cut that is calm for a settled cut's contents, and whose stores are kept, is as the certificate says.
+/// A later cut that is calm for a settled cut's contents, and whose stores are kept, is as the certificate says: only a
+/// device that was reset may lack a record.
 pub fn calm_stays()
     ensures { CalmStays }
 {
     choice_is_unique();
 }
 
-/// If no record went away, such a cut is settled for its own winners. Their names and contents are the certificate's.
+/// If no device was reset and no record went away, such a cut is settled for its own winners. Their names and contents are
+/// the certificate's.
 pub fn calm_is_settled_again()
     ensures { CalmIsSettledAgain }
 {

@@ -21,6 +21,7 @@ mod ScanFacts
 mod ContentsFacts
 mod CopyFacts
 mod RestartFacts
+mod ResetFacts
 mod ViewTaken
 mod DeliverFacts
 mod RenewFacts

@@ -69,6 +69,7 @@ fn number_of(refusal: Refusal) -> u32
         Refusal::CopyExists => 145,
         Refusal::PullsFull => 146,
         Refusal::KindForbids => 147,
+        Refusal::IndexIdOld => 149,
         Refusal::LinkDown => 151,
         Refusal::LinkFull => 152,
         Refusal::EpochFull => 153,

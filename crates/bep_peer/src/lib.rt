@@ -20,6 +20,7 @@ mod network;
 mod over;
 mod peer;
 mod requests;
+mod reset;
 mod restart;
 mod sending;
 mod session;

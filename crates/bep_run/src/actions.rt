@@ -4,6 +4,7 @@
 //! refuses that it makes.
 
 use crate::Shared;
+use bep_index::IndexId;
 use bep_log::{LogError, LoggedLink};
 use bep_machine::Moved;
 use bep_record::{DeviceId, FolderName, Name, Node};
@@ -86,6 +87,21 @@ impl<S: Store> Shared<S> {
         peer.restart(ticket)?;
         for link in links.iter_mut() {
             link.restart(ticket, device)?;
+        }
+        Ok(())
+    }
+
+    /// The device starts over with empty indexes under this id, and each of its links is lost, under one ticket and all of
+    /// their guards. The device's part is the first, and where it is refused, nothing was made: so it is for an id that isn't
+    /// above that of each of its indexes. Where a link's part is refused, for want of memory or of room in its log, those
+    /// before it were made all the same.
+    pub fn reset<R: Wait>(&self, rt: &R, device: DeviceId, id: IndexId) -> Result<(), LogError> {
+        let mut peer = self.device(device)?.peer.lock(rt);
+        let mut links = self.guards_of(rt, device)?;
+        let ticket = self.draw();
+        peer.reset(ticket, id)?;
+        for link in links.iter_mut() {
+            link.reset(ticket, device, id)?;
         }
         Ok(())
     }

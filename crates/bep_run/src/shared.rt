@@ -37,6 +37,8 @@ pub(crate) struct Joint {
     pub(crate) link: Mutex<LoggedLink>,
 }
 
+// By hand, as for the two below: a caller's proof then sees one call where it lets go of one, and not each field
+// (docs/developing.md).
 impl<S: Store> Drop for Shared<S> {
     fn drop(self) {
         let Shared {

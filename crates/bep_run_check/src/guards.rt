@@ -38,6 +38,7 @@ pub(crate) fn guards_of(step: &Step) -> Guards
         Step::Ask(device, other, _, _) => Guards::OfDeviceAndLink(*device, *other),
         Step::Finish(device, _, _) => Guards::OfDevice(*device),
         Step::Restart(device) => Guards::OfDeviceAndLinks(*device),
+        Step::Reset(device, _) => Guards::OfDeviceAndLinks(*device),
     }
 }
 

@@ -5,16 +5,14 @@ use Rattle.std.specs.List.{AllByRecursion}
 use Rattle.bep_machine.specs.HalfLaws.{ReplaysKeepSharing}
 use Rattle.bep_model.specs.Stays.{Stays}
 use Rattle.bep_model.specs.Tables.{Tables}
-use Rattle.bep_machine.specs.Said.{tables_of_cluster}
 use Rattle.bep_links.specs.Link.{LinkBetween}
 use Rattle.bep_peer.specs.Laws.{NoMoreTables, TablesAreFound}
 use Rattle.bep_peer.specs.Member.{Member}
-use Rattle.bep_peer.specs.network.Network.{Network, cluster_of}
+use Rattle.bep_peer.specs.network.Network.{cluster_of}
 use Rattle.bep_log.specs.LoggedLink.{LoggedBetween}
 use Rattle.bep_log.specs.LoggedPeer.{LoggedMember}
-use Rattle.bep_tables.specs.declared.cut.CutParts.{CutParts}
 use Rattle.bep_tables.specs.Cut.{tables_of}
-use Rattle.bep_cut.specs.Cut.{cut_at, seen}
+use Rattle.bep_cut.specs.Cut.{seen}
 use Rattle.bep_fit.specs.declared.verdict.RunVerdict.{RunVerdict}
 use Rattle.bep_fit.specs.declared.verdict.RunVerdict.TheVariants.{Fits}
 use Rattle.bep_fit.specs.Fit.{IsRunVerdict}
@@ -22,24 +20,20 @@ use Rattle.bep_fit.specs.FitLaws.{FittingLogsAreOneRun, SettledLogsStayPut}
 use Rattle.bep_fit.specs.Logs.{ObjectLog}
 use Rattle.bep_run_check.specs.declared.limits.TheConstants.{MAX_OBJECTS}
 use Rattle.bep_run_cut.specs.OneRun.{IsRunOf, StaysPut}
-use Rattle.bep_run_cut.specs.RunCut.{AreTheSame, HoldsCopies, IsCutOf, IsRunCut, IsLinkReplayedCopy, IsReplayedCopy, PartsLead, RunState, device_log, link_log, links_base, links_now, logs_of, members_base, members_now}
+use Rattle.bep_run_cut.specs.RunCut.{AreTheSame, HoldsCopies, IsRunCut, IsLinkReplayedCopy, IsReplayedCopy, PartsLead, RunState, device_log, link_log, links_base, links_now, logs_of, members_base, members_now}
 use Rattle.bep_run_cut.specs.Whole.{AreWhole}
 use Rattle.bep_run_cut.proofs.BasesWhole.{bases_whole}
 use Rattle.bep_run_cut.proofs.Replaying.{copies_replay}
-
--- what the cut of a network says
-said : (network : Network) (cut : CutParts) → IsCutOf network cut → tables_of (cut_at network.members network.links) ≡ tables_of_cluster (cluster_of network)
-said network cut is = ap tables_of (sym is.cut_of) ∙ is.says
 
 pub is_run : FittingLogsAreOneRun → (run : RunState) → IsRunCut run → (verdict : RunVerdict) → IsRunVerdict run.logs verdict → (count : ℕ) → verdict ≡ Fits count → IsRunOf run count
 is_run law run is verdict judged count fits =
     law run.logs (cluster_of run.bases) (cluster_of run.present) count is.sound is.replayed is.nodes (subst (IsRunVerdict run.logs) fits judged)
 
-pub stays_put : SettledLogsStayPut → (run : RunState) → IsRunCut run → (base cut : CutParts) → IsCutOf run.bases base → IsCutOf run.present cut → (verdict : RunVerdict) → IsRunVerdict run.logs verdict → (count : ℕ) → verdict ≡ Fits count → StaysPut run
-stays_put law run is base cut base_is cut_is verdict judged count fits rows settled quiet =
-    let tables = tables_of (cut_at run.bases.members run.bases.links) in
-    subst (λ (after : Tables). Stays tables rows after) (sym (said run.present cut cut_is))
-    (law run.logs (cluster_of run.bases) (cluster_of run.present) count tables rows is.sound is.replayed (subst (IsRunVerdict run.logs) fits judged) quiet (sym (said run.bases base base_is)) settled)
+pub stays_put : SettledLogsStayPut → (run : RunState) → IsRunCut run → (verdict : RunVerdict) → IsRunVerdict run.logs verdict → (count : ℕ) → verdict ≡ Fits count → StaysPut run
+stays_put law run is verdict judged count fits base cut base_is cut_is rows settled quiet =
+    let tables = tables_of base in
+    subst (λ (after : Tables). Stays tables rows after) (sym cut_is.says)
+    (law run.logs (cluster_of run.bases) (cluster_of run.present) count tables rows is.sound is.replayed (subst (IsRunVerdict run.logs) fits judged) quiet (sym base_is.says) settled)
 
 -- whole copies have few logs
 pub few_logs : (peers : List LoggedMember) (links : List LoggedBetween) → AreWhole (members_now peers) (links_now links) → length (logs_of peers links) ≤ MAX_OBJECTS

@@ -4,21 +4,20 @@ use Rattle.bep_model.specs.declared.row.Row.{Row}
 use Rattle.bep_model.specs.Settled.{IsSettled}
 use Rattle.bep_model.specs.Stays.{Stays}
 use Rattle.bep_peer.specs.network.Network.{cluster_of}
+use Rattle.bep_tables.specs.declared.cut.CutParts.{CutParts}
 use Rattle.bep_tables.specs.Cut.{tables_of}
-use Rattle.bep_cut.specs.Cut.{cut_at}
 use Rattle.bep_fit.specs.declared.stamped.Stamped.{Stamped}
 use Rattle.bep_fit.specs.FitLaws.{IsOneRun}
 use Rattle.bep_fit.specs.Replayed.{AreQuietLogs}
-use Rattle.bep_run_cut.specs.RunCut.{RunState}
+use Rattle.bep_run_cut.specs.RunCut.{IsCutOf, RunState}
 
 -- There is one list of so many events, each once, by rising ticket, of which each log is what touches its object, in order.
 -- It is a run from the cluster as it was to the cluster as it is.
 abbrev pub IsRunOf : RunState → ℕ → Type 0
 IsRunOf run count = (merged : List Stamped) × (length merged ≡ count) × IsOneRun run.logs merged (cluster_of run.bases) (cluster_of run.present)
 
--- If the cut of the cluster as it was is settled for some rows, and no event is a local step, each store holds byte for byte
--- what it held, and each row's name has its certified content.
+-- If the cut of the cluster as it was is settled for some rows, and no event is a local step, each store of the cut of the
+-- cluster as it is holds byte for byte what it held, and each row's name has its certified content.
 abbrev pub StaysPut : RunState → Type 0
-StaysPut run = (rows : List Row) →
-    IsSettled (tables_of (cut_at run.bases.members run.bases.links)) rows → AreQuietLogs run.logs →
-    Stays (tables_of (cut_at run.bases.members run.bases.links)) rows (tables_of (cut_at run.present.members run.present.links))
+StaysPut run = (base cut : CutParts) → IsCutOf run.bases base → IsCutOf run.present cut → (rows : List Row) →
+    IsSettled (tables_of base) rows → AreQuietLogs run.logs → Stays (tables_of base) rows (tables_of cut)

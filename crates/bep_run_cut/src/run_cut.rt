@@ -33,6 +33,7 @@ pub struct RunCut {
     cut: Cut,
 }
 
+// By hand: a caller's proof then sees one call where it lets go of one, and not each field (docs/developing.md).
 impl Drop for RunCut {
     fn drop(self) {
         let RunCut {

@@ -33,8 +33,8 @@ fn kept(alloc: Global, share: &Share) -> u64 {
     kept
 }
 
-// The same of all stores.
-fn held(alloc: Global, cut: &Cut) -> Option<(u64, u64)> {
+/// The same of all stores.
+pub(crate) fn held(alloc: Global, cut: &Cut) -> Option<(u64, u64)> {
     let docs = docs(alloc)?;
     let (mut nodes, mut same) = (0u64, 0u64);
     for share in cut.shares(&docs) {

@@ -13,3 +13,5 @@ mod hostile;
 mod made;
 #[cfg(test)]
 mod quiet;
+#[cfg(test)]
+mod resets;

@@ -3,7 +3,7 @@ use bep_config::Config;
 use bep_core::Cluster;
 use bep_machine::Step;
 use bep_record::{DeviceId, FolderKind, FolderName, Items, Kind, Name, Node, NodeParts, Target};
-use bep_store::{FaultStore, MemStore};
+use bep_store::{FaultStore, MemStore, Store};
 use std::alloc::Global;
 
 /// The folder.
@@ -16,32 +16,32 @@ pub(crate) fn name(alloc: Global, letter: u8) -> Option<Name> {
     Name::read(alloc, &[letter]).ok()
 }
 
-fn share(
+fn share<S: Store>(
     alloc: Global,
-    config: &mut Config<FaultStore<MemStore>>,
+    config: &mut Config<S>,
     device: u64,
     kind: FolderKind,
-    call: u64,
+    store: S,
 ) -> Option<()> {
     let docs = docs(alloc)?;
-    let store = FaultStore::new(MemStore::new(alloc), call);
     let id = DeviceId::read(device)?;
     config.add_device(&docs, id, kind, device, store).ok()
 }
 
-fn link(config: &mut Config<FaultStore<MemStore>>, lower: u64, upper: u64) -> Option<()> {
+fn link<S: Store>(config: &mut Config<S>, lower: u64, upper: u64) -> Option<()> {
     config
         .add_link(DeviceId::read(lower)?, DeviceId::read(upper)?)
         .ok()
 }
 
-// Three devices share `docs`, of which the second only sends; this call of the store of each fails, or none for 0.
-fn configured(
+// Three devices share `docs`, of which the second only sends, over these stores.
+fn configured<S: Store>(
     alloc: Global,
-    config: &mut Config<FaultStore<MemStore>>,
-    calls: [u64; 3],
+    config: &mut Config<S>,
+    first: S,
+    second: S,
+    third: S,
 ) -> Option<()> {
-    let [first, second, third] = calls;
     config.add_folder(b"docs").ok()?;
     share(alloc, config, 1, FolderKind::SendReceive, first)?;
     share(alloc, config, 2, FolderKind::SendOnly, second)?;
@@ -51,11 +51,32 @@ fn configured(
     link(config, 2, 3)
 }
 
-/// That cluster, as it begins.
-pub(crate) fn cluster(alloc: Global, calls: [u64; 3]) -> Option<Cluster<FaultStore<MemStore>>> {
+/// That cluster over these stores, as it begins.
+pub(crate) fn cluster_over<S: Store>(
+    alloc: Global,
+    first: S,
+    second: S,
+    third: S,
+) -> Option<Cluster<S>> {
     let mut config = Config::empty(alloc);
-    configured(alloc, &mut config, calls)?;
+    configured(alloc, &mut config, first, second, third)?;
     Cluster::new(alloc, config).ok()
+}
+
+// A store of which this call fails, or none for 0.
+fn store(alloc: Global, call: u64) -> FaultStore<MemStore> {
+    FaultStore::new(MemStore::new(alloc), call)
+}
+
+/// That cluster as it begins, where this call of the store of each fails, or none for 0.
+pub(crate) fn cluster(alloc: Global, calls: [u64; 3]) -> Option<Cluster<FaultStore<MemStore>>> {
+    let [first, second, third] = calls;
+    cluster_over(
+        alloc,
+        store(alloc, first),
+        store(alloc, second),
+        store(alloc, third),
+    )
 }
 
 /// The steps by which the cluster is settled. A step is its first letter, the device that makes it, the other one, if there is
@@ -162,9 +183,9 @@ pub(crate) fn copy_of(alloc: Global, step: &str) -> Option<Step> {
 }
 
 /// How many of these steps were made, and how many a store refused.
-pub(crate) fn made(
+pub(crate) fn made<S: Store>(
     alloc: Global,
-    cluster: &mut Cluster<FaultStore<MemStore>>,
+    cluster: &mut Cluster<S>,
     steps: &[&str],
 ) -> Option<(u64, u64)> {
     let (mut made, mut failed) = (0u64, 0u64);
@@ -183,7 +204,15 @@ pub(crate) fn made(
 
 /// The cluster once it is settled, where this call of each store fails, counted from there; none for 0.
 pub(crate) fn settled(alloc: Global, calls: [u64; 3]) -> Option<Cluster<FaultStore<MemStore>>> {
-    let mut cluster = cluster(alloc, [due(0, calls), due(1, calls), due(2, calls)])?;
+    started(
+        alloc,
+        cluster(alloc, [due(0, calls), due(1, calls), due(2, calls)])?,
+    )
+}
+
+/// That cluster once it is settled, if it was begun so.
+pub(crate) fn started<S: Store>(alloc: Global, cluster: Cluster<S>) -> Option<Cluster<S>> {
+    let mut cluster = cluster;
     if made(alloc, &mut cluster, &START)? == (50, 0) {
         Some(cluster)
     } else {

@@ -2,6 +2,8 @@
 #![tactic(auto)]
 
 #[cfg(test)]
+mod between;
+#[cfg(test)]
 mod ends;
 #[cfg(test)]
 mod full;
@@ -9,6 +11,8 @@ mod full;
 mod made;
 #[cfg(test)]
 mod rebasing;
+#[cfg(test)]
+mod resetting;
 #[cfg(test)]
 mod restarting;
 #[cfg(test)]

@@ -9,50 +9,56 @@ use std::alloc::Global;
 
 // The first of three devices, and its links with the second and the third.
 #[derive(Drop)]
-struct Hub {
-    device: LoggedPeer<FaultStore<MemStore>>,
-    up: LoggedLink,
-    down: LoggedLink,
+pub(crate) struct Hub {
+    pub(crate) device: LoggedPeer<FaultStore<MemStore>>,
+    pub(crate) up: LoggedLink,
+    pub(crate) down: LoggedLink,
 }
 
-// The first link comes up, and a session begins over it; then the device starts again, and both links with it.
-fn restarted(alloc: Global) -> Option<Hub> {
+/// The first link comes up, and a session begins over it.
+pub(crate) fn begun(alloc: Global) -> Option<Hub> {
     let mut hub = Hub {
         device: peer(alloc, 1, &[2, 3], 0)?,
         up: link(alloc, 1, 2)?,
         down: link(alloc, 1, 3)?,
     };
-    let device = DeviceId::read(1)?;
     hub.up.connect(1).ok()?;
     hub.device.begin(2, &mut hub.up).ok()?;
+    Some(hub)
+}
+
+// Then the device starts again, and both links with it.
+fn restarted(alloc: Global) -> Option<Hub> {
+    let mut hub = begun(alloc)?;
+    let device = DeviceId::read(1)?;
     hub.device.restart(3).ok()?;
     hub.up.restart(3, device).ok()?;
     hub.down.restart(3, device).ok()?;
     Some(hub)
 }
 
-// Whether the last event of the log is the device's restart under the ticket; and how many events the log has.
-fn ended(log: &[Stamped], device: u64, ticket: u64) -> Option<(bool, usize)> {
-    let due = Step::Restart(DeviceId::read(device)?);
+/// Whether the last event of the log is this step under this ticket; and how many events the log has.
+pub(crate) fn ended(log: &[Stamped], due: &Step, ticket: u64) -> Option<(bool, usize)> {
     let last = log.last()?;
     Some((
-        last.ticket == ticket && last.event.step.same(&due),
+        last.ticket == ticket && last.event.step.same(due),
         log.len(),
     ))
 }
 
 #[test]
 fn a_restart_is_logged_by_the_device_and_by_both_links(rt: HostRuntime) {
-    let Some(hub) = restarted(rt.alloc()) else {
+    let (Some(hub), Some(one)) = (restarted(rt.alloc()), DeviceId::read(1)) else {
         panic!(rt; "not restarted");
     };
-    assert_eq!(rt; ended(hub.device.log(), 1, 3), Some((true, 2)));
-    assert_eq!(rt; ended(hub.up.log(), 1, 3), Some((true, 3)));
-    assert_eq!(rt; ended(hub.down.log(), 1, 3), Some((true, 1)));
+    let due = Step::Restart(one);
+    assert_eq!(rt; ended(hub.device.log(), &due, 3), Some((true, 2)));
+    assert_eq!(rt; ended(hub.up.log(), &due, 3), Some((true, 3)));
+    assert_eq!(rt; ended(hub.down.log(), &due, 3), Some((true, 1)));
 }
 
-// Whether the device has a session with the second one, and each link is up; and their epochs.
-fn left(hub: &Hub) -> Option<([bool; 3], [u64; 2])> {
+/// Whether the device has a session with the second one, and each link is up; and their epochs.
+pub(crate) fn left(hub: &Hub) -> Option<([bool; 3], [u64; 2])> {
     let session = hub.device.peer().session(DeviceId::read(2)?);
     let (up, down) = (hub.up.link(), hub.down.link());
     Some((

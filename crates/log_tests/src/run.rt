@@ -156,15 +156,15 @@ fn least_within(tickets: &[u64], low: u64, high: u64) -> Option<u64> {
 
 // What is to be answered where the first device is copied after so many steps, and all else after so many: an event over the
 // link that one of the two lacks is at fault in the other's log.
-fn due(first: u64, rest: u64) -> Option<RunVerdict> {
+fn due(first: u64, rest: u64) -> [u64; 4] {
     if let Some(ticket) = least_within(&OVER, first, rest) {
-        return Some(RunVerdict::Misfit(link()?, ticket));
+        return [1, 1, 2, ticket];
     }
     if let Some(ticket) = least_within(&OVER, rest, first) {
-        return Some(RunVerdict::Misfit(device(1)?, ticket));
+        return [1, 1, 0, ticket];
     }
     let count = up_to(&FIRST, first).saturating_add(up_to(&OTHERS, rest));
-    Some(RunVerdict::Fits(count))
+    [0, 0, 0, count]
 }
 
 // The two devices once those of the steps are made that touch the first one and stand no later than `first`, and those of the
@@ -224,12 +224,34 @@ fn torn(alloc: Global) -> Option<(u64, u64, u64)> {
 fn torn_at(alloc: Global, first: u64, rest: u64) -> Option<(u64, u64, u64)> {
     let mut pair = two_devices(alloc, [0, 0])?;
     let run = run_cut(alloc, &mut pair, &STEPS, [first, rest, rest])?;
-    let found = check_run(&run);
-    let right = u64::from(found == due(first, rest)?);
-    match found {
-        RunVerdict::Fits(_) => Some((right, 1, u64::from(is_left(alloc, &run, first, rest)?))),
-        RunVerdict::Misfit(_, _) => Some((right, 0, 0)),
+    let right = u64::from(found(&run) == due(first, rest));
+    if fits(&run) {
+        Some((right, 1, u64::from(is_left(alloc, &run, first, rest)?)))
+    } else {
+        Some((right, 0, 0))
     }
+}
+
+// The verdict as numbers: whether it is a misfit, the device or the ends of the link at fault, and the ticket or the count.
+fn found(run: &RunCut) -> [u64; 4] {
+    match check_run(run) {
+        RunVerdict::Fits(count) => [0, 0, 0, count],
+        RunVerdict::Misfit(object, ticket) => {
+            let [device, other] = devices_of(object);
+            [1, device, other, ticket]
+        }
+    }
+}
+
+fn devices_of(object: Object) -> [u64; 2] {
+    match object {
+        Object::Device(device) => [device.number(), 0],
+        Object::Link(lower, upper) => [lower.number(), upper.number()],
+    }
+}
+
+fn fits(run: &RunCut) -> bool {
+    matches!(check_run(run), RunVerdict::Fits(_))
 }
 
 // 58 fit: 4, 3, 1, 4 and 4 moments have no event over the link at the first device between them.

@@ -11,18 +11,19 @@ use std::sync::atomic::AtomicU64;
 use std::thread::Threads;
 use std::time::Clock;
 
-// A gate that holds a scanner at its first piece, and a device's session at its first delivery, until both have come.
+// A gate that holds a scanner at its first piece, and the session of the device of this number at its first delivery, until
+// both have come.
 #[derive(Drop)]
 struct Meeting<R: Clock + Drop> {
     rt: R,
-    device: DeviceId,
+    device: u64,
     scanner: AtomicU64,
     session: AtomicU64,
     given_up: AtomicU64,
 }
 
 impl<R: Clock + Drop> Meeting<R> {
-    fn new(rt: R, device: DeviceId) -> Self {
+    fn new(rt: R, device: u64) -> Self {
         Meeting {
             rt,
             device,
@@ -36,6 +37,13 @@ impl<R: Clock + Drop> Meeting<R> {
     fn meet(&self, here: &AtomicU64, there: &AtomicU64) {
         if come(here) == 0 && !has_come(&self.rt, there) {
             come(&self.given_up);
+        }
+    }
+
+    // A message was delivered at the device of this number.
+    fn delivered(&self, device: u64) {
+        if device == self.device {
+            self.meet(&self.session, &self.scanner);
         }
     }
 
@@ -53,9 +61,7 @@ impl<R: Clock + Drop> Gate for Meeting<R> {
     fn pass(&self, place: Place) {
         match place {
             Place::Piece(_) => self.meet(&self.scanner, &self.session),
-            Place::Delivered(device) if device == self.device => {
-                self.meet(&self.session, &self.scanner)
-            }
+            Place::Delivered(device) => self.delivered(device.number()),
             _ => {}
         }
     }
@@ -67,7 +73,7 @@ fn met<R: Threads + Wait + Clock + Sync + Copy + Drop>(
     alloc: Global,
 ) -> Option<((u64, u64, u64), Result<u64, LogError>)> {
     let shared = with_file_and_message(alloc)?;
-    let gate = Meeting::new(rt, device(1)?);
+    let gate = Meeting::new(rt, 1);
     let done = run_workers(&rt, &shared, &gate, 1);
     Some((gate.seen(), done))
 }

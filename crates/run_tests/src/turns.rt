@@ -1,6 +1,7 @@
 //! What turns count, one after the other in one thread, and what isn't there.
 use crate::made::{cluster, device, docs, file, hello};
 use bep_blocks::OpenGate;
+use bep_index::IndexId;
 use bep_log::LogError;
 use bep_machine::Refusal;
 use bep_record::DeviceId;
@@ -105,6 +106,42 @@ fn restarted<R: Threads + Wait + Sync>(rt: &R, alloc: Global) -> Option<[Counted
         lost,
         shared.session_turn(rt, one, two, &OpenGate),
     ])
+}
+
+// A device that is to start over under its present id goes on as it was: its link stays up, with what it sent on its way. Under
+// a greater one it has no session, no record and no link that is up.
+fn reset<R: Threads + Wait + Sync>(rt: &R, alloc: Global) -> Option<[Counted; 6]> {
+    let (one, two) = (device(1)?, device(2)?);
+    let shared = with_record(rt, alloc)?;
+    shared.session_turn(rt, one, two, &OpenGate).ok()?;
+    let old = shared.reset(rt, one, IndexId::read(11)?).map(|()| 0);
+    let taken = shared.session_turn(rt, two, one, &OpenGate);
+    let strange = shared.reset(rt, device(3)?, IndexId::read(21)?).map(|()| 0);
+    shared.reset(rt, one, IndexId::read(21)?).ok()?;
+    Some([
+        old,
+        taken,
+        strange,
+        shared.session_turn(rt, one, two, &OpenGate),
+        shared.lose(rt, one, two).map(|()| 0),
+        shared.scanner_turn(rt, one, &OpenGate),
+    ])
+}
+
+#[test]
+fn a_reset_ends_sessions_and_links_and_takes_records_away(rt: HostRuntime) {
+    let [old, absent, down] = [Refusal::IndexIdOld, Refusal::NotShared, Refusal::LinkDown];
+    assert_eq!(rt;
+        reset(&rt, rt.alloc()),
+        Some([
+            Err(LogError::Refused(old)),
+            Ok(3),
+            Err(LogError::Refused(absent)),
+            Ok(0),
+            Err(LogError::Refused(down)),
+            Ok(1),
+        ])
+    );
 }
 
 #[test]

@@ -1,4 +1,4 @@
-use Rattle.std.proofs.Common.{List, Some, None, refl, sym, ap, subst, ◌∙◌, arith}
+use Rattle.std.proofs.Common.{List, [], Some, None, refl, sym, ap, subst, ◌∙◌, arith}
 use Rattle.std.specs.Prelude.{⊤}
 use Rattle.bep_model.specs.declared.row.Row.{Row}
 use Rattle.bep_model.specs.declared.reason.Reason.TheVariants.{CertificateOrder}
@@ -33,7 +33,7 @@ pub returns-in-None-clause-settled : goal.returns-in-None-clause-settled
 returns-in-None-clause-settled c = (λ _. returns-in-None-clause-verdict c, λ _. refl)
 
 pub returns-in-None-clause-calm : goal.returns-in-None-clause-calm
-returns-in-None-clause-calm c = λ _. c.settled_is_calm.ensures (tables_of c.args.cut.now) c.args.certificate.now (returns-in-None-clause-verdict c)
+returns-in-None-clause-calm c = λ _. c.settled_is_calm.ensures (tables_of c.args.cut.now) c.args.certificate.now [] (returns-in-None-clause-verdict c)
 
 pub returns-in-None-clause-stays_put : goal.returns-in-None-clause-stays_put
 returns-in-None-clause-stays_put c = λ _. c.settled_stays_put.ensures (tables_of c.args.cut.now) c.args.certificate.now (returns-in-None-clause-verdict c)

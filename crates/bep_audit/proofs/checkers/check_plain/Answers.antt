@@ -1,4 +1,4 @@
-use Rattle.std.proofs.Common.{List, Some, None, subst, sym, refl}
+use Rattle.std.proofs.Common.{List, [], Some, None, subst, sym, refl}
 use Rattle.bep_model.specs.declared.row.Row.{Row}
 use Rattle.bep_model.specs.Settled.{Rise}
 use Rattle.bep_tables.specs.Cut.{tables_of}
@@ -43,7 +43,7 @@ pub returns-clause-settled : goal.returns-clause-settled
 returns-clause-settled c = (λ _. returns-clause-verdict c, λ _. refl)
 
 pub returns-clause-calm : goal.returns-clause-calm
-returns-clause-calm c = λ _. c.settled_is_calm.ensures (tables_of c.args.cut.now) c.args.certificate.now (returns-clause-verdict c)
+returns-clause-calm c = λ _. c.settled_is_calm.ensures (tables_of c.args.cut.now) c.args.certificate.now [] (returns-clause-verdict c)
 
 pub returns-in-Some-clause-stays_put : goal.returns-in-Some-clause-stays_put
 returns-in-Some-clause-stays_put c =

@@ -1,4 +1,4 @@
-use Rattle.bep_machine.proofs.ActionsTold.{edit_is_told, remove_is_told, scan_is_told, override_is_told, revert_is_told, start_pull_is_told, finish_is_told, begin_is_told, deliver_is_told, announce_is_told, ask_is_told, traffic_is_one, connect_is_told, lose_is_told, restart_is_told}
+use Rattle.bep_machine.proofs.ActionsTold.{edit_is_told, remove_is_told, scan_is_told, override_is_told, revert_is_told, start_pull_is_told, finish_is_told, begin_is_told, deliver_is_told, announce_is_told, ask_is_told, traffic_is_one, connect_is_told, lose_is_told, restart_is_told, reset_is_told}
 use Rattle.bep_machine.proofs.halves.actions_are_told.Goals as goal
 
 pub returns : goal.returns
@@ -18,4 +18,5 @@ returns c = record {
   connect = connect_is_told;
   lose = lose_is_told;
   restart = restart_is_told;
+  reset = reset_is_told;
 }

@@ -9,5 +9,5 @@ returns c =
     record {
       verdict = judged;
       one_run = is_run c.fitting_logs_are_one_run.ensures c.args.run.now c.logs.ensures.a_run_cut c.check_logs.result judged;
-      stays = stays_put c.settled_logs_stay_put.ensures c.args.run.now c.logs.ensures.a_run_cut c.base.result.now c.cut.result.now c.base.ensures c.cut.ensures c.check_logs.result judged;
+      stays = stays_put c.settled_logs_stay_put.ensures c.args.run.now c.logs.ensures.a_run_cut c.check_logs.result judged;
     }
