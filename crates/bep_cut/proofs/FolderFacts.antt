@@ -15,7 +15,7 @@ use Rattle.bep_map.specs.NameMap.{ByName}
 use Rattle.bep_record.specs.declared.node.NodeParts.{NodeParts}
 use Rattle.bep_model.specs.Tables.{Device, Folder}
 use Rattle.bep_machine.specs.declared.refusal.Refusal.{Refusal}
-use Rattle.bep_machine.specs.declared.refusal.Refusal.TheVariants.{CounterFull, TooManyCounters, NameBad, SequenceFull, IndexFull, StoreFault, Unscanned, NotNeeded, BlocksMissing, CopyExists, PullsFull, KindForbids, LinkDown, LinkFull, EpochFull, NotBegun, NotShared, NothingToDo}
+use Rattle.bep_machine.specs.declared.refusal.Refusal.TheVariants.{CounterFull, TooManyCounters, NameBad, SequenceFull, IndexFull, StoreFault, Unscanned, NotNeeded, BlocksMissing, CopyExists, PullsFull, KindForbids, IndexIdOld, LinkDown, LinkFull, EpochFull, NotBegun, NotShared, NothingToDo}
 use Rattle.bep_machine.specs.Replica.{Replica}
 use Rattle.bep_folder.specs.Held.{Held}
 use Rattle.bep_peer.specs.declared.error.PeerError.{PeerError}
@@ -100,6 +100,7 @@ fault_of old new folder BlocksMissing has reads = absurd reads
 fault_of old new folder CopyExists has reads = absurd reads
 fault_of old new folder PullsFull has reads = absurd reads
 fault_of old new folder KindForbids has reads = absurd reads
+fault_of old new folder IndexIdOld has reads = absurd reads
 fault_of old new folder LinkDown has reads = absurd reads
 fault_of old new folder LinkFull has reads = absurd reads
 fault_of old new folder EpochFull has reads = absurd reads

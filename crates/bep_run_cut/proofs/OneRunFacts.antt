@@ -30,10 +30,10 @@ is_run law run is verdict judged count fits =
     law run.logs (cluster_of run.bases) (cluster_of run.present) count is.sound is.replayed is.nodes (subst (IsRunVerdict run.logs) fits judged)
 
 pub stays_put : SettledLogsStayPut → (run : RunState) → IsRunCut run → (verdict : RunVerdict) → IsRunVerdict run.logs verdict → (count : ℕ) → verdict ≡ Fits count → StaysPut run
-stays_put law run is verdict judged count fits base cut base_is cut_is rows settled quiet =
+stays_put law run is verdict judged count fits base cut base_is cut_is rows reset settled quiet all =
     let tables = tables_of base in
-    subst (λ (after : Tables). Stays tables rows after) (sym cut_is.says)
-    (law run.logs (cluster_of run.bases) (cluster_of run.present) count tables rows is.sound is.replayed (subst (IsRunVerdict run.logs) fits judged) quiet (sym base_is.says) settled)
+    subst (λ (after : Tables). Stays tables rows reset after) (sym cut_is.says)
+    (law run.logs (cluster_of run.bases) (cluster_of run.present) count tables rows reset is.sound is.replayed (subst (IsRunVerdict run.logs) fits judged) quiet all (sym base_is.says) settled)
 
 -- whole copies have few logs
 pub few_logs : (peers : List LoggedMember) (links : List LoggedBetween) → AreWhole (members_now peers) (links_now links) → length (logs_of peers links) ≤ MAX_OBJECTS

@@ -15,7 +15,8 @@ use bep_run_check::check_logs;
 /// Where they fit, there is one list of all events, each once, by rising ticket. It is a run of the machine from the cluster
 /// as it was to the cluster as it is, whose cut is `RunCut::cut`, and each log is what touches its object in that list, in
 /// order. So if `RunCut::base` is settled for some certificate, and no event is a local step, then every store of
-/// `RunCut::cut` holds byte for byte what it held when the logs began. This project's profile.
+/// `RunCut::cut` holds byte for byte what it held when the logs began; only a device whose reset stands in a log may lack an
+/// own record of what it holds. This project's profile.
 pub fn check_run(run: &RunCut) -> RunVerdict
     ensures verdict { IsRunVerdict run.now.logs result }
     ensures one_run { (count : ℕ) → result ≡ Fits count → IsRunOf run.now count }

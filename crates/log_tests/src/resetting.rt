@@ -71,24 +71,24 @@ fn a_reset_takes_session_link_and_record_away_and_leaves_the_file(rt: HostRuntim
     assert_eq!(rt; left(&after), Some(([false; 3], [1, 0])));
 }
 
-// The present id, an old ticket with a greater one, and the next ticket with a greater one.
+// The numbers of refusals: of the present id, and of a greater one under an old ticket; what is kept then; and the number where
+// the greater one comes under the ticket that was refused first.
+type Refused = ([Option<u32>; 2], Kept, Option<u32>);
+
+fn refused(alloc: Global, hub: &mut Hub) -> Option<Refused> {
+    let present = number(reset(hub, 5, 1)?);
+    let old = number(reset(hub, 4, 2)?);
+    let kept = kept(alloc, hub)?;
+    Some(([present, old], kept, number(reset(hub, 5, 2)?)))
+}
+
 #[test]
 fn a_reset_to_an_old_id_is_refused_and_takes_no_ticket(rt: HostRuntime) {
     let Some(mut hub) = recorded(rt.alloc()) else {
         panic!(rt; "no record");
     };
-    let mut numbers = [None; 3];
-    for (place, ticket, id) in [(0usize, 5u64, 1u64), (1, 4, 2), (2, 5, 2)] {
-        let Some(answer) = reset(&mut hub, ticket, id) else {
-            panic!(rt; "no id");
-        };
-        if place == 1 {
-            assert_eq!(rt; kept(rt.alloc(), &mut hub), Some((1, 1, true, 1)));
-            assert_eq!(rt; left(&hub), Some(([true, true, false], [1, 0])));
-        }
-        numbers[place] = number(answer);
-    }
-    assert_eq!(rt; numbers, [Some(149), Some(171), None]);
+    let told = refused(rt.alloc(), &mut hub);
+    assert_eq!(rt; told, Some(([Some(149), Some(171)], (1, 1, true, 1), None)));
     assert_eq!(rt; hub.device.log().len(), 4);
 }
 
