@@ -41,8 +41,10 @@ fn state<R: Wait>(
 fn is_settled<R: Wait>(rt: &R, alloc: Global, shared: &Shared<MemStore>) -> Option<bool> {
     let (run, _) = next_cut(rt, shared)?;
     let certificate = certify(alloc, run.cut()).ok()?;
-    let verdict = check(alloc, run.cut(), &certificate).ok()?;
-    Some(verdict == Verdict::Settled)
+    match check(alloc, run.cut(), &certificate) {
+        Ok(verdict) => Some(verdict == Verdict::Settled),
+        Err(_) => None,
+    }
 }
 
 // A file of one block is put and scanned at device 1.
