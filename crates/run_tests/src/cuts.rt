@@ -168,24 +168,22 @@ fn failed<R: Wait>(rt: &R, alloc: Global, call: u64) -> Option<[Answer; 2]> {
     Some([first, verdict(rt, &shared)])
 }
 
+fn both_fit() -> Option<[Answer; 2]> {
+    Some([Ok(RunVerdict::Fits(1)), Ok(RunVerdict::Fits(3))])
+}
+
+fn second_fits() -> Option<[Answer; 2]> {
+    let fault = LogError::Refused(Refusal::StoreFault);
+    Some([Err(fault), Ok(RunVerdict::Fits(3))])
+}
+
 // The store lists its names as the cluster comes behind its locks, and then writes; a cut takes the third and the fourth
 // call, which list and read.
 #[test]
 fn a_cut_that_a_store_fails_changes_nothing_and_frees_its_guards(rt: HostRuntime) {
-    let alloc = rt.alloc();
-    assert_eq!(rt;
-        failed(&rt, alloc, 0),
-        Some([Ok(RunVerdict::Fits(1)), Ok(RunVerdict::Fits(3))])
-    );
-    for call in [3, 4] {
-        assert_eq!(rt;
-            failed(&rt, alloc, call),
-            Some([
-                Err(LogError::Refused(Refusal::StoreFault)),
-                Ok(RunVerdict::Fits(3))
-            ])
-        );
-    }
+    assert_eq!(rt; failed(&rt, rt.alloc(), 0), both_fit());
+    assert_eq!(rt; failed(&rt, rt.alloc(), 3), second_fits());
+    assert_eq!(rt; failed(&rt, rt.alloc(), 4), second_fits());
 }
 
 // Device 2's store fails as the logs are to begin anew, when device 1's has begun: that answer, whether a cut fits then, and

@@ -1,12 +1,13 @@
 //! That every action leaves its event and its effect in the next cut.
 use crate::made::{cluster, device, docs, file, hello, music, other_kinds};
 use crate::seen::{Held, held, next_cut};
-use bep_audit::{Verdict, certify, check};
+use bep_audit::{Certificate, Verdict, certify, check};
 use bep_blocks::OpenGate;
 use bep_record::FolderName;
 use bep_run::Shared;
 use bep_run_cut::RunCut;
 use bep_store::MemStore;
+use bep_tables::Cut;
 use std::alloc::Global;
 use std::sync::Wait;
 use std::thread::Threads;
@@ -40,8 +41,18 @@ fn state<R: Wait>(
 // Whether the next cut, which fits, is settled under the list of its winners.
 fn is_settled<R: Wait>(rt: &R, alloc: Global, shared: &Shared<MemStore>) -> Option<bool> {
     let (run, _) = next_cut(rt, shared)?;
-    let certificate = certify(alloc, run.cut()).ok()?;
-    match check(alloc, run.cut(), &certificate) {
+    is_settled_cut(alloc, run.cut())
+}
+
+fn is_settled_cut(alloc: Global, cut: &Cut) -> Option<bool> {
+    match certify(alloc, cut) {
+        Ok(certificate) => is_settled_under(alloc, cut, &certificate),
+        Err(_) => None,
+    }
+}
+
+fn is_settled_under(alloc: Global, cut: &Cut, certificate: &Certificate) -> Option<bool> {
+    match check(alloc, cut, certificate) {
         Ok(verdict) => Some(verdict == Verdict::Settled),
         Err(_) => None,
     }
