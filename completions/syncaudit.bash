@@ -16,7 +16,7 @@ _syncaudit() {
   elif [ "$COMP_CWORD" = 2 ] && [ "$before" = explain ]; then
     mapfile -t COMPREPLY < <(compgen -W '--json --firm --certify --help' -- "$word")
   elif [ "$COMP_CWORD" = 2 ] && [ "$before" = run ]; then
-    mapfile -t COMPREPLY < <(compgen -W '--document --help' -- "$word")
+    mapfile -t COMPREPLY < <(compgen -W '--document --turns --help' -- "$word")
   elif [ "$COMP_CWORD" = 2 ]; then
     mapfile -t COMPREPLY < <(compgen -W '--help' -- "$word")
   fi

@@ -13,5 +13,6 @@ complete -c syncaudit -n "__fish_seen_subcommand_from certify" -l partial -d 'Le
 complete -c syncaudit -n "__fish_seen_subcommand_from explain" -l json -d 'Write one JSON document'
 complete -c syncaudit -n "__fish_seen_subcommand_from explain" -l firm -d 'Tell all that keeps it from being firm'
 complete -c syncaudit -n "__fish_seen_subcommand_from run" -l document -d 'Write the check document of the end'
+complete -c syncaudit -n "__fish_seen_subcommand_from run" -l turns -x -d 'Have threads run the cluster after the steps'
 complete -c syncaudit -s h -l help -d 'Tell how to use the program or the command'
 complete -c syncaudit -n "not __fish_seen_subcommand_from $commands help" -s V -l version -d 'Tell its version'

@@ -83,9 +83,9 @@ offers() {
   grep -qE -- "(--|-l )$1([] []|$)" "$2"
 }
 
-# The flags in the usage line of a subcommand's help.
+# The flags in the usage line of a subcommand's help, with a value or without.
 flags_of() {
-  usage_of "$1" | grep -o -- '\[--[a-z]*\]' | tr -d '[]-' || true
+  usage_of "$1" | grep -oE -- '\[--[a-z]+( [A-Z]+)?\]' | sed 's/^\[--//; s/[] ].*//' || true
 }
 
 for command in $(helped); do
@@ -100,7 +100,7 @@ for command in $(helped); do
     done
   done
 done
-expect "no flag in the program's help" [ "$(for command in check firm certify explain run; do flags_of "$command"; done | paste -sd ' ')" = 'certify certify partial json firm certify document' ]
+expect "no flag in the program's help" [ "$(for command in check firm certify explain run; do flags_of "$command"; done | paste -sd ' ')" = 'certify certify partial json firm certify document turns' ]
 for command in $(described); do
   expect "the program has no '$command', which the man page describes" is_one_of "$command" $(helped)
 done

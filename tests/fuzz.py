@@ -24,7 +24,7 @@ CHECKS = {"check": {0, 1, 2}, "firm": {0, 1, 2}, "explain": {0, 1, 2}, "explain 
           "explain --firm": {0, 1, 2}, "explain --firm --json": {0, 1, 2}, "certify": {0, 1, 2},
           "certify --partial": {0, 2, 6}, "check --certify": {0, 1, 2}, "firm --certify": {0, 1, 2},
           "explain --certify": {0, 1, 2}, "explain --certify --json": {0, 1, 2}, "explain --certify --firm": {0, 1, 2}}
-RUNS = {"run": {0, 1, 2}, "run --document": {0, 1, 2}}
+RUNS = {"run": {0, 1, 2}, "run --document": {0, 1, 2}, "run --turns 1": {0, 1, 2}}
 ALL = CHECKS | RUNS
 
 
@@ -75,6 +75,10 @@ def contradictions(program, told):
         yield "run and run --document", (status["run"] == 2) != (status["run --document"] == 2)
         if status["run --document"] == 0:
             yield "run and check", run(program, "check", told["run --document"][0])[1] != status["run"]
+        # What is settled stays settled, and whatever threads do is one run.
+        refused, last = status["run"] == 2, told["run --turns 1"][0].rpartition(b"\n")[0].rpartition(b"\n")[2]
+        yield "run and run --turns", refused != (status["run --turns 1"] == 2) or status["run"] == 0 != status["run --turns 1"]
+        yield "run --turns and its last line", refused == last.startswith(b"run fits: ")
 
 
 def faults(program, document, commands):

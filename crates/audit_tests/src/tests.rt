@@ -4,4 +4,5 @@ mod answer;
 mod audit;
 mod document;
 mod firm;
+mod live;
 mod memory;

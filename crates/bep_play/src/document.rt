@@ -46,8 +46,8 @@ fn run(alloc: Global, scenario: Scenario) -> Result<Answer<Certified>, AllocErro
     Ok((document, lines_of(told)))
 }
 
-// The lines, if there are any.
-fn lines_of(told: Vec<u8>) -> Option<Beside>
+/// The lines, if there are any, to be told beside an answer.
+pub fn lines_of(told: Vec<u8>) -> Option<Beside>
     requires { IsUtf8 told.items }
     ensures { AreLines told.items result }
 {

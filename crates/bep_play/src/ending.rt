@@ -25,9 +25,7 @@ pub(crate) fn report_on_end(
     ensures { IfOk result (λ answer. IsEnd version (cut_at cluster.members cluster.links) told.items answer.0 answer.1.items) }
 {
     let cut = end_of(alloc, cluster)?;
-    let (outcome, report, certificate) = audit_under_winners(alloc, &cut)?;
-    let text = with_report(version, told, report.as_slice(), certificate)?;
-    Ok((outcome, text))
+    report_on_cut(alloc, version, &cut, told)
 }
 
 /// The outcome for the cluster's cut, and its check document of this version with its certificate, or the line of a name
@@ -54,6 +52,21 @@ fn end_of(alloc: Global, cluster: Cluster<MemStore>) -> Result<Cut, AllocError>
         // Only memory can be wanting, as a memory store never fails.
         Err(_) => Err(AllocError),
     }
+}
+
+/// The outcome for the cut under the list of its winners, and the text: what was told before, the report, and the certificate
+/// as the run of a scenario of this version tells it, if there is one.
+pub fn report_on_cut(
+    alloc: Global,
+    version: DocVersion,
+    cut: &Cut,
+    told: Vec<u8>,
+) -> Result<(Outcome, Vec<u8>), AllocError>
+    ensures { IfOk result (λ answer. IsEnd version cut.now told.items answer.0 answer.1.items) }
+{
+    let (outcome, report, certificate) = audit_under_winners(alloc, cut)?;
+    let text = with_report(version, told, report.as_slice(), certificate)?;
+    Ok((outcome, text))
 }
 
 // The text with the report and the certificate, if there is one.

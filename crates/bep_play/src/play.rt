@@ -15,10 +15,7 @@ use std::alloc::{AllocError, Global};
 
 /// Makes the scenario's steps from where it begins, and answers the cluster to which they lead, whose cut says what it does,
 /// and the lines of those that are refused.
-pub(crate) fn played(
-    alloc: Global,
-    scenario: Scenario,
-) -> Result<(Cluster<MemStore>, Vec<u8>), AllocError>
+pub fn played(alloc: Global, scenario: Scenario) -> Result<(Cluster<MemStore>, Vec<u8>), AllocError>
     ensures ends { IfOk result (λ end. EndsAt (said scenario) end.0 end.1.items) }
     ensures text { IfOk result (λ end. IsUtf8 end.1.items) }
 {

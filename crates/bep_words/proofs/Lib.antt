@@ -1,1 +1,2 @@
 pub mod ModeFacts
+pub mod TurnsFacts

@@ -1,2 +1,3 @@
 pub mod Mode
+pub mod Turns
 pub mod Told

@@ -1,5 +1,5 @@
 -- What words ask the program for.
-use Rattle.std.specs.Prelude.{◌≡◌, Bool, List, [], Option, Some, None, true, false, option_map, codes, if◌then◌else◌}
+use Rattle.std.specs.Prelude.{◌≡◌, ◌≤◌, ⊤, Bool, List, [], Option, Some, None, true, false, option_map, codes, if◌then◌else◌}
 use Rattle.std.specs.Str.{bytes_eq}
 use Rattle.clap.specs.Words.{App, Row, Rule, Text, app_of, fault_of, first_of, new_app, new_rule, with_rule, with_subcommand, subcommand_of}
 use Rattle.clap.specs.declared.builder.action.ArgAction.TheVariants.{SetTrue}
@@ -17,6 +17,8 @@ use Rattle.bep_words.specs.declared.mode.Mode.{Mode}
 use Rattle.bep_words.specs.declared.mode.Mode.TheVariants.{Check, Firm, Certify, Explain, Run}
 use Rattle.bep_words.specs.declared.mode.Under.{Under}
 use Rattle.bep_words.specs.declared.mode.Under.TheVariants.{Given, Winners}
+use Rattle.bep_words.specs.declared.mode.TheConstants.{MAX_TURNS}
+use Rattle.bep_words.specs.Turns.{turns_of, turns_option}
 
 -- the program's own level: it has a version, and wants a subcommand
 abbrev pub top_level : App
@@ -40,7 +42,7 @@ abbrev pub certify_app : App
 certify_app = with_rule (new_app (codes "certify")) (flag (codes "partial"))
 
 abbrev pub run_app : App
-run_app = with_rule (new_app (codes "run")) (flag (codes "document"))
+run_app = with_rule (with_rule (new_app (codes "run")) (flag (codes "document"))) turns_option
 
 -- what the command line of the program is
 abbrev pub program : App
@@ -102,7 +104,16 @@ Asks words (Certify extent) = (named words ≡ Some (codes "certify")) × (exten
 Asks words (Explain goal under form) =
     (named words ≡ Some (codes "explain"))
     × (goal ≡ goal_of (subcommand_of program words)) × (under ≡ under_of (subcommand_of program words)) × (form ≡ form_of (subcommand_of program words))
-Asks words (Run ending) = (named words ≡ Some (codes "run")) × (ending ≡ ending_of (subcommand_of program words))
+Asks words (Run ending turns) =
+    (named words ≡ Some (codes "run")) × (ending ≡ ending_of (subcommand_of program words)) × (turns ≡ turns_of (subcommand_of program words))
+
+-- no more turns are asked for than may be
+abbrev pub MakesFewTurns : Mode → Type 0
+MakesFewTurns (Check under) = ⊤
+MakesFewTurns (Firm under) = ⊤
+MakesFewTurns (Certify extent) = ⊤
+MakesFewTurns (Explain goal under form) = ⊤
+MakesFewTurns (Run ending turns) = turns ≤ MAX_TURNS
 
 -- words in which nothing is at fault ask for some mode
 abbrev pub FaultlessWordsAsk : Type 0

@@ -8,7 +8,7 @@
 //!         Mode::Firm(under) => ..,
 //!         Mode::Certify(extent) => ..,
 //!         Mode::Explain(goal, under, form) => ..,
-//!         Mode::Run(ending) => ..,
+//!         Mode::Run(ending, turns) => ..,
 //!     }
 #![tactic(auto)]
 
@@ -16,5 +16,5 @@ mod mode;
 mod release;
 mod told;
 
-pub use mode::{Ending, Extent, Goal, Mode, Under, faultless_words_ask, mode_of};
+pub use mode::{Ending, Extent, Goal, MAX_TURNS, Mode, Under, faultless_words_ask, mode_of};
 pub use told::{Unfollowed, mode_told, why_of};

@@ -1,10 +1,12 @@
 //! What the words of the command line ask for.
 ghost use Rattle.std.specs.Prelude.{◌≡◌, IfOk, codes, false, map};
 ghost use Rattle.clap.specs.Words.{FailsBy, app_of, fault_of, first_value, found_of, new_app, rule_of, subcommand_rows_of};
-ghost use Rattle.bep_words.specs.Mode.{Asks, FaultlessWordsAsk, IsCommand, audit_app, certify_app, ending_of, explain_app, extent_of, flag, form_of, goal_of, is_set, is_true, program, run_app, top_level, under_of};
+ghost use Rattle.bep_words.specs.Mode.{Asks, FaultlessWordsAsk, IsCommand, MakesFewTurns, audit_app, certify_app, ending_of, explain_app, extent_of, flag, form_of, goal_of, is_set, is_true, program, run_app, top_level, under_of};
+ghost use Rattle.bep_words.specs.Turns.{number_in, number_of, turns_of, turns_option};
 
 use crate::release::RELEASE;
 use bep_lines::Form;
+use clap::builder::ValueParser;
 use clap::{Arg, ArgAction, ArgMatches, Command, Error};
 use std::alloc::{AllocError, Global};
 use std::convert::AsStr;
@@ -20,8 +22,9 @@ pub enum Mode {
     Certify(Extent),
     /// Tell all that keeps the check document that comes on standard input from this, under these rows, in this form.
     Explain(Goal, Under, Form),
-    /// Make the steps of the scenario that comes on standard input, and write this of where they lead.
-    Run(Ending),
+    /// Make the steps of the scenario that comes on standard input, have threads run the cluster for so many turns each,
+    /// and write this of where that leads.
+    Run(Ending, u32),
 }
 
 /// Under which rows a cut is audited.
@@ -59,6 +62,9 @@ pub enum Ending {
     /// The check document.
     Document,
 }
+
+/// The most turns that a thread may be asked to make.
+pub const MAX_TURNS: u32 = 1000000;
 
 const COMMANDS_HELP: &str =
     "Each command reads a document on standard input, as in 'syncaudit check < FILE'.\n\
@@ -103,7 +109,9 @@ const RUN_HELP: &str =
     "The document FILE is a scenario, a cluster and its steps: documents.md describes it, and what is written.\n\n\
      Example: syncaudit run < examples/scenarios/conflict.json\n\
      With --document it writes the check document of the end: 'syncaudit check' audits it. Its status 0 says that \
-     it was written, 1 that a name has no winner.\n\n\
+     it was written, 1 that a name has no winner.\n\
+     With --turns N, of 0 to 1000000, threads run the cluster after the steps: each device scans and pulls, and each \
+     end of a link exchanges, N times. The last line says whether their logs are those of one run.\n\n\
      Exit status: 0 settled, 1 not settled, 2 document refused, 3 usage or help, 4 out of memory, \
      5 read or write fault";
 
@@ -217,14 +225,29 @@ fn run_command<'a>(alloc: Global) -> Result<Command<'a>, AllocError>
     ensures { IfOk result (IsCommand run_app) }
 {
     let document = flag(alloc, "document", "Writes the check document of the end");
-    plain_command(
+    let turns = turns_option(alloc);
+    let with_document = plain_command(
         alloc,
         "run",
         "Makes the steps of the scenario on standard input, and audits where they lead",
-        "syncaudit run [--document] < FILE",
+        "syncaudit run [--document] [--turns N] < FILE",
         RUN_HELP,
     )
-    .arg(document)
+    .arg(document)?;
+    with_document.arg(turns)
+}
+
+// The option that says how many turns the threads make.
+fn turns_option<'a>(alloc: Global) -> Arg<'a>
+    ensures rule { rule_of result ≡ turns_option }
+    ensures local { result.global ≡ false }
+{
+    Arg::new(alloc, "turns")
+        .long("turns")
+        .action(ArgAction::Set)
+        .value_name("N")
+        .value_parser(ValueParser::unsigned(0, u64::from(MAX_TURNS)))
+        .help("Has threads run the cluster after the steps, with N turns each")
 }
 
 // The flag that says under which rows a cut is audited.
@@ -256,6 +279,7 @@ fn flag<'a>(alloc: Global, name: &'a str, help: &'a str) -> Arg<'a>
 /// version. The error is clap's, and its text is for the user.
 pub fn mode_of<'a, S: AsStr>(alloc: Global, words: &'a [S]) -> Result<Mode, Error>
     ensures asked { IfOk result (Asks (map S.text words.entry.now)) }
+    ensures few { IfOk result MakesFewTurns }
     ensures faults { FailsBy (fault_of program (map S.text words.entry.now)) result }
 {
     let matches = command(alloc)?.try_get_matches_from(words)?;
@@ -268,7 +292,7 @@ pub fn mode_of<'a, S: AsStr>(alloc: Global, words: &'a [S]) -> Result<Mode, Erro
             under_of(&matches),
             form_of(&matches),
         )),
-        Some("run") => Ok(Mode::Run(ending_of(&matches))),
+        Some("run") => Ok(Mode::Run(ending_of(&matches), turns_of(&matches))),
         _ => unreachable!(),
     }
 }
@@ -331,6 +355,33 @@ fn ending_of(matches: &ArgMatches<'_>) -> Ending
     } else {
         Ending::Report
     }
+}
+
+// How many turns the subcommand's words ask for.
+fn turns_of(matches: &ArgMatches<'_>) -> u32
+    ensures { result ≡ turns_of (subcommand_rows_of matches.now) }
+{
+    match matches.subcommand() {
+        Some((_, given)) => turns_given(given),
+        None => 0,
+    }
+}
+
+// How many turns these matches say; none where they don't say it.
+fn turns_given(given: &ArgMatches<'_>) -> u32
+    ensures { result ≡ number_in (first_value (found_of given.now) (codes "turns")) }
+{
+    match given.get_str("turns") {
+        Some(value) => number_of(value),
+        None => 0,
+    }
+}
+
+// The number that the text says, up to the most turns. Of words that clap passes it is never above.
+fn number_of(text: &str) -> u32
+    ensures { result ≡ number_of text.now }
+{
+    text.parse().unwrap_or(0u32).min(MAX_TURNS)
 }
 
 // Whether the subcommand's words set this flag.

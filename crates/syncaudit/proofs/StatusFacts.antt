@@ -25,8 +25,14 @@ done_without_memory (Explain Settled Given form) unread held status told = recor
 done_without_memory (Explain Settled Winners form) unread held status told = record { answer = Err Memory; told = told; done = Keeps-refl held }
 done_without_memory (Explain goals.Firm Given form) unread held status told = record { answer = Err Memory; told = told; done = Keeps-refl held }
 done_without_memory (Explain goals.Firm Winners form) unread held status told = record { answer = Err Memory; told = told; done = Keeps-refl held }
-done_without_memory (Run Report) unread held status told = record { answer = Err Memory; told = told; done = Keeps-refl held }
-done_without_memory (Run Document) unread held status told = record { answer = Err Memory; told = told; done = Keeps-refl held }
+done_without_memory (Run Report turns) unread held status told = record {
+  at_rest = λ none. record { answer = Err Memory; told = told; done = Keeps-refl held };
+  live = λ some. record { answer = Err Memory; told = told; done = Keeps-refl held };
+}
+done_without_memory (Run Document turns) unread held status told = record {
+  at_rest = λ none. record { answer = Err Memory; told = told; done = Keeps-refl held };
+  live = λ some. record { answer = Err Memory; told = told; done = Keeps-refl held };
+}
 
 -- words at which nothing is at fault are followed, also where memory ran out first
 pub followed_without_memory : FaultlessWordsAsk → (words : List Text) (unread held : Option (List ℕ)) (status : ℕ) → status ≡ status_of (Err Memory) → fault_of program words ≡ []

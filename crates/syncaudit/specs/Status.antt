@@ -1,5 +1,5 @@
 -- What came of the words of the command line (this project's profile).
-use Rattle.std.specs.Prelude.{◌≡◌, ◌⊎◌, ℕ, List, [], Option, Err}
+use Rattle.std.specs.Prelude.{◌≡◌, ◌⊎◌, ◌<◌, ℕ, List, [], Option, Err}
 use Rattle.std.specs.Io.KnownBytes.{Keeps}
 use Rattle.std.specs.declared.io.ErrorKind.{ErrorKind}
 use Rattle.std.specs.declared.io.ErrorKind.TheVariants.{OutOfMemory}
@@ -8,6 +8,7 @@ use Rattle.bep_answer.specs.Firm.{SaysFirm}
 use Rattle.bep_answer.specs.Status.{IsCertificateTold, IsFirmTold, IsFirmToldUnderWinners, IsPartTold, IsTold, IsToldUnderWinners, status_of, usage}
 use Rattle.bep_answer.specs.UnderWinners.{SaysFirmUnderWinners, SaysSettledUnderWinners}
 use Rattle.bep_lines.specs.declared.form.Form.{Form}
+use Rattle.bep_live.specs.Told.{IsLiveEndTold, IsLiveTold}
 use Rattle.bep_play.specs.Played.{EndsSettled}
 use Rattle.bep_play.specs.Told.{IsEndTold, IsRunTold}
 use Rattle.bep_explain.specs.document.FirmExplained.{IsFirmExplanationTold}
@@ -32,6 +33,16 @@ use Rattle.bep_words.specs.declared.mode.Under.TheVariants.{Given, Winners}
 abbrev pub IsEnding : Ending → Option (List ℕ) → Option (List ℕ) → Option (List ℕ) → Option (List ℕ) → ℕ → Type 0
 IsEnding Report = IsRunTold
 IsEnding Document = IsEndTold
+
+-- the same where threads run its cluster after the steps
+abbrev pub IsLiveEnding : Ending → Option (List ℕ) → Option (List ℕ) → Option (List ℕ) → Option (List ℕ) → ℕ → Type 0
+IsLiveEnding Report = IsLiveTold
+IsLiveEnding Document = IsLiveEndTold
+
+-- what came of a scenario for the turns that threads are to make: without turns exactly what its steps lead to
+pub record IsRunning (ending : Ending) (turns : ℕ) (unread left held now : Option (List ℕ)) (status : ℕ) : Type 0 where
+  pub at_rest : turns ≡ 0 → IsEnding ending unread left held now status
+  pub live : 0 < turns → IsLiveEnding ending unread left held now status
 
 -- what came of the document for the rows under which an audit is asked for
 abbrev pub IsChecking : Under → Option (List ℕ) → Option (List ℕ) → Option (List ℕ) → Option (List ℕ) → ℕ → Type 0
@@ -69,7 +80,7 @@ IsDone (Check under) = IsChecking under
 IsDone (Firm under) = IsFirming under
 IsDone (Certify extent) = IsCertifying extent
 IsDone (Explain goal under form) = IsExplaining goal under form
-IsDone (Run ending) = IsEnding ending
+IsDone (Run ending turns) = IsRunning ending turns
 
 -- the words ask for a mode, and this came of the document in it
 abbrev pub IsFollowed : List Text → Option (List ℕ) → Option (List ℕ) → Option (List ℕ) → Option (List ℕ) → ℕ → Type 0
@@ -90,7 +101,7 @@ pub record IsProgramRun (words : List Text) (unread left held now : Option (List
   pub settled_under_winners : Asks words (Check Winners) → status ≡ 0 → SaysSettledUnderWinners unread left
   pub firm : Asks words (Firm Given) → status ≡ 0 → SaysFirm unread left
   pub firm_under_winners : Asks words (Firm Winners) → status ≡ 0 → SaysFirmUnderWinners unread left
-  pub ends_settled : Asks words (Run Report) → status ≡ 0 → EndsSettled unread left
+  pub ends_settled : Asks words (Run Report 0) → status ≡ 0 → EndsSettled unread left
 
 -- the status where the system gave the program no words, by the kind of its error
 abbrev pub status_without : ErrorKind → ℕ

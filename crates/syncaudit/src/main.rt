@@ -11,6 +11,7 @@ pub use bep_answer::{
 };
 pub use bep_explain::explain_text;
 pub use bep_lines::Form;
+pub use bep_live::live_text;
 pub use bep_play::run_text;
 pub use bep_words::{Ending, Extent, Goal, Mode, Under, mode_of};
 use std::env;

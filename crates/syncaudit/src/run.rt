@@ -9,7 +9,7 @@ ghost use Rattle.bep_answer.specs.Firm.{SaysFirm};
 ghost use Rattle.bep_answer.specs.UnderWinners.{SaysFirmUnderWinners, SaysSettledUnderWinners};
 ghost use Rattle.bep_play.specs.Played.{EndsSettled};
 ghost use Rattle.bep_words.specs.Mode.{Asks, program};
-ghost use Rattle.syncaudit.specs.Status.{IsCertifying, IsChecking, IsEnd, IsEnding, IsExplaining, IsExplainingGiven, IsExplainingUnderWinners, IsFirming, IsFollowed, IsProgramRun, IsWithoutWords, status_without};
+ghost use Rattle.syncaudit.specs.Status.{IsCertifying, IsChecking, IsEnd, IsEnding, IsExplaining, IsExplainingGiven, IsExplainingUnderWinners, IsFirming, IsFollowed, IsLiveEnding, IsProgramRun, IsRunning, IsWithoutWords, status_without};
 ghost use Rattle.bep_words.specs.declared.mode.Ending.TheVariants.{Report};
 ghost use Rattle.bep_words.specs.declared.mode.Mode.TheVariants.{Check, Firm, Run};
 ghost use Rattle.bep_words.specs.declared.mode.Under.TheVariants.{Given, Winners};
@@ -23,6 +23,7 @@ use bep_explain::{
     explain_under_winners_and_tell,
 };
 use bep_lines::Form;
+use bep_live::{live_and_tell, live_document_and_tell};
 use bep_play::{run_and_tell, run_document_and_tell};
 use bep_report::ReportError;
 use bep_words::{Ending, Extent, Goal, Mode, Under, Unfollowed, faultless_words_ask, mode_told};
@@ -30,10 +31,12 @@ use std::alloc::{AllocError, Global};
 use std::convert::AsStr;
 use std::env::Args;
 use std::io::{self, Read, Write};
+use std::sync::Wait;
+use std::thread::Threads;
 
 /// Does what the words ask for that the system gave the program, all of them, as `run` does; or tells why it gave none, and
-/// answers the exit status. Without words nothing is read or written.
-pub fn run_given<P: AllocGlobal + Eprint, R: Read, W: Write>(
+/// answers the exit status. Without words nothing is read or written. May wait, as `run` may.
+pub fn run_given<P: AllocGlobal + Eprint + Threads + Wait + Sync, R: Read, W: Write>(
     rt: &P,
     reader: &mut R,
     writer: &mut W,
@@ -49,7 +52,7 @@ pub fn run_given<P: AllocGlobal + Eprint, R: Read, W: Write>(
 }
 
 // Does what all these words ask for, as `run` does.
-fn run_all<P: AllocGlobal + Eprint, R: Read, W: Write>(
+fn run_all<P: AllocGlobal + Eprint + Threads + Wait + Sync, R: Read, W: Write>(
     rt: &P,
     reader: &mut R,
     writer: &mut W,
@@ -67,8 +70,9 @@ fn run_all<P: AllocGlobal + Eprint, R: Read, W: Write>(
 /// Does what these words ask for, the program's name first, and answers the exit status. Words in which nothing is at
 /// fault are followed; before others nothing is read.
 ///
-/// A document is read and its answer written; why there is none is told on standard error.
-pub fn run<P: AllocGlobal + Eprint, R: Read, W: Write, S: AsStr>(
+/// A document is read and its answer written; why there is none is told on standard error. Only where turns are asked for are
+/// threads made, and may it wait.
+pub fn run<P: AllocGlobal + Eprint + Threads + Wait + Sync, R: Read, W: Write, S: AsStr>(
     rt: &P,
     reader: &mut R,
     writer: &mut W,
@@ -85,7 +89,7 @@ pub fn run<P: AllocGlobal + Eprint, R: Read, W: Write, S: AsStr>(
         → result ≡ 0 → SaysFirm (R.remaining reader.old) (R.remaining reader.new) }
     ensures firm_under_winners { Asks (map S.text words.entry.now) (Firm Winners)
         → result ≡ 0 → SaysFirmUnderWinners (R.remaining reader.old) (R.remaining reader.new) }
-    ensures ends_settled { Asks (map S.text words.entry.now) (Run Report)
+    ensures ends_settled { Asks (map S.text words.entry.now) (Run Report 0)
         → result ≡ 0 → EndsSettled (R.remaining reader.old) (R.remaining reader.new) }
 {
     faultless_words_ask();
@@ -94,7 +98,7 @@ pub fn run<P: AllocGlobal + Eprint, R: Read, W: Write, S: AsStr>(
         Ok(Mode::Firm(under)) => firm(rt, under, reader, writer),
         Ok(Mode::Certify(extent)) => certify(rt, extent, reader, writer),
         Ok(Mode::Explain(goal, under, form)) => explain(rt, goal, under, form, reader, writer),
-        Ok(Mode::Run(ending)) => run_scenario(rt, ending, reader, writer),
+        Ok(Mode::Run(ending, turns)) => run_scenario(rt, ending, turns, reader, writer),
         Err(Unfollowed::Memory) => end(rt, Err(ReportError::Memory)),
         Err(Unfollowed::Usage) => USAGE,
     }
@@ -218,8 +222,27 @@ fn explain_under_winners<P: AllocGlobal + Eprint, R: Read, W: Write>(
     }
 }
 
-// Makes the steps of a scenario, and writes what is asked for of where they lead.
-fn run_scenario<P: AllocGlobal + Eprint, R: Read, W: Write>(
+// Makes the steps of a scenario, has threads run its cluster if they are to make turns, and writes what is asked for of where
+// that leads.
+fn run_scenario<P: AllocGlobal + Eprint + Threads + Wait + Sync, R: Read, W: Write>(
+    rt: &P,
+    ending: Ending,
+    turns: u32,
+    reader: &mut R,
+    writer: &mut W,
+) -> u8
+    ensures told { IsRunning ending turns (R.remaining reader.old) (R.remaining reader.new) (W.contents writer.old) (W.contents writer.new) result }
+    ensures settled { ending ≡ Report → turns ≡ 0 → result ≡ 0 → EndsSettled (R.remaining reader.old) (R.remaining reader.new) }
+{
+    if turns == 0 {
+        make_steps(rt, ending, reader, writer)
+    } else {
+        run_on(rt, ending, turns, reader, writer)
+    }
+}
+
+// Makes the steps of a scenario, and writes what is asked for of where they lead. No thread is made.
+fn make_steps<P: AllocGlobal + Eprint, R: Read, W: Write>(
     rt: &P,
     ending: Ending,
     reader: &mut R,
@@ -231,5 +254,21 @@ fn run_scenario<P: AllocGlobal + Eprint, R: Read, W: Write>(
     match ending {
         Ending::Report => run_and_tell(rt, reader, writer),
         Ending::Document => run_document_and_tell(rt, reader, writer),
+    }
+}
+
+// Makes the steps of a scenario, has threads run its cluster, and writes what is asked for of a cut of it.
+fn run_on<P: AllocGlobal + Eprint + Threads + Wait + Sync, R: Read, W: Write>(
+    rt: &P,
+    ending: Ending,
+    turns: u32,
+    reader: &mut R,
+    writer: &mut W,
+) -> u8
+    ensures { IsLiveEnding ending (R.remaining reader.old) (R.remaining reader.new) (W.contents writer.old) (W.contents writer.new) result }
+{
+    match ending {
+        Ending::Report => live_and_tell(rt, reader, writer, turns),
+        Ending::Document => live_document_and_tell(rt, reader, writer, turns),
     }
 }

@@ -1,5 +1,6 @@
 use Rattle.std.proofs.Common.{◌≡◌, inl, inr, Some, option_map, codes, sym, ap, subst, ◌∙◌, rules}
 use Rattle.bep_words.specs.Mode.{ending_of, extent_of, form_of, goal_of, under_of}
+use Rattle.bep_words.specs.Turns.{turns_of}
 use Rattle.bep_words.proofs.ModeFacts.{no_fault, name_told, rows_told, tells_mode, NamesMode, not_named}
 use Rattle.bep_words.proofs.mode.mode_of.Goals as goal
 use Rattle.bep_words.proofs.mode.mode_of.Goals.{in_default-via-in-Some+in_default, in_default-via-in_default}
@@ -59,6 +60,7 @@ returns-in-Some-run-clause-asked g c =
     let named : c.in-Some-run.field-0.now ≡ codes "run" = search (rules, c.in-Some-run.is-run) in (
       name_told _ _ _ c.in_ok-command.ensures c.in_ok-matches.ensures.matches ∙ sym lent ∙ ap Some named,
       c.ending_of.ensures ∙ ap ending_of (rows_told _ _ _ c.in_ok-command.ensures c.in_ok-matches.ensures.matches),
+      c.turns_of.ensures ∙ ap turns_of (rows_told _ _ _ c.in_ok-command.ensures c.in_ok-matches.ensures.matches),
     )
 
 pub unreachable-requires : goal.unreachable-requires

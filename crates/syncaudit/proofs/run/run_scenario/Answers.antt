@@ -1,11 +1,8 @@
-use Rattle.std.proofs.Common.{sym, subst}
-use Rattle.syncaudit.specs.Status.{IsEnding}
+use Rattle.std.proofs.Common.{arith}
 use Rattle.syncaudit.proofs.run.run_scenario.Goals as goal
 
-pub returns-in-Report-clause-told : goal.returns-in-Report-clause-told
-returns-in-Report-clause-told g c =
-    subst (λ ending. IsEnding ending (g.R.Read.remaining c.args.reader.now) (g.R.Read.remaining c.run_and_tell.new.reader) (g.W.Write.contents c.args.writer.now) (g.W.Write.contents c.run_and_tell.new.writer) c.run_and_tell.result) (sym c.in-Report.is) c.run_and_tell.ensures.told
+pub returns-then-clause-told : goal.returns-then-clause-told
+returns-then-clause-told g c = record { at_rest = λ none. c.make_steps.ensures.told; live = λ some. absurd (omega arith) }
 
-pub returns-in-Document-clause-told : goal.returns-in-Document-clause-told
-returns-in-Document-clause-told g c =
-    subst (λ ending. IsEnding ending (g.R.Read.remaining c.args.reader.now) (g.R.Read.remaining c.run_document_and_tell.new.reader) (g.W.Write.contents c.args.writer.now) (g.W.Write.contents c.run_document_and_tell.new.writer) c.run_document_and_tell.result) (sym c.in-Document.is) c.run_document_and_tell.ensures
+pub returns-else-clause-told : goal.returns-else-clause-told
+returns-else-clause-told g c = record { at_rest = λ none. absurd (omega arith); live = λ some. c.run_on.ensures }

@@ -1,0 +1,4 @@
+pub mod Lines
+pub mod Lived
+pub mod Told
+pub mod inner

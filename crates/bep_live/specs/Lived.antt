@@ -1,0 +1,80 @@
+-- What the program answers to a scenario whose cluster goes on in threads (this project's profile).
+use Rattle.std.specs.Prelude.{◌≡◌, ◌++◌, ℕ, List}
+use Rattle.bep_answer.specs.Answer.{fault_text}
+use Rattle.bep_answer.specs.Certified.{IsCertificate}
+use Rattle.bep_answer.specs.declared.outcome.Certified.{Certified}
+use Rattle.bep_answer.specs.declared.outcome.Certified.TheVariants as certificates
+use Rattle.bep_answer.specs.declared.outcome.Outcome.{Outcome}
+use Rattle.bep_answer.specs.declared.outcome.Outcome.TheVariants as outcomes
+use Rattle.bep_cut.specs.Cut.{cut_at}
+use Rattle.bep_cut.specs.Says.{Says}
+use Rattle.bep_document.specs.Reading.{Reading, Read, Refused}
+use Rattle.bep_fit.specs.Fit.{IsRunVerdict}
+use Rattle.bep_fit.specs.declared.verdict.RunVerdict.{RunVerdict}
+use Rattle.bep_fit.specs.declared.verdict.RunVerdict.TheVariants.{Fits}
+use Rattle.bep_peer.specs.network.Network.{Network, cluster_of}
+use Rattle.bep_play.specs.Played.{EndsAt, IsEnd}
+use Rattle.bep_run_cut.specs.OneRun.{IsRunOf, StaysPut}
+use Rattle.bep_run_cut.specs.RunCut.{IsRunCut, RunState}
+use Rattle.bep_scenario.specs.Scenario.{Said, scenario_of}
+use Rattle.bep_tables.specs.declared.cut.CutParts.{CutParts}
+use Rattle.bep_live.specs.Lines.{run_line}
+
+-- The scenario's steps were made, and this is told of them. Which cluster it is that threads ran then, no definition says.
+pub record LeadsOn (scenario : Said) (told : List ℕ) : Type 0 where
+  pub last : Network
+  pub leads : EndsAt scenario last told
+
+-- the cut of the devices and links of a run cut as they are
+abbrev pub cut_in : RunState → CutParts
+cut_in run = cut_at run.present.members run.present.links
+
+-- A run cut, whose cut says what its devices and links as they are do, and the verdict on its logs. Where they fit, they are one
+-- run of so many events, which leads from the bases to that cut; and if the bases' cut is settled and no event is a local step,
+-- every store holds what it held.
+pub record IsJudged (run : RunState) (verdict : RunVerdict) : Type 0 where
+  pub a_run_cut : IsRunCut run
+  pub says : Says (cluster_of run.present) (cut_in run)
+  pub judged : IsRunVerdict run.logs verdict
+  pub one_run : (count : ℕ) → verdict ≡ Fits count → IsRunOf run count
+  pub stays : (count : ℕ) → verdict ≡ Fits count → StaysPut run
+
+-- The steps are made; then a run cut is taken, and its cut is reported as the cut of a scenario's end is. The last line is the
+-- verdict on its logs.
+pub record IsLived (scenario : Said) (outcome : Outcome) (text : List ℕ) : Type 0 where
+  pub told : List ℕ
+  pub leads : LeadsOn scenario told
+  pub run : RunState
+  pub verdict : RunVerdict
+  pub judged : IsJudged run verdict
+  pub report : List ℕ
+  pub end : IsEnd scenario.version (cut_in run) told outcome report
+  pub reported : text ≡ report ++ run_line verdict
+
+-- the outcome and the text for what a document says: that, or the fault for which it is refused
+abbrev pub IsLiveOf : Reading Said → Outcome → List ℕ → Type 0
+IsLiveOf (Read scenario) outcome text = IsLived scenario outcome text
+IsLiveOf (Refused fault) outcome text = (outcome ≡ outcomes.Refused) × (text ≡ fault_text fault)
+
+-- the same of the bytes of a document
+abbrev pub IsLiveOfBytes : List ℕ → Outcome → List ℕ → Type 0
+IsLiveOfBytes bytes outcome text = IsLiveOf (scenario_of bytes) outcome text
+
+-- the steps are made; then a run cut is taken, and its cut is written as where its certificate is asked for: as the document
+-- of that cut, of the scenario's version, with the list under which it is audited
+pub record IsLivedTo (scenario : Said) (outcome : Certified) (text : List ℕ) : Type 0 where
+  pub told : List ℕ
+  pub leads : LeadsOn scenario told
+  pub run : RunState
+  pub verdict : RunVerdict
+  pub judged : IsJudged run verdict
+  pub certificate : IsCertificate scenario.version (cut_in run) outcome text
+
+-- the outcome and the text for what a document says: that, or the fault for which it is refused
+abbrev pub IsLiveEndOf : Reading Said → Certified → List ℕ → Type 0
+IsLiveEndOf (Read scenario) outcome text = IsLivedTo scenario outcome text
+IsLiveEndOf (Refused fault) outcome text = (outcome ≡ certificates.Refused) × (text ≡ fault_text fault)
+
+-- the same of the bytes of a document
+abbrev pub IsLiveEndOfBytes : List ℕ → Certified → List ℕ → Type 0
+IsLiveEndOfBytes bytes outcome text = IsLiveEndOf (scenario_of bytes) outcome text

@@ -1,0 +1,40 @@
+//! What is told on standard error beside the answer to a scenario whose cluster goes on in threads, and the exit status that
+//! says which answer it was.
+ghost use Rattle.bep_live.specs.Told.{IsLiveEndTold, IsLiveTold};
+
+use crate::document::DocumentOfLive;
+use crate::report::ReportOnLive;
+use bep_answer::{end, end_certified, exchange};
+use std::io::{Read, Write};
+use std::sync::Wait;
+use std::thread::Threads;
+
+/// Makes a scenario's steps, has threads run its cluster for so many turns each and audits a cut of it, as `live_text` does;
+/// tells a hint on where a refused scenario is at fault, or why there is no answer, on standard error, and answers the exit
+/// status. May wait.
+pub fn live_and_tell<P: AllocGlobal + Eprint + Threads + Wait + Sync, R: Read, W: Write>(
+    rt: &P,
+    reader: &mut R,
+    writer: &mut W,
+    turns: u32,
+) -> u8
+    ensures { IsLiveTold (R.remaining reader.old) (R.remaining reader.new) (W.contents writer.old) (W.contents writer.new) result }
+{
+    let question = ReportOnLive { rt, turns };
+    end(rt, exchange(rt.alloc(), question, reader, writer))
+}
+
+/// The same for the check document of that cut, with the list of its winners, on a line; or the line of the first known name
+/// that has none; or that of the fault for which the document is refused. The lines of the steps that are refused, and that of
+/// the verdict on the threads' logs, are told on standard error. May wait.
+pub fn live_document_and_tell<P: AllocGlobal + Eprint + Threads + Wait + Sync, R: Read, W: Write>(
+    rt: &P,
+    reader: &mut R,
+    writer: &mut W,
+    turns: u32,
+) -> u8
+    ensures { IsLiveEndTold (R.remaining reader.old) (R.remaining reader.new) (W.contents writer.old) (W.contents writer.new) result }
+{
+    let question = DocumentOfLive { rt, turns };
+    end_certified(rt, exchange(rt.alloc(), question, reader, writer))
+}
