@@ -1,5 +1,5 @@
 #!/usr/bin/env python3
-"""turns.py PROGRAM: runs the built program on three scenarios, after whose steps threads make turns, and compares what doesn't
+"""turns.py PROGRAM: runs the built program on four scenarios, after whose steps threads make turns, and compares what doesn't
 depend on which thread comes first. The last line is 'N passed, M failed'.
 
 The refused steps come before any thread. What is settled when the threads begin stays settled: names, contents and deletions
@@ -7,6 +7,7 @@ are as they were, but versions may grow. The logs are those of one run, in which
 beginning is an event.
 """
 
+import json
 import os
 import re
 import subprocess
@@ -17,16 +18,22 @@ from counting import Count
 
 TOP = Path(__file__).resolve().parents[1]
 TURNS = 3
-# The certificate's line of a name: folder, name, device, type, mark and version.
-ROW = re.compile(r"(\S+ \S+) \d+ (\d (?:present|deleted)) \S+")
+# The certificate's line of a name: folder, name, device, type, mark and version, and of version 2 the block size.
+ROW = re.compile(r"(\S+ \S+) \d+ (\d (?:present|deleted)) \S+((?: \d+)?)")
 COPY = "notes.sync-conflict-2000-0000000000000002.txt"
 # Each scenario, how many names stand on its devices when the threads begin, added up, and whether it is settled then.
-SCENARIOS = (("a-file-is-taken-over", 2, True), ("conflict-to-its-end", 4, True), ("conflict", 3, False))
+SCENARIOS = (("a-file-is-taken-over", 2, True), ("version-2", 2, True), ("conflict-to-its-end", 4, True),
+             ("conflict", 3, False))
+
+
+def path_of(scenario):
+    """The file of a scenario."""
+    return TOP / "examples/scenarios" / f"{scenario}.json"
 
 
 def run(program, scenario, *words):
     """The lines that the program writes and tells, and its status."""
-    with open(TOP / "examples/scenarios" / f"{scenario}.json", "rb") as document:
+    with open(path_of(scenario), "rb") as document:
         done = subprocess.run([program, "run", *words], stdin=document, capture_output=True, text=True)
     return done.stdout.splitlines(), done.stderr.splitlines(), done.returncode
 
@@ -39,7 +46,7 @@ def audit(program, document):
 
 def without_versions(lines):
     """The lines, in which the rows of the certificate have neither version nor device."""
-    return [" ".join(found.groups()) if (found := ROW.fullmatch(line)) else line for line in lines]
+    return [f"{found[1]} {found[2]}{found[3]}" if (found := ROW.fullmatch(line)) else line for line in lines]
 
 
 def events(line):
@@ -96,6 +103,8 @@ def try_document(count, program, scenario, names):
     count.says(f"{scenario}, the run of the document", of_run(scenario, names, last))
     told = audit(program, lines[0])
     count.says(f"{scenario}, the document", f"it is {told}" if told != ("settled", 0) else "")
+    written, read = json.loads(lines[0])["version"], json.loads(path_of(scenario).read_text())["version"]
+    count.says(f"{scenario}, its version", f"it is {written} in place of {read}" if written != read else "")
 
 
 def main(given, *_):

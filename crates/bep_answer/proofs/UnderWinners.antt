@@ -3,6 +3,7 @@
 use Rattle.std.proofs.Common.{◌≡◌, ◌∙◌, ◌≤◌, ◌++◌, inl, inr, ℕ, List, Option, Some, None, length, refl, sym, ap, subst}
 use Rattle.std.proofs.lemmas.List.{append_cancel_right}
 use Rattle.bep_document.specs.Reading.{Reading, Read, Refused, most_bytes}
+use Rattle.bep_json.specs.declared.version.DocVersion.{DocVersion}
 use Rattle.bep_lines.specs.Lines.{newline}
 use Rattle.bep_machine.specs.FreeLaws.{FirmCutsStayPut}
 use Rattle.bep_machine.specs.Laws.{SettledStaysPut, SettledStaysSettled}
@@ -17,6 +18,7 @@ use Rattle.bep_model.specs.declared.row.Row.{Row}
 use Rattle.bep_report.specs.Report.{firm_report_text, report_text}
 use Rattle.bep_tables.specs.Cut.{tables_of}
 use Rattle.bep_tables.specs.declared.cut.CutParts.{CutParts}
+use Rattle.bep_cut_document.specs.Room.{CutsOfDocumentsHaveRoom, HasRoom}
 use Rattle.bep_cut_document.specs.Trees.{check_document_text}
 use Rattle.bep_cut_document.specs.Written.{check_of, cut_of_document}
 use Rattle.bep_answer.specs.Answer.{IsAnswer, IsAnswerOfBytes, IsReport}
@@ -54,9 +56,9 @@ module _ (lists : ListOfWinnersIsUnique) (none_left_out : WinnersLeaveNoneOut) (
     report_under_is_unique cut None (Some others) one other text more is also =
         absurd (none_left_out (tables_of cut) others is.folder is.name also.winners is.unwon.without.without)
 
-    one_answer : (reading : Reading CutParts) (one other : Outcome) (text more : List ℕ) → IsAnswerUnderWinners reading one text → IsAnswerUnderWinners reading other more → (one ≡ other) × (text ≡ more)
-    one_answer (Read cut) one other text more is also =
-        let same = report_under_is_unique cut is.0 also.0 one other text more is.1 also.1 in (same.1, same.2)
+    one_answer : (reading : Reading (DocVersion × CutParts)) (one other : Outcome) (text more : List ℕ) → IsAnswerUnderWinners reading one text → IsAnswerUnderWinners reading other more → (one ≡ other) × (text ≡ more)
+    one_answer (Read said) one other text more is also =
+        let same = report_under_is_unique said.1 is.0 also.0 one other text more is.1 also.1 in (same.1, same.2)
     one_answer (Refused fault) one other text more is also = (is.0 ∙ sym also.0, is.1 ∙ sym also.1)
 
     pub answer_under_winners_is_unique : AnswerUnderWinnersIsUnique
@@ -77,8 +79,8 @@ module _ (lists : ListOfWinnersIsUnique) (none_left_out : WinnersLeaveNoneOut) (
     one_firm_report cut one other text more (inr is) (inl also) =
         absurd (none_left_out (tables_of cut) also.rows is.folder is.name also.winners is.unwon.without.without)
 
-    one_firm_answer : (reading : Reading CutParts) (one other : Firmness) (text more : List ℕ) → IsFirmAnswerUnderWinners reading one text → IsFirmAnswerUnderWinners reading other more → (one ≡ other) × (text ≡ more)
-    one_firm_answer (Read cut) one other text more is also = one_firm_report cut one other text more is also
+    one_firm_answer : (reading : Reading (DocVersion × CutParts)) (one other : Firmness) (text more : List ℕ) → IsFirmAnswerUnderWinners reading one text → IsFirmAnswerUnderWinners reading other more → (one ≡ other) × (text ≡ more)
+    one_firm_answer (Read said) one other text more is also = one_firm_report said.1 one other text more is also
     one_firm_answer (Refused fault) one other text more is also = (is.0 ∙ sym also.0, is.1 ∙ sym also.1)
 
     pub firm_answer_under_winners_is_unique : FirmAnswerUnderWinnersIsUnique
@@ -87,36 +89,40 @@ module _ (lists : ListOfWinnersIsUnique) (none_left_out : WinnersLeaveNoneOut) (
 -- ---- it is what is answered to the document that has them
 
 -- the document of the cut says the very cut and its winners
-reads_so : (cut : CutParts) (json : List ℕ) (is : IsDocumentOf cut (json ++ newline)) → length json ≤ most_bytes → check_of json ≡ Read (cut, is.rows)
-reads_so cut json is short =
-    let same : json ≡ check_document_text cut is.rows = append_cancel_right json (check_document_text cut is.rows) newline is.written in
-    ap check_of same ∙ is.read_back (subst (λ (text : List ℕ). length text ≤ most_bytes) same short)
+reads_so : (version : DocVersion) (cut : CutParts) (json : List ℕ) → HasRoom version cut → (is : IsDocumentOf version cut (json ++ newline)) → length json ≤ most_bytes → check_of json ≡ Read (cut, is.rows)
+reads_so version cut json room is short =
+    let same : json ≡ check_document_text version cut is.rows = append_cancel_right json (check_document_text version cut is.rows) newline is.written in
+    ap check_of same ∙ is.read_back room (subst (λ (text : List ℕ). length text ≤ most_bytes) same short)
 
-answers_so : (reading : Reading CutParts) (json : List ℕ) (outcome : Outcome) (text : List ℕ) → IsCertified reading Written (json ++ newline) → length json ≤ most_bytes → IsAnswerOfBytes json outcome text → IsAnswerUnderWinners reading outcome text
-answers_so (Read cut) json outcome text certified short answer = (
+-- what is read has room in the version of its document
+abbrev HasRoomIn : Reading (DocVersion × CutParts) → Type 0
+HasRoomIn reading = (said : DocVersion × CutParts) → reading ≡ Read said → HasRoom said.0 said.1
+
+answers_so : (reading : Reading (DocVersion × CutParts)) → HasRoomIn reading → (json : List ℕ) (outcome : Outcome) (text : List ℕ) → IsCertified reading Written (json ++ newline) → length json ≤ most_bytes → IsAnswerOfBytes json outcome text → IsAnswerUnderWinners reading outcome text
+answers_so (Read said) room json outcome text certified short answer = (
   Some certified.rows,
   record {
     winners = certified.winners;
-    report = subst (λ (reading : Reading (CutParts × List Row)). IsAnswer reading outcome text) (reads_so cut json certified short) answer;
+    report = subst (λ (reading : Reading (CutParts × List Row)). IsAnswer reading outcome text) (reads_so said.0 said.1 json (room said refl) certified short) answer;
   },
 )
-answers_so (Refused fault) json outcome text certified short answer = let e = certified.0 in absurd (cc)
+answers_so (Refused fault) room json outcome text certified short answer = let e = certified.0 in absurd (cc)
 
-pub check_answers_so : CheckAnswersAsUnderWinners
-check_answers_so bytes json outcome text = answers_so (cut_of_document bytes) json outcome text
+pub check_answers_so : CutsOfDocumentsHaveRoom → CheckAnswersAsUnderWinners
+check_answers_so room bytes json outcome text = answers_so (cut_of_document bytes) (room bytes) json outcome text
 
-answers_firm_so : (reading : Reading CutParts) (json : List ℕ) (outcome : Firmness) (text : List ℕ) → IsCertified reading Written (json ++ newline) → length json ≤ most_bytes → IsFirmAnswerOfBytes json outcome text → IsFirmAnswerUnderWinners reading outcome text
-answers_firm_so (Read cut) json outcome text certified short answer =
+answers_firm_so : (reading : Reading (DocVersion × CutParts)) → HasRoomIn reading → (json : List ℕ) (outcome : Firmness) (text : List ℕ) → IsCertified reading Written (json ++ newline) → length json ≤ most_bytes → IsFirmAnswerOfBytes json outcome text → IsFirmAnswerUnderWinners reading outcome text
+answers_firm_so (Read said) room json outcome text certified short answer =
     inl
     (record {
       rows = certified.rows;
       winners = certified.winners;
-      report = subst (λ (reading : Reading (CutParts × List Row)). IsFirmAnswer reading outcome text) (reads_so cut json certified short) answer;
+      report = subst (λ (reading : Reading (CutParts × List Row)). IsFirmAnswer reading outcome text) (reads_so said.0 said.1 json (room said refl) certified short) answer;
     })
-answers_firm_so (Refused fault) json outcome text certified short answer = let e = certified.0 in absurd (cc)
+answers_firm_so (Refused fault) room json outcome text certified short answer = let e = certified.0 in absurd (cc)
 
-pub firm_answers_so : FirmAnswersAsUnderWinners
-firm_answers_so bytes json outcome text = answers_firm_so (cut_of_document bytes) json outcome text
+pub firm_answers_so : CutsOfDocumentsHaveRoom → FirmAnswersAsUnderWinners
+firm_answers_so room bytes json outcome text = answers_firm_so (cut_of_document bytes) (room bytes) json outcome text
 
 -- ---- what it says
 
@@ -127,10 +133,10 @@ settled_under cut (Some rows) outcome text report is =
     (rows, report.winners, settled_verdict cut rows report.report.verdict report.report.judged (sym is ∙ report.report.told))
 settled_under cut None outcome text report is = let other = sym is ∙ report.told in absurd (cc)
 
-settled_reading : SettledStaysPut → SettledStaysSettled → (reading : Reading CutParts) (outcome : Outcome) (text : List ℕ) → IsAnswerUnderWinners reading outcome text → outcome ≡ outcomes.Settled → TellsSettledUnderWinners reading
-settled_reading put again (Read cut) outcome text answer is =
-    let found = settled_under cut answer.0 outcome text answer.1 is in
-    record { cut = cut; rows = found.0; says = refl; winners = found.1; settled = settled_tells put again cut found.0 found.2 }
+settled_reading : SettledStaysPut → SettledStaysSettled → (reading : Reading (DocVersion × CutParts)) (outcome : Outcome) (text : List ℕ) → IsAnswerUnderWinners reading outcome text → outcome ≡ outcomes.Settled → TellsSettledUnderWinners reading
+settled_reading put again (Read said) outcome text answer is =
+    let found = settled_under said.1 answer.0 outcome text answer.1 is in
+    record { version = said.0; cut = said.1; rows = found.0; says = refl; winners = found.1; settled = settled_tells put again said.1 found.0 found.2 }
 settled_reading put again (Refused fault) outcome text answer is = let e = sym answer.0 ∙ is in absurd (cc)
 
 pub settled_answer_under : SettledStaysPut → SettledStaysSettled → (unread left held now : Option (List ℕ)) (outcome : Outcome) → IsWhole IsAnswerUnderWinnersOfBytes unread left held now outcome → outcome ≡ outcomes.Settled
@@ -149,10 +155,10 @@ firm_under cut outcome text (inl report) is =
 firm_under cut outcome text (inr report) is = let other = sym is ∙ report.told in absurd (cc)
 
 module _ (firmly : FirmStaysFirm) (own : FirmCutsStayPut) (put : SettledStaysPut) (again : SettledStaysSettled) where
-  firm_reading : (reading : Reading CutParts) (outcome : Firmness) (text : List ℕ) → IsFirmAnswerUnderWinners reading outcome text → outcome ≡ firmness.Firm → TellsFirmUnderWinners reading
-  firm_reading (Read cut) outcome text answer is =
-      let found = firm_under cut outcome text answer is in
-      record { cut = cut; rows = found.0; says = refl; winners = found.1; firm = firm_tells firmly own put again cut found.0 found.2 }
+  firm_reading : (reading : Reading (DocVersion × CutParts)) (outcome : Firmness) (text : List ℕ) → IsFirmAnswerUnderWinners reading outcome text → outcome ≡ firmness.Firm → TellsFirmUnderWinners reading
+  firm_reading (Read said) outcome text answer is =
+      let found = firm_under said.1 outcome text answer is in
+      record { version = said.0; cut = said.1; rows = found.0; says = refl; winners = found.1; firm = firm_tells firmly own put again said.1 found.0 found.2 }
   firm_reading (Refused fault) outcome text answer is = let e = sym answer.0 ∙ is in absurd (cc)
 
   pub firm_answer_under : (unread left held now : Option (List ℕ)) (outcome : Firmness) → IsWhole IsFirmAnswerUnderWinnersOfBytes unread left held now outcome → outcome ≡ firmness.Firm → SaysFirmUnderWinners unread left

@@ -3,6 +3,7 @@
 use Rattle.std.specs.Prelude.{◌≡◌, ◌⊎◌, ℕ, List, Option, Some, None}
 use Rattle.bep_audit.specs.Certifier.{IsNeverSettled}
 use Rattle.bep_document.specs.Reading.{Reading, Read, Refused}
+use Rattle.bep_json.specs.declared.version.DocVersion.{DocVersion}
 use Rattle.bep_model.specs.FirmVerdict as firm_verdicts
 use Rattle.bep_model.specs.Settled.{IsListOfWinners}
 use Rattle.bep_model.specs.Tables.{Folder, FileName}
@@ -47,9 +48,13 @@ abbrev pub IsReportUnder : CutParts → Option (List Row) → Outcome → List �
 IsReportUnder cut (Some rows) outcome text = IsReportOfWon cut rows outcome text
 IsReportUnder cut None outcome text = IsReportOfUnwon cut outcome text
 
--- the outcome and the text for what a document says of its cut: that, or the fault for which it is refused
-abbrev pub IsAnswerUnderWinners : Reading CutParts → Outcome → List ℕ → Type 0
-IsAnswerUnderWinners (Read cut) outcome text = (rows : Option (List Row)) × IsReportUnder cut rows outcome text
+-- the same, whether it has one or not
+abbrev pub IsReportUnderWinners : CutParts → Outcome → List ℕ → Type 0
+IsReportUnderWinners cut outcome text = (rows : Option (List Row)) × IsReportUnder cut rows outcome text
+
+-- the outcome and the text for what a document says of its cut: that, in either version, or the fault for which it is refused
+abbrev pub IsAnswerUnderWinners : Reading (DocVersion × CutParts) → Outcome → List ℕ → Type 0
+IsAnswerUnderWinners (Read said) outcome text = IsReportUnderWinners said.1 outcome text
 IsAnswerUnderWinners (Refused fault) outcome text = (outcome ≡ outcomes.Refused) × (text ≡ fault_text fault)
 
 -- the same of the bytes of a document
@@ -57,10 +62,11 @@ abbrev pub IsAnswerUnderWinnersOfBytes : List ℕ → Outcome → List ℕ → T
 IsAnswerUnderWinnersOfBytes bytes outcome text = IsAnswerUnderWinners (cut_of_document bytes) outcome text
 
 -- it says a cut that is settled under the list of its winners: so it stays
-pub record TellsSettledUnderWinners (reading : Reading CutParts) : Type 0 where
+pub record TellsSettledUnderWinners (reading : Reading (DocVersion × CutParts)) : Type 0 where
+  pub version : DocVersion
   pub cut : CutParts
   pub rows : List Row
-  pub says : reading ≡ Read cut
+  pub says : reading ≡ Read (version, cut)
   pub winners : IsListOfWinners (tables_of cut) rows
   pub settled : TellsSettled (Read (cut, rows))
 
@@ -91,8 +97,8 @@ abbrev pub IsFirmReportUnder : CutParts → Firmness → List ℕ → Type 0
 IsFirmReportUnder cut outcome text = IsFirmReportOfWon cut outcome text ⊎ IsFirmReportOfUnwon cut outcome text
 
 -- the outcome and the text for what a document says of its cut: that, or the fault for which it is refused
-abbrev pub IsFirmAnswerUnderWinners : Reading CutParts → Firmness → List ℕ → Type 0
-IsFirmAnswerUnderWinners (Read cut) outcome text = IsFirmReportUnder cut outcome text
+abbrev pub IsFirmAnswerUnderWinners : Reading (DocVersion × CutParts) → Firmness → List ℕ → Type 0
+IsFirmAnswerUnderWinners (Read said) outcome text = IsFirmReportUnder said.1 outcome text
 IsFirmAnswerUnderWinners (Refused fault) outcome text = (outcome ≡ firmness.Refused) × (text ≡ fault_text fault)
 
 -- the same of the bytes of a document
@@ -100,10 +106,11 @@ abbrev pub IsFirmAnswerUnderWinnersOfBytes : List ℕ → Firmness → List ℕ 
 IsFirmAnswerUnderWinnersOfBytes bytes outcome text = IsFirmAnswerUnderWinners (cut_of_document bytes) outcome text
 
 -- it says a cut that is firm under the list of its winners: so it stays
-pub record TellsFirmUnderWinners (reading : Reading CutParts) : Type 0 where
+pub record TellsFirmUnderWinners (reading : Reading (DocVersion × CutParts)) : Type 0 where
+  pub version : DocVersion
   pub cut : CutParts
   pub rows : List Row
-  pub says : reading ≡ Read cut
+  pub says : reading ≡ Read (version, cut)
   pub winners : IsListOfWinners (tables_of cut) rows
   pub firm : TellsFirm (Read (cut, rows))
 

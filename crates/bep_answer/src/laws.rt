@@ -1,6 +1,7 @@
 //! What follows from the definitions of answers. The functions do nothing; their contracts have the laws.
 ghost use Rattle.bep_answer.specs.Laws.{AnswerUnderWinnersIsUnique, AuditIsUnique, CheckAnswersAsUnderWinners, CutAnswerIsUnique, DocumentAnswerIsUnique, FirmAnswerUnderWinnersIsUnique, FirmAnswersAsUnderWinners, FirmAuditIsUnique, ReportUnderIsUnique};
 
+use bep_cut_document::cuts_of_documents_have_room;
 use bep_model::{
     certificate_is_unique, firm_verdict_is_unique, verdict_is_unique, winners_or_first_without,
 };
@@ -28,4 +29,6 @@ pub fn answers_are_unique()
 pub fn certify_then_check()
     ensures check { CheckAnswersAsUnderWinners }
     ensures firm { FirmAnswersAsUnderWinners }
-{}
+{
+    cuts_of_documents_have_room();
+}

@@ -4,9 +4,8 @@ ghost use Rattle.bep_model.specs.declared.reason.Reason.TheVariants.{NotWinner};
 ghost use Rattle.bep_model.specs.FirmVerdict.{Unsettled};
 ghost use Rattle.bep_model.specs.Verdict.{Not};
 ghost use Rattle.bep_report.specs.Report.{firm_report_text, report_text};
-ghost use Rattle.bep_document.specs.Reading.{Read};
 ghost use Rattle.bep_answer.specs.Beside.{TellsOfCut};
-ghost use Rattle.bep_answer.specs.UnderWinners.{IsAnswerUnderWinners, IsAnswerUnderWinnersOfBytes, IsFirmAnswerUnderWinnersOfBytes, IsFirmReportUnder, IsReportUnder};
+ghost use Rattle.bep_answer.specs.UnderWinners.{IsAnswerUnderWinnersOfBytes, IsFirmAnswerUnderWinnersOfBytes, IsFirmReportUnder, IsReportUnder, IsReportUnderWinners};
 
 use crate::exchanging::{Answer, Question};
 use crate::outcome::{Firmness, Outcome};
@@ -33,7 +32,7 @@ impl Question<Outcome> for AuditUnderWinners {
 
     fn answer(self, alloc: Global, bytes: &[u8]) -> Result<Answer<Outcome>, AllocError> {
         match read_cut(alloc, bytes) {
-            Ok(cut) => Ok((report_under_winners(alloc, &cut)?, None)),
+            Ok((_, cut)) => Ok((report_under_winners(alloc, &cut)?, None)),
             Err(DocError::Refused(fault)) => {
                 let refused = refusal(alloc, &fault)?;
                 Ok((refused, hint_for(alloc, bytes, &fault, Expected::Cut)))
@@ -54,7 +53,7 @@ impl Question<Firmness> for FirmnessUnderWinners {
 
     fn answer(self, alloc: Global, bytes: &[u8]) -> Result<Answer<Firmness>, AllocError> {
         match read_cut(alloc, bytes) {
-            Ok(cut) => Ok((firm_under_winners(alloc, &cut)?, None)),
+            Ok((_, cut)) => Ok((firm_under_winners(alloc, &cut)?, None)),
             Err(DocError::Refused(fault)) => {
                 let refused = (Firmness::Refused, fault_line(alloc, &fault)?);
                 Ok((refused, hint_for(alloc, bytes, &fault, Expected::Cut)))
@@ -66,7 +65,7 @@ impl Question<Firmness> for FirmnessUnderWinners {
 
 // The outcome for a cut, and its report.
 fn report_under_winners(alloc: Global, cut: &Cut) -> Result<(Outcome, Vec<u8>), AllocError>
-    ensures { IfOk result (λ answer. IsAnswerUnderWinners (Read cut.now) answer.0 answer.1.items) }
+    ensures { IfOk result (λ answer. IsReportUnderWinners cut.now answer.0 answer.1.items) }
 {
     let (outcome, report, _) = audit_under_winners(alloc, cut)?;
     Ok((outcome, report))

@@ -2,7 +2,7 @@
 //! written. The wanted lines were worked out by hand.
 use bep_audit::{Certificate, certify, check, check_plain};
 use bep_cut_document::read_cut;
-use bep_report::{certificate_text, report};
+use bep_report::{certificate_text, certificate_text_2, report};
 use bep_tables::Cut;
 use std::alloc::Global;
 
@@ -14,13 +14,15 @@ const CUT: &str = r#"{"version":1,"cut":{"folders":[{"folder":"docs","devices":[
     "own":[{"name":"a","type":1,"modified_s":8,"modified_by":2,"version":[[1,1],[2,1]],"sequence":1}],
     "store":[{"name":"a","type":1,"modified_s":8}]}]}]}}"#;
 
-// The report under no rows, and that under the winner's, which follows.
+// The report under no rows, and that under the winner's, which follows, and follows again as documents of version 2 have it:
+// a directory has no block size.
 const LINES: &str = "\
 not settled: NameMissing docs a
 folder docs: 1 names, 0 deleted, 2 devices
 settled
 folder docs: 1 names, 0 deleted, 2 devices
 docs a 2 1 present 1:1,2:1
+docs a 2 1 present 1:1,2:1 0
 ";
 
 // Whether both checkers tell one verdict, of which the report is written.
@@ -34,12 +36,16 @@ fn reported(alloc: Global, cut: &Cut, certificate: &Certificate, text: &mut Vec<
     }
 }
 
+// Whether the certificate is written, once for each version.
+fn written(alloc: Global, certificate: &Certificate, text: &mut Vec<u8>) -> bool {
+    certificate_text(alloc, certificate, text).is_ok()
+        && certificate_text_2(alloc, certificate, text).is_ok()
+}
+
 // The same under a copy of the certificate, which is written too.
 fn copied(alloc: Global, cut: &Cut, certificate: &Certificate, text: &mut Vec<u8>) -> bool {
     match certificate.copy(alloc) {
-        Ok(copy) => {
-            reported(alloc, cut, &copy, text) && certificate_text(alloc, &copy, text).is_ok()
-        }
+        Ok(copy) => reported(alloc, cut, &copy, text) && written(alloc, &copy, text),
         Err(_) => false,
     }
 }

@@ -1,6 +1,8 @@
 //! What is answered of a scenario whose cluster goes on in threads, by the call that tells nothing on standard error.
 use bep_answer::Outcome;
-use bep_live::live_text;
+use bep_fit::{Object, RunVerdict};
+use bep_live::{live_text, push_run};
+use bep_record::DeviceId;
 use std::str;
 use std::sync::Wait;
 use std::thread::Threads;
@@ -45,4 +47,23 @@ fn three_turns_leave_six_events_at_least(rt: HostRuntime) {
 #[test]
 fn without_turns_there_is_no_run(rt: HostRuntime) {
     assert_eq!(rt; lived(&rt, 0), Some((Outcome::Settled, None)));
+}
+
+// The lines of a run of six events, and of logs in which ticket 7 is the least at fault.
+const LINES: &str = "run fits: 6\nrun misfit: 7\n";
+
+fn lines(alloc: Global) -> Option<Vec<u8>> {
+    let mut text = Vec::new(alloc);
+    push_run(&mut text, RunVerdict::Fits(6)).ok()?;
+    let device = Object::Device(DeviceId::read(1)?);
+    push_run(&mut text, RunVerdict::Misfit(device, 7)).ok()?;
+    Some(text)
+}
+
+#[test]
+fn a_verdict_is_a_line(rt: HostRuntime) {
+    let Some(text) = lines(rt.alloc()) else {
+        panic!(rt; "no memory");
+    };
+    assert!(rt; text.as_slice() == LINES.as_bytes());
 }

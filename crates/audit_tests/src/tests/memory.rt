@@ -1,12 +1,17 @@
 //! Calls that no other test makes: with ample memory none answers want of it.
-use bep_answer::{AuditOfCut, Question, certify_cut, exchange, fault_line, refusal};
+use bep_answer::{
+    AuditOfCut, Question, audit_under_winners, certify_cut, exchange, fault_line, refusal,
+};
 use bep_audit::{Certificate, certify};
-use bep_cut_document::read_cut;
+use bep_cut_document::{DocVersion, read_cut};
 use bep_document::{DocFault, Fault};
 use bep_explain::{
     annotate, annotate_loose, explain, explain_loose, explanation, explanation_json, failures,
     firm_explanation, firm_explanation_json, loosenings,
 };
+use bep_play::{played, report_on_cut};
+use bep_report::push_certificate_2;
+use bep_scenario::read_scenario;
 use bep_tables::Cut;
 use std::alloc::Global;
 
@@ -17,6 +22,10 @@ const CUT: &str = r#"{"version":1,"cut":{"folders":[{"folder":"docs","devices":[
     "store":[{"name":"a","type":1,"modified_s":9}]},
     {"device":2,"kind":"send-receive","index_id":2,"max":0,
     "pulls":[{"name":"a","type":1,"modified_s":9,"modified_by":1,"version":[[1,1]],"sequence":1}]}]}]}}"#;
+
+// A scenario whose one step is refused, so that there is a line.
+const SCENARIO: &str = r#"{"version":1,"folders":[{"folder":"docs","devices":[
+    {"device":1,"kind":"send-receive","index_id":1}]}],"links":[],"steps":[["pull",1,"docs","a"]]}"#;
 
 fn asked(alloc: Global, text: &mut Vec<u8>) -> [bool; 2] {
     let mut reader = CUT.as_bytes();
@@ -38,8 +47,21 @@ fn listed(alloc: Global, cut: &Cut, rows: &Certificate) -> [bool; 3] {
     [
         failures(alloc, cut, rows).is_ok(),
         loosenings(alloc, cut, rows).is_ok(),
-        certify_cut(alloc, cut).is_ok(),
+        push_certificate_2(&mut Vec::new(alloc), rows).is_ok(),
     ]
+}
+
+fn under_winners(alloc: Global, cut: &Cut) -> [bool; 3] {
+    [
+        certify_cut(alloc, DocVersion::One, cut).is_ok(),
+        audit_under_winners(alloc, cut).is_ok(),
+        report_on_cut(alloc, DocVersion::One, cut, Vec::new(alloc)).is_ok(),
+    ]
+}
+
+fn stepped(alloc: Global) -> Option<bool> {
+    let scenario = read_scenario(alloc, SCENARIO.as_bytes()).ok()?;
+    Some(played(alloc, scenario).is_ok())
 }
 
 fn told(alloc: Global, cut: &Cut, rows: &Certificate) -> Option<[bool; 2]> {
@@ -62,11 +84,12 @@ fn firmly_annotated(alloc: Global, cut: &Cut, rows: &Certificate) -> Option<bool
     Some(firm_explanation_json(alloc, told, loose).is_ok())
 }
 
-fn explained(alloc: Global) -> Option<([bool; 3], [bool; 2], [bool; 2])> {
-    let cut = read_cut(alloc, CUT.as_bytes()).ok()?;
+fn explained(alloc: Global) -> Option<([bool; 3], [bool; 3], [bool; 2], [bool; 2])> {
+    let (_, cut) = read_cut(alloc, CUT.as_bytes()).ok()?;
     let rows = certify(alloc, &cut).ok()?;
     Some((
         listed(alloc, &cut, &rows),
+        under_winners(alloc, &cut),
         told(alloc, &cut, &rows)?,
         [
             annotated(alloc, &cut, &rows)?,
@@ -81,5 +104,6 @@ fn answers_find_memory(rt: HostRuntime) {
     let mut text = Vec::new(alloc);
     assert!(rt; asked(alloc, &mut text) == [true; 2]);
     assert!(rt; refused(alloc) == [true; 2]);
-    assert!(rt; explained(alloc) == Some(([true; 3], [true; 2], [true; 2])));
+    assert!(rt; explained(alloc) == Some(([true; 3], [true; 3], [true; 2], [true; 2])));
+    assert!(rt; stepped(alloc) == Some(true));
 }

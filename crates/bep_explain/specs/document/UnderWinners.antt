@@ -5,6 +5,7 @@ use Rattle.bep_audit.specs.Certifier.{AreWinners}
 use Rattle.bep_audit.specs.Loose.{Loosening}
 use Rattle.bep_audit.specs.Walk.{Failure}
 use Rattle.bep_document.specs.Reading.{Reading, Read, Refused}
+use Rattle.bep_json.specs.declared.version.DocVersion.{DocVersion}
 use Rattle.bep_model.specs.Firm.{IsFirm}
 use Rattle.bep_model.specs.Reasons.{Place}
 use Rattle.bep_model.specs.Settled.{IsSettled}
@@ -38,8 +39,8 @@ pub record IsExplanationUnderWinners (form : Form) (cut : CutParts) (outcome : O
   pub written : IsWritten form told text
 
 -- the outcome and the text for what a document says of its cut: its explanation, or the fault for which it is refused
-abbrev pub IsExplainedUnderWinners : Form → Reading CutParts → Outcome → List ℕ → Type 0
-IsExplainedUnderWinners form (Read cut) outcome text = IsExplanationUnderWinners form cut outcome text
+abbrev pub IsExplainedUnderWinners : Form → Reading (DocVersion × CutParts) → Outcome → List ℕ → Type 0
+IsExplainedUnderWinners form (Read said) outcome text = IsExplanationUnderWinners form said.1 outcome text
 IsExplainedUnderWinners form (Refused fault) outcome text = (outcome ≡ outcomes.Refused) × IsRefusal form fault text
 
 -- the same of the bytes of a document
@@ -68,8 +69,8 @@ pub record IsFirmExplanationUnderWinners (form : Form) (cut : CutParts) (outcome
   pub written : IsFirmWritten form told loose text
 
 -- the outcome and the text for what a document says of its cut: its explanation, or the fault for which it is refused
-abbrev pub IsFirmExplainedUnderWinners : Form → Reading CutParts → Firmness → List ℕ → Type 0
-IsFirmExplainedUnderWinners form (Read cut) outcome text = IsFirmExplanationUnderWinners form cut outcome text
+abbrev pub IsFirmExplainedUnderWinners : Form → Reading (DocVersion × CutParts) → Firmness → List ℕ → Type 0
+IsFirmExplainedUnderWinners form (Read said) outcome text = IsFirmExplanationUnderWinners form said.1 outcome text
 IsFirmExplainedUnderWinners form (Refused fault) outcome text = (outcome ≡ firmness.Refused) × IsRefusal form fault text
 
 -- the same of the bytes of a document

@@ -38,7 +38,7 @@ impl Question<Outcome> for ReasonsUnderWinners {
     fn answer(self, alloc: Global, bytes: &[u8]) -> Result<Answer<Outcome>, AllocError> {
         let form = self.form;
         match read_cut(alloc, bytes) {
-            Ok(cut) => Ok((explain_cut(alloc, form, &cut)?, None)),
+            Ok((_, cut)) => Ok((explain_cut(alloc, form, &cut)?, None)),
             Err(DocError::Refused(fault)) => {
                 let refused = refusal_in(alloc, form, &fault)?;
                 Ok((refused, hint_for(alloc, bytes, &fault, Expected::Cut)))
@@ -63,7 +63,7 @@ impl Question<Firmness> for FirmReasonsUnderWinners {
     fn answer(self, alloc: Global, bytes: &[u8]) -> Result<Answer<Firmness>, AllocError> {
         let form = self.form;
         match read_cut(alloc, bytes) {
-            Ok(cut) => Ok((explain_firm_cut(alloc, form, &cut)?, None)),
+            Ok((_, cut)) => Ok((explain_firm_cut(alloc, form, &cut)?, None)),
             Err(DocError::Refused(fault)) => {
                 let refused = (Firmness::Refused, fault_in(alloc, form, &fault)?);
                 Ok((refused, hint_for(alloc, bytes, &fault, Expected::Cut)))

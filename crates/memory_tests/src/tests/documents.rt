@@ -7,6 +7,7 @@ use bep_document::{
     has_few_devices, index_id_of, read_cut_document, read_cut_parts, read_parts, tree_of,
     unless_found,
 };
+use bep_json::DocVersion;
 use bep_record::DeviceId;
 use serde_json::Value;
 use std::alloc::Global;
@@ -26,8 +27,8 @@ fn share(alloc: Global) -> Option<Value> {
 fn trees(alloc: Global) -> Option<[bool; 2]> {
     let (tree, share) = (document_tree(alloc, CHECK.as_bytes()).ok()?, share(alloc)?);
     Some([
-        read_cut_parts(alloc, tree.get("cut")?).is_ok(),
-        index_id_of(alloc, &share).is_ok(),
+        read_cut_parts(alloc, DocVersion::One, tree.get("cut")?).is_ok(),
+        index_id_of(alloc, DocVersion::One, &share).is_ok(),
     ])
 }
 

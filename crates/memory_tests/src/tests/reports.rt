@@ -33,7 +33,7 @@ fn is_firmly_told(alloc: Global, cut: &Cut, verdict: &FirmVerdict<'_>, text: &mu
 }
 
 fn reported(alloc: Global, text: &mut Vec<u8>) -> Option<([bool; 2], bool)> {
-    let cut = read_cut(alloc, CHECK.as_bytes()).ok()?;
+    let (_, cut) = read_cut(alloc, CHECK.as_bytes()).ok()?;
     let certificate = certify(alloc, &cut).ok()?;
     Some((
         plain(alloc, &cut, &certificate, text),

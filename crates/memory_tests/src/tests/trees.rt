@@ -1,6 +1,6 @@
 //! `bep_json`.
 use super::made::{name, node, record};
-use bep_json::{Members, Readable, Whole, member, member_or, node_value, record_value};
+use bep_json::{DocVersion, Members, Readable, Whole, member, member_or, node_value, record_value};
 use bep_record::{DeviceId, Name};
 use serde_json::Value;
 use std::alloc::Global;
@@ -22,15 +22,15 @@ fn tree(alloc: Global) -> Option<Value> {
 }
 
 fn named(alloc: Global, tree: &Value) -> Option<Name> {
-    member(alloc, tree, "name").ok()
+    member(alloc, DocVersion::One, tree, "name").ok()
 }
 
 fn device(alloc: Global, tree: &Value) -> Option<DeviceId> {
-    member_or(alloc, tree, "device", DeviceId::read(2)?).ok()
+    member_or(alloc, DocVersion::One, tree, "device", DeviceId::read(2)?).ok()
 }
 
 fn size(alloc: Global, tree: &Value) -> Option<Whole<0, 9>> {
-    Readable::read(alloc, tree.get("size")?).ok()
+    Readable::read(alloc, DocVersion::One, tree.get("size")?).ok()
 }
 
 fn read(alloc: Global) -> Option<[bool; 3]> {
