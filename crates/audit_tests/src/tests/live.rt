@@ -3,6 +3,7 @@ use bep_answer::Outcome;
 use bep_fit::{Object, RunVerdict};
 use bep_live::{live_text, push_run};
 use bep_record::DeviceId;
+use std::alloc::Global;
 use std::str;
 use std::sync::Wait;
 use std::thread::Threads;
