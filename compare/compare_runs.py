@@ -3,9 +3,9 @@
 
     compare/compare_runs.py [COUNT [SEED]]
 
-COUNT scenarios (1000 if not given): random folders, devices and links, and up to 200 steps, most of them such that there
-is something to do; one of ten has a mistake made somewhere. The program must be built, as SYNCAUDIT_BUILD=1
-./syncaudit does. `compare/compare_runs.py 1 NUMBER` makes that one again.
+COUNT scenarios (1000 if not given), of both versions in turn: random folders, devices and links, and up to 200 steps, most
+of them such that there is something to do, in version 2 index resets too; one of ten has a mistake made somewhere. The
+program must be built, as SYNCAUDIT_BUILD=1 ./syncaudit does. `compare/compare_runs.py 1 NUMBER` makes that one again.
 """
 
 import random
@@ -16,8 +16,8 @@ from collections import Counter
 import scenario
 from cluster.core import Cluster, Config
 from cluster.record import Kind, Node
-from cluster.step import (Announce, Ask, Begin, Connect, Deliver, Edit, Finish, Lose, Override, Remove, Restart, Revert,
-                          Scan, StartPull, Step)
+from cluster.step import (Announce, Ask, Begin, Connect, Deliver, Edit, Finish, Lose, Override, Remove, Reset, Restart,
+                          Revert, Scan, StartPull, Step)
 from compare import PROGRAM
 from documents import Documents
 from runs import Walk
@@ -25,7 +25,7 @@ from settled import Making, random_config
 
 WORDS = {Edit: "edit", Remove: "remove", Scan: "scan", Override: "override", Revert: "revert", Connect: "connect",
          Lose: "lose", Begin: "begin", Deliver: "deliver", Announce: "announce", StartPull: "pull", Ask: "ask",
-         Finish: "finish", Restart: "restart"}
+         Finish: "finish", Restart: "restart", Reset: "reset"}
 
 
 def node_value(name: str, node: Node) -> dict:
@@ -47,9 +47,9 @@ def step_value(step: Step) -> list:
     return [WORDS[type(step)], *vars(step).values()]
 
 
-def random_steps(making: Making, config: Config, count: int) -> list[Step]:
+def random_steps(making: Making, config: Config, count: int, with_resets: bool = False) -> list[Step]:
     """So many steps, each drawn where the ones before it led."""
-    walk = Walk(making, Cluster.new(config))
+    walk = Walk(making, Cluster.new(config), with_resets)
     steps = []
     for _ in range(count):
         kind = making.random.choices(["local", "back", "quiet"], [0.25, 0.1, 0.65])[0]
@@ -72,8 +72,9 @@ def random_document(number: int) -> bytes:
     """The scenario of this number."""
     making = Making(random.Random(number))
     config = random_config(making)
-    steps = random_steps(making, config, making.random.choice([0, 3, 20, 60, 200]))
-    document = scenario_value(config, steps, 1 + number % 2)
+    version = 1 + number % 2
+    steps = random_steps(making, config, making.random.choice([0, 3, 20, 60, 200]), with_resets=version == 2)
+    document = scenario_value(config, steps, version)
     if making.happens(0.1):
         document = Documents(number).with_mistake(document)
     return Documents(number).written(document)

@@ -16,8 +16,8 @@ from cluster.core import Cluster, Config, Share
 from cluster.cut import NoWinner, certify, cut_of
 from cluster.record import Kind, Node
 from cluster.refusal import Why
-from cluster.step import (Announce, Ask, Begin, Connect, Deliver, Edit, Finish, Lose, Override, Remove, Restart, Revert,
-                          Scan, StartPull, Step)
+from cluster.step import (Announce, Ask, Begin, Connect, Deliver, Edit, Finish, Lose, Override, Remove, Reset, Restart,
+                          Revert, Scan, StartPull, Step)
 from json_text import U64
 from shapes import is_list, is_node, is_object, is_pair, is_text, is_whole
 from things import Fault, at_most, passed, within
@@ -32,22 +32,25 @@ STEPS = {
     "lose": (Lose, TWO_DEVICES), "begin": (Begin, TWO_DEVICES), "deliver": (Deliver, TWO_DEVICES),
     "announce": (Announce, (is_whole, is_whole, is_text)), "pull": (StartPull, DEVICE_AND_NAME),
     "ask": (Ask, (is_whole, is_whole, is_text, is_text)), "finish": (Finish, DEVICE_AND_NAME),
-    "restart": (Restart, (is_whole,)),
+    "restart": (Restart, (is_whole,)), "reset": (Reset, (is_whole, is_whole)),
 }
+WORDS = {1: STEPS.keys() - {"reset"}, 2: STEPS.keys()}
 
 
-def is_step(value) -> bool:
-    """Whether this is a list of a step's word and what belongs to it."""
-    if not isinstance(value, list) or not value or not is_text(value[0]) or value[0] not in STEPS:
-        return False
-    _, shapes = STEPS[value[0]]
-    return len(value) == 1 + len(shapes) and all(shape(item) for shape, item in zip(shapes, value[1:]))
+def is_step_of(version: int):
+    """Whether a value is a list of a step's word, one that documents of this version have, and what belongs to it."""
+    def is_step(value) -> bool:
+        if not isinstance(value, list) or not value or not is_text(value[0]) or value[0] not in WORDS[version]:
+            return False
+        _, shapes = STEPS[value[0]]
+        return len(value) == 1 + len(shapes) and all(shape(item) for shape, item in zip(shapes, value[1:]))
+    return is_step
 
 
 IS_SHARE = is_object({"device": is_whole, "kind": is_text, "index_id": is_whole})
 IS_FOLDER = is_object({"folder": is_text, "devices": is_list(IS_SHARE)})
-IS_SCENARIO = is_object({"version": is_whole, "folders": is_list(IS_FOLDER), "links": is_list(is_pair),
-                         "steps": is_list(is_step)})
+IS_SCENARIO = {version: is_object({"version": is_whole, "folders": is_list(IS_FOLDER), "links": is_list(is_pair),
+                                   "steps": is_list(is_step_of(version))}) for version in WORDS}
 
 
 # ---- things, each inside its range
@@ -67,14 +70,14 @@ def folder(value: dict) -> tuple[str, list[Share]]:
 def step(value: list, version: int) -> tuple[Step, dict | None]:
     """A step, and the node of an edit as the other reading has it."""
     make, shapes = STEPS[value[0]]
-    devices = [within(item, 1, U64) for item in value[1:] if is_whole(item)]
-    texts = value[1 + len(devices):]
+    numbers = [within(item, 1, U64) for item in value[1:] if is_whole(item)]
+    texts = value[1 + len(numbers):]
     if make is Edit:
         item = things.node(texts[1], version)
         node = Node(Kind(item["kind"]), item["seconds"], item["nanoseconds"], item["bytes"], item["target"].decode())
-        return Edit(*devices, things.folder_name(texts[0]).decode(), item["name"].decode(), node), item
+        return Edit(*numbers, things.folder_name(texts[0]).decode(), item["name"].decode(), node), item
     named = [things.folder_name(text) for text in texts[:1]] + [things.file_name(text) for text in texts[1:]]
-    return make(*devices, *(text.decode() for text in named)), None
+    return make(*numbers, *(text.decode() for text in named)), None
 
 
 # ---- faults with a place
@@ -112,7 +115,7 @@ def read_scenario(document: bytes) -> tuple[Config, list[Step], int]:
     """The cluster and the steps that the document tells of, and its version, or the fault for which it is refused."""
     value = reading.tree(document)
     version = reading.version_of(value)
-    if not IS_SCENARIO(value):
+    if not IS_SCENARIO[version](value):
         raise Fault(183)
     folders = list(map(folder, at_most(value["folders"], 16)))
     at_most({one.device for _, shares in folders for one in shares}, 16)

@@ -77,6 +77,18 @@ class Scenarios(unittest.TestCase):
             if after == 14:
                 self.assertEqual(lines[:-3], [done(16)])
 
+    def test_resets_in_version_2(self):
+        document, row = self.document(self.STEPS) | {"version": 2}, "docs hello %d 0 present 1:1 131072"
+        for steps, told, winner in (
+            ([["reset", 1, 21]], ["not settled: RecordMissing docs hello on 1"], 2),
+            ([["reset", 1, 21], ["scan", 1, DOCS, "hello"]], ["settled"], 1),
+            ([["reset", 2, 22], ["scan", 2, DOCS, "hello"]], ["settled"], 1),
+            ([["reset", 1, 11]], ["step 16: 149 IndexIdOld", "settled"], 1),
+        ):
+            with self.subTest(steps=steps):
+                self.writes(document | {"steps": self.STEPS + steps}, int(told[-1] != "settled"),
+                            "step 15: 142 NotNeeded", *told, self.COUNTS, row % winner)
+
     def test_refused_documents(self):
         good = self.document(self.STEPS)
         device = good["folders"][0]["devices"][0]
@@ -96,9 +108,14 @@ class Scenarios(unittest.TestCase):
                           good | {"steps": [["connect", 1]]}, good | {"steps": [["connect", 1, 2, 3]]},
                           good | {"steps": [["connect", 1, "2"]]}, good | {"steps": [["edit", 1, DOCS, "hello"]]},
                           good | {"steps": [["connect", 1, 2.5]]}, good | {"links": [[1, 2, 3]]},
+                          good | {"steps": [["reset", 1, 21]]}, good | {"version": 2, "steps": [["reset", 1]]},
+                          good | {"version": 2, "steps": [["reset", 1, "21"]]},
                           edited(hex=""), edited(text=5), edited(type=4), edited(size=5), shared(max=0)],
             "184 Range": [good | {"links": [[0, 1]]}, good | {"steps": [["restart", 0]]},
                           good | {"steps": [["restart", 2**64 - 1], ["scan", 1, "no folder", "n"]]},
+                          good | {"version": 2, "steps": [["reset", 0, 21]]},
+                          good | {"version": 2, "steps": [["reset", 1, 0]]},
+                          good | {"version": 2, "steps": [["reset", 1, 2**64 - 1], ["restart", 0]]},
                           good | {"steps": [["scan", 1, DOCS, "a/../b"]]}, good | {"steps": [["connect", -1, 2]]},
                           edited(modified_ns=10**9), edited(name=""), edited(type=2), shared(index_id=0),
                           shared(kind="receive-encrypted"), shared(device=0),

@@ -17,10 +17,10 @@ def share(device, kind="send-receive", index_id=None):
     return {"device": device, "kind": kind, "index_id": device + 10 if index_id is None else index_id}
 
 
-def scenario(steps, shares, links):
+def scenario(steps, shares, links, version=1):
     """The text of a scenario with one folder."""
     folder = {"folder": "docs", "devices": shares}
-    return json.dumps({"version": 1, "folders": [folder], "links": links, "steps": steps})
+    return json.dumps({"version": version, "folders": [folder], "links": links, "steps": steps})
 
 
 def edit(device, name, seconds, **more):
@@ -139,8 +139,9 @@ class Program:
         """What the program writes first of a scenario."""
         return self.first_line(["run"], scenario(steps, shares, links))
 
-    def ended(self, steps, kind="send-receive"):
+    def ended(self, steps, kind="send-receive", version=1):
         """Where the steps lead; device 2 has the folder in this kind."""
-        output, error = self.run(["run", "--document"], scenario(steps, [share(1), share(2, kind)], [[1, 2]]))
+        text = scenario(steps, [share(1), share(2, kind)], [[1, 2]], version)
+        output, error = self.run(["run", "--document"], text)
         refused = [line.removeprefix("step ") for line in error if line.startswith("step ")]
         return End(refused, output[0] if output else "")

@@ -129,8 +129,7 @@ class Restart(Value):
 
 @dataclass(frozen=True)
 class Reset(Value):
-    """A device begins all its indexes anew under this id, and forgets what it knew of others. (The program doesn't have
-    this step yet.)"""
+    """A device begins all its indexes anew under this id, and forgets what it knew of others."""
 
     device: int
     id: int

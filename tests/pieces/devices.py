@@ -171,4 +171,55 @@ def restarts(program):
                            (end.store(2), end.own(2), program.first_line(["check"], end.text)))
 
 
-ROWS = (begun, sessions, early_announcements, indexes, blocks, answers, two_changes, scans, local_changes, restarts)
+def refused_after_reset(device, place):
+    """The same where this device's indexes begin anew there. Device 2, if it is the one, forgets besides what it knew of the
+    file; device 1 has nothing to tell from step 2 on, and no file to send from then on is asked for."""
+    if (device, place) == (1, 2):
+        steps = {10: "142 NotNeeded", 11: "163 NothingToDo", 12: "163 NothingToDo", 13: "163 NothingToDo",
+                 14: "142 NotNeeded", 15: "142 NotNeeded"}
+        return [f"{step + 1}: {why}" for step, why in steps.items()]
+    if device == 1 or not 9 <= place <= 13:
+        return refused_after_restart(device, place)
+    steps = {step: "151 LinkDown" for step in (11, 12, 13) if step > place} | {14: "142 NotNeeded", 15: "142 NotNeeded"}
+    if place == 9:
+        steps[10] = "142 NotNeeded"
+    return [f"{step + 1}: {why}" for step, why in sorted(steps.items())]
+
+
+def resets(program):
+    """A device that loses its database between any two of these steps: device 2 has no file or the whole one. Once both have
+    scanned what they have, the same steps bring the file, or its version where device 2 has a record of its own."""
+    steps = put("hello", 1000, text="hello") + meet() + tell() + take("hello") + finish("hello")
+    scans_of_both = [["scan", device, "docs", "hello"] for device in (1, 2)]
+    again = [*scans_of_both, ["lose", 1, 2], *meet(), *announce(), ["deliver", 2, 1], *take("hello")]
+    for device in (1, 2):
+        for place in range(len(steps) + 1):
+            what = f"indexes of device {device} anew after {place} steps"
+            made = steps[:place] + [["reset", device, 20 + device]] + steps[place:]
+            end = program.ended(made + scans_of_both, version=2)
+            has_file = place <= 1 or place >= 14 or (device, place) in ((2, 2), (1, 13))
+            program.expect(what, (refused_after_reset(device, place), [("hello", "68656c6c6f")] if has_file else []),
+                           (end.refused, end.store(2)))
+            end = program.ended(made + again, version=2)
+            has_own = device == 2 and place >= 14
+            taken = record(1, 1000, 2, [[1, 1], [2, 1]]) if has_own else record(1, 1000, 1, [[1, 1]])
+            program.expect(f"{what}, and again", ([("hello", "68656c6c6f")], [taken], "settled"),
+                           (end.store(2), end.own(2), program.first_line(["check"], end.text)))
+
+
+def index_ids(program):
+    """Indexes begin anew under an id above the present one alone, and all that the device knew goes, but its files."""
+    begin = put("hello", 1000, text="hello") + meet() + tell() + take("hello")
+    for index_id in (1, 11, 12, 2**64 - 1):
+        end = program.ended(begin + [["reset", 1, index_id]], version=2)
+        program.expect(f"indexes anew under {index_id}", [] if index_id > 11 else ["15: 149 IndexIdOld"], end.refused)
+        held = (index_id, 0, [], (False, 1, [], [])) if index_id > 11 else (11, 1, [("hello", 1)], (True, 1, [], []))
+        index = end.share(1)["index_id"], end.share(1)["max"], end.names(1)
+        program.expect("what it has then", held, (*index, end.link()))
+        program.expect("its files", [("hello", "68656c6c6f")], end.store(1))
+    end = program.ended(begin + [["reset", 2, 13], ["reset", 2, 13], ["reset", 3, 13]], version=2)
+    program.expect("what device 2 knew", (["16: 149 IndexIdOld", "17: 162 NotShared"], []), (end.refused, end.views(2)))
+
+
+ROWS = (begun, sessions, early_announcements, indexes, blocks, answers, two_changes, scans, local_changes, restarts,
+        resets, index_ids)

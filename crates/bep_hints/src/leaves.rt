@@ -126,8 +126,12 @@ pub(crate) fn words_of(version: DocVersion, sort: Sort) -> &'static str {
         Sort::AnnounceStep => "a list of this word, two devices and a folder",
         Sort::AskStep => "a list of this word, two devices, a folder and a name",
         Sort::RestartStep => "a list of this word and a device",
-        Sort::Step =>
+        Sort::ResetStep => "a list of this word, a device and an index id",
+        Sort::Step => in_version(
+            version,
             "a list that begins with edit, remove, scan, override, revert, connect, lose, begin, deliver, announce, pull, ask, finish or restart",
+            "a list that begins with edit, remove, scan, override, revert, connect, lose, begin, deliver, announce, pull, ask, finish, restart or reset",
+        ),
         _ => "an object",
     }
 }

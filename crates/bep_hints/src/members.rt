@@ -42,6 +42,7 @@ pub(crate) enum Sort {
     AnnounceStep,
     AskStep,
     RestartStep,
+    ResetStep,
     // one of these steps, by its word; of one piece where there is no such word
     Step,
     // values of one piece

@@ -2,6 +2,7 @@
 use crate::members::Holds::{List, Single};
 use crate::members::Need::Due;
 use crate::members::{ANY, Member, Sort};
+use bep_json::DocVersion;
 use bep_record::MAX_FOLDERS;
 use serde_json::Value;
 
@@ -26,25 +27,25 @@ pub(crate) static FRESH_SHARE: [Member; 3] = [
     Member("index_id", Due, Single(Sort::Id)),
 ];
 
-/// The sort, and of a step the one of its word, if it begins with one.
-pub(crate) fn sort_at(sort: Sort, value: &Value) -> Sort {
+/// The sort, and of a step the one of its word, if it begins with one that documents of this version have.
+pub(crate) fn sort_at(version: DocVersion, sort: Sort, value: &Value) -> Sort {
     if sort != Sort::Step {
         return sort;
     }
     match value.get(0usize) {
-        Some(first) => sort_of_word(first),
+        Some(first) => sort_of_word(version, first),
         None => sort,
     }
 }
 
-fn sort_of_word(word: &Value) -> Sort {
+fn sort_of_word(version: DocVersion, word: &Value) -> Sort {
     match word.as_str() {
-        Some(word) => sort_named(word),
+        Some(word) => sort_named(version, word),
         None => Sort::Step,
     }
 }
 
-fn sort_named(word: &str) -> Sort {
+fn sort_named(version: DocVersion, word: &str) -> Sort {
     match word {
         "edit" => Sort::EditStep,
         "remove" | "scan" | "override" | "revert" | "pull" | "finish" => Sort::NameStep,
@@ -52,6 +53,7 @@ fn sort_named(word: &str) -> Sort {
         "announce" => Sort::AnnounceStep,
         "ask" => Sort::AskStep,
         "restart" => Sort::RestartStep,
+        "reset" if version == DocVersion::Two => Sort::ResetStep,
         _ => Sort::Step,
     }
 }
@@ -66,6 +68,7 @@ pub(crate) fn places_of(sort: Sort) -> &'static [Sort] {
         Sort::AnnounceStep => &[WORD, Sort::Id, Sort::Id, Sort::FolderName],
         Sort::AskStep => &[WORD, Sort::Id, Sort::Id, Sort::FolderName, Sort::Name],
         Sort::RestartStep => &[WORD, Sort::Id],
+        Sort::ResetStep => &[WORD, Sort::Id, Sort::Id],
         _ => &[],
     }
 }

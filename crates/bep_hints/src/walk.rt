@@ -46,8 +46,8 @@ pub(crate) fn look<'a>(
     if wrong.is_some() {
         return Ok(wrong);
     }
-    for place in 0..places_in(value, holds) {
-        let Some((step, part, holds)) = part_at(value, holds, place) else {
+    for place in 0..places_in(version, value, holds) {
+        let Some((step, part, holds)) = part_at(version, value, holds, place) else {
             continue;
         };
         way.push(step)?;
@@ -61,10 +61,10 @@ pub(crate) fn look<'a>(
 }
 
 // How many places for parts the value has.
-fn places_in(value: &Value, holds: Holds) -> usize {
+fn places_in(version: DocVersion, value: &Value, holds: Holds) -> usize {
     match holds {
         Single(sort) => {
-            let sort = sort_at(sort, value);
+            let sort = sort_at(version, sort, value);
             places_of(sort).len().max(members_of(sort).len())
         }
         List(..) => items_of(value).len(),
@@ -73,12 +73,13 @@ fn places_in(value: &Value, holds: Holds) -> usize {
 
 // The part at this place, if there is one: the step to it, the part, and what is to stand there.
 fn part_at<'a>(
+    version: DocVersion,
     value: &'a Value,
     holds: Holds,
     place: usize,
 ) -> Option<(Step<'a>, &'a Value, Holds)> {
     let sort = match holds {
-        Single(sort) => sort_at(sort, value),
+        Single(sort) => sort_at(version, sort, value),
         List(sort, _) => return Some((Step::Item(place), value.get(place)?, Single(sort))),
     };
     if let Some(sort) = places_of(sort).get(place) {

@@ -35,7 +35,7 @@ pub(crate) fn wrong_in<'a>(
     holds: Holds,
 ) -> Found {
     let sort = match holds {
-        Single(sort) => sort_at(sort, value),
+        Single(sort) => sort_at(version, sort, value),
         List(_, most) => return Ok(wrong_list(flaw, value, most)),
     };
     let members = members_of(sort);

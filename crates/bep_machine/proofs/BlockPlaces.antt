@@ -89,8 +89,10 @@ pub block_is_alone : (entry : Entry) → IsWellFormed entry → (front : List Bl
 block_is_alone entry formed front block back blocks =
     ⊎_elim
     (λ cut.
+    let alone =
     alone_from (block_size_of entry.size) entry.size (some_bytes entry.size) 0 (block_count (block_size_of entry.size) entry.size) front block back
-    (subst (λ (bs : List Block). CutWhole (block_size_of entry.size) entry.size bs) blocks cut))
+    (subst (λ (bs : List Block). CutWhole (block_size_of entry.size) entry.size bs) blocks cut) in
+    record { bound = omega arith; before = alone.before; after = alone.after })
     (λ none.
     absurd (not_in_none block (subst (λ (bs : List Block). Contains bs block) (sym blocks ∙ none) (Contains-append_right front (block ∷ back) block (Contains-first block back)))))
     (has_cut entry.deleted entry.kind entry formed.body)

@@ -1,7 +1,8 @@
 -- Steps as lists in JSON trees (this project's profile).
-use Rattle.std.specs.Prelude.{ℕ, Bool, false, List, [], ◌∷◌, Option, Some, None}
+use Rattle.std.specs.Prelude.{ℕ, ◌&&◌, Bool, true, false, List, [], ◌∷◌, Option, Some, None}
 use Rattle.serde_json.specs.Data.{Data}
 use Rattle.bep_json.specs.declared.version.DocVersion.{DocVersion}
+use Rattle.bep_json.specs.declared.version.DocVersion.TheVariants.{One, Two}
 use Rattle.bep_json.specs.Reading.{◌>>=◌}
 use Rattle.bep_json.specs.Numbers.{is_whole, read_number, greatest_id}
 use Rattle.bep_json.specs.Texts.{is_text, read_name, read_folder_name}
@@ -13,7 +14,7 @@ use Rattle.bep_scenario.specs.declared.words.NameWord.TheVariants as of_name
 use Rattle.bep_scenario.specs.declared.words.PairWord.{PairWord}
 use Rattle.bep_scenario.specs.declared.words.PairWord.TheVariants as of_pair
 use Rattle.bep_scenario.specs.declared.words.Word.{Word}
-use Rattle.bep_scenario.specs.declared.words.Word.TheVariants.{Edit, OfName, OfPair, Announce, Ask, Restart}
+use Rattle.bep_scenario.specs.declared.words.Word.TheVariants.{Edit, OfName, OfPair, Announce, Ask, Restart, Reset}
 use Rattle.bep_scenario.specs.declared.parts.StepParts.{StepParts}
 use Rattle.bep_scenario.specs.declared.parts.StepParts.TheVariants as parts
 use Rattle.bep_scenario.specs.Items.{has_items, read_item}
@@ -27,19 +28,39 @@ shapes_of (OfPair word) = is_whole ∷ is_whole ∷ []
 shapes_of Announce = is_whole ∷ is_whole ∷ is_text ∷ []
 shapes_of Ask = is_whole ∷ is_whole ∷ is_text ∷ is_text ∷ []
 shapes_of Restart = is_whole ∷ []
+shapes_of Reset = is_whole ∷ is_whole ∷ []
 
--- what belongs to the word, if there is one
-abbrev pub has_form : Option Word → Data → Bool
-has_form None d = false
-has_form (Some word) d = has_items 1 (shapes_of word) d
+-- documents of this version have index resets
+abbrev pub has_resets : DocVersion → Bool
+has_resets One = false
+has_resets Two = true
 
--- a step: a list of a word and what belongs to it, and of nothing else; each word is one of both versions of documents
+-- documents of this version have the word
+abbrev pub has_word : DocVersion → Word → Bool
+has_word version Edit = true
+has_word version (OfName word) = true
+has_word version (OfPair word) = true
+has_word version Announce = true
+has_word version Ask = true
+has_word version Restart = true
+has_word version Reset = has_resets version
+
+-- what belongs to the word, if there is one that documents of this version have
+abbrev pub has_form : DocVersion → Option Word → Data → Bool
+has_form version None d = false
+has_form version (Some word) d = has_word version word && has_items 1 (shapes_of word) d
+
+-- a step: a list of a word and what belongs to it, and of nothing else
 unfoldable pub is_step : DocVersion → Data → Bool
-is_step version d = has_form (read_item 0 read_word d) d
+is_step version d = has_form version (read_item 0 read_word d) d
 
 -- a device, by its number
 abbrev pub read_device : Data → Option ℕ
 read_device = read_number 1 greatest_id
+
+-- the id of an index, by its number
+abbrev pub read_index_id : Data → Option ℕ
+read_index_id = read_number 1 greatest_id
 
 abbrev pub name_step : NameWord → ℕ → List ℕ → List ℕ → Step
 name_step of_name.Remove device folder name = steps.Remove device folder name
@@ -95,6 +116,12 @@ read_restart d = do
   device ← read_item 1 read_device d
   Some (parts.Other (steps.Restart device))
 
+unfoldable pub read_reset : Data → Option StepParts
+read_reset d = do
+  device ← read_item 1 read_device d
+  id ← read_item 2 read_index_id d
+  Some (parts.Other (steps.Reset device id))
+
 abbrev pub read_by : DocVersion → Word → Data → Option StepParts
 read_by version Edit d = read_edit version d
 read_by version (OfName word) d = read_name_step word d
@@ -102,6 +129,7 @@ read_by version (OfPair word) d = read_pair_step word d
 read_by version Announce d = read_announce d
 read_by version Ask d = read_ask d
 read_by version Restart d = read_restart d
+read_by version Reset d = read_reset d
 
 -- the step, whose node, if it is an edit, may not fit its kind
 unfoldable pub read_step : DocVersion → Data → Option StepParts

@@ -9,7 +9,7 @@ use Rattle.bep_scenario.specs.declared.words.NameWord.TheVariants.{Remove, Scan,
 use Rattle.bep_scenario.specs.declared.words.PairWord.{PairWord}
 use Rattle.bep_scenario.specs.declared.words.PairWord.TheVariants.{Connect, Lose, Begin, Deliver}
 use Rattle.bep_scenario.specs.declared.words.Word.{Word}
-use Rattle.bep_scenario.specs.declared.words.Word.TheVariants.{Edit, OfName, OfPair, Announce, Ask, Restart}
+use Rattle.bep_scenario.specs.declared.words.Word.TheVariants.{Edit, OfName, OfPair, Announce, Ask, Restart, Reset}
 
 -- the word whose text this is, in a table
 abbrev pub word_in : List (List ℕ × Word) → List ℕ → Option Word
@@ -24,7 +24,7 @@ word_named text =
     (codes "revert", OfName Revert) ∷ (codes "pull", OfName Pull) ∷ (codes "finish", OfName Finish) ∷
     (codes "connect", OfPair Connect) ∷ (codes "lose", OfPair Lose) ∷ (codes "begin", OfPair Begin) ∷
     (codes "deliver", OfPair Deliver) ∷ (codes "edit", Edit) ∷ (codes "announce", Announce) ∷ (codes "ask", Ask) ∷
-    (codes "restart", Restart) ∷ [])
+    (codes "restart", Restart) ∷ (codes "reset", Reset) ∷ [])
     text
 
 -- the word that a text is

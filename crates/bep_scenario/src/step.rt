@@ -4,11 +4,13 @@ ghost use Rattle.serde_json.specs.View.{view};
 ghost use Rattle.bep_json.specs.Reading.{Gives};
 ghost use Rattle.bep_scenario.specs.Items.{read_item};
 ghost use Rattle.bep_scenario.specs.Words.{read_word};
-ghost use Rattle.bep_scenario.specs.Steps.{has_form, is_step, name_step, pair_step, read_by, read_step};
+ghost use Rattle.bep_scenario.specs.Steps.{has_form, has_resets, is_step, name_step, pair_step, read_by, read_index_id, read_step};
 
 use crate::StepParts;
 use crate::items::{ends_at, has_item, has_items, item};
 use crate::words::{NameWord, PairWord, Word, word_of};
+use bep_document::IndexNumber;
+use bep_index::IndexId;
 use bep_json::{DocVersion, NamedParts, ReadError, Readable};
 use bep_machine::Step;
 use bep_record::{DeviceId, FolderName, Name};
@@ -44,9 +46,9 @@ fn first_word(value: &Value) -> Option<Word>
     }
 }
 
-// Whether what belongs to the word comes after it.
+// Whether documents of this version have the word, and what belongs to it comes after it.
 fn has_form(version: DocVersion, word: Option<Word>, value: &Value) -> bool
-    ensures { result ≡ has_form word (view value.now) }
+    ensures { result ≡ has_form version word (view value.now) }
 {
     match word {
         None => false,
@@ -59,11 +61,23 @@ fn has_form(version: DocVersion, word: Option<Word>, value: &Value) -> bool
         Some(Word::Ask) =>
             has_items!(version, value; 1: DeviceId, 2: DeviceId, 3: FolderName, 4: Name; 5),
         Some(Word::Restart) => has_items!(version, value; 1: DeviceId; 2),
+        Some(Word::Reset) => has_resets(version)
+            && has_items!(version, value; 1: DeviceId, 2: IndexNumber; 3),
+    }
+}
+
+// Whether documents of this version have index resets.
+fn has_resets(version: DocVersion) -> bool
+    ensures { result ≡ has_resets version }
+{
+    match version {
+        DocVersion::One => false,
+        DocVersion::Two => true,
     }
 }
 
 // The step of this word. `Range` where there is none; `Memory` may come in place of any answer.
-#[tactic(auto, unfolding(crate::specs::Steps::read_edit, crate::specs::Steps::read_name_step, crate::specs::Steps::read_pair_step, crate::specs::Steps::read_announce, crate::specs::Steps::read_ask, crate::specs::Steps::read_restart))]
+#[tactic(auto, unfolding(crate::specs::Steps::read_edit, crate::specs::Steps::read_name_step, crate::specs::Steps::read_pair_step, crate::specs::Steps::read_announce, crate::specs::Steps::read_ask, crate::specs::Steps::read_restart, crate::specs::Steps::read_reset))]
 fn read_by(
     alloc: Global,
     version: DocVersion,
@@ -99,6 +113,21 @@ fn read_by(
             Ok(StepParts::Other(Step::Ask(device, other, folder, name)))
         }
         Word::Restart => Ok(StepParts::Other(Step::Restart(device))),
+        Word::Reset => {
+            let id = index_id(alloc, version, value)?;
+            Ok(StepParts::Other(Step::Reset(device, id)))
+        }
+    }
+}
+
+// The id under which a reset begins indexes anew. `Range` where there is none; `Memory` may come in place of any answer.
+fn index_id(alloc: Global, version: DocVersion, value: &Value) -> Result<IndexId, ReadError>
+    ensures { Gives result (read_item 2 read_index_id (view value.now)) }
+{
+    let number = item::<IndexNumber>(alloc, version, value, 2)?.number();
+    match IndexId::read(number) {
+        Some(id) => Ok(id),
+        None => Err(ReadError::Range),
     }
 }
 

@@ -34,6 +34,7 @@ pub(crate) enum Word {
     Announce,
     Ask,
     Restart,
+    Reset,
 }
 
 // The word that the tree is, if it is one.
@@ -66,6 +67,7 @@ fn word_named(text: &str) -> Option<Word>
         "announce" => Some(Word::Announce),
         "ask" => Some(Word::Ask),
         "restart" => Some(Word::Restart),
+        "reset" => Some(Word::Reset),
         _ => None,
     }
 }

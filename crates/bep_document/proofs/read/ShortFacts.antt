@@ -1,7 +1,6 @@
 -- All that is read is of files that are as short as those of its version.
-use Rattle.std.proofs.Common.{◌≡◌, ◌≤◌, ℕ, ◌&&◌, leb, List, [], length, codes, option_and_then, result_ok, Option, Some, None, leb-true, arith}
+use Rattle.std.proofs.Common.{◌≤◌, ℕ, false, List, [], length, codes, if◌then◌else◌, Option, Some, None, leb-true, arith}
 use Rattle.std.specs.List.{AllByRecursion}
-use Rattle.hex.specs.Hex.{decode_of}
 use Rattle.serde_json.specs.Data.{Data}
 use Rattle.serde_json.specs.Find.{get, as_str}
 use Rattle.bep_record.specs.declared.entry.Entry.{Entry}
@@ -16,8 +15,7 @@ use Rattle.bep_json.specs.Nodes.{read_body, read_node}
 use Rattle.bep_json.specs.Numbers.{read_number, read_signed, read_flag, read_kind, greatest_id}
 use Rattle.bep_json.specs.Records.{read_record, default_block_size}
 use Rattle.bep_json.specs.Texts.{fits_file, read_name, read_target, read_hash, read_folder_name, read_folder_kind, read_text_bytes, read_hex_bytes}
-use Rattle.bep_document.specs.Short.{AreShort, IsViewShort, IsShareShort, IsFolderShort, IsFlightShort, IsLinkShort, IsCutShort}
-use Rattle.bep_document.specs.declared.parts.FolderParts.{FolderParts}
+use Rattle.bep_document.specs.Short.{IsViewShort, IsShareShort, IsFolderShort, IsFlightShort, IsLinkShort, IsCutShort}
 use Rattle.bep_document.specs.read.Checks.{read_folders, read_cut}
 use Rattle.bep_document.specs.read.Devices.{has_few_devices}
 use Rattle.bep_document.specs.read.Folders.{read_folder}
@@ -57,7 +55,7 @@ text_short version d = skip (as_str d) (λ text. fitting version text)
 
 hex_short : (version : DocVersion) → Reads (AreFew version) (read_hex_bytes version)
 unfolding read_hex_bytes
-hex_short version d = skip (as_str d) (λ text. skip (result_ok (decode_of text)) (λ bytes. fitting version bytes))
+hex_short version d = skip (as_str d) (λ text. skip _ (λ bytes. fitting version bytes))
 
 body_short : (version : DocVersion) (text : Option Data) (d : Data) → Gives (AreFew version) (read_body version text d)
 body_short version (Some text) d = text_short version text

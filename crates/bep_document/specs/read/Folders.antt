@@ -1,5 +1,5 @@
 -- Folders of a cut and rows of a certificate in JSON trees (this project's profile).
-use Rattle.std.specs.Prelude.{ℕ, Bool, List, [], ◌∷◌, Option, Some, codes}
+use Rattle.std.specs.Prelude.{Bool, [], ◌∷◌, Option, Some, codes}
 use Rattle.serde_json.specs.Data.{Data}
 use Rattle.bep_json.specs.Tree.{due, is_object}
 use Rattle.bep_json.specs.declared.version.DocVersion.{DocVersion}

@@ -1,6 +1,6 @@
 -- What documents say of links, and of what is on its way over them (this project's profile; BEP v1, 'Index' and 'Index
 -- Update').
-use Rattle.std.specs.Prelude.{ℕ, Bool, List, [], ◌∷◌, Option, Some, codes}
+use Rattle.std.specs.Prelude.{Bool, [], ◌∷◌, Option, Some, codes}
 use Rattle.serde_json.specs.Data.{Data}
 use Rattle.bep_index.specs.declared.limits.TheConstants.{MAX_RECORDS, MAX_SEQUENCE}
 use Rattle.bep_json.specs.Tree.{due, may, is_object}
