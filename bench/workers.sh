@@ -1,5 +1,5 @@
 #!/usr/bin/env bash
-# Measures the block list of 16 MiB of random bytes by 1, 2 and 4 workers, beside sha256sum and beside Syncthing's own
+# Measures the block list of 16 MiB of random bytes by 1, 2 and 4 workers, beside sha256sum, openssl and Syncthing's own
 # hasher (Debian's golang-github-syncthing-syncthing-dev) on the same bytes: the best of RUNS runs each.
 set -euo pipefail
 runs=${1:-10}
@@ -43,12 +43,14 @@ PROGRAM
 rt run > "$work/out" 2> "$work/log" || { cat "$work/out" "$work/log"; exit 1; }
 test "$(grep -c " blocks $((mib * 8))\$" "$work/out")" -eq $((runs * 3))
 
-# Whole processes of sha256sum, its reading of the cached file included.
+# Whole processes of sha256sum and of openssl, their reading of the cached file included.
 for _ in $(seq "$runs"); do
-  begin=$(date +%s%N)
-  sha256sum "$work/bytes" > /dev/null
-  end=$(date +%s%N)
-  echo "sha256sum micros $(((end - begin) / 1000))"
+  for tool in sha256sum 'openssl dgst -sha256'; do
+    begin=$(date +%s%N)
+    $tool "$work/bytes" > /dev/null
+    end=$(date +%s%N)
+    echo "${tool%% *} micros $(((end - begin) / 1000))"
+  done
 done >> "$work/out"
 
 # Syncthing's block list of bytes in memory, by one thread, with and without the weak hash that it makes beside SHA-256.
@@ -100,6 +102,7 @@ awk -v mib="$mib" '
     row("workers-2")
     row("workers-4")
     row("sha256sum")
+    row("openssl")
     row("syncthing-weak-false")
     row("syncthing-weak-true")
   }' "$work/out"

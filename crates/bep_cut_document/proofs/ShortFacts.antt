@@ -13,16 +13,14 @@ use Rattle.bep_json.specs.declared.version.DocVersion.{DocVersion}
 use Rattle.bep_json.specs.declared.version.DocVersion.TheVariants.{One, Two}
 use Rattle.bep_json.specs.Version.{most_file_bytes}
 use Rattle.bep_model.specs.Tables.{Device, Folder, FileName}
-use Rattle.bep_model.specs.declared.flight.Flight.{Flight}
 use Rattle.bep_model.specs.declared.row.Row.{Row}
 use Rattle.bep_tables.proofs.Found.{find_gives}
 use Rattle.bep_tables.specs.declared.share.Share.{Share}
-use Rattle.bep_tables.specs.declared.share.PeerView.{PeerView}
 use Rattle.bep_tables.specs.declared.share.SharedFolder.{SharedFolder}
 use Rattle.bep_tables.specs.declared.link.LinkState.{LinkState}
 use Rattle.bep_tables.specs.declared.cut.CutParts.{CutParts}
 use Rattle.bep_tables.specs.Cut.{is_device, is_folder, share_of, shares_of, tables_of}
-use Rattle.bep_cut_document.specs.Room.{AreShort, AreNodesShort, IsViewShort, IsShareShort, IsFolderShort, IsFlightShort, IsLinkShort, IsCutShort, AreRowsShort, HasRoom, HasRoomForRows, WinnersHaveRoom}
+use Rattle.bep_cut_document.specs.Room.{AreShort, IsViewShort, IsShareShort, IsFolderShort, IsFlightShort, IsLinkShort, IsCutShort, AreRowsShort, HasRoom, HasRoomForRows, WinnersHaveRoom}
 use Rattle.bep_cut_document.specs.inner.Sound.{IsViewSound, IsShareSound, IsFolderSound, IsFlightSound, IsLinkSound}
 use Rattle.bep_cut_document.specs.inner.Told.{IsCutTold}
 use Rattle.bep_cut_document.proofs.RangeTold.{all_map}

@@ -27,7 +27,7 @@ use Rattle.bep_document.specs.declared.parts.LinkParts.{LinkParts}
 use Rattle.bep_document.specs.declared.parts.CheckParts.{CheckParts}
 use Rattle.bep_tables.specs.declared.cut.CutParts.{CutParts}
 use Rattle.bep_cut_document.specs.Room.{AreShort, AreNodesShort, IsViewShort, IsShareShort, IsFolderShort, IsFlightShort, IsLinkShort, IsCutShort, HasRoom, CutsOfDocumentsHaveRoom}
-use Rattle.bep_cut_document.specs.Written.{by_device, by_ends, by_folder, with_nodes, view_written, share_written, folder_written, flight_written, link_written, cut_written, cut_of_document}
+use Rattle.bep_cut_document.specs.Written.{by_device, by_ends, by_folder, with_nodes, share_written, folder_written, flight_written, link_written, cut_written}
 use Rattle.bep_cut_document.proofs.AsWrittenFacts.{found_as_listed, found_node, named}
 use Rattle.bep_cut_document.proofs.RangeTold.{each_of}
 use Rattle.bep_cut_document.proofs.WrittenFacts.{from_part, view_part}

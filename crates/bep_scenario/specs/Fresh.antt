@@ -1,6 +1,6 @@
 -- The cluster of a scenario before its first step: folders, the devices that share them, and links, of which nothing more
 -- is said (this project's profile). It is read as a cut in which nothing is recorded, kept, known or on its way.
-use Rattle.std.specs.Prelude.{ℕ, nat_le, ◌&&◌, Bool, false, List, [], ◌∷◌, Option, Some, None, if◌then◌else◌, codes}
+use Rattle.std.specs.Prelude.{ℕ, nat_le, ◌&&◌, Bool, false, [], ◌∷◌, Option, Some, None, if◌then◌else◌, codes}
 use Rattle.serde_json.specs.Data.{Data}
 use Rattle.bep_json.specs.Tree.{due, is_object}
 use Rattle.bep_json.specs.Reading.{◌>>=◌, read_member}

@@ -4,9 +4,7 @@ use Rattle.std.specs.Cmp.Lexicographic.{pointwise}
 use Rattle.serde_json.specs.Data.{Data}
 use Rattle.serde_json.specs.Find.{as_str}
 use Rattle.bep_json.specs.Reading.{◌>>=◌}
-use Rattle.bep_scenario.specs.declared.words.NameWord.{NameWord}
 use Rattle.bep_scenario.specs.declared.words.NameWord.TheVariants.{Remove, Scan, Override, Revert, Pull, Finish}
-use Rattle.bep_scenario.specs.declared.words.PairWord.{PairWord}
 use Rattle.bep_scenario.specs.declared.words.PairWord.TheVariants.{Connect, Lose, Begin, Deliver}
 use Rattle.bep_scenario.specs.declared.words.Word.{Word}
 use Rattle.bep_scenario.specs.declared.words.Word.TheVariants.{Edit, OfName, OfPair, Announce, Ask, Restart, Reset}
