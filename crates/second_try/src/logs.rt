@@ -1,7 +1,7 @@
 //! The devices and links with their logs, and a run cut of copies of them, each asked for once more where memory was wanting.
 use crate::telling::Told;
 use crate::twice;
-use bep_cut_document::check_document;
+use bep_cut_document::{DocVersion, check_document};
 use bep_fit::RunVerdict;
 use bep_lines::{Piece, push_pieces};
 use bep_links::Link;
@@ -145,7 +145,7 @@ fn tell_verdict(verdict: RunVerdict, told: &mut Told) -> Result<(), AllocError> 
 }
 
 fn tell_cut(alloc: Global, cut: &Cut, told: &mut Told) -> Result<(), AllocError> {
-    let document = twice!(told; check_document(alloc, cut, &[]))?;
+    let document = twice!(told; check_document(alloc, DocVersion::Two, cut, &[]))?;
     let pieces = [Piece::Text(document.as_str()), Piece::Text("\n")];
     twice!(told; push_pieces(&mut told.text, &pieces))
 }

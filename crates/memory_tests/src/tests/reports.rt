@@ -1,6 +1,6 @@
 //! `bep_report`.
 use super::made::CHECK;
-use bep_audit::{Certificate, FirmVerdict, certify, check_plain, firm_verdict};
+use bep_audit::{Certificate, FirmVerdict, Verdict, certify, check_plain, firm_verdict};
 use bep_cut_document::read_cut;
 use bep_report::{push_certificate, push_firm_report, push_report, read_document, write_all};
 use bep_tables::Cut;
@@ -14,11 +14,13 @@ fn streams(alloc: Global, text: &mut Vec<u8>) -> [bool; 2] {
     ]
 }
 
-fn plain(alloc: Global, cut: &Cut, rows: &Certificate, text: &mut Vec<u8>) -> [bool; 2] {
-    [
-        push_report(alloc, text, cut, &check_plain(cut, rows)).is_ok(),
-        push_certificate(text, rows).is_ok(),
-    ]
+fn plain(alloc: Global, cut: &Cut, rows: &Certificate, text: &mut Vec<u8>) -> bool {
+    let verdict = check_plain(cut, rows);
+    is_told(alloc, cut, &verdict, text)
+}
+
+fn is_told(alloc: Global, cut: &Cut, verdict: &Verdict<'_>, text: &mut Vec<u8>) -> bool {
+    push_report(alloc, text, cut, verdict).is_ok()
 }
 
 fn firm(alloc: Global, cut: &Cut, rows: &Certificate, text: &mut Vec<u8>) -> bool {
@@ -32,18 +34,19 @@ fn is_firmly_told(alloc: Global, cut: &Cut, verdict: &FirmVerdict<'_>, text: &mu
     push_firm_report(alloc, text, cut, verdict).is_ok()
 }
 
-fn reported(alloc: Global, text: &mut Vec<u8>) -> Option<([bool; 2], bool)> {
+fn reported(alloc: Global, text: &mut Vec<u8>) -> Option<[bool; 3]> {
     let (_, cut) = read_cut(alloc, CHECK.as_bytes()).ok()?;
     let certificate = certify(alloc, &cut).ok()?;
-    Some((
+    Some([
         plain(alloc, &cut, &certificate, text),
         firm(alloc, &cut, &certificate, text),
-    ))
+        push_certificate(text, &certificate).is_ok(),
+    ])
 }
 
 #[test]
 fn reports_find_memory(rt: HostRuntime) {
     let mut text = Vec::new(rt.alloc());
     assert!(rt; streams(rt.alloc(), &mut text) == [true; 2]);
-    assert!(rt; reported(rt.alloc(), &mut text) == Some(([true; 2], true)));
+    assert!(rt; reported(rt.alloc(), &mut text) == Some([true; 3]));
 }
