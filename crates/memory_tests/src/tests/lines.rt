@@ -26,12 +26,11 @@ fn alone(text: &mut Vec<u8>) -> [bool; 3] {
 }
 
 fn placed(text: &mut Vec<u8>, folder: &FolderName, name: &Name) -> [bool; 4] {
-    let device = DeviceId::read(1);
     [
-        push_not_settled(text, Reason::NotWinner, folder, name, device).is_ok(),
-        push_failure(text, Reason::NotWinner, folder, name, device).is_ok(),
-        push_not_firm(text, "PullNotBelow", folder, name, device).is_ok(),
-        push_reason(text, "PullNotBelow", folder, name, device).is_ok(),
+        push_not_settled(text, Reason::NotWinner, folder, name, DeviceId::read(1)).is_ok(),
+        push_failure(text, Reason::NotWinner, folder, name, DeviceId::read(1)).is_ok(),
+        push_not_firm(text, "PullNotBelow", folder, name, DeviceId::read(1)).is_ok(),
+        push_reason(text, "PullNotBelow", folder, name, DeviceId::read(1)).is_ok(),
     ]
 }
 
