@@ -1,6 +1,6 @@
 //! `bep_report`.
 use super::made::CHECK;
-use bep_audit::{Certificate, FirmVerdict, Verdict, certify, check_plain, firm_verdict};
+use bep_audit::{Certificate, FirmVerdict, Verdict, certify, check, firm_verdict};
 use bep_cut_document::read_cut;
 use bep_report::{push_certificate, push_firm_report, push_report, read_document, write_all};
 use bep_tables::Cut;
@@ -14,9 +14,11 @@ fn streams(alloc: Global, text: &mut Vec<u8>) -> [bool; 2] {
     ]
 }
 
-fn plain(alloc: Global, cut: &Cut, rows: &Certificate, text: &mut Vec<u8>) -> bool {
-    let verdict = check_plain(cut, rows);
-    is_told(alloc, cut, &verdict, text)
+fn settled(alloc: Global, cut: &Cut, rows: &Certificate, text: &mut Vec<u8>) -> bool {
+    match check(alloc, cut, rows) {
+        Ok(verdict) => is_told(alloc, cut, &verdict, text),
+        Err(_) => false,
+    }
 }
 
 fn is_told(alloc: Global, cut: &Cut, verdict: &Verdict<'_>, text: &mut Vec<u8>) -> bool {
@@ -38,7 +40,7 @@ fn reported(alloc: Global, text: &mut Vec<u8>) -> Option<[bool; 3]> {
     let (_, cut) = read_cut(alloc, CHECK.as_bytes()).ok()?;
     let certificate = certify(alloc, &cut).ok()?;
     Some([
-        plain(alloc, &cut, &certificate, text),
+        settled(alloc, &cut, &certificate, text),
         firm(alloc, &cut, &certificate, text),
         push_certificate(text, &certificate).is_ok(),
     ])
