@@ -51,7 +51,7 @@ fn cluster(alloc: Global, kind: FolderKind) -> Option<Cluster<MemStore>> {
     Cluster::new(alloc, config).ok()
 }
 
-fn pair(alloc: Global, kind: FolderKind) -> Option<Pair> {
+fn make_pair(alloc: Global, kind: FolderKind) -> Option<Pair> {
     let (mut peers, mut links) = cluster(alloc, kind)?.into_parts();
     let (second, first) = (peers.pop()?, peers.pop()?);
     let link = links.pop()?;
@@ -112,7 +112,7 @@ fn is_made(alloc: Global, pair: &mut Pair, step: &str) -> Option<bool> {
 
 // How many of these steps are made, where device 2 has the folder in this kind.
 fn made(alloc: Global, kind: FolderKind, steps: &[&str]) -> Option<u64> {
-    let mut pair = pair(alloc, kind)?;
+    let mut pair = make_pair(alloc, kind)?;
     let mut made = 0u64;
     for step in steps {
         if is_made(alloc, &mut pair, step)? {
@@ -134,7 +134,7 @@ const OVERRIDDEN: [&str; 10] = ["e1", "s1", "c", "b1", "b2", "d2", "d1", "a1", "
 const REVERTED: [&str; 3] = ["e2", "s2", "v2"];
 
 fn committed(alloc: Global) -> Option<bool> {
-    let mut pair = pair(alloc, FolderKind::SendReceive)?;
+    let mut pair = make_pair(alloc, FolderKind::SendReceive)?;
     let (docs, name) = (docs(alloc)?, name(alloc, b'f')?);
     let node = pair.first.look(&docs, &name).ok()?;
     let scan = ScanResult::plain(alloc, name, node).ok()?;
