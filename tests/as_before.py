@@ -24,12 +24,13 @@ LARGE = 1 << 20  # bytes from which a document is given to the commands alone th
 
 
 def version_of(document):
-    """What a document says of its version, where it is an object, and else nothing."""
+    """What a document says of its version, where it is an object and that is a whole number (1.0 isn't), and else nothing."""
     try:
         tree = json.loads(document)
     except (ValueError, RecursionError):
         return None
-    return tree.get("version") if isinstance(tree, dict) else None
+    version = tree.get("version") if isinstance(tree, dict) else None
+    return version if type(version) is int else None
 
 
 def kept(program):
