@@ -55,7 +55,7 @@ module _ (ends : EndIsUnique) (reports : ReportUnderIsUnique) where
   one_run (Read scenario) one other text more is also =
       let same = ends scenario is.last also.last is.told also.told is.leads also.leads in
       one_end reports scenario.version (cut_of is.last) is.told one other text more is.end
-      (subst (λ (cut : CutParts). IsEnd version cut is.told other more) (sym same.0) (subst (λ (told : List ℕ). IsEnd scenario.version (cut_of also.last) told other more) (sym same.1) also.end))
+      (subst (λ (cut : CutParts). IsEnd scenario.version cut is.told other more) (sym same.0) (subst (λ (told : List ℕ). IsEnd scenario.version (cut_of also.last) told other more) (sym same.1) also.end))
   one_run (Refused fault) one other text more is also = (is.0 ∙ sym also.0, is.1 ∙ sym also.1)
 
   pub run_is_unique : RunIsUnique
