@@ -4,8 +4,8 @@ ghost use Rattle.bep_answer.specs.Exchange.{IsEndedEarly, IsWhole};
 ghost use Rattle.bep_play.specs.Played.{IsRunOfBytes};
 ghost use Rattle.bep_live.specs.Lived.{IsLiveOfBytes};
 
-use crate::report::ReportOnLive;
-use bep_answer::{Outcome, exchange};
+use crate::report::exchange_report;
+use bep_answer::Outcome;
 use bep_play::run_text;
 use bep_report::ReportError;
 use std::io::{Read, Write};
@@ -34,6 +34,6 @@ pub fn live_text<P: AllocGlobal + Threads + Wait + Sync, R: Read, W: Write>(
     if turns == 0 {
         return run_text(rt.alloc(), reader, writer);
     }
-    let (outcome, _) = exchange(rt.alloc(), ReportOnLive { rt, turns }, reader, writer)?;
+    let (outcome, _) = exchange_report(rt, reader, writer, turns)?;
     Ok(outcome)
 }

@@ -1,5 +1,7 @@
 //! The check document of a cluster that threads ran.
-ghost use Rattle.std.specs.Prelude.{IfOk};
+ghost use Rattle.std.specs.Prelude.{IfErr, IfOk};
+ghost use Rattle.bep_answer.specs.Beside.{IsTelling};
+ghost use Rattle.bep_answer.specs.Exchange.{IsEndedEarly, IsWhole};
 ghost use Rattle.bep_scenario.specs.Scenario.{said};
 ghost use Rattle.bep_live.specs.inner.Beside.{TellsOfLiveEnd, TellsRun};
 ghost use Rattle.bep_answer.specs.Certified.{IsCertificate};
@@ -7,42 +9,56 @@ ghost use Rattle.bep_live.specs.Lived.{IsLiveEndOfBytes, IsLivedTo, cut_in};
 
 use crate::lines::push_run;
 use crate::living::{judge, lived};
-use bep_answer::{Answer, Certified, Question, certify_cut, fault_line, hint_for};
+use bep_answer::{Answer, Certified, Hinted, certify_cut, fault_line, hint_for};
 use bep_document::DocError;
 use bep_hints::Expected;
 use bep_json::DocVersion;
 use bep_play::lines_of;
+use bep_report::{ReportError, read_document, write_all};
 use bep_run_cut::RunCut;
 use bep_scenario::{Scenario, read_scenario};
 use std::alloc::{AllocError, Global};
+use std::io::{Read, Write};
 use std::sync::Wait;
 use std::thread::Threads;
 
-/// The check document of a cut of the scenario's cluster, once threads have run it for so many turns each, with the lines of
-/// refused steps and of the verdict on the threads' logs beside it; and where the scenario is refused, a hint on where it is at
-/// fault. To answer may wait.
-#[derive(Drop)]
-pub struct DocumentOfLive<'a, R: Threads + Wait + Sync> {
-    /// What makes threads.
-    pub rt: &'a R,
-    /// How many turns each makes.
-    pub turns: u32,
+/// Reads a scenario, and writes the check document of a cut of its cluster, once threads have run it for so many turns each.
+/// What is told beside it is for the caller to write: the lines of refused steps and of the verdict on the threads' logs, and
+/// where the scenario is refused, a hint on where it is at fault. May wait.
+pub(crate) fn exchange_document<P: AllocGlobal + Threads + Wait + Sync, R: Read, W: Write>(
+    rt: &P,
+    reader: &mut R,
+    writer: &mut W,
+    turns: u32,
+) -> Result<Hinted<Certified>, ReportError>
+    ensures ok { IfOk result (λ told. IsWhole IsLiveEndOfBytes (R.remaining reader.old) (R.remaining reader.new) (W.contents writer.old) (W.contents writer.new) told.0) }
+    ensures err { IfErr result (IsEndedEarly IsLiveEndOfBytes (R.remaining reader.old) (R.remaining reader.new) (W.contents writer.old) (W.contents writer.new)) }
+    ensures beside { IfOk result (λ told. IsTelling TellsOfLiveEnd (R.remaining reader.old) (R.remaining reader.new) told.1) }
+{
+    let alloc = rt.alloc();
+    let bytes = read_document(alloc, reader)?;
+    let ((outcome, text), beside) = answer(rt, alloc, bytes.as_slice(), turns)?;
+    write_all(writer, text.as_slice())?;
+    Ok((outcome, beside))
 }
 
-impl<'a, R: Threads + Wait + Sync> Question<Certified> for DocumentOfLive<'a, R> {
-    ghost says = { λ _. IsLiveEndOfBytes };
-
-    ghost tells = { λ _. TellsOfLiveEnd };
-
-    fn answer(self, alloc: Global, bytes: &[u8]) -> Result<Answer<Certified>, AllocError> {
-        match read_scenario(alloc, bytes) {
-            Ok(scenario) => live_document(self.rt, alloc, scenario, self.turns),
-            Err(DocError::Refused(fault)) => {
-                let refused = (Certified::Refused, fault_line(alloc, &fault)?);
-                Ok((refused, hint_for(alloc, bytes, &fault, Expected::Scenario)))
-            }
-            Err(DocError::Memory) => Err(AllocError),
+// The answer to a document's bytes.
+fn answer<R: Threads + Wait + Sync>(
+    rt: &R,
+    alloc: Global,
+    bytes: &[u8],
+    turns: u32,
+) -> Result<Answer<Certified>, AllocError>
+    ensures says { IfOk result (λ told. IsLiveEndOfBytes bytes.now told.0.0 told.0.1.items) }
+    ensures tells { IfOk result (λ told. TellsOfLiveEnd bytes.now told.1) }
+{
+    match read_scenario(alloc, bytes) {
+        Ok(scenario) => live_document(rt, alloc, scenario, turns),
+        Err(DocError::Refused(fault)) => {
+            let refused = (Certified::Refused, fault_line(alloc, &fault)?);
+            Ok((refused, hint_for(alloc, bytes, &fault, Expected::Scenario)))
         }
+        Err(DocError::Memory) => Err(AllocError),
     }
 }
 

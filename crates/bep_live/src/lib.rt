@@ -20,7 +20,5 @@ mod report;
 mod told;
 
 pub use answers::live_text;
-pub use document::DocumentOfLive;
 pub use lines::push_run;
-pub use report::ReportOnLive;
 pub use told::{live_and_tell, live_document_and_tell};

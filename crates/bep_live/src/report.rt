@@ -1,5 +1,7 @@
 //! The report on a cluster that threads ran.
-ghost use Rattle.std.specs.Prelude.{IfOk};
+ghost use Rattle.std.specs.Prelude.{IfErr, IfOk};
+ghost use Rattle.bep_answer.specs.Beside.{IsTelling};
+ghost use Rattle.bep_answer.specs.Exchange.{IsEndedEarly, IsWhole};
 ghost use Rattle.bep_scenario.specs.Scenario.{said};
 ghost use Rattle.bep_live.specs.inner.Beside.{TellsOfLive};
 ghost use Rattle.bep_live.specs.Lived.{IsLiveOfBytes, IsLived, cut_in};
@@ -7,41 +9,59 @@ ghost use Rattle.bep_play.specs.Played.{IsEnd};
 
 use crate::lines::push_run;
 use crate::living::{judge, lived};
-use bep_answer::{Answer, Outcome, Question, hint_for, refusal};
+use bep_answer::{Answer, Hinted, Outcome, hint_for, refusal};
 use bep_document::DocError;
 use bep_hints::Expected;
 use bep_json::DocVersion;
 use bep_play::report_on_cut;
+use bep_report::{ReportError, read_document, write_all};
 use bep_run_cut::RunCut;
 use bep_scenario::{Scenario, read_scenario};
 use std::alloc::{AllocError, Global};
+use std::io::{Read, Write};
 use std::sync::Wait;
 use std::thread::Threads;
 
-/// The report on a cut of the scenario's cluster, once threads have run it for so many turns each, and the verdict on their
-/// logs; and where the scenario is refused, a hint on where it is at fault. To answer may wait.
-#[derive(Drop)]
-pub struct ReportOnLive<'a, R: Threads + Wait + Sync> {
-    /// What makes threads.
-    pub rt: &'a R,
-    /// How many turns each makes.
-    pub turns: u32,
+/// Reads a scenario, and writes the report on a cut of its cluster, once threads have run it for so many turns each, and the
+/// verdict on their logs. What is told beside it is for the caller to write: where the scenario is refused, a hint on where it
+/// is at fault. May wait.
+///
+/// It does what `bep_answer` does of a question. But no question can hold what makes threads: a trait's method can't ask that
+/// threads may share it.
+pub(crate) fn exchange_report<P: AllocGlobal + Threads + Wait + Sync, R: Read, W: Write>(
+    rt: &P,
+    reader: &mut R,
+    writer: &mut W,
+    turns: u32,
+) -> Result<Hinted<Outcome>, ReportError>
+    ensures ok { IfOk result (λ told. IsWhole IsLiveOfBytes (R.remaining reader.old) (R.remaining reader.new) (W.contents writer.old) (W.contents writer.new) told.0) }
+    ensures err { IfErr result (IsEndedEarly IsLiveOfBytes (R.remaining reader.old) (R.remaining reader.new) (W.contents writer.old) (W.contents writer.new)) }
+    ensures beside { IfOk result (λ told. IsTelling TellsOfLive (R.remaining reader.old) (R.remaining reader.new) told.1) }
+{
+    let alloc = rt.alloc();
+    let bytes = read_document(alloc, reader)?;
+    let ((outcome, text), beside) = answer(rt, alloc, bytes.as_slice(), turns)?;
+    write_all(writer, text.as_slice())?;
+    Ok((outcome, beside))
 }
 
-impl<'a, R: Threads + Wait + Sync> Question<Outcome> for ReportOnLive<'a, R> {
-    ghost says = { λ _. IsLiveOfBytes };
-
-    ghost tells = { λ _. TellsOfLive };
-
-    fn answer(self, alloc: Global, bytes: &[u8]) -> Result<Answer<Outcome>, AllocError> {
-        match read_scenario(alloc, bytes) {
-            Ok(scenario) => Ok((live_report(self.rt, alloc, scenario, self.turns)?, None)),
-            Err(DocError::Refused(fault)) => {
-                let refused = refusal(alloc, &fault)?;
-                Ok((refused, hint_for(alloc, bytes, &fault, Expected::Scenario)))
-            }
-            Err(DocError::Memory) => Err(AllocError),
+// The answer to a document's bytes.
+fn answer<R: Threads + Wait + Sync>(
+    rt: &R,
+    alloc: Global,
+    bytes: &[u8],
+    turns: u32,
+) -> Result<Answer<Outcome>, AllocError>
+    ensures says { IfOk result (λ told. IsLiveOfBytes bytes.now told.0.0 told.0.1.items) }
+    ensures tells { IfOk result (λ told. TellsOfLive bytes.now told.1) }
+{
+    match read_scenario(alloc, bytes) {
+        Ok(scenario) => Ok((live_report(rt, alloc, scenario, turns)?, None)),
+        Err(DocError::Refused(fault)) => {
+            let refused = refusal(alloc, &fault)?;
+            Ok((refused, hint_for(alloc, bytes, &fault, Expected::Scenario)))
         }
+        Err(DocError::Memory) => Err(AllocError),
     }
 }
 

@@ -2,9 +2,9 @@
 //! says which answer it was.
 ghost use Rattle.bep_live.specs.Told.{IsLiveEndTold, IsLiveTold};
 
-use crate::document::DocumentOfLive;
-use crate::report::ReportOnLive;
-use bep_answer::{end, end_certified, exchange};
+use crate::document::exchange_document;
+use crate::report::exchange_report;
+use bep_answer::{end, end_certified};
 use std::io::{Read, Write};
 use std::sync::Wait;
 use std::thread::Threads;
@@ -20,8 +20,7 @@ pub fn live_and_tell<P: AllocGlobal + Eprint + Threads + Wait + Sync, R: Read, W
 ) -> u8
     ensures { IsLiveTold (R.remaining reader.old) (R.remaining reader.new) (W.contents writer.old) (W.contents writer.new) result }
 {
-    let question = ReportOnLive { rt, turns };
-    end(rt, exchange(rt.alloc(), question, reader, writer))
+    end(rt, exchange_report(rt, reader, writer, turns))
 }
 
 /// The same for the check document of that cut, with the list of its winners, on a line; or the line of the first known name
@@ -35,6 +34,5 @@ pub fn live_document_and_tell<P: AllocGlobal + Eprint + Threads + Wait + Sync, R
 ) -> u8
     ensures { IsLiveEndTold (R.remaining reader.old) (R.remaining reader.new) (W.contents writer.old) (W.contents writer.new) result }
 {
-    let question = DocumentOfLive { rt, turns };
-    end_certified(rt, exchange(rt.alloc(), question, reader, writer))
+    end_certified(rt, exchange_document(rt, reader, writer, turns))
 }
