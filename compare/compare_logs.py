@@ -27,10 +27,11 @@ LONGEST = 20_000
 
 
 def random_scenario(making: Making) -> bytes:
-    """A scenario with a link and without a long file."""
+    """A scenario of version 2, which may have index resets, with a link and without a long file."""
     while True:
         config = random_config(making)
-        document = json.dumps(scenario_value(config, random_steps(making, config, STEPS))).encode()
+        steps = random_steps(making, config, STEPS, with_resets=True)
+        document = json.dumps(scenario_value(config, steps, version=2)).encode()
         if config.links and len(document) < LONGEST:
             return document
 
