@@ -137,7 +137,7 @@ def unlisted(rows):
         read = row.reads("check") or row.reads("run")
         if read:
             first.setdefault(read, (row.output or ["-"])[0])
-    listed = dict(re.findall(r"^\| `([a-z/-]*\.json)` \|.*\| `([^`]*)` \|$", (TOP / "examples/README.md").read_text(), re.M))
+    listed = dict(re.findall(r"^\| `([a-z0-9/-]*\.json)` \|.*\| `([^`]*)` \|$", (TOP / "examples/README.md").read_text(), re.M))
     for file in sorted((TOP / "examples").rglob("*.json")):
         name = file.relative_to(TOP / "examples").as_posix()
         told = first.get(f"examples/{name}")
