@@ -8,7 +8,7 @@ trap 'rm -rf "$work"' EXIT
 . "$top/bench/program.sh"
 
 start_program run_speed 'bep_record bep_map bep_index bep_fit bep_store bep_folder bep_links bep_peer bep_log bep_run_cut' \
-  $(grep -o '^bep_[a-z_]*' "$top/crates.txt" | grep -v -e bep_answer -e bep_explain -e bep_play -e bep_words -e bep_report -e bep_hints -e bep_lines)
+  $(grep -o '^bep_[a-z_]*' "$top/crates.txt" | grep -v -e bep_answer -e bep_explain -e bep_play -e bep_live -e bep_words -e bep_report -e bep_hints -e bep_lines)
 cat > src/main.rt <<'PROGRAM'
 // Prints the milliseconds of the run check over 16 devices, for each number of events a device.
 #![tactic(auto)]
