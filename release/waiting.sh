@@ -1,9 +1,13 @@
 # shellcheck shell=sh
 # asks_for_turns WORDS..: whether these are `run` with a number of turns that it takes.
 asks_for_turns() {
+  second=${2-}
+  third=${3-}
   case "$*" in
-    "run --turns ${3-}" | "run --turns ${3-} --document") turns=${3-} ;;
+    "run --turns $third" | "run --turns $third --document") turns=$third ;;
     "run --document --turns ${4-}") turns=${4-} ;;
+    "run --turns=${second#--turns=}" | "run --turns=${second#--turns=} --document") turns=${second#--turns=} ;;
+    "run --document --turns=${third#--turns=}") turns=${third#--turns=} ;;
     *) return 1 ;;
   esac
   case "$turns" in

@@ -38,7 +38,8 @@ expect_waiting() {
   for words in check firm certify 'certify --partial' explain 'explain --json' 'explain --firm' 'explain --json --firm' \
     'explain --firm --json' 'check --certify' 'firm --certify' 'explain --certify' 'explain --json --certify' \
     'explain --certify --firm' 'explain --firm --json --certify' run 'run --document' 'run --turns 3' \
-    'run --turns 1000000 --document' 'run --document --turns 0'; do
+    'run --turns 1000000 --document' 'run --document --turns 0' 'run --turns=3' 'run --turns=3 --document' \
+    'run --document --turns=3'; do
     # shellcheck disable=SC2086 # the words are several
     expect "'$asked $words' doesn't say that it waits: $(at_terminal "$asked" terminal $words)" \
       [ "$(at_terminal "$asked" terminal $words)" = "syncaudit: waiting for a document on standard input; 'syncaudit $words < FILE' reads one" ]
@@ -46,7 +47,7 @@ expect_waiting() {
     expect "'$asked $words' says in a pipe that it waits" [ -z "$(at_terminal "$asked" pipe $words)" ]
   done
   for words in '' --help 'check --help' 'help check' 'check now' 'firm --firm' jump 'run --turns' 'run --turns many' \
-    'run --turns 1000001' 'run --turns 3 now'; do
+    'run --turns 1000001' 'run --turns 3 now' 'run --turns=' 'run --turns=many' 'run --turns=1000001'; do
     # shellcheck disable=SC2086
     expect "'$asked $words' says that it waits, and doesn't: $(at_terminal "$asked" terminal $words)" \
       [ -z "$(at_terminal "$asked" terminal $words)" ]
