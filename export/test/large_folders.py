@@ -75,7 +75,7 @@ class LargeFolder(Exporting):
     def test_a_file_over_the_limit_of_bytes_is_left_out(self):
         path = self.one.files / "huge"
         with path.open("wb") as file:
-            file.truncate(16 * MEGA + 1)
+            file.truncate(64 * MEGA + 1)
         try:
             lines = without_firmness(self.check("--bytes", "--leave-out", "large").stdout.splitlines())
             self.assertEqual(lines[0], "settled as far as audited")
