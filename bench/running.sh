@@ -1,9 +1,9 @@
 #!/usr/bin/env bash
-# Measures how long three devices take until all of them have FILES files of 100 KB (1000 if not given) that the first one has
+# Measures how long three devices take until all of them have FILES files of 100 KB (100 if not given) that the first one has
 # and no scan has seen: by run_workers, a thread for each scanner, puller and end of a link, and by one thread that makes the
 # same turns one after the other.
 set -euo pipefail
-files=${1:-1000}
+files=${1:-100}
 top=$(cd "$(dirname "$0")/.." && pwd)
 work=$(mktemp -d)
 trap 'rm -rf "$work"' EXIT
@@ -30,9 +30,12 @@ use std::io;
 use std::sync::Wait;
 use std::sync::atomic::{AtomicU64, Ordering};
 use std::thread::Threads;
-use std::time::Instant;
+use std::time::{Clock, Instant};
 
 const DEVICES: u64 = 3;
+
+// The most rounds of turns.
+const ROUNDS: u32 = 100000;
 
 // Counts the messages that are delivered.
 struct Counting {
@@ -133,17 +136,22 @@ fn round<R: Threads + Wait + Sync>(
     Ok(())
 }
 
-// Makes turns until no message is delivered any more, and prints what that took. The last of these turns are in vain.
-fn measure(rt: &HostRuntime, threads: bool) -> io::Result<()> {
-    let Some(shared) = shared(rt.alloc()) else {
-        return println!(rt; "no cluster");
+// Makes turns until no message is delivered any more; the milliseconds, and how many messages were delivered. The last of these
+// turns are in vain.
+fn moved<R: Threads + Wait + Clock + Sync>(
+    rt: &R,
+    alloc: Global,
+    threads: bool,
+) -> io::Result<(u128, u64)> {
+    let Some(shared) = shared(alloc) else {
+        return Ok((0, 0));
     };
     let gate = Counting {
         delivered: AtomicU64::new(0),
     };
     let start = Instant::now(rt)?;
     let mut before = 0u64;
-    loop {
+    for _ in 0..ROUNDS {
         let made = if threads {
             run_workers(rt, &shared, &gate, 5).is_ok()
         } else {
@@ -155,15 +163,16 @@ fn measure(rt: &HostRuntime, threads: bool) -> io::Result<()> {
         }
         before = delivered;
     }
-    let spent = start.elapsed(rt)?.as_millis();
-    let by = if threads { "threads" } else { "one thread" };
-    println!(rt; "{by}: {spent} ms, {before} messages")
+    Ok((start.elapsed(rt)?.as_millis(), before))
 }
 
 fn main(rt: HostRuntime) -> io::Result<()> {
     for _ in 0..3 {
-        measure(&rt, true)?;
-        measure(&rt, false)?;
+        for threads in [true, false] {
+            let (spent, messages) = moved(&rt, rt.alloc(), threads)?;
+            let by = if threads { "threads" } else { "one thread" };
+            println!(rt; "{by}: {spent} ms, {messages} messages")?;
+        }
     }
     Ok(())
 }
