@@ -1,6 +1,7 @@
 #!/usr/bin/env python3
-"""Compares the program's answers, of `check`, `firm`, `explain` (with `--firm` too), each with `--certify` too, and `certify` (with `--partial` too), with those of a second reading (reading.py): on the
-examples, on documents with something as great as it may be or one more, and on random documents.
+"""Compares the program's answers with those of a second reading (reading.py): of `check`, `firm` and `explain` (with
+`--firm` too), each with `--certify` too, and of `certify` (with `--partial` too); on the examples, on documents with
+something as great as it may be or one more, and on random documents.
 
     compare/compare.py [COUNT [SEED]]
 
