@@ -7,7 +7,9 @@ use Rattle.serde_json.specs.Read.{read}
 use Rattle.bep_document.specs.declared.fault.Fault.TheVariants.{NotJson, Range}
 use Rattle.bep_document.specs.declared.parts.CheckParts.{CheckParts}
 use Rattle.bep_document.specs.Fault.{nowhere}
-use Rattle.bep_document.specs.Reading.{Reading, Read, Refused, ◌>>=◌, given, is_short, most_bytes, reading_of, reading_of_tree, tree_of}
+use Rattle.bep_json.specs.declared.version.DocVersion.{DocVersion}
+use Rattle.bep_document.specs.Reading.{Reading, Read, Refused, ◌>>=◌, given, is_short, most_bytes, reading_of, reading_of_tree, reading_of_cut, reading_of_cut_text}
+use Rattle.bep_tree.specs.Read.{tree_of}
 use Rattle.bep_model.specs.declared.row.Row.{Row}
 use Rattle.bep_tables.specs.declared.cut.CutParts.{CutParts}
 use Rattle.bep_cut_document.specs.Written.{check_of, check_of_tree, cut_written, row_written}
@@ -19,6 +21,12 @@ reading_as bytes tree text is few =
     ap (λ (b : Bool). ((if b then Read bytes else Refused (nowhere Range)) >>= (λ (whole : List ℕ). given NotJson (tree_of whole))) >>= reading_of_tree) short
     ∙ ap (λ (b : Bool). given NotJson (if b then read bytes else None) >>= reading_of_tree) text
     ∙ ap (λ (found : Option Data). given NotJson found >>= reading_of_tree) is
+
+-- what bytes say of a cut is what their tree says
+pub cut_text_as : (version : DocVersion) (bytes : List ℕ) (tree : Data) → is_utf8 bytes ≡ true → read bytes ≡ Some tree → reading_of_cut_text version bytes ≡ reading_of_cut version tree
+cut_text_as version bytes tree text is =
+    ap (λ (b : Bool). given NotJson (if b then read bytes else None) >>= reading_of_cut version) text
+    ∙ ap (λ (found : Option Data). given NotJson found >>= reading_of_cut version) is
 
 pub read_again : (bytes : List ℕ) (tree : Data) (cut : CutParts) (rows : List Row) → is_utf8 bytes ≡ true → read bytes ≡ Some tree → length bytes ≤ most_bytes →
     check_of_tree tree ≡ Read (cut, rows) → check_of bytes ≡ Read (cut, rows)

@@ -114,3 +114,7 @@ check_shallow version cut rows =
     (deeper 11
     (max-le (within 5 11 (omega arith) (list_shallow 4 row_tree row_shallow rows))
     (max-le (cut_shallow cut) (max-le (flat 11) (flat 11)))))
+
+-- ---- the cut alone
+pub cut_alone_shallow : (cut : CutParts) → IsShallow max_depth (cut_tree cut)
+cut_alone_shallow cut = within 11 max_depth (omega arith) (cut_shallow cut)

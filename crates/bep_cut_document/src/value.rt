@@ -1,16 +1,19 @@
 //! A cut as a JSON tree: the calls that a cut has beside its own.
-ghost use Rattle.std.specs.Prelude.{◌≡◌, IfOk, OnOk};
-ghost use Rattle.serde_json.specs.Data.{Data};
+ghost use Rattle.std.specs.Prelude.{◌≡◌, ◌≤◌, IfOk, OnOk};
+ghost use Rattle.serde_json.specs.Data.{Data, depth};
+ghost use Rattle.serde_json.specs.Read.{max_depth};
 ghost use Rattle.serde_json.specs.View.{view};
 ghost use Rattle.bep_json.specs.declared.version.DocVersion.{DocVersion as VersionOf};
-ghost use Rattle.bep_document.specs.Reading.{Answers, Reading, Read};
+ghost use Rattle.bep_document.specs.Reading.{Answers, Reading, Read, reading_of_cut};
 ghost use Rattle.bep_cut_document.specs.Trees.{cut_tree};
 ghost use Rattle.bep_cut_document.specs.Room.{HasRoom};
 ghost use Rattle.bep_cut_document.specs.Written.{cut_of_tree};
 
 use crate::reading::check_from;
 use crate::whole::cut_tree;
-use bep_document::{DocError, faultless_parts_are_read, read_cut_parts, readings_are_faultless};
+use bep_document::{
+    CheckParts, DocError, faultless_parts_are_read, read_cut_text, readings_are_faultless,
+};
 use bep_json::DocVersion;
 use bep_tables::Cut;
 use serde_json::Value;
@@ -30,8 +33,9 @@ pub trait CutValue: Drop {
 
     /// The cut that a tree says by itself, as the member `cut` of a check document of this version does, or the one fault
     /// for which it is refused: `Shape`, `Range`, or the first of those that have a place. `Memory` may come in place of
-    /// any answer.
+    /// any answer. A tree that `serde_json` has read nests no deeper than is asked, and so does one of `to_value`.
     fn from_value(alloc: Global, version: DocVersion, value: &Value) -> Result<Self, DocError>
+        requires { depth (view value.now) ≤ max_depth }
         ensures { Answers result (of_tree version (view value.now)) };
 
     /// The cut as a tree, with every member, bytes in hexadecimal digits and all lists rising; or want of memory.
@@ -39,6 +43,7 @@ pub trait CutValue: Drop {
     /// 2 have room for each cut.
     fn to_value(&self, alloc: Global) -> Result<Value, AllocError>
         ensures value { IfOk result (λ v. view v ≡ tree_of self.now) }
+        ensures shallow { IfOk result (λ v. depth (view v) ≤ max_depth) }
         ensures read_back { OnOk result ((version : VersionOf) → has_room version self.now → of_tree version (tree_of self.now) ≡ Read self.now) };
 }
 
@@ -51,7 +56,7 @@ impl CutValue for Cut {
 
     fn from_value(alloc: Global, version: DocVersion, value: &Value) -> Result<Cut, DocError> {
         readings_are_faultless();
-        let parts = read_cut_parts(alloc, version, value)?;
+        let parts = parts_of(alloc, version, value)?;
         let (cut, _rows) = check_from(alloc, parts)?;
         Ok(cut)
     }
@@ -61,4 +66,13 @@ impl CutValue for Cut {
         let tree = cut_tree(alloc, self)?;
         Ok(tree)
     }
+}
+
+// What the tree of a cut says, read as in documents of this version. Its text is what is read again.
+fn parts_of(alloc: Global, version: DocVersion, value: &Value) -> Result<CheckParts, DocError>
+    requires { depth (view value.now) ≤ max_depth }
+    ensures { Answers result (reading_of_cut version (view value.now)) }
+{
+    let text = value.to_string(alloc)?;
+    read_cut_text(alloc, version, text.as_bytes())
 }

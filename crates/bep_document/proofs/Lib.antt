@@ -1,5 +1,4 @@
 pub mod BoolFacts
-pub mod TreeFacts
 pub mod Steps
 pub mod FaultlessFacts
 pub mod ReadFaultless

@@ -14,7 +14,8 @@ use Rattle.bep_document.specs.declared.parts.FlightParts.{FlightParts}
 use Rattle.bep_document.specs.declared.parts.LinkParts.{LinkParts}
 use Rattle.bep_document.specs.declared.parts.CheckParts.{CheckParts}
 use Rattle.bep_json.specs.declared.version.DocVersion.{DocVersion}
-use Rattle.bep_json.specs.Tree.{has_only, names_of}
+use Rattle.bep_json.specs.Tree.{names_of}
+use Rattle.bep_tree.specs.Names.{has_only}
 use Rattle.bep_document.specs.read.Checks.{is_cut, read_cut, doc_version, check_members, is_check, read_check_parts}
 use Rattle.bep_document.specs.read.Devices.{is_one_of, with_devices}
 use Rattle.bep_document.specs.Reading.{Read, first_fault, reading_of_tree, reading_of, without_rows, reading_of_cut, reading_of_cut_in, reading_of_cut_document}

@@ -3,7 +3,8 @@ use Rattle.std.proofs.Common.{◌≡◌, ℕ, List, codes, subst}
 use Rattle.serde_json.specs.Data.{Data}
 use Rattle.serde_json.specs.Find.{get}
 use Rattle.bep_json.specs.declared.version.DocVersion.{DocVersion}
-use Rattle.bep_json.specs.Tree.{has_only, names_of}
+use Rattle.bep_json.specs.Tree.{names_of}
+use Rattle.bep_tree.specs.Names.{has_only}
 use Rattle.bep_document.specs.Short.{IsCutShort}
 use Rattle.bep_document.specs.Reading.{Read, first_fault, without_rows, reading_of_cut, reading_of_cut_in, reading_of_cut_document}
 use Rattle.bep_document.specs.declared.fault.Fault.TheVariants.{VersionBad, Shape, Range}

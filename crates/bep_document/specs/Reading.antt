@@ -1,10 +1,10 @@
 -- The reading of a check document: what its bytes say, or the one fault for which it is refused. The smallest number
 -- that applies is told, at its first place (this project's profile).
 use Rattle.std.specs.Prelude.{◌≡◌, ℕ, nat_le, Bool, ⊤, List, [], length, Option, Some, None, Result, Ok, Err, if◌then◌else◌, codes}
-use Rattle.std.specs.Str.{is_utf8}
 use Rattle.serde_json.specs.Data.{Data}
 use Rattle.serde_json.specs.Find.{get}
-use Rattle.serde_json.specs.Read as json
+use Rattle.bep_tree.specs.Names.{has_only}
+use Rattle.bep_tree.specs.Read.{tree_of}
 use Rattle.bep_document.specs.declared.error.DocError.{DocError}
 use Rattle.bep_document.specs.declared.error.DocError.TheVariants as errors
 use Rattle.bep_document.specs.declared.fault.DocFault.{DocFault}
@@ -21,7 +21,7 @@ use Rattle.bep_document.specs.faults.Unshared.{first_unshared}
 use Rattle.bep_document.specs.faults.Records.{first_bad}
 use Rattle.bep_document.specs.faults.Sequences.{first_bad_sequence}
 use Rattle.bep_document.specs.faults.Links.{first_bad_link}
-use Rattle.bep_json.specs.Tree.{has_only, names_of}
+use Rattle.bep_json.specs.Tree.{names_of}
 use Rattle.bep_document.specs.read.Checks.{is_cut, read_cut, doc_version, check_members, is_check, read_check_parts}
 
 -- a thing, or the fault in place of it
@@ -71,10 +71,6 @@ most_bytes = 67108864
 abbrev pub is_short : List ℕ → Bool
 is_short bytes = nat_le (length bytes) most_bytes
 
--- the tree of UTF-8 bytes
-abbrev pub tree_of : List ℕ → Option Data
-tree_of bytes = if is_utf8 bytes then json.read bytes else None
-
 -- the tree of a document's bytes, which aren't too many
 abbrev pub document_tree : List ℕ → Reading Data
 document_tree bytes = do
@@ -122,6 +118,10 @@ reading_of_cut version tree = do
   shaped ← passed Shape (is_cut version) tree
   cut ← given Range (read_cut version shaped)
   unless (first_fault (without_rows version cut)) (without_rows version cut)
+
+-- what bytes say of a cut alone
+abbrev pub reading_of_cut_text : DocVersion → List ℕ → Reading CheckParts
+reading_of_cut_text version bytes = given NotJson (tree_of bytes) >>= reading_of_cut version
 
 -- what the tree of a check document says of its cut; a certificate may be missing, and isn't looked at
 unfoldable pub reading_of_cut_in : Data → Reading CheckParts

@@ -1,17 +1,17 @@
 //! The reading of a document: from its bytes to what it says, or to its fault.
 ghost use Rattle.std.specs.Prelude.{◌≡◌};
-ghost use Rattle.serde_json.specs.View.{view};
-ghost use Rattle.bep_document.specs.Reading.{Answers, AnswersBy, given, tree_of, document_tree, unless, first_fault, reading_of_tree, reading_of, reading_of_cut, reading_of_cut_in, reading_of_cut_document};
+ghost use Rattle.bep_tree.specs.View.{view};
+ghost use Rattle.bep_tree.specs.Read.{tree_of};
+ghost use Rattle.bep_document.specs.Reading.{Answers, AnswersBy, given, document_tree, unless, first_fault, reading_of_tree, reading_of, reading_of_cut, reading_of_cut_text, reading_of_cut_in, reading_of_cut_document};
 ghost use Rattle.bep_document.specs.Fault.{nowhere};
 ghost use Rattle.bep_document.specs.declared.fault.Fault.TheVariants.{NotJson};
 
 use crate::faults::fault_of;
 use crate::read::{CutLists, doc_version, is_check, read_check_parts};
 use crate::{CheckParts, DocError, DocFault, Fault};
-use bep_json::{DocVersion, ReadError, Readable, has_only};
+use bep_json::{DocVersion, ReadError, Readable};
 use bep_record::Items;
-use serde_json::Value;
-use serde_json::error::Category;
+use bep_tree::{Scratch, Tree, TreeError, get, has_only, read_tree};
 use std::alloc::Global;
 
 /// The most bytes of a document.
@@ -25,7 +25,8 @@ pub const MAX_BYTES: usize = 67108864;
 pub fn read_parts(alloc: Global, bytes: &[u8]) -> Result<CheckParts, DocError>
     ensures { Answers result (reading_of bytes.now) }
 {
-    let tree = document_tree(alloc, bytes)?;
+    let mut scratch = Scratch::new(alloc);
+    let tree = document_tree(alloc, bytes, &mut scratch)?;
     parts_of(alloc, tree)
 }
 
@@ -37,33 +38,40 @@ pub fn refused(fault: Fault) -> DocError
 }
 
 /// The tree of a document's bytes. Refuses `Range` where they are too many, and `NotJson` where they aren't JSON; `Memory`
-/// may come in place of any answer.
-pub fn document_tree(alloc: Global, bytes: &[u8]) -> Result<Value, DocError>
+/// may come in place of any answer. Texts with escapes are written into the scratch.
+pub fn document_tree<'a>(
+    alloc: Global,
+    bytes: &'a [u8],
+    scratch: &'a mut Scratch,
+) -> Result<Tree<'a>, DocError>
     ensures { AnswersBy view result (document_tree bytes.now) }
 {
     if bytes.len() > MAX_BYTES {
         return Err(refused(Fault::Range));
     }
-    tree_of(alloc, bytes)
+    tree_of(alloc, bytes, scratch)
 }
 
 /// The tree of bytes, however many. Refuses `NotJson` where they aren't JSON; `Memory` may come in place of any answer.
-pub fn tree_of(alloc: Global, bytes: &[u8]) -> Result<Value, DocError>
+/// Texts with escapes are written into the scratch.
+pub fn tree_of<'a>(
+    alloc: Global,
+    bytes: &'a [u8],
+    scratch: &'a mut Scratch,
+) -> Result<Tree<'a>, DocError>
     ensures { AnswersBy view result (given NotJson (tree_of bytes.now)) }
 {
-    match Value::from_slice(alloc, bytes) {
+    match read_tree(alloc, bytes, scratch) {
         Ok(tree) => Ok(tree),
-        Err(error) => match error.classify() {
-            Category::Memory => Err(DocError::Memory),
-            _ => Err(refused(Fault::NotJson)),
-        },
+        Err(TreeError::NotJson) => Err(refused(Fault::NotJson)),
+        Err(TreeError::Memory) => Err(DocError::Memory),
     }
 }
 
 // What the tree of a document says.
 #[tactic(auto, unfolding(crate::specs::Reading::reading_of_tree))]
-fn parts_of(alloc: Global, tree: Value) -> Result<CheckParts, DocError>
-    ensures { Answers result (reading_of_tree (view tree)) }
+fn parts_of(alloc: Global, tree: Tree<'_>) -> Result<CheckParts, DocError>
+    ensures { Answers result (reading_of_tree (view tree.entry)) }
 {
     let Some(version) = doc_version(&tree) else {
         return Err(refused(Fault::VersionBad));
@@ -102,7 +110,7 @@ pub fn unless_found<T: Drop>(found: Option<DocFault>, thing: T) -> Result<T, Doc
 pub fn read_cut_parts(
     alloc: Global,
     version: DocVersion,
-    tree: &Value,
+    tree: &Tree<'_>,
 ) -> Result<CheckParts, DocError>
     ensures { Answers result (reading_of_cut version (view tree.now)) }
 {
@@ -116,19 +124,33 @@ pub fn read_cut_parts(
     }
 }
 
+/// What bytes say of a cut alone, as `read_cut_parts` says it of their tree; `NotJson` where they have none.
+pub fn read_cut_text(
+    alloc: Global,
+    version: DocVersion,
+    bytes: &[u8],
+) -> Result<CheckParts, DocError>
+    ensures { Answers result (reading_of_cut_text version bytes.now) }
+{
+    let mut scratch = Scratch::new(alloc);
+    let tree = tree_of(alloc, bytes, &mut scratch)?;
+    read_cut_parts(alloc, version, &tree)
+}
+
 /// What the bytes of a check document say of its cut, with no rows, or the fault for which it is refused, as `read_parts`
 /// has them. The document's certificate may be missing, and isn't looked at. `Memory` may come in place of any answer.
 #[tactic(auto, unfolding(crate::specs::Reading::reading_of_cut_document))]
 pub fn read_cut_document(alloc: Global, bytes: &[u8]) -> Result<CheckParts, DocError>
     ensures { Answers result (reading_of_cut_document bytes.now) }
 {
-    let tree = document_tree(alloc, bytes)?;
+    let mut scratch = Scratch::new(alloc);
+    let tree = document_tree(alloc, bytes, &mut scratch)?;
     cut_in(alloc, &tree)
 }
 
 // What the tree of a check document says of its cut.
 #[tactic(auto, unfolding(crate::specs::Reading::reading_of_cut_in))]
-fn cut_in(alloc: Global, tree: &Value) -> Result<CheckParts, DocError>
+fn cut_in(alloc: Global, tree: &Tree<'_>) -> Result<CheckParts, DocError>
     ensures { Answers result (reading_of_cut_in (view tree.now)) }
 {
     let Some(version) = doc_version(tree) else {
@@ -137,7 +159,7 @@ fn cut_in(alloc: Global, tree: &Value) -> Result<CheckParts, DocError>
     if !has_only(tree, &["version", "cut", "certificate"]) {
         return Err(refused(Fault::Shape));
     }
-    match tree.get("cut") {
+    match get(tree, "cut") {
         Some(cut) => read_cut_parts(alloc, version, cut),
         None => Err(refused(Fault::Shape)),
     }

@@ -2,16 +2,16 @@
 use crate::members::Sort;
 use bep_json::{DocVersion, Nanoseconds, ReadError, Readable, Sequence, Whole};
 use bep_record::{DeviceId, FolderKind, FolderName, Kind, Name, Target, Vector};
-use serde_json::Value;
+use bep_tree::{Tree, as_bool, as_i64, as_str, as_u64};
 use std::alloc::Global;
 
 /// Whether the value is of the kind that the sort asks for.
-pub(crate) fn has_shape(version: DocVersion, sort: Sort, value: &Value) -> bool {
+pub(crate) fn has_shape(version: DocVersion, sort: Sort, value: &Tree<'_>) -> bool {
     match sort {
         Sort::Anything => true,
         // one that begins with a known word isn't of one piece
         Sort::Step => false,
-        Sort::Flag => value.is_boolean(),
+        Sort::Flag => as_bool(value).is_some(),
         Sort::Version => Vector::has_shape(version, value),
         Sort::FolderKind
         | Sort::FolderName
@@ -19,19 +19,24 @@ pub(crate) fn has_shape(version: DocVersion, sort: Sort, value: &Value) -> bool 
         | Sort::Target
         | Sort::Hash
         | Sort::Text
-        | Sort::Hex => value.is_string(),
+        | Sort::Hex => as_str(value).is_some(),
         _ => i64::has_shape(version, value),
     }
 }
 
 /// Whether the value, which is of that kind, is within its range.
-pub(crate) fn is_in_range(alloc: Global, version: DocVersion, sort: Sort, value: &Value) -> bool {
+pub(crate) fn is_in_range(
+    alloc: Global,
+    version: DocVersion,
+    sort: Sort,
+    value: &Tree<'_>,
+) -> bool {
     match sort {
         Sort::DocVersion => reads::<Whole<1, 2>>(alloc, version, value),
         Sort::Id => reads::<DeviceId>(alloc, version, value),
-        Sort::AnyId => value.as_u64().is_some(),
+        Sort::AnyId => as_u64(value).is_some(),
         Sort::Sequence => reads::<Sequence>(alloc, version, value),
-        Sort::Seconds => value.as_i64().is_some(),
+        Sort::Seconds => as_i64(value).is_some(),
         Sort::Nanoseconds => reads::<Nanoseconds>(alloc, version, value),
         Sort::FileSize => is_file_size(version, value),
         Sort::BlockSize => reads::<Whole<0, 4294967295>>(alloc, version, value),
@@ -49,30 +54,30 @@ pub(crate) fn is_in_range(alloc: Global, version: DocVersion, sort: Sort, value:
 }
 
 // Whether the value is read as a `T`, or can't be for want of memory alone.
-fn reads<T: Readable>(alloc: Global, version: DocVersion, value: &Value) -> bool {
+fn reads<T: Readable>(alloc: Global, version: DocVersion, value: &Tree<'_>) -> bool {
     match T::read(alloc, version, value) {
         Err(ReadError::Range) => false,
         Ok(_) | Err(ReadError::Memory) => true,
     }
 }
 
-fn is_file_size(version: DocVersion, value: &Value) -> bool {
-    match value.as_u64() {
+fn is_file_size(version: DocVersion, value: &Tree<'_>) -> bool {
+    match as_u64(value) {
         Some(size) => size <= version.most_file_bytes(),
         None => false,
     }
 }
 
-fn fits_file(version: DocVersion, value: &Value) -> bool {
-    match value.as_str() {
+fn fits_file(version: DocVersion, value: &Tree<'_>) -> bool {
+    match as_str(value) {
         Some(text) => text.len() as u64 <= version.most_file_bytes(),
         None => false,
     }
 }
 
 // Whether the value has two hexadecimal digits for each byte, and not too many.
-fn is_hex(version: DocVersion, value: &Value) -> bool {
-    match value.as_str() {
+fn is_hex(version: DocVersion, value: &Tree<'_>) -> bool {
+    match as_str(value) {
         Some(digits) => {
             let digits = digits.as_bytes();
             digits.len() % 2 == 0

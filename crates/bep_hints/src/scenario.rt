@@ -4,7 +4,7 @@ use crate::members::Need::Due;
 use crate::members::{ANY, Member, Sort};
 use bep_json::DocVersion;
 use bep_record::MAX_FOLDERS;
-use serde_json::Value;
+use bep_tree::{Tree, as_str, at};
 
 /// The members of a scenario.
 pub(crate) static SCENARIO: [Member; 4] = [
@@ -28,18 +28,18 @@ pub(crate) static FRESH_SHARE: [Member; 3] = [
 ];
 
 /// The sort, and of a step the one of its word, if it begins with one that documents of this version have.
-pub(crate) fn sort_at(version: DocVersion, sort: Sort, value: &Value) -> Sort {
+pub(crate) fn sort_at(version: DocVersion, sort: Sort, value: &Tree<'_>) -> Sort {
     if sort != Sort::Step {
         return sort;
     }
-    match value.get(0usize) {
+    match at(value, 0) {
         Some(first) => sort_of_word(version, first),
         None => sort,
     }
 }
 
-fn sort_of_word(version: DocVersion, word: &Value) -> Sort {
-    match word.as_str() {
+fn sort_of_word(version: DocVersion, word: &Tree<'_>) -> Sort {
+    match as_str(word) {
         Some(word) => sort_named(version, word),
         None => Sort::Step,
     }

@@ -4,10 +4,11 @@ ghost use Rattle.std.specs.Prelude.{◌≡◌, IfSome};
 use crate::members::Holds::Single;
 use crate::members::{Expected, Sort};
 use crate::walk::{Flaw, LEVELS, Step, look};
-use crate::wrong::{Wrong, items_of};
+use crate::wrong::Wrong;
 use bep_document::{MAX_BYTES, doc_version};
 use bep_lines::{Piece, push_pieces};
 use bep_record::MAX_DEVICES;
+use bep_tree::{Scratch, Tree, TreeError, as_array, as_u64, get, read_tree};
 use serde_json::Value;
 use serde_json::error::{Category, Error};
 use std::alloc::{AllocError, Global};
@@ -53,14 +54,23 @@ fn said_of(alloc: Global, bytes: &[u8], expected: Expected) -> Result<Vec<u8>, A
             ],
         );
     }
-    match Value::from_slice(alloc, bytes) {
+    let mut scratch = Scratch::new(alloc);
+    match read_tree(alloc, bytes, &mut scratch) {
         Ok(tree) => said_of_tree(alloc, &tree, expected),
-        Err(error) => said_of_text(alloc, &error),
+        Err(TreeError::NotJson) => said_of_text(alloc, bytes),
+        Err(TreeError::Memory) => Err(AllocError),
     }
 }
 
-// Where the bytes aren't JSON.
-fn said_of_text(alloc: Global, error: &Error) -> Result<Vec<u8>, AllocError> {
+// Where the bytes aren't JSON: `serde_json` tells the place, which no tree does.
+fn said_of_text(alloc: Global, bytes: &[u8]) -> Result<Vec<u8>, AllocError> {
+    match Value::from_slice(alloc, bytes) {
+        Ok(_) => Ok(Vec::new(alloc)),
+        Err(error) => said_of_error(alloc, &error),
+    }
+}
+
+fn said_of_error(alloc: Global, error: &Error) -> Result<Vec<u8>, AllocError> {
     let what = match error.classify() {
         Category::Memory => return Err(AllocError),
         Category::Eof => ": the JSON ends before it is whole",
@@ -81,7 +91,7 @@ fn said_of_text(alloc: Global, error: &Error) -> Result<Vec<u8>, AllocError> {
 }
 
 // What is at fault in a tree.
-fn said_of_tree(alloc: Global, tree: &Value, expected: Expected) -> Result<Vec<u8>, AllocError> {
+fn said_of_tree(alloc: Global, tree: &Tree<'_>, expected: Expected) -> Result<Vec<u8>, AllocError> {
     let Some(version) = doc_version(tree) else {
         let what = "the document should be an object whose member version is 1 or 2";
         return said(alloc, &[Piece::Text(what)]);
@@ -98,7 +108,7 @@ fn said_of_tree(alloc: Global, tree: &Value, expected: Expected) -> Result<Vec<u
         }
     }
     match expected {
-        Expected::Check | Expected::Cut => said_of_devices(alloc, tree.get("cut"), "cut.folders"),
+        Expected::Check | Expected::Cut => said_of_devices(alloc, get(tree, "cut"), "cut.folders"),
         Expected::Scenario => said_of_devices(alloc, Some(tree), "folders"),
     }
 }
@@ -153,17 +163,15 @@ fn push_wrong(text: &mut Vec<u8>, wrong: Wrong) -> Result<(), AllocError> {
 }
 
 // That too many devices share the folders of this value, if they do.
-fn said_of_devices(alloc: Global, value: Option<&Value>, way: &str) -> Result<Vec<u8>, AllocError> {
-    let mut known = Vec::new(alloc);
-    for folder in items_in(value, "folders") {
-        for share in items_in(Some(folder), "devices") {
-            if let Some(device) = number_in(share, "device") {
-                if !known.as_slice().contains(&device) {
-                    known.push(device)?;
-                }
-            }
-        }
-    }
+fn said_of_devices(
+    alloc: Global,
+    value: Option<&Tree<'_>>,
+    way: &str,
+) -> Result<Vec<u8>, AllocError> {
+    let Some(value) = value else {
+        return Ok(Vec::new(alloc));
+    };
+    let known = devices_in(alloc, value)?;
     if known.len() <= MAX_DEVICES {
         return Ok(Vec::new(alloc));
     }
@@ -179,20 +187,43 @@ fn said_of_devices(alloc: Global, value: Option<&Value>, way: &str) -> Result<Ve
     )
 }
 
-// The items of the list at this member, none where there is no list.
-fn items_in<'a>(value: Option<&'a Value>, name: &str) -> &'a [Value] {
-    let Some(value) = value else {
-        return &[];
+// The devices that share the folders of this value, each once.
+fn devices_in(alloc: Global, value: &Tree<'_>) -> Result<Vec<u64>, AllocError> {
+    let mut known = Vec::new(alloc);
+    if let Some(folders) = items_in(value, "folders") {
+        for folder in folders {
+            add_devices(&mut known, folder)?;
+        }
+    }
+    Ok(known)
+}
+
+// Adds the devices that share this folder and aren't known yet.
+fn add_devices(known: &mut Vec<u64>, folder: &Tree<'_>) -> Result<(), AllocError> {
+    let Some(shares) = items_in(folder, "devices") else {
+        return Ok(());
     };
-    match value.get(name) {
-        Some(list) => items_of(list),
-        None => &[],
+    for share in shares {
+        if let Some(device) = number_in(share, "device") {
+            if !known.as_slice().contains(&device) {
+                known.push(device)?;
+            }
+        }
+    }
+    Ok(())
+}
+
+// The items of the list at this member, if there is one.
+fn items_in<'t, 'a>(value: &'t Tree<'a>, name: &str) -> Option<&'t [Tree<'a>]> {
+    match get(value, name) {
+        Some(list) => as_array(list),
+        None => None,
     }
 }
 
-fn number_in(value: &Value, name: &str) -> Option<u64> {
-    match value.get(name) {
-        Some(number) => number.as_u64(),
+fn number_in(value: &Tree<'_>, name: &str) -> Option<u64> {
+    match get(value, name) {
+        Some(number) => as_u64(number),
         None => None,
     }
 }

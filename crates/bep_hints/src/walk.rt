@@ -2,9 +2,9 @@
 use crate::members::Holds::{List, Single};
 use crate::members::{Holds, Member, members_of};
 use crate::scenario::{places_of, sort_at};
-use crate::wrong::{Wrong, items_of, wrong_in};
+use crate::wrong::{Wrong, count_of, wrong_in};
 use bep_json::DocVersion;
-use serde_json::Value;
+use bep_tree::{Tree, at, get};
 use std::alloc::{AllocError, Global};
 
 /// What is looked for.
@@ -30,12 +30,12 @@ pub(crate) const LEVELS: usize = 16;
 
 /// What is wrong with the value or, else, with the first of its parts that is at fault, down to so many levels. Where
 /// something is, the way leads to it.
-pub(crate) fn look<'a>(
+pub(crate) fn look<'t, 'a>(
     alloc: Global,
     version: DocVersion,
     flaw: Flaw,
     way: &mut Vec<Step<'a>>,
-    value: &'a Value,
+    value: &'t Tree<'a>,
     holds: Holds,
     levels: usize,
 ) -> Result<Option<Wrong>, AllocError> {
@@ -61,30 +61,30 @@ pub(crate) fn look<'a>(
 }
 
 // How many places for parts the value has.
-fn places_in(version: DocVersion, value: &Value, holds: Holds) -> usize {
+fn places_in(version: DocVersion, value: &Tree<'_>, holds: Holds) -> usize {
     match holds {
         Single(sort) => {
             let sort = sort_at(version, sort, value);
             places_of(sort).len().max(members_of(sort).len())
         }
-        List(..) => items_of(value).len(),
+        List(..) => count_of(value),
     }
 }
 
 // The part at this place, if there is one: the step to it, the part, and what is to stand there.
-fn part_at<'a>(
+fn part_at<'t, 'a>(
     version: DocVersion,
-    value: &'a Value,
+    value: &'t Tree<'a>,
     holds: Holds,
     place: usize,
-) -> Option<(Step<'a>, &'a Value, Holds)> {
+) -> Option<(Step<'a>, &'t Tree<'a>, Holds)> {
     let sort = match holds {
         Single(sort) => sort_at(version, sort, value),
-        List(sort, _) => return Some((Step::Item(place), value.get(place)?, Single(sort))),
+        List(sort, _) => return Some((Step::Item(place), at(value, place)?, Single(sort))),
     };
     if let Some(sort) = places_of(sort).get(place) {
-        return Some((Step::Item(place), value.get(place)?, Single(*sort)));
+        return Some((Step::Item(place), at(value, place)?, Single(*sort)));
     }
     let Member(name, _, holds) = *members_of(sort).get(place)?;
-    Some((Step::Member(name), value.get(name)?, holds))
+    Some((Step::Member(name), get(value, name)?, holds))
 }

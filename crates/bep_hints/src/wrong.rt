@@ -5,7 +5,7 @@ use crate::members::{Holds, Member, Need, Sort, members_of};
 use crate::scenario::{places_of, sort_at};
 use crate::walk::{Flaw, Step};
 use bep_json::DocVersion;
-use serde_json::Value;
+use bep_tree::{Tree, as_array, as_bool, as_u64, get};
 use std::alloc::{AllocError, Global};
 
 /// What is wrong with a value.
@@ -31,7 +31,7 @@ pub(crate) fn wrong_in<'a>(
     version: DocVersion,
     flaw: Flaw,
     way: &mut Vec<Step<'a>>,
-    value: &'a Value,
+    value: &Tree<'a>,
     holds: Holds,
 ) -> Found {
     let sort = match holds {
@@ -48,11 +48,11 @@ pub(crate) fn wrong_in<'a>(
     }
 }
 
-fn wrong_list(flaw: Flaw, value: &Value, most: usize) -> Option<Wrong> {
-    if !value.is_array() {
+fn wrong_list(flaw: Flaw, value: &Tree<'_>, most: usize) -> Option<Wrong> {
+    if !as_array(value).is_some() {
         return Some(Wrong::Expected("a list"));
     }
-    if flaw == Flaw::Range && items_of(value).len() > most {
+    if flaw == Flaw::Range && count_of(value) > most {
         return Some(Wrong::TooLong(most));
     }
     None
@@ -63,12 +63,12 @@ fn wrong_piece(
     alloc: Global,
     version: DocVersion,
     flaw: Flaw,
-    value: &Value,
+    value: &Tree<'_>,
     sort: Sort,
 ) -> Option<Wrong> {
     let places = places_of(sort);
     let fits = match flaw {
-        _ if !places.is_empty() => items_of(value).len() == places.len(),
+        _ if !places.is_empty() => count_of(value) == places.len(),
         Flaw::Shape => has_shape(version, sort, value),
         Flaw::Range => is_in_range(alloc, version, sort, value),
     };
@@ -79,11 +79,11 @@ fn wrong_piece(
     }
 }
 
-/// The items of a list, none of what is no list.
-pub(crate) fn items_of(value: &Value) -> &[Value] {
-    match value.as_array() {
-        Some(items) => items.as_slice(),
-        None => &[],
+/// How many items a list has; none where there is no list.
+pub(crate) fn count_of(value: &Tree<'_>) -> usize {
+    match as_array(value) {
+        Some(items) => items.len(),
+        None => 0,
     }
 }
 
@@ -91,22 +91,22 @@ pub(crate) fn items_of(value: &Value) -> &[Value] {
 fn wrong_object<'a>(
     version: DocVersion,
     way: &mut Vec<Step<'a>>,
-    value: &'a Value,
+    value: &Tree<'a>,
     sort: Sort,
     members: &[Member],
 ) -> Found {
-    let Some(object) = value.as_object() else {
+    let Tree::Object(object) = value else {
         return Ok(Some(Wrong::Expected("an object")));
     };
-    for name in object.keys() {
-        if !is_known(members, name.as_str()) {
-            way.push(Step::Member(name.as_str()))?;
+    for member in object {
+        if !is_known(members, member.0) {
+            way.push(Step::Member(member.0))?;
             return Ok(Some(Wrong::Unknown));
         }
     }
     for member in members {
         let Member(name, need, _) = *member;
-        if need == Need::Due && value.get(name).is_none() {
+        if need == Need::Due && get(value, name).is_none() {
             return Ok(Some(Wrong::Missing(name)));
         }
     }
@@ -122,12 +122,12 @@ fn is_known(members: &[Member], name: &str) -> bool {
 }
 
 // What is wrong with a node as a whole.
-fn wrong_node(value: &Value) -> Option<Wrong> {
-    if value.get("text").is_some() && value.get("hex").is_some() {
+fn wrong_node(value: &Tree<'_>) -> Option<Wrong> {
+    if get(value, "text").is_some() && get(value, "hex").is_some() {
         return Some(Wrong::TwoBodies);
     }
-    match value.get("type") {
-        Some(kind) if kind.as_u64() == Some(4) && value.get("target").is_none() => {
+    match get(value, "type") {
+        Some(kind) if as_u64(kind) == Some(4) && get(value, "target").is_none() => {
             Some(Wrong::Missing("target"))
         }
         _ => None,
@@ -135,25 +135,25 @@ fn wrong_node(value: &Value) -> Option<Wrong> {
 }
 
 // What is wrong with a record as a whole: in version 2 one of a file that isn't deleted says its block size.
-fn wrong_record(version: DocVersion, value: &Value) -> Option<Wrong> {
-    let is_file = is_number(value.get("type"), 0);
-    let is_deleted = is_set(value.get("deleted"));
-    if version == DocVersion::One || !is_file || is_deleted || value.get("block_size").is_some() {
+fn wrong_record(version: DocVersion, value: &Tree<'_>) -> Option<Wrong> {
+    let is_file = is_number(get(value, "type"), 0);
+    let is_deleted = is_set(get(value, "deleted"));
+    if version == DocVersion::One || !is_file || is_deleted || get(value, "block_size").is_some() {
         return None;
     }
     Some(Wrong::Missing("block_size"))
 }
 
-fn is_number(value: Option<&Value>, number: u64) -> bool {
+fn is_number(value: Option<&Tree<'_>>, number: u64) -> bool {
     match value {
-        Some(value) => value.as_u64() == Some(number),
+        Some(value) => as_u64(value) == Some(number),
         None => false,
     }
 }
 
-fn is_set(value: Option<&Value>) -> bool {
+fn is_set(value: Option<&Tree<'_>>) -> bool {
     match value {
-        Some(value) => value.as_bool() == Some(true),
+        Some(value) => as_bool(value) == Some(true),
         None => false,
     }
 }

@@ -1,5 +1,4 @@
 pub mod DigitFacts
-mod TreeFacts
 pub mod TextFacts
 pub mod ListFacts
 pub mod BlockFacts

@@ -1,22 +1,8 @@
 -- Words on JSON trees: members by their names.
-use Rattle.std.specs.Prelude.{ℕ, nat_eq, Bool, true, false, ◌&&◌, List, [], ◌∷◌, map, option_map, unwrap_or}
-use Rattle.std.specs.List.{list_any}
-use Rattle.std.specs.Cmp.Lexicographic.{pointwise}
-use Rattle.serde_json.specs.Data.{Data, Members, no_members, member}
-use Rattle.serde_json.specs.Find.{get, as_object}
-
--- this is one of these names
-abbrev pub is_among : List ℕ → List (List ℕ) → Bool
-is_among name names = list_any (λ known. pointwise nat_eq known name) names
-
--- each member has one of these names
-abbrev pub are_among : List (List ℕ) → Members → Bool
-are_among names no_members = true
-are_among names (member name d more) = is_among name names && are_among names more
-
--- an object, each member of which has one of these names
-abbrev pub has_only : List (List ℕ) → Data → Bool
-has_only names d = unwrap_or (option_map (are_among names) (as_object d)) false
+use Rattle.std.specs.Prelude.{ℕ, Bool, true, false, ◌&&◌, List, [], ◌∷◌, map, option_map, unwrap_or}
+use Rattle.serde_json.specs.Data.{Data}
+use Rattle.serde_json.specs.Find.{get}
+use Rattle.bep_tree.specs.Names.{has_only}
 
 -- there is a member of this name, and it has this shape
 abbrev pub has_member : List ℕ → (Data → Bool) → Data → Bool

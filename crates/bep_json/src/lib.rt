@@ -1,4 +1,4 @@
-//! Readers of numbers, texts, lists, records and nodes in JSON, over the tree of `serde_json`.
+//! Readers of numbers, texts, lists, records and nodes in JSON, over a tree of `bep_tree`.
 //!
 //! Each thing is read in two walks. The first asks whether the tree has the thing's shape: members and kinds of values.
 //! The second makes the thing, where every number and text is inside its range. A caller reads a message so:
@@ -18,16 +18,15 @@ mod numbers;
 mod readable;
 mod records;
 mod texts;
-mod tree;
 mod version;
 mod writing;
 
+pub use bep_tree::has_only;
 pub use error::ReadError;
 pub use laws::{hashes_make_blocks, texts_are_told};
 pub use members::Members;
 pub use nodes::NamedParts;
 pub use numbers::{Nanoseconds, Sequence, Whole};
 pub use readable::{Readable, has, may_have, member, member_or};
-pub use tree::has_only;
 pub use version::DocVersion;
 pub use writing::{node_value, record_value};

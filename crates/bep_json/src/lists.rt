@@ -1,13 +1,13 @@
 //! Lists of things, and version vectors.
 ghost use Rattle.std.specs.Prelude.{◌≡◌, ℕ, List, option_map};
-ghost use Rattle.serde_json.specs.View.{view, items_view};
+ghost use Rattle.bep_tree.specs.View.{view, items_view};
 ghost use Rattle.bep_json.specs.Reading.{Gives, GivesBy};
 ghost use Rattle.bep_json.specs.Lists.{have_shape, is_list, read_items, read_list, two_of, is_pair, read_pair, read_version};
 
 use crate::numbers::is_whole;
 use crate::{DocVersion, ReadError, Readable};
 use bep_record::{Items, Vector};
-use serde_json::Value;
+use bep_tree::{Tree, as_array, as_u64};
 use std::alloc::Global;
 
 impl<T: Readable> Readable for Items<T> {
@@ -15,23 +15,23 @@ impl<T: Readable> Readable for Items<T> {
 
     ghost reads = { λ version. read_list (T.reads version) };
 
-    fn has_shape(version: DocVersion, value: &Value) -> bool {
-        match value.as_array() {
-            Some(items) => have_shape::<T>(version, items.as_slice()),
+    fn has_shape(version: DocVersion, value: &Tree<'_>) -> bool {
+        match as_array(value) {
+            Some(items) => have_shape::<T>(version, items),
             None => false,
         }
     }
 
-    fn read(alloc: Global, version: DocVersion, value: &Value) -> Result<Self, ReadError> {
-        let Some(items) = value.as_array() else {
+    fn read(alloc: Global, version: DocVersion, value: &Tree<'_>) -> Result<Self, ReadError> {
+        let Some(items) = as_array(value) else {
             return Err(ReadError::Range);
         };
-        Ok(Items::new(read_items(alloc, version, items.as_slice())?))
+        Ok(Items::new(read_items(alloc, version, items)?))
     }
 }
 
 // Whether each item has a `T`'s shape.
-fn have_shape<T: Readable>(version: DocVersion, items: &[Value]) -> bool
+fn have_shape<T: Readable>(version: DocVersion, items: &[Tree<'_>]) -> bool
     ensures { result ≡ have_shape (T.has_shape version) (items_view items.now) }
 {
     items.iter().all(|item| T::has_shape(version, item))
@@ -41,7 +41,7 @@ fn have_shape<T: Readable>(version: DocVersion, items: &[Value]) -> bool
 fn read_items<T: Readable>(
     alloc: Global,
     version: DocVersion,
-    items: &[Value],
+    items: &[Tree<'_>],
 ) -> Result<Vec<T>, ReadError>
     ensures { GivesBy (λ things. things.items) result (read_items (T.reads version) (items_view items.now)) }
 {
@@ -55,11 +55,10 @@ fn read_items<T: Readable>(
 
 // The two items of a list of two.
 #[tactic(auto, using(crate::proofs::ListFacts::two_of_others))]
-fn two_of(value: &Value) -> Option<(&Value, &Value)>
+fn two_of<'t, 'a>(value: &'t Tree<'a>) -> Option<(&'t Tree<'a>, &'t Tree<'a>)>
     ensures { option_map (λ two. (view two.0.now, view two.1.now)) result ≡ two_of (view value.now) }
 {
-    let items = value.as_array()?;
-    match items.as_slice() {
+    match as_array(value)? {
         [first, second] => Some((first, second)),
         _ => None,
     }
@@ -72,7 +71,7 @@ impl Readable for (u64, u64) {
     ghost reads = { λ _. read_pair };
 
     #[tactic(auto, unfolding(crate::specs::Lists::is_pair))]
-    fn has_shape(_version: DocVersion, value: &Value) -> bool {
+    fn has_shape(_version: DocVersion, value: &Tree<'_>) -> bool {
         match two_of(value) {
             Some((first, second)) => is_whole(first) && is_whole(second),
             None => false,
@@ -80,11 +79,11 @@ impl Readable for (u64, u64) {
     }
 
     #[tactic(auto, unfolding(crate::specs::Lists::read_pair))]
-    fn read(_alloc: Global, _version: DocVersion, value: &Value) -> Result<Self, ReadError> {
+    fn read(_alloc: Global, _version: DocVersion, value: &Tree<'_>) -> Result<Self, ReadError> {
         let Some((first, second)) = two_of(value) else {
             return Err(ReadError::Range);
         };
-        let (Some(first), Some(second)) = (first.as_u64(), second.as_u64()) else {
+        let (Some(first), Some(second)) = (as_u64(first), as_u64(second)) else {
             return Err(ReadError::Range);
         };
         Ok((first, second))
@@ -96,12 +95,12 @@ impl Readable for Vector {
 
     ghost reads = { λ _. read_version };
 
-    fn has_shape(version: DocVersion, value: &Value) -> bool {
+    fn has_shape(version: DocVersion, value: &Tree<'_>) -> bool {
         <Items<(u64, u64)>>::has_shape(version, value)
     }
 
     #[tactic(auto, unfolding(crate::specs::Lists::read_version), using(crate::proofs::ListFacts::version_decides))]
-    fn read(alloc: Global, version: DocVersion, value: &Value) -> Result<Self, ReadError> {
+    fn read(alloc: Global, version: DocVersion, value: &Tree<'_>) -> Result<Self, ReadError> {
         let pairs = <Items<(u64, u64)>>::read(alloc, version, value)?;
         match Vector::read(pairs.as_slice()) {
             Some(version) => Ok(version),

@@ -1,7 +1,7 @@
 //! Nodes: what a store holds at a name.
 ghost use Rattle.std.specs.Prelude.{◌≡◌, [], codes};
 ghost use Rattle.serde_json.specs.Find.{get};
-ghost use Rattle.serde_json.specs.View.{view};
+ghost use Rattle.bep_tree.specs.View.{view};
 ghost use Rattle.bep_json.specs.Reading.{Gives, read_member, read_member_or};
 ghost use Rattle.bep_json.specs.Numbers.{read_kind};
 ghost use Rattle.bep_json.specs.Texts.{read_hex_bytes};
@@ -11,7 +11,7 @@ use crate::numbers::kind_of;
 use crate::texts::{HexBytes, TextBytes};
 use crate::{DocVersion, Nanoseconds, ReadError, Readable, Whole, is_object, member, member_or};
 use bep_record::{Items, Kind, Name, NodeParts, Target};
-use serde_json::Value;
+use bep_tree::{Tree, get};
 use std::alloc::Global;
 
 /// A name and what a store holds there, whether the parts fit together or not.
@@ -30,12 +30,12 @@ impl Readable for NamedParts {
     ghost reads = { read_node };
 
     #[tactic(auto, unfolding(crate::specs::Nodes::is_node))]
-    fn has_shape(version: DocVersion, value: &Value) -> bool {
+    fn has_shape(version: DocVersion, value: &Tree<'_>) -> bool {
         has_node_members(version, value) && has_one_body(value) && has_due_target(value)
     }
 
     #[tactic(auto, unfolding(crate::specs::Nodes::read_node))]
-    fn read(alloc: Global, version: DocVersion, value: &Value) -> Result<Self, ReadError> {
+    fn read(alloc: Global, version: DocVersion, value: &Tree<'_>) -> Result<Self, ReadError> {
         let name = member::<Name>(alloc, version, value, "name")?;
         let kind = member::<Kind>(alloc, version, value, "type")?;
         let modified_s = member::<i64>(alloc, version, value, "modified_s")?;
@@ -61,7 +61,7 @@ impl Readable for NamedParts {
 
 // Whether the value is an object with the members of a node, each of its kind, and no others.
 #[tactic(auto, unfolding(crate::specs::Nodes::has_node_members))]
-fn has_node_members(version: DocVersion, value: &Value) -> bool
+fn has_node_members(version: DocVersion, value: &Tree<'_>) -> bool
     ensures { result ≡ has_node_members (view value.now) }
 {
     is_object!(version, value;
@@ -71,25 +71,25 @@ fn has_node_members(version: DocVersion, value: &Value) -> bool
 
 // Whether the bytes are written at most once, as a text or in digits.
 #[tactic(auto, unfolding(crate::specs::Nodes::has_one_body))]
-fn has_one_body(value: &Value) -> bool
+fn has_one_body(value: &Tree<'_>) -> bool
     ensures { result ≡ has_one_body (view value.now) }
 {
-    value.get("text").is_none() || value.get("hex").is_none()
+    get(value, "text").is_none() || get(value, "hex").is_none()
 }
 
 // Whether a symlink says where it leads.
 #[tactic(auto, unfolding(crate::specs::Nodes::has_due_target))]
-fn has_due_target(value: &Value) -> bool
+fn has_due_target(value: &Tree<'_>) -> bool
     ensures { result ≡ has_due_target (view value.now) }
 {
-    !is_symlink(value) || value.get("target").is_some()
+    !is_symlink(value) || get(value, "target").is_some()
 }
 
 // Whether the value says that it is a symlink.
-fn is_symlink(value: &Value) -> bool
+fn is_symlink(value: &Tree<'_>) -> bool
     ensures { result ≡ says_symlink (read_member (codes "type") read_kind (view value.now)) }
 {
-    match value.get("type") {
+    match get(value, "type") {
         Some(kind) => match kind_of(kind) {
             Some(Kind::File) => false,
             Some(Kind::Directory) => false,
@@ -101,19 +101,19 @@ fn is_symlink(value: &Value) -> bool
 }
 
 // The bytes, which are written as a text or in hexadecimal digits.
-fn body(alloc: Global, version: DocVersion, value: &Value) -> Result<Items<u8>, ReadError>
+fn body(alloc: Global, version: DocVersion, value: &Tree<'_>) -> Result<Items<u8>, ReadError>
     ensures { Gives result (read_body version (get (codes "text") (view value.now)) (view value.now)) }
 {
-    match value.get("text") {
+    match get(value, "text") {
         Some(text) => Ok(TextBytes::read(alloc, version, text)?.into_items()),
         None => hex_body(alloc, version, value),
     }
 }
 
-fn hex_body(alloc: Global, version: DocVersion, value: &Value) -> Result<Items<u8>, ReadError>
+fn hex_body(alloc: Global, version: DocVersion, value: &Tree<'_>) -> Result<Items<u8>, ReadError>
     ensures { Gives result (read_member_or (codes "hex") (read_hex_bytes version) [] (view value.now)) }
 {
-    match value.get("hex") {
+    match get(value, "hex") {
         Some(digits) => Ok(HexBytes::read(alloc, version, digits)?.into_items()),
         None => Ok(Items::new(Vec::new(alloc))),
     }

@@ -1,12 +1,12 @@
 //! Whole numbers in their ranges, flags, and what is told by a number.
 ghost use Rattle.std.specs.Prelude.{◌≡◌, ◌≤◌, ℕ};
-ghost use Rattle.serde_json.specs.View.{view};
+ghost use Rattle.bep_tree.specs.View.{view};
 ghost use Rattle.bep_json.specs.Reading.{Gives};
 ghost use Rattle.bep_json.specs.Numbers.{is_whole, is_flag, read_number, read_signed, read_flag, read_kind, greatest_id};
 
 use crate::{DocVersion, ReadError, Readable};
 use bep_record::{DeviceId, Kind};
-use serde_json::Value;
+use bep_tree::{Tree, as_bool, as_i64, as_u64};
 use std::alloc::Global;
 use std::marker::Model;
 
@@ -57,12 +57,12 @@ impl<const LOW: u64, const HIGH: u64> Readable for Whole<LOW, HIGH> {
 
     ghost reads = { λ _. read_number LOW HIGH };
 
-    fn has_shape(_version: DocVersion, value: &Value) -> bool {
+    fn has_shape(_version: DocVersion, value: &Tree<'_>) -> bool {
         is_whole(value)
     }
 
-    fn read(_alloc: Global, _version: DocVersion, value: &Value) -> Result<Self, ReadError> {
-        match value.as_u64() {
+    fn read(_alloc: Global, _version: DocVersion, value: &Tree<'_>) -> Result<Self, ReadError> {
+        match as_u64(value) {
             Some(number) if LOW <= number && number <= HIGH => Ok(Whole { number }),
             _ => Err(ReadError::Range),
         }
@@ -74,12 +74,12 @@ impl Readable for i64 {
 
     ghost reads = { λ _. read_signed };
 
-    fn has_shape(_version: DocVersion, value: &Value) -> bool {
+    fn has_shape(_version: DocVersion, value: &Tree<'_>) -> bool {
         is_whole(value)
     }
 
-    fn read(_alloc: Global, _version: DocVersion, value: &Value) -> Result<Self, ReadError> {
-        match value.as_i64() {
+    fn read(_alloc: Global, _version: DocVersion, value: &Tree<'_>) -> Result<Self, ReadError> {
+        match as_i64(value) {
             Some(number) => Ok(number),
             None => Err(ReadError::Range),
         }
@@ -91,12 +91,12 @@ impl Readable for bool {
 
     ghost reads = { λ _. read_flag };
 
-    fn has_shape(_version: DocVersion, value: &Value) -> bool {
-        value.is_boolean()
+    fn has_shape(_version: DocVersion, value: &Tree<'_>) -> bool {
+        as_bool(value).is_some()
     }
 
-    fn read(_alloc: Global, _version: DocVersion, value: &Value) -> Result<Self, ReadError> {
-        match value.as_bool() {
+    fn read(_alloc: Global, _version: DocVersion, value: &Tree<'_>) -> Result<Self, ReadError> {
+        match as_bool(value) {
             Some(flag) => Ok(flag),
             None => Err(ReadError::Range),
         }
@@ -108,12 +108,12 @@ impl Readable for DeviceId {
 
     ghost reads = { λ _. read_number 1 greatest_id };
 
-    fn has_shape(_version: DocVersion, value: &Value) -> bool {
+    fn has_shape(_version: DocVersion, value: &Tree<'_>) -> bool {
         is_whole(value)
     }
 
-    fn read(_alloc: Global, _version: DocVersion, value: &Value) -> Result<Self, ReadError> {
-        match value.as_u64() {
+    fn read(_alloc: Global, _version: DocVersion, value: &Tree<'_>) -> Result<Self, ReadError> {
+        match as_u64(value) {
             Some(number) => match DeviceId::read(number) {
                 Some(device) => Ok(device),
                 None => Err(ReadError::Range),
@@ -128,11 +128,11 @@ impl Readable for Kind {
 
     ghost reads = { λ _. read_kind };
 
-    fn has_shape(_version: DocVersion, value: &Value) -> bool {
+    fn has_shape(_version: DocVersion, value: &Tree<'_>) -> bool {
         is_whole(value)
     }
 
-    fn read(_alloc: Global, _version: DocVersion, value: &Value) -> Result<Self, ReadError> {
+    fn read(_alloc: Global, _version: DocVersion, value: &Tree<'_>) -> Result<Self, ReadError> {
         match kind_of(value) {
             Some(kind) => Ok(kind),
             None => Err(ReadError::Range),
@@ -141,17 +141,17 @@ impl Readable for Kind {
 }
 
 // Whether the value is a whole number of 64 bits.
-pub(crate) fn is_whole(value: &Value) -> bool
+pub(crate) fn is_whole(value: &Tree<'_>) -> bool
     ensures { result ≡ is_whole (view value.now) }
 {
-    value.is_u64() || value.is_i64()
+    as_u64(value).is_some() || as_i64(value).is_some()
 }
 
 // The kind whose number the value is.
-pub(crate) fn kind_of(value: &Value) -> Option<Kind>
+pub(crate) fn kind_of(value: &Tree<'_>) -> Option<Kind>
     ensures { result ≡ read_kind (view value.now) }
 {
-    match value.as_u64() {
+    match as_u64(value) {
         Some(0) => Some(Kind::File),
         Some(1) => Some(Kind::Directory),
         Some(4) => Some(Kind::Symlink),

@@ -1,13 +1,13 @@
 //! What can be read from a JSON tree, and the members of objects.
 ghost use Rattle.std.specs.Prelude.{◌≡◌, Bool, Option};
 ghost use Rattle.serde_json.specs.Data.{Data};
-ghost use Rattle.serde_json.specs.View.{view};
+ghost use Rattle.bep_tree.specs.View.{view};
 ghost use Rattle.bep_json.specs.declared.version.DocVersion.{DocVersion as VersionOf};
 ghost use Rattle.bep_json.specs.Tree.{has_member, may_have_member};
 ghost use Rattle.bep_json.specs.Reading.{Gives, read_member, read_member_or};
 
 use crate::{DocVersion, ReadError};
-use serde_json::Value;
+use bep_tree::{Tree, get};
 use std::alloc::Global;
 
 /// A thing that stands in a JSON tree.
@@ -19,29 +19,29 @@ pub trait Readable: Drop + Sized {
     ghost reads: { VersionOf → Data → Option Self };
 
     /// Whether the value has the thing's shape: its members, and their kinds.
-    fn has_shape(version: DocVersion, value: &Value) -> bool
+    fn has_shape(version: DocVersion, value: &Tree<'_>) -> bool
         ensures { result ≡ has_shape version (view value.now) };
 
     /// The thing that the value stands for. `Range` where there is none; `Memory` may come in place of any answer.
-    fn read(alloc: Global, version: DocVersion, value: &Value) -> Result<Self, ReadError>
+    fn read(alloc: Global, version: DocVersion, value: &Tree<'_>) -> Result<Self, ReadError>
         ensures { Gives result (reads version (view value.now)) };
 }
 
 /// Whether the value has a member of this name that has a `T`'s shape.
-pub fn has<T: Readable>(version: DocVersion, value: &Value, name: &str) -> bool
+pub fn has<T: Readable>(version: DocVersion, value: &Tree<'_>, name: &str) -> bool
     ensures { result ≡ has_member name.now (T.has_shape version) (view value.now) }
 {
-    match value.get(name) {
+    match get(value, name) {
         Some(found) => T::has_shape(version, found),
         None => false,
     }
 }
 
 /// Whether a member of this name, if the value has one, has a `T`'s shape.
-pub fn may_have<T: Readable>(version: DocVersion, value: &Value, name: &str) -> bool
+pub fn may_have<T: Readable>(version: DocVersion, value: &Tree<'_>, name: &str) -> bool
     ensures { result ≡ may_have_member name.now (T.has_shape version) (view value.now) }
 {
-    match value.get(name) {
+    match get(value, name) {
         Some(member) => T::has_shape(version, member),
         None => true,
     }
@@ -52,12 +52,12 @@ pub fn may_have<T: Readable>(version: DocVersion, value: &Value, name: &str) -> 
 pub fn member<T: Readable>(
     alloc: Global,
     version: DocVersion,
-    value: &Value,
+    value: &Tree<'_>,
     name: &str,
 ) -> Result<T, ReadError>
     ensures { Gives result (read_member name.now (T.reads version) (view value.now)) }
 {
-    match value.get(name) {
+    match get(value, name) {
         Some(found) => T::read(alloc, version, found),
         None => Err(ReadError::Range),
     }
@@ -68,13 +68,13 @@ pub fn member<T: Readable>(
 pub fn member_or<T: Readable>(
     alloc: Global,
     version: DocVersion,
-    value: &Value,
+    value: &Tree<'_>,
     name: &str,
     default: T,
 ) -> Result<T, ReadError>
     ensures { Gives result (read_member_or name.now (T.reads version) default (view value.now)) }
 {
-    match value.get(name) {
+    match get(value, name) {
         Some(member) => T::read(alloc, version, member),
         None => Ok(default),
     }

@@ -1,6 +1,6 @@
 //! Records, well formed or not.
 ghost use Rattle.std.specs.Prelude.{◌≡◌, ◌≤◌, ◌+◌, ◌-◌, min, false, codes, IfOk};
-ghost use Rattle.serde_json.specs.View.{view};
+ghost use Rattle.bep_tree.specs.View.{view};
 ghost use Rattle.bep_record.specs.Block.{block_size_of};
 ghost use Rattle.bep_json.specs.Reading.{Gives};
 ghost use Rattle.bep_json.specs.Numbers.{is_whole, read_number, read_flag, read_kind};
@@ -16,7 +16,7 @@ use bep_record::{
     BASE_BLOCK_SIZE, Block, BlockSize, DeviceId, Entry, Items, Kind, MAX_FILE_SIZE, Name, Target,
     Vector,
 };
-use serde_json::Value;
+use bep_tree::{Tree, as_bool, as_u64, get};
 use std::alloc::{AllocError, Global};
 use std::marker::Model;
 
@@ -53,12 +53,12 @@ impl Readable for FileSize {
 
     ghost reads = { λ version. read_number 0 (most_file_bytes version) };
 
-    fn has_shape(_version: DocVersion, value: &Value) -> bool {
+    fn has_shape(_version: DocVersion, value: &Tree<'_>) -> bool {
         is_whole(value)
     }
 
-    fn read(_alloc: Global, version: DocVersion, value: &Value) -> Result<Self, ReadError> {
-        match value.as_u64() {
+    fn read(_alloc: Global, version: DocVersion, value: &Tree<'_>) -> Result<Self, ReadError> {
+        match as_u64(value) {
             Some(bytes) if bytes <= version.most_file_bytes() => Ok(FileSize { bytes }),
             _ => Err(ReadError::Range),
         }
@@ -76,12 +76,12 @@ impl Readable for Entry {
     ghost reads = { read_record };
 
     #[tactic(auto, unfolding(crate::specs::Records::is_record))]
-    fn has_shape(version: DocVersion, value: &Value) -> bool {
+    fn has_shape(version: DocVersion, value: &Tree<'_>) -> bool {
         has_record_members(version, value) && has_due_block_size(version, value)
     }
 
     #[tactic(auto, unfolding(crate::specs::Records::read_record))]
-    fn read(alloc: Global, version: DocVersion, value: &Value) -> Result<Self, ReadError> {
+    fn read(alloc: Global, version: DocVersion, value: &Tree<'_>) -> Result<Self, ReadError> {
         let name = member::<Name>(alloc, version, value, "name")?;
         let kind = member::<Kind>(alloc, version, value, "type")?;
         let modified_s = member::<i64>(alloc, version, value, "modified_s")?;
@@ -125,7 +125,7 @@ impl Readable for Entry {
 
 // Whether the value is an object with the members of a record, each of its kind, and no others.
 #[tactic(auto, unfolding(crate::specs::Records::has_record_members))]
-fn has_record_members(version: DocVersion, value: &Value) -> bool
+fn has_record_members(version: DocVersion, value: &Tree<'_>) -> bool
     ensures { result ≡ has_record_members (view value.now) }
 {
     is_object!(version, value;
@@ -138,22 +138,22 @@ fn has_record_members(version: DocVersion, value: &Value) -> bool
 // Whether the record says its block size, where its document's version asks for that: in version 2, where it is of a
 // file that isn't deleted.
 #[tactic(auto, unfolding(crate::specs::Records::has_due_block_size))]
-fn has_due_block_size(version: DocVersion, value: &Value) -> bool
+fn has_due_block_size(version: DocVersion, value: &Tree<'_>) -> bool
     ensures { result ≡ has_due_block_size version (view value.now) }
 {
     match version {
         DocVersion::One => true,
         DocVersion::Two => {
-            !(is_file(value) && is_present(value)) || value.get("block_size").is_some()
+            !(is_file(value) && is_present(value)) || get(value, "block_size").is_some()
         }
     }
 }
 
 // Whether the value says that it is of a file.
-fn is_file(value: &Value) -> bool
+fn is_file(value: &Tree<'_>) -> bool
     ensures { result ≡ says_file (read_member (codes "type") read_kind (view value.now)) }
 {
-    match value.get("type") {
+    match get(value, "type") {
         Some(kind) => match kind_of(kind) {
             Some(Kind::File) => true,
             Some(Kind::Directory) => false,
@@ -165,11 +165,11 @@ fn is_file(value: &Value) -> bool
 }
 
 // Whether the value doesn't say that it is deleted.
-fn is_present(value: &Value) -> bool
+fn is_present(value: &Tree<'_>) -> bool
     ensures { result ≡ says_present (read_member_or (codes "deleted") read_flag false (view value.now)) }
 {
-    match value.get("deleted") {
-        Some(flag) => match flag.as_bool() {
+    match get(value, "deleted") {
+        Some(flag) => match as_bool(flag) {
             Some(deleted) => !deleted,
             None => false,
         },

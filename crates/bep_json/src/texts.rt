@@ -1,13 +1,13 @@
 //! Names, targets, hashes, kinds of folders and bytes, written as texts.
 ghost use Rattle.std.specs.Prelude.{◌≡◌, ℕ, List};
-ghost use Rattle.serde_json.specs.View.{view};
+ghost use Rattle.bep_tree.specs.View.{view};
 ghost use Rattle.bep_json.specs.Reading.{Gives};
 ghost use Rattle.bep_json.specs.Texts.{is_text, read_name, read_target, read_folder_name, read_folder_kind, read_hash, fits_file, read_text_bytes, read_hex_bytes};
 
 use crate::digits::{bytes_of, hash_of};
 use crate::{DocVersion, ReadError, Readable};
 use bep_record::{FolderKind, FolderName, Items, Name, RecordError, Target};
-use serde_json::Value;
+use bep_tree::{Tree, as_str};
 use std::alloc::Global;
 use std::marker::Model;
 
@@ -16,13 +16,13 @@ impl Readable for Name {
 
     ghost reads = { λ _. read_name };
 
-    fn has_shape(_version: DocVersion, value: &Value) -> bool {
-        value.is_string()
+    fn has_shape(_version: DocVersion, value: &Tree<'_>) -> bool {
+        as_str(value).is_some()
     }
 
     #[tactic(auto, unfolding(crate::specs::Texts::read_name), using(crate::proofs::TextFacts::name_decides))]
-    fn read(alloc: Global, _version: DocVersion, value: &Value) -> Result<Self, ReadError> {
-        let Some(text) = value.as_str() else {
+    fn read(alloc: Global, _version: DocVersion, value: &Tree<'_>) -> Result<Self, ReadError> {
+        let Some(text) = as_str(value) else {
             return Err(ReadError::Range);
         };
         match Name::read(alloc, text.as_bytes()) {
@@ -38,13 +38,13 @@ impl Readable for Target {
 
     ghost reads = { λ _. read_target };
 
-    fn has_shape(_version: DocVersion, value: &Value) -> bool {
-        value.is_string()
+    fn has_shape(_version: DocVersion, value: &Tree<'_>) -> bool {
+        as_str(value).is_some()
     }
 
     #[tactic(auto, unfolding(crate::specs::Texts::read_target), using(crate::proofs::TextFacts::target_decides))]
-    fn read(alloc: Global, _version: DocVersion, value: &Value) -> Result<Self, ReadError> {
-        let Some(text) = value.as_str() else {
+    fn read(alloc: Global, _version: DocVersion, value: &Tree<'_>) -> Result<Self, ReadError> {
+        let Some(text) = as_str(value) else {
             return Err(ReadError::Range);
         };
         match Target::read(alloc, text.as_bytes()) {
@@ -60,13 +60,13 @@ impl Readable for FolderName {
 
     ghost reads = { λ _. read_folder_name };
 
-    fn has_shape(_version: DocVersion, value: &Value) -> bool {
-        value.is_string()
+    fn has_shape(_version: DocVersion, value: &Tree<'_>) -> bool {
+        as_str(value).is_some()
     }
 
     #[tactic(auto, unfolding(crate::specs::Texts::read_folder_name), using(crate::proofs::TextFacts::folder_name_decides))]
-    fn read(alloc: Global, _version: DocVersion, value: &Value) -> Result<Self, ReadError> {
-        let Some(text) = value.as_str() else {
+    fn read(alloc: Global, _version: DocVersion, value: &Tree<'_>) -> Result<Self, ReadError> {
+        let Some(text) = as_str(value) else {
             return Err(ReadError::Range);
         };
         match FolderName::read(alloc, text.as_bytes()) {
@@ -83,12 +83,12 @@ impl Readable for FolderKind {
 
     ghost reads = { λ _. read_folder_kind };
 
-    fn has_shape(_version: DocVersion, value: &Value) -> bool {
-        value.is_string()
+    fn has_shape(_version: DocVersion, value: &Tree<'_>) -> bool {
+        as_str(value).is_some()
     }
 
-    fn read(_alloc: Global, _version: DocVersion, value: &Value) -> Result<Self, ReadError> {
-        match value.as_str() {
+    fn read(_alloc: Global, _version: DocVersion, value: &Tree<'_>) -> Result<Self, ReadError> {
+        match as_str(value) {
             Some("send-receive") => Ok(FolderKind::SendReceive),
             Some("send-only") => Ok(FolderKind::SendOnly),
             Some("receive-only") => Ok(FolderKind::ReceiveOnly),
@@ -103,13 +103,13 @@ impl Readable for [u8; 32] {
 
     ghost reads = { λ _. read_hash };
 
-    fn has_shape(_version: DocVersion, value: &Value) -> bool {
-        value.is_string()
+    fn has_shape(_version: DocVersion, value: &Tree<'_>) -> bool {
+        as_str(value).is_some()
     }
 
     #[tactic(auto, unfolding(crate::specs::Texts::read_hash))]
-    fn read(_alloc: Global, _version: DocVersion, value: &Value) -> Result<Self, ReadError> {
-        let Some(text) = value.as_str() else {
+    fn read(_alloc: Global, _version: DocVersion, value: &Tree<'_>) -> Result<Self, ReadError> {
+        let Some(text) = as_str(value) else {
             return Err(ReadError::Range);
         };
         match hash_of(text.as_bytes()) {
@@ -152,13 +152,13 @@ impl Readable for TextBytes {
 
     ghost reads = { read_text_bytes };
 
-    fn has_shape(_version: DocVersion, value: &Value) -> bool {
-        value.is_string()
+    fn has_shape(_version: DocVersion, value: &Tree<'_>) -> bool {
+        as_str(value).is_some()
     }
 
     #[tactic(auto, unfolding(crate::specs::Texts::read_text_bytes))]
-    fn read(alloc: Global, version: DocVersion, value: &Value) -> Result<Self, ReadError> {
-        let Some(text) = value.as_str() else {
+    fn read(alloc: Global, version: DocVersion, value: &Tree<'_>) -> Result<Self, ReadError> {
+        let Some(text) = as_str(value) else {
             return Err(ReadError::Range);
         };
         let bytes = text.as_bytes();
@@ -198,13 +198,13 @@ impl Readable for HexBytes {
 
     ghost reads = { read_hex_bytes };
 
-    fn has_shape(_version: DocVersion, value: &Value) -> bool {
-        value.is_string()
+    fn has_shape(_version: DocVersion, value: &Tree<'_>) -> bool {
+        as_str(value).is_some()
     }
 
     #[tactic(auto, unfolding(crate::specs::Texts::read_hex_bytes))]
-    fn read(alloc: Global, version: DocVersion, value: &Value) -> Result<Self, ReadError> {
-        let Some(text) = value.as_str() else {
+    fn read(alloc: Global, version: DocVersion, value: &Tree<'_>) -> Result<Self, ReadError> {
+        let Some(text) = as_str(value) else {
             return Err(ReadError::Range);
         };
         let Some(bytes) = bytes_of(alloc, text.as_bytes())? else {

@@ -1,13 +1,13 @@
 //! The cluster before its first step: folders, the devices that share them, and links.
 ghost use Rattle.std.specs.Prelude.{◌≡◌, IfOk, List};
-ghost use Rattle.serde_json.specs.View.{view};
+ghost use Rattle.bep_tree.specs.View.{view};
 ghost use Rattle.bep_json.specs.Lists.{is_pair};
 ghost use Rattle.bep_scenario.specs.Fresh.{is_fresh_share, read_fresh_share, is_fresh_folder, read_fresh_folder, fresh_link, read_fresh_link};
 
 use bep_document::{FolderParts, IndexNumber, LinkParts, ShareParts, index_id_of};
 use bep_json::{DocVersion, ReadError, Readable, is_object, member};
 use bep_record::{DeviceId, FolderKind, FolderName, Items};
-use serde_json::Value;
+use bep_tree::Tree;
 use std::alloc::{AllocError, Global};
 use std::marker::Model;
 
@@ -46,12 +46,12 @@ impl Readable for Fresh<ShareParts> {
     ghost reads = { λ _. read_fresh_share };
 
     #[tactic(auto, unfolding(crate::specs::Fresh::is_fresh_share))]
-    fn has_shape(version: DocVersion, value: &Value) -> bool {
+    fn has_shape(version: DocVersion, value: &Tree<'_>) -> bool {
         is_object!(version, value; has "device": DeviceId, has "kind": FolderKind, has "index_id": IndexNumber)
     }
 
     #[tactic(auto, unfolding(crate::specs::Fresh::read_fresh_share))]
-    fn read(alloc: Global, version: DocVersion, value: &Value) -> Result<Self, ReadError> {
+    fn read(alloc: Global, version: DocVersion, value: &Tree<'_>) -> Result<Self, ReadError> {
         let part = ShareParts {
             device: member(alloc, version, value, "device")?,
             kind: member(alloc, version, value, "kind")?,
@@ -73,12 +73,12 @@ impl Readable for Fresh<FolderParts> {
     ghost reads = { λ _. read_fresh_folder };
 
     #[tactic(auto, unfolding(crate::specs::Fresh::is_fresh_folder))]
-    fn has_shape(version: DocVersion, value: &Value) -> bool {
+    fn has_shape(version: DocVersion, value: &Tree<'_>) -> bool {
         is_object!(version, value; has "folder": FolderName, has "devices": Items<Fresh<ShareParts>>)
     }
 
     #[tactic(auto, unfolding(crate::specs::Fresh::read_fresh_folder))]
-    fn read(alloc: Global, version: DocVersion, value: &Value) -> Result<Self, ReadError> {
+    fn read(alloc: Global, version: DocVersion, value: &Tree<'_>) -> Result<Self, ReadError> {
         let folder = member::<FolderName>(alloc, version, value, "folder")?;
         let fresh = member::<Items<Fresh<ShareParts>>>(alloc, version, value, "devices")?;
         let devices = into_parts(alloc, fresh)?;
@@ -93,12 +93,12 @@ impl Readable for Fresh<LinkParts> {
 
     ghost reads = { λ _. read_fresh_link };
 
-    fn has_shape(version: DocVersion, value: &Value) -> bool {
+    fn has_shape(version: DocVersion, value: &Tree<'_>) -> bool {
         <(u64, u64)>::has_shape(version, value)
     }
 
     #[tactic(auto, unfolding(crate::specs::Fresh::read_fresh_link))]
-    fn read(alloc: Global, version: DocVersion, value: &Value) -> Result<Self, ReadError> {
+    fn read(alloc: Global, version: DocVersion, value: &Tree<'_>) -> Result<Self, ReadError> {
         let (first, second) = <(u64, u64)>::read(alloc, version, value)?;
         let (Some(a), Some(b)) = (DeviceId::read(first), DeviceId::read(second)) else {
             return Err(ReadError::Range);

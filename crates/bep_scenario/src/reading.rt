@@ -1,6 +1,6 @@
 //! The reading of a scenario document: from its bytes to what it says, or to its fault.
 ghost use Rattle.std.specs.Prelude.{◌≡◌};
-ghost use Rattle.serde_json.specs.View.{view};
+ghost use Rattle.bep_tree.specs.View.{view};
 ghost use Rattle.bep_document.specs.Reading.{Answers, unless};
 ghost use Rattle.bep_scenario.specs.Faults.{first_fault};
 ghost use Rattle.bep_scenario.specs.Reading.{is_scenario, read_scenario, reading_of_tree, reading_of};
@@ -14,7 +14,7 @@ use bep_document::{
 };
 use bep_json::{DocVersion, ReadError, Readable, Whole, is_object, member};
 use bep_record::{Items, MAX_FOLDERS};
-use serde_json::Value;
+use bep_tree::{Scratch, Tree};
 use std::alloc::Global;
 
 type FreshFolders = Few<Fresh<FolderParts>, MAX_FOLDERS>;
@@ -27,14 +27,14 @@ impl Readable for ScenarioParts {
     ghost reads = { read_scenario };
 
     #[tactic(auto, unfolding(crate::specs::Reading::is_scenario))]
-    fn has_shape(version: DocVersion, value: &Value) -> bool {
+    fn has_shape(version: DocVersion, value: &Tree<'_>) -> bool {
         is_object!(version, value;
             has "version": Whole<1, 2>, has "folders": FreshFolders, has "links": FreshLinks,
             has "steps": Items<StepParts>)
     }
 
     #[tactic(auto, unfolding(crate::specs::Reading::read_scenario))]
-    fn read(alloc: Global, version: DocVersion, value: &Value) -> Result<Self, ReadError> {
+    fn read(alloc: Global, version: DocVersion, value: &Tree<'_>) -> Result<Self, ReadError> {
         let fresh = member::<FreshFolders>(alloc, version, value, "folders")?.into_items();
         let folders = into_parts(alloc, fresh)?;
         if !has_few_devices(alloc, folders.as_slice())? {
@@ -62,13 +62,14 @@ impl Readable for ScenarioParts {
 pub fn read_scenario_parts(alloc: Global, bytes: &[u8]) -> Result<ScenarioParts, DocError>
     ensures { Answers result (reading_of bytes.now) }
 {
-    let tree = document_tree(alloc, bytes)?;
+    let mut scratch = Scratch::new(alloc);
+    let tree = document_tree(alloc, bytes, &mut scratch)?;
     parts_of(alloc, &tree)
 }
 
 // What the tree of a document says.
 #[tactic(auto, unfolding(crate::specs::Reading::reading_of_tree))]
-fn parts_of(alloc: Global, tree: &Value) -> Result<ScenarioParts, DocError>
+fn parts_of(alloc: Global, tree: &Tree<'_>) -> Result<ScenarioParts, DocError>
     ensures { Answers result (reading_of_tree (view tree.now)) }
 {
     let Some(version) = doc_version(tree) else {

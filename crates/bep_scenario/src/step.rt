@@ -1,6 +1,6 @@
 //! Steps, each written as a list of a word and what belongs to it.
 ghost use Rattle.std.specs.Prelude.{◌≡◌, Some};
-ghost use Rattle.serde_json.specs.View.{view};
+ghost use Rattle.bep_tree.specs.View.{view};
 ghost use Rattle.bep_json.specs.Reading.{Gives};
 ghost use Rattle.bep_scenario.specs.Items.{read_item};
 ghost use Rattle.bep_scenario.specs.Words.{read_word};
@@ -14,7 +14,7 @@ use bep_index::IndexId;
 use bep_json::{DocVersion, NamedParts, ReadError, Readable};
 use bep_machine::Step;
 use bep_record::{DeviceId, FolderName, Name};
-use serde_json::Value;
+use bep_tree::{Tree, at};
 use std::alloc::Global;
 
 impl Readable for StepParts {
@@ -23,12 +23,12 @@ impl Readable for StepParts {
     ghost reads = { read_step };
 
     #[tactic(auto, unfolding(crate::specs::Steps::is_step))]
-    fn has_shape(version: DocVersion, value: &Value) -> bool {
+    fn has_shape(version: DocVersion, value: &Tree<'_>) -> bool {
         has_form(version, first_word(value), value)
     }
 
     #[tactic(auto, unfolding(crate::specs::Steps::read_step))]
-    fn read(alloc: Global, version: DocVersion, value: &Value) -> Result<Self, ReadError> {
+    fn read(alloc: Global, version: DocVersion, value: &Tree<'_>) -> Result<Self, ReadError> {
         match first_word(value) {
             Some(word) => read_by(alloc, version, word, value),
             None => Err(ReadError::Range),
@@ -37,17 +37,17 @@ impl Readable for StepParts {
 }
 
 // The word with which the list begins, if it is a step's.
-fn first_word(value: &Value) -> Option<Word>
+fn first_word(value: &Tree<'_>) -> Option<Word>
     ensures { result ≡ read_item 0 read_word (view value.now) }
 {
-    match value.get(0usize) {
+    match at(value, 0) {
         Some(first) => word_of(first),
         None => None,
     }
 }
 
 // Whether documents of this version have the word, and what belongs to it comes after it.
-fn has_form(version: DocVersion, word: Option<Word>, value: &Value) -> bool
+fn has_form(version: DocVersion, word: Option<Word>, value: &Tree<'_>) -> bool
     ensures { result ≡ has_form version word (view value.now) }
 {
     match word {
@@ -82,7 +82,7 @@ fn read_by(
     alloc: Global,
     version: DocVersion,
     word: Word,
-    value: &Value,
+    value: &Tree<'_>,
 ) -> Result<StepParts, ReadError>
     ensures { Gives result (read_by version word (view value.now)) }
 {
@@ -121,7 +121,7 @@ fn read_by(
 }
 
 // The id under which a reset begins indexes anew. `Range` where there is none; `Memory` may come in place of any answer.
-fn index_id(alloc: Global, version: DocVersion, value: &Value) -> Result<IndexId, ReadError>
+fn index_id(alloc: Global, version: DocVersion, value: &Tree<'_>) -> Result<IndexId, ReadError>
     ensures { Gives result (read_item 2 read_index_id (view value.now)) }
 {
     let number = item::<IndexNumber>(alloc, version, value, 2)?.number();

@@ -1,9 +1,9 @@
 //! The words by which scenarios name steps.
 ghost use Rattle.std.specs.Prelude.{◌≡◌};
-ghost use Rattle.serde_json.specs.View.{view};
+ghost use Rattle.bep_tree.specs.View.{view};
 ghost use Rattle.bep_scenario.specs.Words.{word_named, read_word};
 
-use serde_json::Value;
+use bep_tree::{Tree, as_str};
 
 /// A step of a device at a name of a folder.
 #[derive(Clone, Copy, Debug, PartialEq, Eq)]
@@ -39,10 +39,10 @@ pub(crate) enum Word {
 
 // The word that the tree is, if it is one.
 #[tactic(auto, unfolding(crate::specs::Words::read_word))]
-pub(crate) fn word_of(value: &Value) -> Option<Word>
+pub(crate) fn word_of(value: &Tree<'_>) -> Option<Word>
     ensures { result ≡ read_word (view value.now) }
 {
-    match value.as_str() {
+    match as_str(value) {
         Some(text) => word_named(text),
         None => None,
     }

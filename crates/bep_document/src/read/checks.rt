@@ -1,7 +1,6 @@
 //! A cut, and the whole document.
-ghost use Rattle.std.specs.Prelude.{◌≡◌, List, Some, option_map};
-ghost use Rattle.serde_json.specs.View.{view, items_view};
-ghost use Rattle.serde_json.specs.Find.{get};
+ghost use Rattle.std.specs.Prelude.{◌≡◌, List, Some};
+ghost use Rattle.bep_tree.specs.View.{view, items_view};
 ghost use Rattle.bep_json.specs.Reading.{Gives, GivesBy};
 ghost use Rattle.bep_json.specs.Lists.{read_items, read_list};
 ghost use Rattle.bep_document.specs.read.Links.{read_link};
@@ -12,7 +11,7 @@ use crate::read::few::Few;
 use crate::{CheckParts, FolderParts, LinkParts, RowParts};
 use bep_json::{DocVersion, ReadError, Readable, Whole, is_object, member, member_or};
 use bep_record::{Items, MAX_FOLDERS};
-use serde_json::Value;
+use bep_tree::{Tree, as_u64, get, take_member};
 use std::alloc::Global;
 use std::marker::Model;
 
@@ -53,12 +52,12 @@ impl Readable for CutLists {
     ghost reads = { read_cut };
 
     #[tactic(auto, unfolding(crate::specs::read::Checks::is_cut))]
-    fn has_shape(version: DocVersion, value: &Value) -> bool {
+    fn has_shape(version: DocVersion, value: &Tree<'_>) -> bool {
         is_object!(version, value; has "folders": Items<FolderParts>, may_have "links": Items<LinkParts>)
     }
 
     #[tactic(auto, unfolding(crate::specs::read::Checks::read_cut))]
-    fn read(alloc: Global, version: DocVersion, value: &Value) -> Result<Self, ReadError> {
+    fn read(alloc: Global, version: DocVersion, value: &Tree<'_>) -> Result<Self, ReadError> {
         Ok(CutLists {
             folders: folders_of(alloc, version, value)?,
             links: member_or(alloc, version, value, "links", Items::new(Vec::new(alloc)))?,
@@ -67,20 +66,20 @@ impl Readable for CutLists {
 }
 
 /// The version of the document: the one with the whole number that it says, 1 or 2.
-pub fn doc_version(value: &Value) -> Option<DocVersion>
+pub fn doc_version(value: &Tree<'_>) -> Option<DocVersion>
     ensures { result ≡ doc_version (view value.now) }
 {
-    match value.get("version") {
+    match get(value, "version") {
         Some(version) => version_with(version),
         None => None,
     }
 }
 
 // The version with this number.
-fn version_with(value: &Value) -> Option<DocVersion>
+fn version_with(value: &Tree<'_>) -> Option<DocVersion>
     ensures { result ≡ read_doc_version (view value.now) }
 {
-    match value.as_u64() {
+    match as_u64(value) {
         Some(number) => DocVersion::of_number(number),
         None => None,
     }
@@ -88,7 +87,7 @@ fn version_with(value: &Value) -> Option<DocVersion>
 
 // Whether the tree has the shape of a check document.
 #[tactic(auto, unfolding(crate::specs::read::Checks::is_check))]
-pub(crate) fn is_check(version: DocVersion, value: &Value) -> bool
+pub(crate) fn is_check(version: DocVersion, value: &Tree<'_>) -> bool
     ensures { result ≡ is_check version (view value.now) }
 {
     is_object!(version, value; has "version": Whole<1, 2>, has "cut": CutLists, has "certificate": Items<RowParts>)
@@ -99,15 +98,15 @@ pub(crate) fn is_check(version: DocVersion, value: &Value) -> bool
 pub(crate) fn read_check_parts(
     alloc: Global,
     version: DocVersion,
-    tree: Value,
+    tree: Tree<'_>,
 ) -> Result<CheckParts, ReadError>
-    ensures { Gives result (read_check_parts version (view tree)) }
+    ensures { Gives result (read_check_parts version (view tree.entry)) }
 {
     let rows = match member::<Items<RowParts>>(alloc, version, &tree, "certificate") {
         Ok(rows) => rows,
         Err(error) => return Err(error),
     };
-    let Some(cut) = member_alone(tree, "cut") else {
+    let Some(cut) = take_member(tree, "cut") else {
         return Err(ReadError::Range);
     };
     read_beside(alloc, version, cut, rows)
@@ -117,10 +116,10 @@ pub(crate) fn read_check_parts(
 fn read_beside(
     alloc: Global,
     version: DocVersion,
-    cut: Value,
+    cut: Tree<'_>,
     rows: Items<RowParts>,
 ) -> Result<CheckParts, ReadError>
-    ensures { Gives result (with_rows version (read_cut version (view cut)) (Some rows)) }
+    ensures { Gives result (with_rows version (read_cut version (view cut.entry)) (Some rows)) }
 {
     match lists_of(alloc, version, cut) {
         Ok(lists) => Ok(lists.with_rows(version, rows)),
@@ -130,11 +129,11 @@ fn read_beside(
 
 // The folders and the links of a cut, whose tree is given up: its folders once they are read, and then each link.
 #[tactic(auto, unfolding(crate::specs::read::Checks::read_cut))]
-fn lists_of(alloc: Global, version: DocVersion, cut: Value) -> Result<CutLists, ReadError>
-    ensures { Gives result (read_cut version (view cut)) }
+fn lists_of(alloc: Global, version: DocVersion, cut: Tree<'_>) -> Result<CutLists, ReadError>
+    ensures { Gives result (read_cut version (view cut.entry)) }
 {
     let folders = folders_of(alloc, version, &cut)?;
-    let links = match member_alone(cut, "links") {
+    let links = match take_member(cut, "links") {
         Some(links) => links_of(alloc, version, links)?,
         None => Items::new(Vec::new(alloc)),
     };
@@ -145,7 +144,7 @@ fn lists_of(alloc: Global, version: DocVersion, cut: Value) -> Result<CutLists, 
 fn folders_of(
     alloc: Global,
     version: DocVersion,
-    cut: &Value,
+    cut: &Tree<'_>,
 ) -> Result<Items<FolderParts>, ReadError>
     ensures { Gives result (read_folders version (view cut.now)) }
 {
@@ -159,11 +158,15 @@ fn folders_of(
 }
 
 // The links of a list, each of which is given up once it is read.
-fn links_of(alloc: Global, version: DocVersion, links: Value) -> Result<Items<LinkParts>, ReadError>
-    ensures { Gives result (read_list (read_link version) (view links)) }
+fn links_of(
+    alloc: Global,
+    version: DocVersion,
+    links: Tree<'_>,
+) -> Result<Items<LinkParts>, ReadError>
+    ensures { Gives result (read_list (read_link version) (view links.entry)) }
 {
     match links {
-        Value::Array(items) => Ok(Items::new(each_link(alloc, version, items)?)),
+        Tree::Array(items) => Ok(Items::new(each_link(alloc, version, items)?)),
         _ => Err(ReadError::Range),
     }
 }
@@ -172,9 +175,9 @@ fn links_of(alloc: Global, version: DocVersion, links: Value) -> Result<Items<Li
 fn each_link(
     alloc: Global,
     version: DocVersion,
-    items: Vec<Value>,
+    items: Vec<Tree<'_>>,
 ) -> Result<Vec<LinkParts>, ReadError>
-    ensures { GivesBy (λ links. links.items) result (read_items (read_link version) (items_view items.items)) }
+    ensures { GivesBy (λ links. links.items) result (read_items (read_link version) (items_view items.entry.items)) }
 {
     let mut links = Vec::with_capacity(alloc, items.len())?;
     for item in items {
@@ -182,12 +185,4 @@ fn each_link(
         links.push(link)?;
     }
     Ok(links)
-}
-
-// The value at the member of this name, if there is one; the rest of the tree is given up.
-fn member_alone(mut tree: Value, name: &str) -> Option<Value>
-    ensures { option_map view result ≡ get name.now (view tree) }
-{
-    let found = tree.get_mut(name)?;
-    Some(found.take())
 }

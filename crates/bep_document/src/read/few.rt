@@ -1,13 +1,13 @@
 //! Short lists.
 ghost use Rattle.std.specs.Prelude.{◌≡◌, List, []};
-ghost use Rattle.serde_json.specs.View.{view};
+ghost use Rattle.bep_tree.specs.View.{view};
 ghost use Rattle.bep_json.specs.Lists.{is_list};
 ghost use Rattle.bep_json.specs.Reading.{Gives, read_member_or};
 ghost use Rattle.bep_document.specs.read.Few.{read_few};
 
 use bep_json::{DocVersion, ReadError, Readable, member_or};
 use bep_record::Items;
-use serde_json::Value;
+use bep_tree::Tree;
 use std::alloc::Global;
 use std::marker::Model;
 
@@ -48,11 +48,11 @@ impl<T: Readable, const MOST: usize> Readable for Few<T, MOST> {
 
     ghost reads = { λ version. read_few MOST (T.reads version) };
 
-    fn has_shape(version: DocVersion, value: &Value) -> bool {
+    fn has_shape(version: DocVersion, value: &Tree<'_>) -> bool {
         <Items<T>>::has_shape(version, value)
     }
 
-    fn read(alloc: Global, version: DocVersion, value: &Value) -> Result<Self, ReadError> {
+    fn read(alloc: Global, version: DocVersion, value: &Tree<'_>) -> Result<Self, ReadError> {
         let items = <Items<T>>::read(alloc, version, value)?;
         if items.as_slice().len() > MOST {
             return Err(ReadError::Range);
@@ -66,7 +66,7 @@ impl<T: Readable, const MOST: usize> Readable for Few<T, MOST> {
 pub(crate) fn few_or_none<T: Readable, const MOST: usize>(
     alloc: Global,
     version: DocVersion,
-    value: &Value,
+    value: &Tree<'_>,
     name: &str,
 ) -> Result<Items<T>, ReadError>
     ensures { Gives result (read_member_or name.now (read_few MOST (T.reads version)) [] (view value.now)) }

@@ -1,12 +1,12 @@
 //! Folders of a cut, and rows of a certificate.
 ghost use Rattle.std.specs.Prelude.{◌≡◌, List};
-ghost use Rattle.serde_json.specs.View.{view};
+ghost use Rattle.bep_tree.specs.View.{view};
 ghost use Rattle.bep_document.specs.read.Folders.{is_folder, read_folder, is_row, read_row};
 
 use crate::{FolderParts, RowParts, ShareParts};
 use bep_json::{DocVersion, ReadError, Readable, is_object, member};
 use bep_record::{DeviceId, Entry, FolderName, Items};
-use serde_json::Value;
+use bep_tree::Tree;
 use std::alloc::Global;
 
 // A folder with the devices that share it.
@@ -16,12 +16,12 @@ impl Readable for FolderParts {
     ghost reads = { read_folder };
 
     #[tactic(auto, unfolding(crate::specs::read::Folders::is_folder))]
-    fn has_shape(version: DocVersion, value: &Value) -> bool {
+    fn has_shape(version: DocVersion, value: &Tree<'_>) -> bool {
         is_object!(version, value; has "folder": FolderName, has "devices": Items<ShareParts>)
     }
 
     #[tactic(auto, unfolding(crate::specs::read::Folders::read_folder))]
-    fn read(alloc: Global, version: DocVersion, value: &Value) -> Result<Self, ReadError> {
+    fn read(alloc: Global, version: DocVersion, value: &Tree<'_>) -> Result<Self, ReadError> {
         Ok(FolderParts {
             folder: member(alloc, version, value, "folder")?,
             devices: member(alloc, version, value, "devices")?,
@@ -36,12 +36,12 @@ impl Readable for RowParts {
     ghost reads = { read_row };
 
     #[tactic(auto, unfolding(crate::specs::read::Folders::is_row))]
-    fn has_shape(version: DocVersion, value: &Value) -> bool {
+    fn has_shape(version: DocVersion, value: &Tree<'_>) -> bool {
         is_object!(version, value; has "folder": FolderName, has "device": DeviceId, has "record": Entry)
     }
 
     #[tactic(auto, unfolding(crate::specs::read::Folders::read_row))]
-    fn read(alloc: Global, version: DocVersion, value: &Value) -> Result<Self, ReadError> {
+    fn read(alloc: Global, version: DocVersion, value: &Tree<'_>) -> Result<Self, ReadError> {
         Ok(RowParts {
             folder: member(alloc, version, value, "folder")?,
             device: member(alloc, version, value, "device")?,

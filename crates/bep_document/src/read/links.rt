@@ -6,7 +6,7 @@ use crate::{FlightParts, LinkParts};
 use bep_index::MAX_RECORDS;
 use bep_json::{DocVersion, ReadError, Readable, Sequence, is_object, member, member_or};
 use bep_record::{DeviceId, Entry, FolderName, Items, MAX_MESSAGES};
-use serde_json::Value;
+use bep_tree::Tree;
 use std::alloc::Global;
 
 // An Index or an Index Update.
@@ -16,12 +16,12 @@ impl Readable for FlightParts {
     ghost reads = { read_flight };
 
     #[tactic(auto, unfolding(crate::specs::read::Links::is_flight))]
-    fn has_shape(version: DocVersion, value: &Value) -> bool {
+    fn has_shape(version: DocVersion, value: &Tree<'_>) -> bool {
         is_object!(version, value; has "folder": FolderName, has "full": bool, has "records": Items<Entry>)
     }
 
     #[tactic(auto, unfolding(crate::specs::read::Links::read_flight))]
-    fn read(alloc: Global, version: DocVersion, value: &Value) -> Result<Self, ReadError> {
+    fn read(alloc: Global, version: DocVersion, value: &Tree<'_>) -> Result<Self, ReadError> {
         Ok(FlightParts {
             folder: member(alloc, version, value, "folder")?,
             full: member(alloc, version, value, "full")?,
@@ -39,14 +39,14 @@ impl Readable for LinkParts {
     ghost reads = { read_link };
 
     #[tactic(auto, unfolding(crate::specs::read::Links::is_link))]
-    fn has_shape(version: DocVersion, value: &Value) -> bool {
+    fn has_shape(version: DocVersion, value: &Tree<'_>) -> bool {
         is_object!(version, value;
             has "a": DeviceId, has "b": DeviceId, has "up": bool, has "epoch": Sequence,
             may_have "to_a": Items<FlightParts>, may_have "to_b": Items<FlightParts>)
     }
 
     #[tactic(auto, unfolding(crate::specs::read::Links::read_link))]
-    fn read(alloc: Global, version: DocVersion, value: &Value) -> Result<Self, ReadError> {
+    fn read(alloc: Global, version: DocVersion, value: &Tree<'_>) -> Result<Self, ReadError> {
         Ok(LinkParts {
             a: member(alloc, version, value, "a")?,
             b: member(alloc, version, value, "b")?,

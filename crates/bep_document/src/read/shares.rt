@@ -1,6 +1,6 @@
 //! A device that shares a folder.
 ghost use Rattle.std.specs.Prelude.{codes};
-ghost use Rattle.serde_json.specs.View.{view};
+ghost use Rattle.bep_tree.specs.View.{view};
 ghost use Rattle.bep_json.specs.Numbers.{read_number, greatest_id};
 ghost use Rattle.bep_json.specs.Reading.{Gives, read_member};
 ghost use Rattle.bep_document.specs.read.Shares.{is_share, read_share};
@@ -12,7 +12,7 @@ use bep_json::{
     DocVersion, NamedParts, ReadError, Readable, Sequence, Whole, is_object, member, member_or,
 };
 use bep_record::{DeviceId, Entry, FolderKind, Items, MAX_PULLS};
-use serde_json::Value;
+use bep_tree::Tree;
 use std::alloc::Global;
 
 /// The number of an index's id.
@@ -25,7 +25,7 @@ impl Readable for ShareParts {
     ghost reads = { read_share };
 
     #[tactic(auto, unfolding(crate::specs::read::Shares::is_share))]
-    fn has_shape(version: DocVersion, value: &Value) -> bool {
+    fn has_shape(version: DocVersion, value: &Tree<'_>) -> bool {
         is_object!(version, value;
             has "device": DeviceId, has "kind": FolderKind, has "index_id": IndexNumber, has "max": Sequence,
             may_have "own": Items<Entry>, may_have "store": Items<NamedParts>, may_have "views": Items<ViewParts>,
@@ -33,7 +33,7 @@ impl Readable for ShareParts {
     }
 
     #[tactic(auto, unfolding(crate::specs::read::Shares::read_share))]
-    fn read(alloc: Global, version: DocVersion, value: &Value) -> Result<Self, ReadError> {
+    fn read(alloc: Global, version: DocVersion, value: &Tree<'_>) -> Result<Self, ReadError> {
         Ok(ShareParts {
             device: member(alloc, version, value, "device")?,
             kind: member(alloc, version, value, "kind")?,
@@ -48,7 +48,11 @@ impl Readable for ShareParts {
 }
 
 /// The id of an index at its member. `Range` where there is none; `Memory` may come in place of any answer.
-pub fn index_id_of(alloc: Global, version: DocVersion, value: &Value) -> Result<IndexId, ReadError>
+pub fn index_id_of(
+    alloc: Global,
+    version: DocVersion,
+    value: &Tree<'_>,
+) -> Result<IndexId, ReadError>
     ensures { Gives result (read_member (codes "index_id") (read_number 1 greatest_id) (view value.now)) }
 {
     let number = member::<IndexNumber>(alloc, version, value, "index_id")?.number();

@@ -6,7 +6,7 @@ use crate::read::few::Few;
 use bep_index::MAX_NAMES;
 use bep_json::{DocVersion, ReadError, Readable, Sequence, Whole, is_object, member};
 use bep_record::{DeviceId, Entry, Items};
-use serde_json::Value;
+use bep_tree::Tree;
 use std::alloc::Global;
 
 // The number of an index's id, 0 if no index is known.
@@ -19,13 +19,13 @@ impl Readable for ViewParts {
     ghost reads = { read_view };
 
     #[tactic(auto, unfolding(crate::specs::read::Views::is_view))]
-    fn has_shape(version: DocVersion, value: &Value) -> bool {
+    fn has_shape(version: DocVersion, value: &Tree<'_>) -> bool {
         is_object!(version, value;
             has "of": DeviceId, has "index_id": AnyIndexNumber, has "max": Sequence, has "records": Items<Entry>)
     }
 
     #[tactic(auto, unfolding(crate::specs::read::Views::read_view))]
-    fn read(alloc: Global, version: DocVersion, value: &Value) -> Result<Self, ReadError> {
+    fn read(alloc: Global, version: DocVersion, value: &Tree<'_>) -> Result<Self, ReadError> {
         Ok(ViewParts {
             of: member(alloc, version, value, "of")?,
             index_id: member::<AnyIndexNumber>(alloc, version, value, "index_id")?.number(),

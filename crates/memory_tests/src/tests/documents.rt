@@ -4,12 +4,12 @@ ghost use Rattle.std.specs.Prelude.{None};
 use super::made::{CHECK, docs, name};
 use bep_document::{
     DocFault, Fault, Found, Judge, document_tree, first_bad_link, first_fault, first_twice,
-    has_few_devices, index_id_of, read_cut_document, read_cut_parts, read_parts, tree_of,
-    unless_found,
+    has_few_devices, index_id_of, read_cut_document, read_cut_parts, read_cut_text, read_parts,
+    tree_of, unless_found,
 };
 use bep_json::DocVersion;
 use bep_record::DeviceId;
-use serde_json::Value;
+use bep_tree::{Scratch, get};
 use std::alloc::Global;
 
 fn faults(alloc: Global) -> Option<[bool; 2]> {
@@ -20,15 +20,24 @@ fn faults(alloc: Global) -> Option<[bool; 2]> {
     ])
 }
 
-fn share(alloc: Global) -> Option<Value> {
-    tree_of(alloc, br#"{"index_id":11}"#).ok()
+fn index_id(alloc: Global) -> Option<bool> {
+    let mut scratch = Scratch::new(alloc);
+    let share = tree_of(alloc, br#"{"index_id":11}"#, &mut scratch).ok()?;
+    Some(index_id_of(alloc, DocVersion::One, &share).is_ok())
 }
 
-fn trees(alloc: Global) -> Option<[bool; 2]> {
-    let (tree, share) = (document_tree(alloc, CHECK.as_bytes()).ok()?, share(alloc)?);
+fn cut(alloc: Global) -> Option<bool> {
+    let mut scratch = Scratch::new(alloc);
+    let tree = document_tree(alloc, CHECK.as_bytes(), &mut scratch).ok()?;
+    Some(read_cut_parts(alloc, DocVersion::One, get(&tree, "cut")?).is_ok())
+}
+
+fn trees(alloc: Global) -> Option<[bool; 3]> {
+    let text = br#"{"folders":[]}"#;
     Some([
-        read_cut_parts(alloc, DocVersion::One, tree.get("cut")?).is_ok(),
-        index_id_of(alloc, DocVersion::One, &share).is_ok(),
+        cut(alloc)?,
+        index_id(alloc)?,
+        read_cut_text(alloc, DocVersion::One, text).is_ok(),
     ])
 }
 
@@ -65,7 +74,7 @@ fn lists(alloc: Global) -> Option<[bool; 4]> {
 fn documents_find_memory(rt: HostRuntime) {
     let alloc = rt.alloc();
     assert!(rt; faults(alloc) == Some([true; 2]));
-    assert!(rt; trees(alloc) == Some([true; 2]));
+    assert!(rt; trees(alloc) == Some([true; 3]));
     assert!(rt; judged(alloc) == [true; 2]);
     assert!(rt; lists(alloc) == Some([true; 4]));
 }

@@ -2,6 +2,7 @@
 use super::made::{name, node, record};
 use bep_json::{DocVersion, Members, Readable, Whole, member, member_or, node_value, record_value};
 use bep_record::{DeviceId, Name};
+use bep_tree::{Scratch, Tree, get, read_tree};
 use serde_json::Value;
 use std::alloc::Global;
 
@@ -15,26 +16,32 @@ fn texts(members: Members) -> Option<Members> {
     Members::with_text(members, "name", "a").ok()
 }
 
-fn tree(alloc: Global) -> Option<Value> {
+fn members(alloc: Global) -> Option<Value> {
     let members = texts(numbers(alloc)?)?;
     let members = Members::with(members, "size", Value::from(5u64)).ok()?;
     Some(Members::into_value(members))
 }
 
-fn named(alloc: Global, tree: &Value) -> Option<Name> {
+fn made(alloc: Global) -> Option<bool> {
+    let text = members(alloc)?.to_string(alloc).ok()?;
+    Some(text.as_str() == r#"{"deleted":false,"device":1,"modified_s":-1,"name":"a","size":5}"#)
+}
+
+fn named(alloc: Global, tree: &Tree<'_>) -> Option<Name> {
     member(alloc, DocVersion::One, tree, "name").ok()
 }
 
-fn device(alloc: Global, tree: &Value) -> Option<DeviceId> {
+fn device(alloc: Global, tree: &Tree<'_>) -> Option<DeviceId> {
     member_or(alloc, DocVersion::One, tree, "device", DeviceId::read(2)?).ok()
 }
 
-fn size(alloc: Global, tree: &Value) -> Option<Whole<0, 9>> {
-    Readable::read(alloc, DocVersion::One, tree.get("size")?).ok()
+fn size(alloc: Global, tree: &Tree<'_>) -> Option<Whole<0, 9>> {
+    Readable::read(alloc, DocVersion::One, get(tree, "size")?).ok()
 }
 
 fn read(alloc: Global) -> Option<[bool; 3]> {
-    let tree = tree(alloc)?;
+    let mut scratch = Scratch::new(alloc);
+    let tree = read_tree(alloc, br#"{"device":1,"name":"a","size":5}"#, &mut scratch).ok()?;
     Some([
         named(alloc, &tree).is_some(),
         device(alloc, &tree).is_some(),
@@ -53,5 +60,6 @@ fn written(alloc: Global) -> Option<[bool; 2]> {
 #[test]
 fn trees_find_memory(rt: HostRuntime) {
     assert!(rt; read(rt.alloc()) == Some([true; 3]));
+    assert!(rt; made(rt.alloc()) == Some(true));
     assert!(rt; written(rt.alloc()) == Some([true; 2]));
 }

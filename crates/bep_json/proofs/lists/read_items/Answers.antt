@@ -1,5 +1,5 @@
 use Rattle.std.proofs.Common.{List, ◌+◌, ap, drop, ◌∙◌}
-use Rattle.serde_json.specs.View.{items_view}
+use Rattle.bep_tree.specs.View.{items_view}
 use Rattle.bep_json.specs.Lists.{read_items}
 use Rattle.bep_json.proofs.ListFacts.{with_front, one_more_is_read}
 use Rattle.bep_json.proofs.lists.read_items.Goals as goal

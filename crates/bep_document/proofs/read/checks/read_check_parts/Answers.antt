@@ -1,5 +1,5 @@
 use Rattle.std.proofs.Common.{sym, subst}
-use Rattle.serde_json.specs.View.{view}
+use Rattle.bep_tree.specs.View.{view}
 use Rattle.bep_json.specs.Reading.{Gives}
 use Rattle.bep_document.proofs.read.RowsFirst.{rows_fail, cut_fails, both_read}
 use Rattle.bep_document.proofs.read.checks.read_check_parts.Goals as goal

@@ -1,7 +1,7 @@
 use Rattle.std.proofs.Common.{List, ℕ, nat_eq, ◌∙◌, Bor}
 use Rattle.std.specs.Cmp.Lexicographic.{pointwise}
-use Rattle.bep_json.proofs.TreeFacts.{list_any-map}
-use Rattle.bep_json.proofs.tree.is_among.Goals as goal
+use Rattle.bep_tree.proofs.Named.{list_any-map}
+use Rattle.bep_tree.proofs.look.is_among.Goals as goal
 
 pub returns : goal.returns
 returns c =

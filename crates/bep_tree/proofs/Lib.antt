@@ -1,0 +1,6 @@
+pub mod Same
+pub mod Text
+pub mod Found
+pub mod Named
+pub mod Signed
+pub mod Taken

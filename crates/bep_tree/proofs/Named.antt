@@ -1,0 +1,73 @@
+-- The names of a tree's members are those of its value.
+use Rattle.std.proofs.Common.{◌≡◌, ◌∙◌, ℕ, List, [], ◌∷◌, map, Bool, true, false, ◌&&◌, ◌||◌, Bor, Ordering, Less, Equal, Greater, nat_cmp, is_eq, bytes_eq, refl, sym, ap}
+use Rattle.std.specs.List.{list_any, list_all}
+use Rattle.std.specs.Ordering.{match_ordering}
+use Rattle.std.specs.Cmp.Lexicographic.{slice_cmp}
+use Rattle.std.proofs.lemmas.Slice.Eq.{bytes_eq-Decides}
+use Rattle.std.proofs.lemmas.Map.Text.{is_eq-slice_cmp}
+use Rattle.json.specs.Value.{members_view}
+use Rattle.json.specs.Json as json
+use Rattle.json.specs.declared.value.Value.{Value}
+use Rattle.serde_json.specs.Data.{Data, Members, no_members, member, put}
+use Rattle.bep_tree.specs.Names.{is_among, are_among}
+use Rattle.bep_tree.specs.View.{data_of, members_data}
+
+pub list_any-map : {A B : Type 0} (f : A → B) (test : B → Bool) (xs : List A) → list_any (λ x. test (f x)) xs ≡ list_any test (map f xs)
+list_any-map f test [] = refl
+list_any-map f test (x ∷ xs) = ap (λ b. test (f x) || b) (list_any-map f test xs)
+
+-- ---- what is asked of each, in another order
+
+once_more : (a b : Bool) → a && b ≡ a && (a && b)
+once_more true b = refl
+once_more false b = refl
+
+swapped : (a b c : Bool) → a && (b && c) ≡ b && (a && c)
+swapped true true c = refl
+swapped true false c = refl
+swapped false true c = refl
+swapped false false c = refl
+
+grouped : (a b c : Bool) → a && (b && c) ≡ (b && a) && c
+grouped true true c = refl
+grouped true false c = refl
+grouped false true c = refl
+grouped false false c = refl
+
+pub and_true : (a : Bool) → a && true ≡ a
+and_true true = refl
+and_true false = refl
+
+-- ---- members that are put in one after another
+
+put_at : (names : List (List ℕ)) (o : Ordering) (k l : List ℕ) (d e : Data) (ms : Members) → slice_cmp nat_cmp k l ≡ o
+    → are_among names (put k d ms) ≡ is_among k names && are_among names ms
+    → are_among names (match_ordering o (member k d (member l e ms)) (member l d ms) (member l e (put k d ms))) ≡ is_among k names && (is_among l names && are_among names ms)
+put_at names Less k l d e ms is later = refl
+put_at names Equal k l d e ms is later =
+    let same : k ≡ l = (bytes_eq-Decides k l).0 (sym (is_eq-slice_cmp k l) ∙ ap is_eq is) in
+    once_more (is_among l names) (are_among names ms) ∙ ap (λ key. is_among key names && (is_among l names && are_among names ms)) (sym same)
+put_at names Greater k l d e ms is later =
+    ap (λ b. is_among l names && b) later ∙ swapped (is_among l names) (is_among k names) (are_among names ms)
+
+put_among : (names : List (List ℕ)) (k : List ℕ) (d : Data) (ms : Members) → are_among names (put k d ms) ≡ is_among k names && are_among names ms
+put_among names k d no_members = refl
+put_among names k d (member l e ms) = put_at names (slice_cmp nat_cmp k l) k l d e ms refl (put_among names k d ms)
+
+abbrev keys_among : List (List ℕ) → json.Members → Bool
+keys_among names json.no_members = true
+keys_among names (json.member k j ms) = is_among k names && keys_among names ms
+
+all_put : (names : List (List ℕ)) (ms : json.Members) (found : Members) → are_among names (members_data ms found) ≡ keys_among names ms && are_among names found
+all_put names json.no_members found = refl
+all_put names (json.member k j ms) found =
+    all_put names ms (put k (data_of j) found)
+    ∙ ap (λ b. keys_among names ms && b) (put_among names k (data_of j) found)
+    ∙ grouped (keys_among names ms) (is_among k names) (are_among names found)
+
+listed : {A : Type 0} (names : List (List ℕ)) (ms : List (Bor (List ℕ) × Value A)) → list_all (λ m. is_among m.0.now names) ms ≡ keys_among names (members_view ms)
+listed names [] = refl
+listed names (m ∷ ms) = ap (λ b. is_among m.0.now names && b) (listed names ms)
+
+pub members_named : {A : Type 0} (names : List (List ℕ)) (ms : List (Bor (List ℕ) × Value A)) → list_all (λ m. is_among m.0.now names) ms ≡ are_among names (members_data (members_view ms) no_members)
+members_named names ms = listed names ms ∙ sym (all_put names (members_view ms) no_members ∙ and_true (keys_among names (members_view ms)))

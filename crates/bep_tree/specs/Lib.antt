@@ -1,0 +1,4 @@
+pub mod View
+pub mod Read
+pub mod Names
+pub mod inner
