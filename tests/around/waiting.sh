@@ -55,7 +55,7 @@ mapfile -t waits < <(
   reading_words | grep -e '--turns' | sed 's/--turns 3/--turns=3/'
   printf '%s\n' 'run --turns 1000000 --document' 'run --document --turns 0' 'run --turns=1000000'
 )
-# Those that it refuses, or to which it answers with its help.
+# Words that it refuses, or to which it answers with its help.
 mapfile -t refused < <(
   printf '%s\n' '' --help help jump 'jump --json' '--certify check' 'check now' 'check --certify now' 'explain --json --json' \
     'run --turns 3 now' 'run --turns' 'run --turns --document' 'run --turns many' 'run --turns 1000001' 'run --turns=' \
@@ -91,21 +91,21 @@ expect "the script says that it waits where a document comes: $(cat "$work/error
 
 # ---- what the script takes for such words, beside the program
 
-# is_for_document WORDS..: the script takes these for words with which the program reads.
-is_for_document() {
+# script_waits WORDS..: the script takes these for words with which the program reads a document.
+script_waits() {
   sh -c '. release/waiting.sh; reads_document "$@"' reads_document "$@"
 }
 
-# refuses_nothing WORDS..: the program reads with these words. What comes is no document, which it answers by status 2.
-refuses_nothing() {
+# program_reads WORDS..: the program reads a document with these words. What comes is none, which it answers by status 2.
+program_reads() {
   local status=0
   "$program" "$@" < /dev/null > /dev/null 2>&1 || status=$?
   [ "$status" = 2 ]
 }
 
-# agree WORDS..: both say the same of these words.
+# agree WORDS..: the script takes these words for what the program does with them.
 agree() {
-  if refuses_nothing "$@"; then is_for_document "$@"; else ! is_for_document "$@"; fi
+  if program_reads "$@"; then script_waits "$@"; else ! script_waits "$@"; fi
 }
 
 for words in "${waits[@]}" "${refused[@]}"; do
