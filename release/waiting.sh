@@ -1,35 +1,47 @@
 # shellcheck shell=sh
-# asks_for_turns WORDS..: whether these are `run` with a number of turns that it takes.
-asks_for_turns() {
-  second=${2-}
-  third=${3-}
-  case "$*" in
-    "run --turns $third" | "run --turns $third --document") turns=$third ;;
-    "run --document --turns ${4-}") turns=${4-} ;;
-    "run --turns=${second#--turns=}" | "run --turns=${second#--turns=} --document") turns=${second#--turns=} ;;
-    "run --document --turns=${third#--turns=}") turns=${third#--turns=} ;;
-    *) return 1 ;;
+# is_turns TEXT: whether 'run --turns' takes this as its number.
+is_turns() {
+  case ${1#+} in
+    '' | *[!0-9]*) return 1 ;;
   esac
-  case "$turns" in
-    '' | *[!0-9]* | ????????*) return 1 ;;
-  esac
-  [ "$turns" -le 1000000 ]
+  # A shell refuses what is too long for its own numbers, and says so.
+  [ "${1#+}" -le 1000000 ] 2> /dev/null
 }
+
+# reads_document WORDS..: whether the program reads a document where it is called with these words: a subcommand, then flags
+# of its own, each once, and '--' last or not at all. Runs in a shell of its own, whose variables are nobody else's.
+reads_document() (
+  command=${1-}
+  case $command in
+    check | firm | certify | explain | run) shift ;;
+    *) exit 1 ;;
+  esac
+  met=
+  while [ $# -gt 0 ]; do
+    flag=${1%%=*}
+    case "$met " in
+      *" $flag "*) exit 1 ;;
+    esac
+    met="$met $flag"
+    case "$command $1" in
+      'check --certify' | 'firm --certify' | 'certify --partial' | 'run --document') ;;
+      'explain --json' | 'explain --firm' | 'explain --certify') ;;
+      'run --turns='*) is_turns "${1#--turns=}" || exit 1 ;;
+      'run --turns')
+        is_turns "${2-}" || exit 1
+        shift
+        ;;
+      "$command --") [ $# = 1 ] || exit 1 ;;
+      *) exit 1 ;;
+    esac
+    shift
+  done
+)
 
 # tell_waiting WORDS..: says at a terminal that the program waits for a document, where these words have it do so. Whoever
 # forgets '<' else sees nothing at all.
 tell_waiting() {
-  asks_for_turns "$@" || case "$*" in
-    check | firm | certify | 'certify --partial' | run | 'run --document') ;;
-    'check --certify' | 'firm --certify') ;;
-    explain | 'explain --json' | 'explain --firm' | 'explain --json --firm' | 'explain --firm --json') ;;
-    'explain --certify' | 'explain --certify --json' | 'explain --json --certify') ;;
-    'explain --certify --firm' | 'explain --firm --certify') ;;
-    'explain --certify --json --firm' | 'explain --certify --firm --json' | 'explain --json --certify --firm') ;;
-    'explain --json --firm --certify' | 'explain --firm --certify --json' | 'explain --firm --json --certify') ;;
-    *) return 0 ;;
-  esac
-  if [ -t 0 ] && [ -t 2 ]; then
+  if [ -t 0 ] && [ -t 2 ] && reads_document "$@"; then
     echo "syncaudit: waiting for a document on standard input; 'syncaudit $* < FILE' reads one" >&2
   fi
 }

@@ -31,33 +31,100 @@ at_terminal() {
   python3 "$work/at_terminal.py" "$where" "$work/tools" "$asked" "$@"
 }
 
+# in_each_order WORDS FLAG..: these words, and behind them none, some or all of the flags, in each order; a line each.
+in_each_order() {
+  local words=$1 at
+  shift
+  echo "$words"
+  for ((at = 1; at <= $#; at++)); do
+    in_each_order "$words ${!at}" "${@:1:at - 1}" "${@:at + 1}"
+  done
+}
+
+# The words with which the program reads a document: each subcommand, with flags of its usage line in each order.
+reading_words() {
+  local command flags
+  for command in $(helped); do
+    mapfile -t flags < <(usage_of "$command" | grep -oE -- '--[a-z]+( N)?' | sed 's/ N$/ 3/')
+    in_each_order "$command" "${flags[@]}"
+  done
+}
+
+mapfile -t waits < <(
+  reading_words
+  reading_words | grep -e '--turns' | sed 's/--turns 3/--turns=3/'
+  printf '%s\n' 'run --turns 1000000 --document' 'run --document --turns 0' 'run --turns=1000000'
+)
+# Words that it refuses, or to which it answers with its help.
+mapfile -t refused < <(
+  printf '%s\n' '' --help help jump 'jump --json' '--certify check' 'check now' 'check --certify now' 'explain --json --json' \
+    'run --turns 3 now' 'run --turns' 'run --turns --document' 'run --turns many' 'run --turns 1000001' 'run --turns=' \
+    'run --turns=many' 'run --turns=1000001' 'run --turns 3 --turns=3'
+  for command in $(helped); do
+    printf '%s\n' "help $command" "$command --help" "$command now" "$command --$command"
+  done
+)
+expect "too few words with which the program reads: ${#waits[*]}" [ "${#waits[*]}" -ge 30 ]
+
 # expect_waiting PROGRAM: this program says at a terminal that it waits, wherever it does, and there alone.
 expect_waiting() {
-  local asked=$1 words
+  local asked=$1 words told
   command -v python3 > /dev/null 2>&1 || return 0
-  for words in check firm certify 'certify --partial' explain 'explain --json' 'explain --firm' 'explain --json --firm' \
-    'explain --firm --json' 'check --certify' 'firm --certify' 'explain --certify' 'explain --json --certify' \
-    'explain --certify --firm' 'explain --firm --json --certify' run 'run --document' 'run --turns 3' \
-    'run --turns 1000000 --document' 'run --document --turns 0' 'run --turns=3' 'run --turns=3 --document' \
-    'run --document --turns=3'; do
+  for words in "${waits[@]}"; do
     # shellcheck disable=SC2086 # the words are several
-    expect "'$asked $words' doesn't say that it waits: $(at_terminal "$asked" terminal $words)" \
-      [ "$(at_terminal "$asked" terminal $words)" = "syncaudit: waiting for a document on standard input; 'syncaudit $words < FILE' reads one" ]
+    told=$(at_terminal "$asked" terminal $words)
+    expect "'$asked $words' doesn't say that it waits: $told" \
+      [ "$told" = "syncaudit: waiting for a document on standard input; 'syncaudit $words < FILE' reads one" ]
     # shellcheck disable=SC2086
     expect "'$asked $words' says in a pipe that it waits" [ -z "$(at_terminal "$asked" pipe $words)" ]
   done
-  for words in '' --help 'check --help' 'help check' 'check now' 'firm --firm' jump 'run --turns' 'run --turns many' \
-    'run --turns 1000001' 'run --turns 3 now' 'run --turns=' 'run --turns=many' 'run --turns=1000001'; do
+  for words in "${refused[@]}"; do
     # shellcheck disable=SC2086
-    expect "'$asked $words' says that it waits, and doesn't: $(at_terminal "$asked" terminal $words)" \
-      [ -z "$(at_terminal "$asked" terminal $words)" ]
+    told=$(at_terminal "$asked" terminal $words)
+    expect "'$asked $words' says that it waits, and doesn't: $told" [ -z "$told" ]
   done
 }
 
 expect_waiting "$place/syncaudit"
 script check
 expect "the script says that it waits where a document comes: $(cat "$work/error")" is_silent
-# Each subcommand of the program is one of those above.
+
+# ---- what the script takes for such words, beside the program
+
+# script_waits WORDS..: the script takes these for words with which the program reads a document.
+script_waits() {
+  sh -c '. release/waiting.sh; reads_document "$@"' reads_document "$@"
+}
+
+# program_reads WORDS..: the program reads a document with these words. What comes is none, which it answers by status 2.
+program_reads() {
+  local status=0
+  "$program" "$@" < /dev/null > /dev/null 2>&1 || status=$?
+  [ "$status" = 2 ]
+}
+
+# agree WORDS..: the script takes these words for what the program does with them.
+agree() {
+  if program_reads "$@"; then script_waits "$@"; else ! script_waits "$@"; fi
+}
+
+for words in "${waits[@]}" "${refused[@]}"; do
+  # shellcheck disable=SC2086
+  expect "release/waiting.sh and the program differ on '$words'" agree $words
+done
+# Each two words behind each subcommand.
 for command in $(helped); do
-  expect "release/waiting.sh doesn't know 'syncaudit $command'" grep -q "\\b$command |" release/waiting.sh
+  for word in --certify --partial --json --firm --document --turns --turns=3 3 -- --help; do
+    for other in --certify --firm --document --turns=03 +3 -- now; do
+      expect "release/waiting.sh and the program differ on '$command $word $other'" agree "$command" "$word" "$other"
+    done
+  done
+done
+for words in 'run --turns +3' 'run --turns 0000000000000000000000000000003' 'run --turns 18446744073709551617' 'run --turns ++3' \
+  'run --turns -3' 'run --turns 3 --' 'check --' 'check -- --' --version; do
+  # shellcheck disable=SC2086
+  expect "release/waiting.sh and the program differ on '$words'" agree $words
+done
+for words in '' ' 3' '3 '; do
+  expect "release/waiting.sh and the program differ on the turns '$words'" agree run --turns "$words"
 done

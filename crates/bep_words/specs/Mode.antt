@@ -17,7 +17,7 @@ use Rattle.bep_words.specs.declared.mode.Mode.{Mode}
 use Rattle.bep_words.specs.declared.mode.Mode.TheVariants.{Check, Firm, Certify, Explain, Run}
 use Rattle.bep_words.specs.declared.mode.Under.{Under}
 use Rattle.bep_words.specs.declared.mode.Under.TheVariants.{Given, Winners}
-use Rattle.bep_words.specs.declared.mode.TheConstants.{MAX_TURNS}
+use Rattle.bep_words.specs.declared.turns.TheConstants.{MAX_TURNS}
 use Rattle.bep_words.specs.Turns.{turns_of, turns_option}
 
 -- the program's own level: it has a version, and wants a subcommand

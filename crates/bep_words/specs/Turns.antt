@@ -6,7 +6,7 @@ use Rattle.std.specs.Str.Parse.{digits_value, without_leading_plus}
 use Rattle.clap.specs.Words.{Row, Rule, Text, first_of, new_rule}
 use Rattle.clap.specs.declared.builder.action.ArgAction.TheVariants.{Set}
 use Rattle.clap.specs.declared.builder.value_parser.ValueParser.TheVariants.{Unsigned}
-use Rattle.bep_words.specs.declared.mode.TheConstants.{MAX_TURNS}
+use Rattle.bep_words.specs.declared.turns.TheConstants.{MAX_TURNS}
 
 -- the option with its value, a number of turns
 abbrev pub turns_option : Rule

@@ -15,6 +15,8 @@
 mod mode;
 mod release;
 mod told;
+mod turns;
 
-pub use mode::{Ending, Extent, Goal, MAX_TURNS, Mode, Under, faultless_words_ask, mode_of};
+pub use mode::{Ending, Extent, Goal, Mode, Under, faultless_words_ask, mode_of};
 pub use told::{Unfollowed, mode_told, why_of};
+pub use turns::MAX_TURNS;

@@ -2,11 +2,10 @@
 ghost use Rattle.std.specs.Prelude.{◌≡◌, IfOk, codes, false, map};
 ghost use Rattle.clap.specs.Words.{FailsBy, app_of, fault_of, first_value, found_of, new_app, rule_of, subcommand_rows_of};
 ghost use Rattle.bep_words.specs.Mode.{Asks, FaultlessWordsAsk, IsCommand, MakesFewTurns, audit_app, certify_app, ending_of, explain_app, extent_of, flag, form_of, goal_of, is_set, is_true, program, run_app, top_level, under_of};
-ghost use Rattle.bep_words.specs.Turns.{number_in, number_of, turns_of, turns_option};
 
 use crate::release::RELEASE;
+use crate::turns::{turns_of, turns_option};
 use bep_lines::Form;
-use clap::builder::ValueParser;
 use clap::{Arg, ArgAction, ArgMatches, Command, Error};
 use std::alloc::{AllocError, Global};
 use std::convert::AsStr;
@@ -62,9 +61,6 @@ pub enum Ending {
     /// The check document.
     Document,
 }
-
-/// The most turns that a thread may be asked to make.
-pub const MAX_TURNS: u32 = 1000000;
 
 const COMMANDS_HELP: &str =
     "Each command reads a document on standard input, as in 'syncaudit check < FILE'.\n\
@@ -237,19 +233,6 @@ fn run_command<'a>(alloc: Global) -> Result<Command<'a>, AllocError>
     with_document.arg(turns)
 }
 
-// The option that says how many turns the threads make.
-fn turns_option<'a>(alloc: Global) -> Arg<'a>
-    ensures rule { rule_of result ≡ turns_option }
-    ensures local { result.global ≡ false }
-{
-    Arg::new(alloc, "turns")
-        .long("turns")
-        .action(ArgAction::Set)
-        .value_name("N")
-        .value_parser(ValueParser::unsigned(0, u64::from(MAX_TURNS)))
-        .help("Has threads run the cluster after the steps, with N turns each")
-}
-
 // The flag that says under which rows a cut is audited.
 fn certify_flag<'a>(alloc: Global) -> Arg<'a>
     ensures rule { rule_of result ≡ flag (codes "certify") }
@@ -355,33 +338,6 @@ fn ending_of(matches: &ArgMatches<'_>) -> Ending
     } else {
         Ending::Report
     }
-}
-
-// How many turns the subcommand's words ask for.
-fn turns_of(matches: &ArgMatches<'_>) -> u32
-    ensures { result ≡ turns_of (subcommand_rows_of matches.now) }
-{
-    match matches.subcommand() {
-        Some((_, given)) => turns_given(given),
-        None => 0,
-    }
-}
-
-// How many turns these matches say; none where they don't say it.
-fn turns_given(given: &ArgMatches<'_>) -> u32
-    ensures { result ≡ number_in (first_value (found_of given.now) (codes "turns")) }
-{
-    match given.get_str("turns") {
-        Some(value) => number_of(value),
-        None => 0,
-    }
-}
-
-// The number that the text says, up to the most turns. Of words that clap passes it is never above.
-fn number_of(text: &str) -> u32
-    ensures { result ≡ number_of text.now }
-{
-    text.parse().unwrap_or(0u32).min(MAX_TURNS)
 }
 
 // Whether the subcommand's words set this flag.

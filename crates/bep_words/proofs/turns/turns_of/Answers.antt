@@ -2,7 +2,7 @@ use Rattle.std.proofs.Common.{option_map, sym, ap, codes, ◌∙◌}
 use Rattle.clap.proofs.WalkLemmas.{first_value-rows}
 use Rattle.clap.specs.Words.{found_of, rows_of}
 use Rattle.bep_words.specs.Turns.{number_in, turns_under}
-use Rattle.bep_words.proofs.mode.turns_of.Goals as goal
+use Rattle.bep_words.proofs.turns.turns_of.Goals as goal
 
 pub returns-in-Some : goal.returns-in-Some
 returns-in-Some c =
