@@ -10,7 +10,7 @@ use Rattle.bep_peer.specs.declared.error.PeerError.{PeerError}
 use Rattle.bep_peer.specs.Member.{Member, Remains, tables_of, untold}
 use Rattle.bep_peer.specs.Within.{AtFolder}
 use Rattle.bep_log.specs.declared.local.Local.{Local}
-use Rattle.bep_log.specs.declared.local.Local.TheVariants.{Edit, Remove, Commit, Pull, Finish, Override, Revert}
+use Rattle.bep_log.specs.declared.local.Local.TheVariants.{Edit, Remove, Scan, Commit, Pull, Finish, Override, Revert}
 use Rattle.bep_fit.specs.declared.stamped.Stamped.{Stamped}
 use Rattle.bep_log.specs.Acts.{MayGain}
 use Rattle.bep_log.specs.Event.{event_of, event_told}
@@ -53,6 +53,7 @@ module _ (told : AreTold) (folder : Folder) (old left : Member) where
       IsErr answer → left.trace.copied ≡ false → tables_of left ≡ tables_of old
   kept_of (Edit name node) (Err error) made kept err uncopied = undone_leaves (Edit name node) refl (fails_of (Edit name node) folder old left error made)
   kept_of (Remove name) (Err error) made kept err uncopied = undone_leaves (Remove name) refl (fails_of (Remove name) folder old left error made)
+  kept_of (Scan name) (Err error) made kept err uncopied = undone_leaves (Scan name) refl (fails_of (Scan name) folder old left error made)
   kept_of (Commit scan) (Err error) made kept err uncopied = undone_leaves (Commit scan) refl (fails_of (Commit scan) folder old left error made)
   kept_of (Pull name) (Err error) made kept err uncopied = undone_leaves (Pull name) refl (fails_of (Pull name) folder old left error made)
   kept_of (Finish name) (Err error) made kept err uncopied = kept err uncopied
@@ -80,6 +81,7 @@ module _ (told : AreTold) (folder : Folder) (old left : Member) where
   copy_changes : (action : Local) → MayGain (copies action) folder old left → left.trace.copied ≡ true → tables_of left ≢ tables_of old
   copy_changes (Edit name node) never copied = let e = sym never ∙ copied in absurd (cc)
   copy_changes (Remove name) never copied = let e = sym never ∙ copied in absurd (cc)
+  copy_changes (Scan name) never copied = let e = sym never ∙ copied in absurd (cc)
   copy_changes (Commit scan) never copied = let e = sym never ∙ copied in absurd (cc)
   copy_changes (Pull name) never copied = let e = sym never ∙ copied in absurd (cc)
   copy_changes (Finish name) gains copied = gained_changes folder name.now old left (gains.0 copied)

@@ -12,7 +12,7 @@ use Rattle.bep_peer.specs.declared.error.PeerError.TheVariants.{Refused, Stale, 
 use Rattle.bep_peer.specs.Member.{Member, tables_of}
 use Rattle.bep_peer.specs.Within.{StepWithin}
 use Rattle.bep_log.specs.declared.local.Local.{Local}
-use Rattle.bep_log.specs.declared.local.Local.TheVariants.{Edit, Remove, Commit, Pull, Finish, Override, Revert}
+use Rattle.bep_log.specs.declared.local.Local.TheVariants.{Edit, Remove, Scan, Commit, Pull, Finish, Override, Revert}
 use Rattle.bep_log.specs.inner.Local.{copies, does_of, row_of, step_of}
 
 -- what is logged of the actions in a folder makes what they did
@@ -28,6 +28,7 @@ pub record AreTold : Type 0 where
 pub local_is_told : AreTold → (action : Local) (device : Device) (folder : Folder) (failed : Option ℕ) → IsToldInFolder device folder (step_of action device folder) failed (row_of action device failed)
 local_is_told told (Edit name node) device folder failed = told.edit device folder name.now node.now failed
 local_is_told told (Remove name) device folder failed = told.remove device folder name.now failed
+local_is_told told (Scan name) device folder failed = told.scan device folder name.now failed
 local_is_told told (Commit scan) device folder failed = told.scan device folder scan.name failed
 local_is_told told (Pull name) device folder failed = told.start_pull device folder name.now failed
 local_is_told told (Finish name) device folder failed = told.finish device folder name.now failed
@@ -38,6 +39,7 @@ local_is_told told (Revert name) device folder failed = told.revert device folde
 pub local_touches : (action : Local) (device : Device) (folder : Folder) → touches_device (guards_of (step_of action device folder)) device ≡ true
 local_touches (Edit name node) device folder = eq-eqb device device refl
 local_touches (Remove name) device folder = eq-eqb device device refl
+local_touches (Scan name) device folder = eq-eqb device device refl
 local_touches (Commit scan) device folder = eq-eqb device device refl
 local_touches (Pull name) device folder = eq-eqb device device refl
 local_touches (Finish name) device folder = eq-eqb device device refl
@@ -51,6 +53,7 @@ MadeRow action device folder old new answer = StepWithin folder (row_of action d
 pub done_of : (action : Local) (folder : Folder) (old new : Member) (moved : Moved) → does_of action old.number folder old new (Ok moved) → MadeRow action old.number folder old new (Done moved)
 done_of (Edit name node) folder old new moved made = made
 done_of (Remove name) folder old new moved made = made
+done_of (Scan name) folder old new moved made = made
 done_of (Commit scan) folder old new moved made = made.1
 done_of (Pull name) folder old new moved made = made
 done_of (Finish name) folder old new moved made = made
@@ -69,6 +72,9 @@ fails_of (Edit name node) folder old new Memory made = Makes OutOfMemory refl ma
 fails_of (Remove name) folder old new (Refused why) made = Makes (Refuses why) refl made
 fails_of (Remove name) folder old new Stale made = absurd made
 fails_of (Remove name) folder old new Memory made = Makes OutOfMemory refl made
+fails_of (Scan name) folder old new (Refused why) made = Makes (Refuses why) refl made
+fails_of (Scan name) folder old new Stale made = absurd made
+fails_of (Scan name) folder old new Memory made = Makes OutOfMemory refl made
 fails_of (Commit scan) folder old new (Refused StoreFault) made = Makes (Refuses StoreFault) refl made
 fails_of (Commit scan) folder old new Stale made = Leaves made.1
 fails_of (Commit scan) folder old new Memory made = Makes OutOfMemory refl made
@@ -99,6 +105,7 @@ pub never_keeps : (action : Local) → copies action ≡ None → (device : Devi
     ¬ PeerStep device (logged_of (record { step = step_of action device folder; failed = failed; answer = answer }) None) old new
 never_keeps (Edit name node) none device folder failed answer kept old new made = let never = sym kept ∙ (touched device old new made).0.1 in absurd (cc)
 never_keeps (Remove name) none device folder failed answer kept old new made = let never = sym kept ∙ (touched device old new made).0.1 in absurd (cc)
+never_keeps (Scan name) none device folder failed answer kept old new made = let never = sym kept ∙ (touched device old new made).0.1 in absurd (cc)
 never_keeps (Commit scan) none device folder failed answer kept old new made = let never = sym kept ∙ (touched device old new made).0.1 in absurd (cc)
 never_keeps (Pull name) none device folder failed answer kept old new made = let never = sym kept ∙ (touched device old new made).0.1 in absurd (cc)
 never_keeps (Finish name) none device folder failed answer kept old new made = absurd (cc)

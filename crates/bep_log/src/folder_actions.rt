@@ -6,7 +6,7 @@
 ghost use Rattle.std.specs.Prelude.{None, Some};
 ghost use Rattle.bep_log.specs.Acts.{LogsIn, MakesIn};
 ghost use Rattle.bep_machine.specs.declared.step.Step.TheVariants as Step;
-ghost use Rattle.bep_machine.specs.Local.{EditRow, OverrideRow, RemoveRow, RevertRow};
+ghost use Rattle.bep_machine.specs.Local.{EditRow, OverrideRow, RemoveRow, RevertRow, ScanRow};
 ghost use Rattle.bep_machine.specs.Pull.{FinishRow, StartPullRow};
 ghost use Rattle.bep_peer.specs.Within.{CommitsWithin};
 
@@ -41,6 +41,13 @@ impl<S: Store> LoggedPeer<S> {
         ensures logs { LogsIn None folder.now (MakesIn folder.now (RemoveRow name.now)) (Step.Remove self.old.now.number folder.now name.now) ticket self.old self.new result }
     {
         self.act(ticket, folder, Local::Remove(name))
+    }
+
+    /// Looks at the name in the folder and records what it finds, as `Peer::scan` does. `Unchanged` is logged too.
+    pub fn scan(&mut self, ticket: u64, folder: &FolderName, name: &Name) -> Result<Moved, LogError>
+        ensures logs { LogsIn None folder.now (MakesIn folder.now (ScanRow self.old.now.number name.now)) (Step.Scan self.old.now.number folder.now name.now) ticket self.old self.new result }
+    {
+        self.act(ticket, folder, Local::Scan(name))
     }
 
     /// Records what a scan found in the folder, as `Peer::scan_commit` does. `Unchanged` is logged too. `Stale` is no step.

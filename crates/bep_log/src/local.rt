@@ -16,6 +16,7 @@ use std::alloc::{AllocError, Global};
 pub(crate) enum Local<'a> {
     Edit(&'a Name, &'a Node),
     Remove(&'a Name),
+    Scan(&'a Name),
     Commit(ScanResult),
     Pull(&'a Name),
     Finish(&'a Name),
@@ -40,6 +41,7 @@ impl Local<'_> {
                 Step::Edit(device, folder, name, node.copy(alloc)?)
             }
             Local::Remove(name) => Step::Remove(device, folder, name.copy(alloc)?),
+            Local::Scan(name) => Step::Scan(device, folder, name.copy(alloc)?),
             Local::Commit(scan) => Step::Scan(device, folder, scan.name().copy(alloc)?),
             Local::Pull(name) => Step::StartPull(device, folder, name.copy(alloc)?),
             Local::Finish(name) => Step::Finish(device, folder, name.copy(alloc)?),
@@ -62,6 +64,7 @@ impl Local<'_> {
         match self {
             Local::Edit(name, node) => peer.edit(folder, name, node),
             Local::Remove(name) => peer.remove(folder, name),
+            Local::Scan(name) => peer.scan(folder, name),
             Local::Commit(scan) => peer.scan_commit(folder, scan),
             Local::Pull(name) => peer.pull(folder, name),
             Local::Finish(name) => peer.finish(folder, name),

@@ -20,4 +20,6 @@ mod restarting;
 #[cfg(test)]
 mod run;
 #[cfg(test)]
+mod scanning;
+#[cfg(test)]
 mod scenario;

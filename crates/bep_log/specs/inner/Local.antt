@@ -13,12 +13,13 @@ use Rattle.bep_peer.specs.Member.{Member, tables_of}
 use Rattle.bep_peer.specs.Within.{CommitsWithin}
 use Rattle.bep_log.specs.Acts.{Does, MakesIn}
 use Rattle.bep_log.specs.declared.local.Local.{Local}
-use Rattle.bep_log.specs.declared.local.Local.TheVariants.{Edit, Remove, Commit, Pull, Finish, Override, Revert}
+use Rattle.bep_log.specs.declared.local.Local.TheVariants.{Edit, Remove, Scan, Commit, Pull, Finish, Override, Revert}
 
 -- the step that the action is
 abbrev pub step_of : Local → Device → Folder → Step
 step_of (Edit name node) device folder = steps.Edit device folder name.now node.now
 step_of (Remove name) device folder = steps.Remove device folder name.now
+step_of (Scan name) device folder = steps.Scan device folder name.now
 step_of (Commit scan) device folder = steps.Scan device folder scan.name
 step_of (Pull name) device folder = steps.StartPull device folder name.now
 step_of (Finish name) device folder = steps.Finish device folder name.now
@@ -29,6 +30,7 @@ step_of (Revert name) device folder = steps.Revert device folder name.now
 abbrev pub row_of : Local → Device → Option ℕ → Replica → Row Replica
 row_of (Edit name node) device failed = EditRow name.now node.now failed
 row_of (Remove name) device failed = RemoveRow name.now failed
+row_of (Scan name) device failed = ScanRow device name.now failed
 row_of (Commit scan) device failed = ScanRow device scan.name failed
 row_of (Pull name) device failed = StartPullRow device name.now
 row_of (Finish name) device failed = FinishRow device name.now failed
@@ -39,6 +41,7 @@ row_of (Revert name) device failed = RevertRow device name.now failed
 abbrev pub does_of : Local → Device → Folder → Does
 does_of (Edit name node) device folder = MakesIn folder (row_of (Edit name node) device)
 does_of (Remove name) device folder = MakesIn folder (row_of (Remove name) device)
+does_of (Scan name) device folder = MakesIn folder (row_of (Scan name) device)
 does_of (Commit scan) device folder = CommitsWithin folder scan
 does_of (Pull name) device folder = MakesIn folder (row_of (Pull name) device)
 does_of (Finish name) device folder = MakesIn folder (row_of (Finish name) device)
@@ -49,6 +52,7 @@ does_of (Revert name) device folder = MakesIn folder (row_of (Revert name) devic
 abbrev pub copies : Local → Option FileName
 copies (Edit name node) = None
 copies (Remove name) = None
+copies (Scan name) = None
 copies (Commit scan) = None
 copies (Pull name) = None
 copies (Finish name) = Some name.now
