@@ -1,3 +1,4 @@
 -- What only private contracts say: no public contract rests on it.
 pub mod Tally
 pub mod Starting
+pub mod Unchanged

@@ -20,6 +20,7 @@ mod sessions;
 mod shared;
 mod starting;
 mod tally;
+mod unchanged;
 mod workers;
 
 pub use shared::Shared;

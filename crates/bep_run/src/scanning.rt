@@ -3,6 +3,7 @@
 use crate::Shared;
 use crate::shared::Held;
 use crate::tally::{read_or_pass, tally};
+use crate::unchanged::is_known_clean;
 use bep_blocks::{BlocksError, Gate, Place};
 use bep_folder::ScanResult;
 use bep_log::LogError;
@@ -16,11 +17,22 @@ use std::thread::Threads;
 // How many workers hash what a scanner found.
 const WORKERS: u32 = 2;
 
+// What a scanner finds at a name.
+#[derive(Drop)]
+enum Found {
+    // The own record is clean against it: a scan records nothing, whatever its bytes are.
+    Clean,
+    // A copy of it, or that nothing is there, which has to be hashed.
+    Unknown(Option<Node>),
+}
+
 impl<S: Store> Shared<S> {
     /// Scans each name of the device's stores and own records once, and answers how many scans were recorded, those among
-    /// them that found no change. What is found at a name is hashed under no lock, by two workers, and the gate passed at
-    /// `Hashed` before it is recorded. A name that is refused is passed over, and so is a folder whose store can't list its
-    /// names. Refuses `NotShared` where the device isn't there; else only for want of memory, which ends the turn. May wait.
+    /// them that found no change. What is found at a name is hashed under no lock, by two workers, unless the store has it at
+    /// hand and the own record is clean against it: such a scan records nothing, whatever the bytes are. In either case the
+    /// gate is passed at `Hashed` before the scan is recorded. A name that is refused, or has changed meanwhile, is passed
+    /// over, and so is a folder whose store can't list its names. Refuses `NotShared` where the device isn't there; else only
+    /// for want of memory, which ends the turn. May wait.
     pub fn scanner_turn<R: Threads + Wait + Sync, G: Gate + Sync>(
         &self,
         rt: &R,
@@ -49,14 +61,32 @@ impl<S: Store> Shared<S> {
         };
         let mut done = before;
         for (name, _) in names.iter() {
-            let Some(node) = read_or_pass(self.look(rt, held, folder, name))? else {
-                continue;
-            };
-            let scan = self.hash(rt, gate, name, node)?;
-            gate.pass(Place::Hashed(held.number));
-            done = tally(done, self.commit(rt, held, folder, scan))?;
+            if let Some(found) = read_or_pass(self.find(rt, held, folder, name))? {
+                done = tally(done, self.record(rt, gate, held, folder, name, found))?;
+            }
         }
         Ok(done)
+    }
+
+    // Records what was found at the name, hashed first unless it is clean. The gate sees each name once.
+    fn record<R: Threads + Wait + Sync, G: Gate + Sync>(
+        &self,
+        rt: &R,
+        gate: &G,
+        held: &Held<S>,
+        folder: &FolderName,
+        name: &Name,
+        found: Found,
+    ) -> Result<Moved, LogError> {
+        let scan = match found {
+            Found::Clean => None,
+            Found::Unknown(node) => Some(self.hash(rt, gate, name, node)?),
+        };
+        gate.pass(Place::Hashed(held.number));
+        match scan {
+            None => self.commit_clean(rt, held, folder, name),
+            Some(scan) => self.commit(rt, held, folder, scan),
+        }
     }
 
     // The names of the folder's store and of the own records.
@@ -70,16 +100,19 @@ impl<S: Store> Shared<S> {
         Ok(peer.names(folder)?)
     }
 
-    // What the folder's store has at the name.
-    fn look<R: Wait>(
+    // What the folder has at the name.
+    fn find<R: Wait>(
         &self,
         rt: &R,
         held: &Held<S>,
         folder: &FolderName,
         name: &Name,
-    ) -> Result<Option<Node>, LogError> {
+    ) -> Result<Found, LogError> {
         let mut peer = held.peer.lock(rt);
-        Ok(peer.look(folder, name)?)
+        if is_known_clean(peer.peer(), folder, name) {
+            return Ok(Found::Clean);
+        }
+        Ok(Found::Unknown(peer.look(folder, name)?))
     }
 
     // What was found, hashed. No lock is held here.
@@ -96,6 +129,22 @@ impl<S: Store> Shared<S> {
             Err(BlocksError::Memory) => Err(LogError::Memory),
             Err(BlocksError::FileTooLarge | BlocksError::WorkersBad) => unreachable!(),
         }
+    }
+
+    // Records that a scan finds no change, or answers `Stale` where the name isn't clean any more. A scan of a clean name
+    // hashes nothing, so nothing is hashed under the lock.
+    fn commit_clean<R: Wait>(
+        &self,
+        rt: &R,
+        held: &Held<S>,
+        folder: &FolderName,
+        name: &Name,
+    ) -> Result<Moved, LogError> {
+        let mut peer = held.peer.lock(rt);
+        if !is_known_clean(peer.peer(), folder, name) {
+            return Err(LogError::Stale);
+        }
+        peer.scan(self.draw(), folder, name)
     }
 
     // Records what the scan found.

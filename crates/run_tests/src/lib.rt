@@ -16,4 +16,6 @@ mod seen;
 #[cfg(test)]
 mod turns;
 #[cfg(test)]
+mod unchanged;
+#[cfg(test)]
 mod waiting;
