@@ -1,6 +1,6 @@
 #!/usr/bin/env bash
-# Measures the reading of a check document near the limits, beside the kit's parser alone on the same bytes: seconds of
-# the whole process (the best of RUNS runs each) and peak memory.
+# Measures the reading of a check document near the limits, beside its tree alone, and beside the tree that the kit's
+# serde_json makes of the same bytes: seconds of the whole process (the best of RUNS runs each) and peak memory.
 set -euo pipefail
 runs=${1:-3}
 top=$(cd "$(dirname "$0")/.." && pwd)
@@ -9,35 +9,44 @@ trap 'rm -rf "$work"' EXIT
 . "$top/bench/measure.sh"
 . "$top/bench/program.sh"
 
-start_program read_speed 'bep_cut_document serde_json' \
-  bep_facts bep_record bep_blocks bep_choice bep_map bep_index bep_json bep_document bep_model bep_tables bep_cut_document
+start_program read_speed 'bep_tree bep_cut_document serde_json' \
+  bep_facts bep_record bep_blocks bep_choice bep_map bep_index bep_tree bep_json bep_document bep_model bep_tables bep_cut_document
 cat > src/main.rt <<PROGRAM
-// Reads the document: the whole of it, if there is a word, else its JSON tree alone.
+// Reads the document: the whole of it for the word 'whole', its tree alone for 'tree', else serde_json's tree.
 #![tactic(auto)]
 
 use bep_cut_document::read_check;
+use bep_tree::{Scratch, read_tree};
 use serde_json::Value;
-use std::env;
-use std::fs;
-use std::io;
+use std::alloc::Global;
+use std::{env, fs, io};
+
+fn is_read(alloc: Global, bytes: &[u8], word: &str) -> bool {
+    if word == "whole" {
+        return read_check(alloc, bytes).is_ok();
+    }
+    if word == "tree" {
+        let mut scratch = Scratch::new(alloc);
+        return read_tree(alloc, bytes, &mut scratch).is_ok();
+    }
+    Value::from_slice(alloc, bytes).is_ok()
+}
 
 fn main(rt: HostRuntime) -> io::Result<()> {
     let bytes = fs::read(&rt, "$work/document")?;
-    let whole = env::args(&rt)?.count() > 1;
-    let read = if whole {
-        read_check(rt.alloc(), &bytes).is_ok()
-    } else {
-        Value::from_slice(rt.alloc(), &bytes).is_ok()
-    };
-    println!(rt; "{}", read)?;
+    let word = env::args(&rt)?.nth(1).unwrap_or(String::new(rt.alloc()));
+    println!(rt; "{}", is_read(rt.alloc(), &bytes, word.as_str()))?;
     Ok(())
 }
 PROGRAM
 make_document settled
 rt run > "$work/log" 2>&1 || { cat "$work/log"; exit 1; }
 
-measure parser out/read_speed
+measure serde_json out/read_speed
+measure tree out/read_speed tree
 measure reading out/read_speed whole
-grep -qx true "$work/parser.out"
-grep -qx true "$work/reading.out"
-compare parser reading
+for one in serde_json tree reading; do
+  grep -qx true "$work/$one.out"
+done
+compare serde_json tree
+compare serde_json reading

@@ -1,9 +1,9 @@
 //! Documents' bytes as JSON trees: what they hold is what `serde_json` reads in the same bytes.
 //!
-//! A tree is a value of `json`: texts are lent from the document, and numbers stay texts. So it is made some ten times as fast
-//! as a tree of `serde_json`, and in a third of the memory. The two are told apart in three points, which `read_tree` settles
-//! as `serde_json` does: how deep arrays and objects may nest, numbers that are too large for a float, and members that come
-//! twice, of which the last counts.
+//! A tree is a value of `json`: texts are lent from the document, numbers stay texts, and members stay a list. So it takes less
+//! time and memory than a tree of `serde_json`. The two differ in three points, which are settled here as `serde_json` settles
+//! them: how deep arrays and objects may nest, numbers that are too large for a float, and members that come twice, of which
+//! the last counts.
 //!
 //! ```rust
 //! let mut scratch = Scratch::new(alloc);
