@@ -4,6 +4,7 @@ ghost use Rattle.serde_json.specs.Data.{Data, depth};
 ghost use Rattle.serde_json.specs.Read.{max_depth};
 ghost use Rattle.serde_json.specs.View.{view};
 ghost use Rattle.bep_json.specs.declared.version.DocVersion.{DocVersion as VersionOf};
+ghost use Rattle.bep_document.specs.Faultless.{IsFaultless};
 ghost use Rattle.bep_document.specs.Reading.{Answers, Reading, Read, reading_of_cut};
 ghost use Rattle.bep_cut_document.specs.Trees.{cut_tree};
 ghost use Rattle.bep_cut_document.specs.Room.{HasRoom};
@@ -33,10 +34,10 @@ pub trait CutValue: Drop {
 
     /// The cut that a tree says by itself, as the member `cut` of a check document of this version does, or the one fault
     /// for which it is refused: `Shape`, `Range`, or the first of those that have a place. `Memory` may come in place of
-    /// any answer. A tree that `serde_json` has read nests no deeper than is asked, and so does one of `to_value`.
+    /// any answer. That is promised of trees that nest no deeper than 127, as each does that `serde_json` has read and each
+    /// of `to_value`. A deeper one is refused too, as `NotJson`, but no contract says so.
     fn from_value(alloc: Global, version: DocVersion, value: &Value) -> Result<Self, DocError>
-        requires { depth (view value.now) ≤ max_depth }
-        ensures { Answers result (of_tree version (view value.now)) };
+        ensures { depth (view value.now) ≤ max_depth → Answers result (of_tree version (view value.now)) };
 
     /// The cut as a tree, with every member, bytes in hexadecimal digits and all lists rising; or want of memory.
     /// `Cut::from_value` of a version reads this tree as the very cut, if its documents have room for that. Those of version
@@ -55,7 +56,6 @@ impl CutValue for Cut {
     ghost has_room = { HasRoom };
 
     fn from_value(alloc: Global, version: DocVersion, value: &Value) -> Result<Cut, DocError> {
-        readings_are_faultless();
         let parts = parts_of(alloc, version, value)?;
         let (cut, _rows) = check_from(alloc, parts)?;
         Ok(cut)
@@ -70,9 +70,10 @@ impl CutValue for Cut {
 
 // What the tree of a cut says, read as in documents of this version. Its text is what is read again.
 fn parts_of(alloc: Global, version: DocVersion, value: &Value) -> Result<CheckParts, DocError>
-    requires { depth (view value.now) ≤ max_depth }
-    ensures { Answers result (reading_of_cut version (view value.now)) }
+    ensures faultless { IfOk result IsFaultless }
+    ensures says { depth (view value.now) ≤ max_depth → Answers result (reading_of_cut version (view value.now)) }
 {
+    readings_are_faultless();
     let text = value.to_string(alloc)?;
     read_cut_text(alloc, version, text.as_bytes())
 }

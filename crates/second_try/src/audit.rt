@@ -1,8 +1,4 @@
 //! The cut at the end, its certificate and verdict, and its document, each asked for once more where memory was wanting.
-ghost use Rattle.std.specs.Prelude.{◌≤◌};
-ghost use Rattle.serde_json.specs.Data.{depth};
-ghost use Rattle.serde_json.specs.Read.{max_depth};
-ghost use Rattle.serde_json.specs.View.{view};
 ghost use Rattle.bep_cut.specs.Parts.{AreParts};
 
 use crate::logs::tell_logs;
@@ -77,9 +73,7 @@ fn read_back(alloc: Global, cut: &Cut, told: &mut Told) -> Result<Cut, AllocErro
     read_of(alloc, &tree, told)
 }
 
-fn read_of(alloc: Global, tree: &Value, told: &mut Told) -> Result<Cut, AllocError>
-    requires { depth (view tree.now) ≤ max_depth }
-{
+fn read_of(alloc: Global, tree: &Value, told: &mut Told) -> Result<Cut, AllocError> {
     match twice!(told; CutValue::from_value(alloc, DocVersion::Two, tree)) {
         Ok(cut) => Ok(cut),
         Err(_) => Err(AllocError),

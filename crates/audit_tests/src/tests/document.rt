@@ -1,9 +1,4 @@
 //! A cut as a tree by itself, and a fault's copy. What is read and refused, and all else that is written, `tests/` shows.
-ghost use Rattle.std.specs.Prelude.{◌≤◌};
-ghost use Rattle.serde_json.specs.Data.{depth};
-ghost use Rattle.serde_json.specs.Read.{max_depth};
-ghost use Rattle.serde_json.specs.View.{view};
-
 use bep_cut_document::{CutValue, DocVersion};
 use bep_document::{DocError, DocFault, read_parts};
 use bep_tables::Cut;
@@ -23,9 +18,7 @@ fn is_written(alloc: Global, cut: &Cut, tree: &Value) -> bool {
 }
 
 // Whether the cut that is read of the tree is written as the tree.
-fn is_read(alloc: Global, tree: &Value) -> bool
-    requires { depth (view tree.now) ≤ max_depth }
-{
+fn is_read(alloc: Global, tree: &Value) -> bool {
     match Cut::from_value(alloc, DocVersion::Two, tree) {
         Ok(cut) => is_written(alloc, &cut, tree),
         Err(_) => false,
