@@ -79,7 +79,7 @@ def reasons(crates, text):
 
 def has_condition(text, item):
     """Whether the function asks something of its caller."""
-    contract = re.search(rf"^( *)pub fn {item.name}\b.*?^\1\{{", text, re.MULTILINE | re.DOTALL)
+    contract = re.search(rf"^( *)(?:pub )?fn {item.name}\b.*?(?:^\1\{{|;$)", text, re.MULTILINE | re.DOTALL)
     return bool(contract and re.search(r"^ +requires ", contract[0], re.MULTILINE))
 
 
