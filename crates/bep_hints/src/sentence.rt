@@ -62,7 +62,7 @@ fn said_of(alloc: Global, bytes: &[u8], expected: Expected) -> Result<Vec<u8>, A
     }
 }
 
-// Where the bytes aren't JSON: `serde_json` tells the place, which no tree does.
+// Where the bytes aren't JSON. `serde_json` tells the place; `json` doesn't. It refuses whatever `read_tree` refused.
 fn said_of_text(alloc: Global, bytes: &[u8]) -> Result<Vec<u8>, AllocError> {
     match Value::from_slice(alloc, bytes) {
         Ok(_) => Ok(Vec::new(alloc)),

@@ -8,7 +8,7 @@ use Rattle.bep_tree.specs.View.{view}
 use Rattle.bep_tree.specs.declared.error.TreeError.{TreeError}
 use Rattle.bep_tree.specs.declared.error.TreeError.TheVariants.{NotJson, Memory}
 
--- the value that `serde_json` reads in UTF-8 bytes
+-- the value that `serde_json` reads in these bytes; none where they aren't UTF-8
 abbrev pub tree_of : List ℕ → Option Data
 tree_of bytes = if is_utf8 bytes then read bytes else None
 

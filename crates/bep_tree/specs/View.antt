@@ -6,7 +6,7 @@ use Rattle.json.specs.declared.value.Value.{Value}
 use Rattle.serde_json.specs.Data.{Data, Num, null, boolean, number, string, array, object, Items, no_items, item, Members, no_members, put}
 use Rattle.serde_json.specs.Read.{number_of}
 
--- a number; one that is too large for a float, which no document has, is null
+-- a number; null where it is too large for a float, which no tree of `read_tree` has
 abbrev pub number_data : Option Num → Data
 number_data None = null
 number_data (Some n) = number n

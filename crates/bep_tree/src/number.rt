@@ -7,7 +7,7 @@ ghost use Rattle.bep_tree.specs.View.{view};
 use crate::Tree;
 use fast_float::Numeral;
 
-/// The number, where it is a whole one from 0 to 18446744073709551615.
+/// The number, where it is written as a whole one from 0 to 18446744073709551615, so without fraction, exponent or sign.
 pub fn as_u64(tree: &Tree<'_>) -> Option<u64>
     ensures { result ≡ option_and_then as_u64 (as_number (view tree.now)) }
 {
@@ -17,7 +17,8 @@ pub fn as_u64(tree: &Tree<'_>) -> Option<u64>
     }
 }
 
-/// The number, where it is a whole one from -9223372036854775808 to 9223372036854775807; `-0` is none.
+/// The number, where it is written as a whole one from -9223372036854775808 to 9223372036854775807, so without fraction or
+/// exponent; `-0` is none.
 pub fn as_i64(tree: &Tree<'_>) -> Option<i64>
     ensures { result ≡ option_and_then as_i64 (as_number (view tree.now)) }
 {

@@ -5,7 +5,8 @@ ghost use Rattle.bep_tree.specs.View.{view};
 
 use crate::Tree;
 
-/// The member of this name, where the tree is an object that has one; the rest of the tree is let go of.
+/// The member of this name, where the tree is an object that has one; the last of them, where it stands twice. The rest of
+/// the tree is given up.
 pub fn take_member<'a>(tree: Tree<'a>, name: &str) -> Option<Tree<'a>>
     ensures { option_map view result ≡ get name.now (view tree.entry) }
 {
