@@ -14,7 +14,7 @@ trap 'rm -rf "$work"' EXIT
 uses='bep_record bep_blocks bep_config bep_machine bep_store bep_core bep_log bep_run'
 start_program running_speed "$uses" \
   bep_facts bep_record bep_choice bep_blocks bep_map bep_index bep_config bep_model bep_machine bep_fit bep_store bep_folder \
-  bep_links bep_peer bep_core bep_log bep_run_check bep_tables bep_json bep_document bep_cut_document bep_scenario bep_cut \
+  bep_links bep_peer bep_core bep_log bep_run_check bep_tables bep_tree bep_json bep_document bep_cut_document bep_scenario bep_cut \
   bep_run_cut bep_run
 cat > src/main.rt <<PROGRAM
 // Prints the milliseconds until each device has all files, by threads and by one thread, and how many messages were delivered.
