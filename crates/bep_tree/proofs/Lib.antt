@@ -4,3 +4,4 @@ pub mod Found
 pub mod Named
 pub mod Signed
 pub mod Taken
+pub mod Walking

@@ -1,5 +1,5 @@
 -- The names of a tree's members are those of its value.
-use Rattle.std.proofs.Common.{◌≡◌, ◌∙◌, ℕ, List, [], ◌∷◌, map, Bool, true, false, ◌&&◌, ◌||◌, Bor, Ordering, Less, Equal, Greater, nat_cmp, is_eq, bytes_eq, refl, sym, ap}
+use Rattle.std.proofs.Common.{◌≡◌, ◌∙◌, ℕ, List, [], ◌∷◌, map, Bool, true, false, ◌&&◌, ◌||◌, Bor, Ordering, Less, Equal, Greater, nat_cmp, is_eq, refl, sym, ap}
 use Rattle.std.specs.List.{list_any, list_all}
 use Rattle.std.specs.Ordering.{match_ordering}
 use Rattle.std.specs.Cmp.Lexicographic.{slice_cmp}

@@ -1,8 +1,8 @@
 -- A number's text by its sign.
-use Rattle.std.proofs.Common.{◌≡◌, ℕ, List, drop, get_or, Bool, true, false, ◌==◌, ◌&&◌, ◌^◌, nat_lt, nat_le, if◌then◌else◌, Option, Some, None, option_and_then, refl}
+use Rattle.std.proofs.Common.{◌≡◌, ℕ, List, drop, get_or, Bool, true, false, ◌==◌, ◌&&◌, ◌^◌, nat_lt, nat_le, if◌then◌else◌, Some, None, option_and_then, refl}
 use Rattle.std.specs.Float.{binary64, float_is_finite}
 use Rattle.fast_float.specs.Text.{Parts, scan, digits_of, nearest, with_sign}
-use Rattle.serde_json.specs.Data.{Num, negative, float}
+use Rattle.serde_json.specs.Data.{negative, float}
 use Rattle.serde_json.specs.Find.{as_u64}
 use Rattle.serde_json.specs.Read.{is_integer, number_of, number_from}
 

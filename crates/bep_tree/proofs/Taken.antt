@@ -1,5 +1,5 @@
 -- The last member of a name, found from the front.
-use Rattle.std.proofs.Common.{◌≡◌, ◌∙◌, ℕ, List, [], ◌∷◌, true, false, cond, Option, Some, None, option_map, Bor, refl, sym, ap}
+use Rattle.std.proofs.Common.{◌≡◌, ◌∙◌, ℕ, List, ◌∷◌, true, false, cond, Option, Some, None, option_map, Bor, refl, sym, ap}
 use Rattle.std.specs.Str.{bytes_eq}
 use Rattle.json.specs.Json.{Json}
 use Rattle.json.specs.Find.{later_or, get_member}

@@ -1,10 +1,9 @@
 -- What bytes have as their tree, by the value of `json` in them.
-use Rattle.std.proofs.Common.{◌≡◌, ◌∙◌, ℕ, List, Bool, true, false, cond, Option, Some, None, option_and_then, IsUtf8, refl, sym, ap}
+use Rattle.std.proofs.Common.{◌≡◌, ◌∙◌, ℕ, List, Bool, true, false, cond, Some, None, option_and_then, IsUtf8, refl, ap}
 use Rattle.std.specs.Prelude.{if◌then◌else◌}
 use Rattle.std.specs.Str.{is_utf8}
 use Rattle.std.proofs.lemmas.Str.{IsUtf8-from_is_utf8, is_utf8-from_IsUtf8}
 use Rattle.json.specs.Json as json
-use Rattle.serde_json.specs.Data.{Data}
 use Rattle.serde_json.specs.Read.{of_json, read}
 use Rattle.bep_tree.specs.Read.{tree_of}
 use Rattle.bep_tree.specs.View.{data_of}

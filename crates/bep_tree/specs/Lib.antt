@@ -1,4 +1,5 @@
 pub mod View
 pub mod Read
 pub mod Names
+pub mod Walk
 pub mod inner

@@ -1,5 +1,5 @@
 -- The value that `serde_json` has where a tree over a document's text stands.
-use Rattle.std.specs.Prelude.{ℕ, List, Option, Some, None}
+use Rattle.std.specs.Prelude.{List, Option, Some, None}
 use Rattle.json.specs.Json as json
 use Rattle.json.specs.Value as tree
 use Rattle.json.specs.declared.value.Value.{Value}

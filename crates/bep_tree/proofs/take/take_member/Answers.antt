@@ -1,6 +1,6 @@
-use Rattle.std.proofs.Common.{◌≡◌, ◌∙◌, List, [], Option, Some, None, option_map, refl, sym, ap, rules}
+use Rattle.std.proofs.Common.{◌≡◌, ◌∙◌, [], Option, Some, None, option_map, refl, sym, ap, rules}
 use Rattle.std.proofs.lemmas.List.{nil_from_length}
-use Rattle.json.specs.Json.{Json, object}
+use Rattle.json.specs.Json.{object}
 use Rattle.json.specs.Find as tree
 use Rattle.json.specs.Value.{value_view, members_view}
 use Rattle.json.specs.declared.value.Value.{Value}
@@ -8,7 +8,7 @@ use Rattle.json.proofs.Trees.{view-Object}
 use Rattle.serde_json.specs.Find.{get}
 use Rattle.bep_tree.specs.View.{view, data_of}
 use Rattle.bep_tree.proofs.Found.{is_found}
-use Rattle.bep_tree.proofs.Taken.{Named, last_of, at_first}
+use Rattle.bep_tree.proofs.Taken.{last_of, at_first}
 use Rattle.bep_tree.proofs.take.take_member.Goals as goal
 
 twice : {A : Type 0} (found : Option (Value A)) → option_map view found ≡ option_map data_of (option_map value_view found)
