@@ -4,3 +4,4 @@ pub mod ListFacts
 pub mod BlockFacts
 pub mod WrittenFacts
 pub mod RecordSays
+pub mod TakingFacts

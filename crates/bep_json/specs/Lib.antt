@@ -11,3 +11,5 @@ pub mod Members
 pub mod Says
 pub mod Back
 pub mod Laws
+pub mod Taking
+pub mod inner

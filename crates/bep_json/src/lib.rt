@@ -10,6 +10,8 @@
 
 mod digits;
 mod error;
+mod found;
+mod items;
 mod laws;
 mod lists;
 mod members;
@@ -17,16 +19,21 @@ mod nodes;
 mod numbers;
 mod readable;
 mod records;
+mod slots;
+mod taken;
 mod texts;
 mod version;
 mod writing;
 
 pub use bep_tree::has_only;
 pub use error::ReadError;
+pub use found::{Found, Misread, both, due, due_or};
 pub use laws::{hashes_make_blocks, texts_are_told};
 pub use members::Members;
 pub use nodes::NamedParts;
 pub use numbers::{Nanoseconds, Sequence, Whole};
 pub use readable::{Readable, has, may_have, member, member_or};
+pub use slots::{Slots, take_object};
+pub use taken::{Leaf, Taken, take_leaf, take_tree};
 pub use version::DocVersion;
 pub use writing::{node_value, record_value};

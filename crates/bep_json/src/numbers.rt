@@ -1,10 +1,10 @@
 //! Whole numbers in their ranges, flags, and what is told by a number.
-ghost use Rattle.std.specs.Prelude.{◌≡◌, ◌≤◌, ℕ};
+ghost use Rattle.std.specs.Prelude.{◌≡◌, ◌≤◌, ℕ, refl};
 ghost use Rattle.bep_tree.specs.View.{view};
 ghost use Rattle.bep_json.specs.Reading.{Gives};
 ghost use Rattle.bep_json.specs.Numbers.{is_whole, is_flag, read_number, read_signed, read_flag, read_kind, greatest_id};
 
-use crate::{DocVersion, ReadError, Readable};
+use crate::{DocVersion, Leaf, ReadError, Readable};
 use bep_record::{DeviceId, Kind};
 use bep_tree::{Tree, as_bool, as_i64, as_u64};
 use std::alloc::Global;
@@ -69,6 +69,12 @@ impl<const LOW: u64, const HIGH: u64> Readable for Whole<LOW, HIGH> {
     }
 }
 
+impl<const LOW: u64, const HIGH: u64> Leaf for Whole<LOW, HIGH> {
+    ghost not_list = { λ _ _. refl };
+
+    ghost not_object = { λ _ _. refl };
+}
+
 impl Readable for i64 {
     ghost has_shape = { λ _. is_whole };
 
@@ -86,6 +92,12 @@ impl Readable for i64 {
     }
 }
 
+impl Leaf for i64 {
+    ghost not_list = { λ _ _. refl };
+
+    ghost not_object = { λ _ _. refl };
+}
+
 impl Readable for bool {
     ghost has_shape = { λ _. is_flag };
 
@@ -101,6 +113,12 @@ impl Readable for bool {
             None => Err(ReadError::Range),
         }
     }
+}
+
+impl Leaf for bool {
+    ghost not_list = { λ _ _. refl };
+
+    ghost not_object = { λ _ _. refl };
 }
 
 impl Readable for DeviceId {
@@ -123,6 +141,12 @@ impl Readable for DeviceId {
     }
 }
 
+impl Leaf for DeviceId {
+    ghost not_list = { λ _ _. refl };
+
+    ghost not_object = { λ _ _. refl };
+}
+
 impl Readable for Kind {
     ghost has_shape = { λ _. is_whole };
 
@@ -138,6 +162,12 @@ impl Readable for Kind {
             None => Err(ReadError::Range),
         }
     }
+}
+
+impl Leaf for Kind {
+    ghost not_list = { λ _ _. refl };
+
+    ghost not_object = { λ _ _. refl };
 }
 
 // Whether the value is a whole number of 64 bits.

@@ -1,5 +1,5 @@
 //! Records, well formed or not.
-ghost use Rattle.std.specs.Prelude.{◌≡◌, ◌≤◌, ◌+◌, ◌-◌, min, false, codes, IfOk};
+ghost use Rattle.std.specs.Prelude.{◌≡◌, ◌≤◌, ◌+◌, ◌-◌, min, false, codes, refl, IfOk};
 ghost use Rattle.bep_tree.specs.View.{view};
 ghost use Rattle.bep_record.specs.Block.{block_size_of};
 ghost use Rattle.bep_json.specs.Reading.{Gives};
@@ -10,13 +10,13 @@ ghost use Rattle.bep_json.specs.Records.{is_record, has_record_members, has_due_
 
 use crate::numbers::{is_whole, kind_of};
 use crate::{
-    DocVersion, Nanoseconds, ReadError, Readable, Sequence, Whole, is_object, member, member_or,
+    DocVersion, Found, Leaf, Nanoseconds, ReadError, Readable, Sequence, Taken, Whole, is_object, member, member_or, take_tree,
 };
 use bep_record::{
     BASE_BLOCK_SIZE, Block, BlockSize, DeviceId, Entry, Items, Kind, MAX_FILE_SIZE, Name, Target,
     Vector,
 };
-use bep_tree::{Tree, as_bool, as_u64, get};
+use bep_tree::{Reader, Tree, WalkError, as_bool, as_u64, get};
 use std::alloc::{AllocError, Global};
 use std::marker::Model;
 
@@ -63,6 +63,12 @@ impl Readable for FileSize {
             _ => Err(ReadError::Range),
         }
     }
+}
+
+impl Leaf for FileSize {
+    ghost not_list = { λ _ _. refl };
+
+    ghost not_object = { λ _ _. refl };
 }
 
 type AnyBlockSize = Whole<0, 4294967295>;
@@ -227,5 +233,16 @@ fn block_at(offset: u64, size: u64, block_bytes: u32, hash: [u8; 32]) -> Block
         offset,
         size: len as u32,
         hash,
+    }
+}
+
+impl Taken for Entry {
+    fn take(
+        alloc: Global,
+        version: DocVersion,
+        reader: &mut Reader<'_>,
+        depth: usize,
+    ) -> Result<Found<Self>, WalkError> {
+        take_tree(alloc, version, reader, depth)
     }
 }

@@ -1,11 +1,11 @@
 //! Names, targets, hashes, kinds of folders and bytes, written as texts.
-ghost use Rattle.std.specs.Prelude.{◌≡◌, ℕ, List};
+ghost use Rattle.std.specs.Prelude.{◌≡◌, ℕ, List, refl};
 ghost use Rattle.bep_tree.specs.View.{view};
 ghost use Rattle.bep_json.specs.Reading.{Gives};
 ghost use Rattle.bep_json.specs.Texts.{is_text, read_name, read_target, read_folder_name, read_folder_kind, read_hash, fits_file, read_text_bytes, read_hex_bytes};
 
 use crate::digits::{bytes_of, hash_of};
-use crate::{DocVersion, ReadError, Readable};
+use crate::{DocVersion, Leaf, ReadError, Readable};
 use bep_record::{FolderKind, FolderName, Items, Name, RecordError, Target};
 use bep_tree::{Tree, as_str};
 use std::alloc::Global;
@@ -33,6 +33,12 @@ impl Readable for Name {
     }
 }
 
+impl Leaf for Name {
+    ghost not_list = { λ _ _. refl };
+
+    ghost not_object = { λ _ _. refl };
+}
+
 impl Readable for Target {
     ghost has_shape = { λ _. is_text };
 
@@ -53,6 +59,12 @@ impl Readable for Target {
             Err(_) => Err(ReadError::Memory),
         }
     }
+}
+
+impl Leaf for Target {
+    ghost not_list = { λ _ _. refl };
+
+    ghost not_object = { λ _ _. refl };
 }
 
 impl Readable for FolderName {
@@ -77,6 +89,12 @@ impl Readable for FolderName {
     }
 }
 
+impl Leaf for FolderName {
+    ghost not_list = { λ _ _. refl };
+
+    ghost not_object = { λ _ _. refl };
+}
+
 // What a device does with a folder, by its name.
 impl Readable for FolderKind {
     ghost has_shape = { λ _. is_text };
@@ -95,6 +113,12 @@ impl Readable for FolderKind {
             _ => Err(ReadError::Range),
         }
     }
+}
+
+impl Leaf for FolderKind {
+    ghost not_list = { λ _ _. refl };
+
+    ghost not_object = { λ _ _. refl };
 }
 
 // A SHA-256 (FIPS 180-4).
@@ -117,6 +141,12 @@ impl Readable for [u8; 32] {
             None => Err(ReadError::Range),
         }
     }
+}
+
+impl Leaf for [u8; 32] {
+    ghost not_list = { λ _ _. refl };
+
+    ghost not_object = { λ _ _. refl };
 }
 
 // Whether a file may have these bytes.
@@ -172,6 +202,12 @@ impl Readable for TextBytes {
     }
 }
 
+impl Leaf for TextBytes {
+    ghost not_list = { λ _ _. refl };
+
+    ghost not_object = { λ _ _. refl };
+}
+
 // A file's bytes, written in hexadecimal digits.
 #[derive(Debug, Drop)]
 pub(crate) struct HexBytes {
@@ -217,4 +253,10 @@ impl Readable for HexBytes {
             bytes: Items::new(bytes),
         })
     }
+}
+
+impl Leaf for HexBytes {
+    ghost not_list = { λ _ _. refl };
+
+    ghost not_object = { λ _ _. refl };
 }

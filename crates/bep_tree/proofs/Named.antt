@@ -38,6 +38,10 @@ pub and_true : (a : Bool) → a && true ≡ a
 and_true true = refl
 and_true false = refl
 
+and_false : (a : Bool) → a && false ≡ false
+and_false true = refl
+and_false false = refl
+
 -- ---- members that are put in one after another
 
 put_at : (names : List (List ℕ)) (o : Ordering) (k l : List ℕ) (d e : Data) (ms : Members) → slice_cmp nat_cmp k l ≡ o
@@ -50,7 +54,7 @@ put_at names Equal k l d e ms is later =
 put_at names Greater k l d e ms is later =
     ap (λ b. is_among l names && b) later ∙ swapped (is_among l names) (is_among k names) (are_among names ms)
 
-put_among : (names : List (List ℕ)) (k : List ℕ) (d : Data) (ms : Members) → are_among names (put k d ms) ≡ is_among k names && are_among names ms
+pub put_among : (names : List (List ℕ)) (k : List ℕ) (d : Data) (ms : Members) → are_among names (put k d ms) ≡ is_among k names && are_among names ms
 put_among names k d no_members = refl
 put_among names k d (member l e ms) = put_at names (slice_cmp nat_cmp k l) k l d e ms refl (put_among names k d ms)
 
@@ -71,3 +75,7 @@ listed names (m ∷ ms) = ap (λ b. is_among m.0.now names && b) (listed names m
 
 pub members_named : {A : Type 0} (names : List (List ℕ)) (ms : List (Bor (List ℕ) × Value A)) → list_all (λ m. is_among m.0.now names) ms ≡ are_among names (members_data (members_view ms) no_members)
 members_named names ms = listed names ms ∙ sym (all_put names (members_view ms) no_members ∙ and_true (keys_among names (members_view ms)))
+
+-- a member of another name stays among those that are put to it
+pub stays_strange : (names : List (List ℕ)) (js : json.Members) (found : Members) → are_among names found ≡ false → are_among names (members_data js found) ≡ false
+stays_strange names js found strange = all_put names js found ∙ ap (λ b. keys_among names js && b) strange ∙ and_false (keys_among names js)

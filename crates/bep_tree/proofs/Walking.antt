@@ -1,14 +1,15 @@
 -- What a walk meets next, by what the grammar of `json` reads.
-use Rattle.std.proofs.Common.{◌≡◌, ◌∙◌, ℕ, zero, suc, List, [], ◌∷◌, length, Option, Some, None, option_map, option_and_then, refl, sym, ap}
+use Rattle.std.proofs.Common.{◌≡◌, ◌∙◌, ℕ, zero, suc, List, [], ◌∷◌, length, Option, Some, None, Result, Ok, Err, option_map, option_and_then, refl, sym, ap, subst}
 use Rattle.json.specs.Token.{Token}
 use Rattle.json.specs.Json as json
 use Rattle.json.specs.Json.{Parse, parse_map, after_end_array, items_step, members_step, read_key, skip_value}
 use Rattle.json.proofs.Found.{not_found, Some_inj}
 use Rattle.json.proofs.Grammar.{value_is}
-use Rattle.serde_json.specs.Data.{Data, null, boolean, string, array, object, Items, no_items, item, Members, no_members, put}
+use Rattle.serde_json.specs.Data.{Data, Num, null, boolean, string, array, object, Items, no_items, item, Members, no_members, put}
 use Rattle.serde_json.specs.Read.{number_of}
 use Rattle.bep_tree.specs.View.{number_data, data_of, items_data, members_data}
-use Rattle.bep_tree.specs.Walk.{Stands, StandItems, StandMembers}
+use Rattle.bep_tree.specs.declared.walk.WalkError.{WalkError}
+use Rattle.bep_tree.specs.Walk.{Stands, StandItems, StandMembers, Reaches, IsLeaf}
 
 -- ---- what was read in two steps
 
@@ -112,16 +113,24 @@ Meets Token.begin_array zero d next rest = ⊥
 Meets Token.begin_array (suc depth) d next rest = (ds : Items) × (d ≡ array ds) × StandItems depth next ds rest
 Meets Token.end_array depth d next rest = ⊥
 Meets (Token.key s) depth d next rest = ⊥
-Meets (Token.string s) depth d next rest = (string s ≡ d) × (next ≡ rest)
-Meets (Token.number s) depth d next rest = (number_data (number_of s) ≡ d) × (next ≡ rest)
-Meets (Token.boolean b) depth d next rest = (boolean b ≡ d) × (next ≡ rest)
-Meets Token.null depth d next rest = (null ≡ d) × (next ≡ rest)
+Meets (Token.string s) depth d next rest = (string s ≡ d) × IsLeaf d × (next ≡ rest)
+Meets (Token.number s) depth d next rest = (number_data (number_of s) ≡ d) × IsLeaf d × (next ≡ rest)
+Meets (Token.boolean b) depth d next rest = (boolean b ≡ d) × IsLeaf d × (next ≡ rest)
+Meets Token.null depth d next rest = (null ≡ d) × IsLeaf d × (next ≡ rest)
 Meets Token.bad depth d next rest = ⊥
 
+-- a number is no list and no object
+number_is_leaf : (n : Option Num) → IsLeaf (number_data n)
+number_is_leaf None = (refl, refl)
+number_is_leaf (Some n) = (refl, refl)
+
 -- the value that was read is this one, and so is what follows
-leaf : (depth : ℕ) (j i : json.Json) (next : List Token) (d : Data) (rest : List Token) → ◌≡◌ {A = Option (json.Json × List Token)} (Some (i, next)) (Some (j, rest)) → d ≡ data_of j
-    → (data_of i ≡ d) × (next ≡ rest)
-leaf depth j i next d rest is seen = let both : ◌≡◌ {A = json.Json × List Token} (i, next) (j, rest) = Some_inj (i, next) (j, rest) is in (ap (λ p. data_of p.0) both ∙ sym seen, ap (λ p. p.1) both)
+leaf : (i j : json.Json) (next : List Token) (d : Data) (rest : List Token) → IsLeaf (data_of i) → ◌≡◌ {A = Option (json.Json × List Token)} (Some (i, next)) (Some (j, rest)) → d ≡ data_of j
+    → (data_of i ≡ d) × IsLeaf d × (next ≡ rest)
+leaf i j next d rest is_leaf is seen =
+    let both : ◌≡◌ {A = json.Json × List Token} (i, next) (j, rest) = Some_inj (i, next) (j, rest) is in
+    let same : data_of i ≡ d = ap (λ p. data_of p.0) both ∙ sym seen in
+    (same, subst IsLeaf same is_leaf, ap (λ p. p.1) both)
 
 pub meets : (t : Token) (depth : ℕ) (next : List Token) (d : Data) (rest : List Token) → Stands depth (t ∷ next) d rest → Meets t depth d next rest
 unfolding json.value
@@ -136,11 +145,18 @@ meets Token.begin_array (suc depth) next d rest (j, is, seen) =
     (items_data inside.0, seen ∙ ap data_of inside.2, (length next, inside.0, inside.1, refl))
 meets Token.end_array depth next d rest (j, is, seen) = not_found (j, rest) (sym (value_is depth (Token.end_array ∷ next)) ∙ is)
 meets (Token.key s) depth next d rest (j, is, seen) = not_found (j, rest) (sym (value_is depth (Token.key s ∷ next)) ∙ is)
-meets (Token.string s) depth next d rest (j, is, seen) = leaf depth j (json.string s) next d rest (sym (value_is depth (Token.string s ∷ next)) ∙ is) seen
-meets (Token.number s) depth next d rest (j, is, seen) = leaf depth j (json.number s) next d rest (sym (value_is depth (Token.number s ∷ next)) ∙ is) seen
-meets (Token.boolean b) depth next d rest (j, is, seen) = leaf depth j (json.boolean b) next d rest (sym (value_is depth (Token.boolean b ∷ next)) ∙ is) seen
-meets Token.null depth next d rest (j, is, seen) = leaf depth j json.null next d rest (sym (value_is depth (Token.null ∷ next)) ∙ is) seen
+meets (Token.string s) depth next d rest (j, is, seen) = leaf (json.string s) j next d rest (refl, refl) (sym (value_is depth (Token.string s ∷ next)) ∙ is) seen
+meets (Token.number s) depth next d rest (j, is, seen) = leaf (json.number s) j next d rest (number_is_leaf (number_of s)) (sym (value_is depth (Token.number s ∷ next)) ∙ is) seen
+meets (Token.boolean b) depth next d rest (j, is, seen) = leaf (json.boolean b) j next d rest (refl, refl) (sym (value_is depth (Token.boolean b ∷ next)) ∙ is) seen
+meets Token.null depth next d rest (j, is, seen) = leaf json.null j next d rest (refl, refl) (sym (value_is depth (Token.null ∷ next)) ∙ is) seen
 meets Token.bad depth next d rest (j, is, seen) = not_found (j, rest) (sym (value_is depth (Token.bad ∷ next)) ∙ is)
 
 pub nothing_begins : (depth : ℕ) (d : Data) (rest : List Token) → Stands depth [] d rest → ⊥
 nothing_begins depth d rest (j, is, seen) = not_found (j, rest) (sym (value_is depth []) ∙ is)
+
+-- ---- what was reached
+
+-- where all that is so as said first is so as said then, what was reached is so
+pub reaches_so : {X : Type 0} (first then : X → Type 0) (result : Result X WalkError) → ((x : X) → first x → then x) → Reaches result first → Reaches result then
+reaches_so first then (Ok x) so reached = so x reached
+reaches_so first then (Err error) so reached = reached

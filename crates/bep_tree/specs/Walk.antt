@@ -1,8 +1,9 @@
 -- Where a walk along a document's tokens stands: which value comes next, and which tokens follow it.
-use Rattle.std.specs.Prelude.{◌≡◌, ℕ, List, Some, Result, Ok, Err, ⊤}
+use Rattle.std.specs.Prelude.{◌≡◌, ℕ, List, None, Some, Result, Ok, Err, ⊤}
 use Rattle.json.specs.Token.{Token}
 use Rattle.json.specs.Json as json
 use Rattle.serde_json.specs.Data.{Data, array, object, Items, Members, no_members}
+use Rattle.serde_json.specs.Find.{as_array, as_object}
 use Rattle.bep_tree.specs.View.{view, data_of, items_data, members_data}
 use Rattle.bep_tree.specs.declared.walk.Entered.{Entered}
 use Rattle.bep_tree.specs.declared.walk.Entered.TheVariants as entered
@@ -31,8 +32,12 @@ abbrev pub Reaches : {X : Type 0} → Result X WalkError → (X → Type 0) → 
 Reaches (Ok x) is = is x
 Reaches (Err error) is = Stops error
 
+-- the value is no list and no object
+abbrev pub IsLeaf : Data → Type 0
+IsLeaf d = (as_array d ≡ None) × (as_object d ≡ None)
+
 -- the value begins so, and these tokens come next
 abbrev pub Enters : Entered → Data → List Token → List Token → Type 0
 Enters (entered.List depth) d next rest = (ds : Items) × (d ≡ array ds) × StandItems depth next ds rest
 Enters (entered.Object depth) d next rest = (ms : Members) × (d ≡ object ms) × StandMembers depth next no_members ms rest
-Enters (entered.Leaf tree) d next rest = (view tree ≡ d) × (next ≡ rest)
+Enters (entered.Leaf tree) d next rest = (view tree ≡ d) × IsLeaf d × (next ≡ rest)

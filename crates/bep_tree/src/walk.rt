@@ -5,11 +5,12 @@ ghost use Rattle.json.specs.Json.{read_key};
 ghost use Rattle.json.specs.Reads.{token_of};
 ghost use Rattle.serde_json.specs.Data.{Data, Items, Members, put};
 ghost use Rattle.bep_tree.specs.View.{view};
+ghost use Rattle.bep_tree.specs.declared.walk.WalkError.TheVariants.{Memory};
 ghost use Rattle.bep_tree.specs.Walk.{Stands, StandItems, StandMembers, Reaches, Enters};
 
 use crate::Tree;
 use json::{Error, Reader, Token};
-use std::alloc::Global;
+use std::alloc::{AllocError, AllocFailed, Global};
 
 /// Why a walk goes no further.
 #[derive(Clone, Copy, Debug, PartialEq, Eq)]
@@ -18,6 +19,22 @@ pub enum WalkError {
     Broken,
     /// Memory ran out.
     Memory,
+}
+
+impl From<AllocError> for WalkError {
+    ghost from_gives = { λ _ e. e ≡ Memory };
+
+    fn from(_error: AllocError) -> WalkError {
+        WalkError::Memory
+    }
+}
+
+impl<T: Drop> From<AllocFailed<T>> for WalkError {
+    ghost from_gives = { λ _ e. e ≡ Memory };
+
+    fn from(_error: AllocFailed<T>) -> WalkError {
+        WalkError::Memory
+    }
 }
 
 /// What a value begins with.

@@ -18,25 +18,25 @@ pub returns-in-String : goal.returns-in-String
 returns-in-String c = λ d next rest stood.
     let seen : value_view (String c.in-String.text) ≡ json.string c.in-String.text.now = search (rules, the_lemmas) in
     let leaf = met _ _ c.args.depth d next rest c.in-String.is stood in
-    (ap data_of seen ∙ leaf.0, leaf.1)
+    (ap data_of seen ∙ leaf.0, leaf.1, leaf.2)
 
 pub returns-in-Number : goal.returns-in-Number
 returns-in-Number c = λ d next rest stood.
     let seen : value_view (Number c.in-Number.text) ≡ json.number c.in-Number.text.now = search (rules, the_lemmas) in
     let leaf = met _ _ c.args.depth d next rest c.in-Number.is stood in
-    (ap data_of seen ∙ leaf.0, leaf.1)
+    (ap data_of seen ∙ leaf.0, leaf.1, leaf.2)
 
 pub returns-in-Bool : goal.returns-in-Bool
 returns-in-Bool c = λ d next rest stood.
     let seen : value_view (Bool c.in-Bool.flag) ≡ json.boolean c.in-Bool.flag = search (rules, the_lemmas) in
     let leaf = met _ _ c.args.depth d next rest c.in-Bool.is stood in
-    (ap data_of seen ∙ leaf.0, leaf.1)
+    (ap data_of seen ∙ leaf.0, leaf.1, leaf.2)
 
 pub returns-in-Null : goal.returns-in-Null
 returns-in-Null c = λ d next rest stood.
     let seen : value_view (Null) ≡ json.null = search (rules, the_lemmas) in
     let leaf = met _ _ c.args.depth d next rest c.in-Null.is stood in
-    (ap data_of seen ∙ leaf.0, leaf.1)
+    (ap data_of seen ∙ leaf.0, leaf.1, leaf.2)
 
 pub returns-in-EndObject : goal.returns-in-EndObject
 returns-in-EndObject c = λ d next rest stood. met _ _ c.args.depth d next rest c.in-EndObject.is stood

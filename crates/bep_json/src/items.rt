@@ -1,0 +1,109 @@
+//! Lists, whose items are read as a walk along a document's text comes to them.
+ghost use Rattle.std.specs.Prelude.{◌≡◌, ◌<◌, List, [], ◌∷◌, ◌++◌, length, Ok, Err, OnOk, IfOk};
+ghost use Rattle.json.specs.Token.{Token as SpecToken};
+ghost use Rattle.serde_json.specs.Data.{Items as ItemsOf, Members as MembersOf, no_members};
+ghost use Rattle.bep_tree.specs.Walk.{StandItems, StandMembers, Reaches};
+ghost use Rattle.bep_json.specs.Lists.{have_shape, is_list, read_items, read_list};
+ghost use Rattle.bep_json.specs.Taking.{judged, Takes};
+ghost use Rattle.bep_json.specs.declared.found.Misread.TheVariants.{Shape};
+ghost use Rattle.bep_json.specs.inner.Joined.{joined, seen};
+
+use crate::{DocVersion, Found, Misread, Taken};
+use bep_record::Items;
+use bep_tree::{Entered, Reader, WalkError, enter, pass_members};
+use std::alloc::{AllocError, Global};
+
+impl<T: Taken> Taken for Items<T> {
+    fn take(
+        alloc: Global,
+        version: DocVersion,
+        reader: &mut Reader<'_>,
+        depth: usize,
+    ) -> Result<Found<Self>, WalkError> {
+        take_list(alloc, version, reader, depth)
+    }
+}
+
+// Takes the value that comes next, which may be a list, and tells which things its items say.
+fn take_list<T: Taken>(
+    alloc: Global,
+    version: DocVersion,
+    reader: &mut Reader<'_>,
+    depth: usize,
+) -> Result<Found<Items<T>>, WalkError>
+    ensures value { Takes (is_list (T.has_shape version)) (read_list (T.reads version)) depth reader.old result reader.new }
+    ensures shorter { OnOk result (length reader.new < length reader.old) }
+{
+    match enter(reader, depth)? {
+        Entered::List(inside) => take_items(alloc, version, reader, inside),
+        Entered::Object(inside) => passed_object(reader, inside),
+        Entered::Leaf(_tree) => Ok(Err(Misread::Shape)),
+    }
+}
+
+// Passes the members that are left of an object, which is no list.
+fn passed_object<T: Drop>(
+    reader: &mut Reader<'_>,
+    depth: usize,
+) -> Result<Found<Items<T>>, WalkError>
+    ensures value { (ms : MembersOf) (rest : List SpecToken) → StandMembers depth reader.old no_members ms rest
+        → Reaches result (λ told. (told ≡ Err Shape) × (reader.new ≡ rest)) }
+    ensures shorter { OnOk result (length reader.new < length reader.old) }
+{
+    pass_members(reader, depth)?;
+    Ok(Err(Misread::Shape))
+}
+
+// Takes the items of a list that are still to come, and tells which things they say.
+fn take_items<T: Taken>(
+    alloc: Global,
+    version: DocVersion,
+    reader: &mut Reader<'_>,
+    depth: usize,
+) -> Result<Found<Items<T>>, WalkError>
+    ensures value { (ds : ItemsOf) (rest : List SpecToken) → StandItems depth reader.old ds rest
+        → Reaches result (λ told. (told ≡ judged (have_shape (T.has_shape version) ds) (read_items (T.reads version) ds)) × (reader.new ≡ rest)) }
+    ensures shorter { OnOk result (length reader.new < length reader.old) }
+{
+    let mut told = Ok(Vec::new(alloc));
+    while !reader.take_end_array() {
+        let item = T::take(alloc, version, reader, depth)?;
+        told = joined(told, item)?;
+    }
+    Ok(as_items(told))
+}
+
+// These things as items.
+fn as_items<T: Drop>(told: Found<Vec<T>>) -> Found<Items<T>>
+    ensures { result ≡ seen told }
+{
+    match told {
+        Ok(things) => Ok(Items::new(things)),
+        Err(misread) => Err(misread),
+    }
+}
+
+// What is told of a list so far and of its next item, together.
+fn joined<T: Drop>(told: Found<Vec<T>>, next: Found<T>) -> Result<Found<Vec<T>>, AllocError>
+    ensures { IfOk result (λ all. seen all ≡ joined (seen told) next) }
+{
+    match told {
+        Ok(things) => match next {
+            Ok(thing) => pushed(things, thing),
+            Err(misread) => Ok(Err(misread)),
+        },
+        Err(Misread::Shape) => Ok(Err(Misread::Shape)),
+        Err(Misread::Range) => match next {
+            Ok(_) => Ok(Err(Misread::Range)),
+            Err(misread) => Ok(Err(misread)),
+        },
+    }
+}
+
+// These things and one more.
+fn pushed<T: Drop>(mut things: Vec<T>, thing: T) -> Result<Found<Vec<T>>, AllocError>
+    ensures { IfOk result (λ all. seen all ≡ Ok (things.items ++ thing ∷ [])) }
+{
+    things.push(thing)?;
+    Ok(Ok(things))
+}

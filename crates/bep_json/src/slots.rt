@@ -1,0 +1,88 @@
+//! Objects, whose members are read as a walk along a document's text comes to them.
+ghost use Rattle.std.specs.Prelude.{◌≡◌, ◌<◌, ◌≤◌, ℕ, List, Option, None, length, OnOk, IfOk};
+ghost use Rattle.std.specs.Bool.{OnTrue};
+ghost use Rattle.json.specs.Token.{Token as SpecToken};
+ghost use Rattle.serde_json.specs.Data.{Data, Items as ItemsOf, Members as MembersOf, no_members, object};
+ghost use Rattle.bep_tree.specs.Walk.{Stands, StandItems, StandMembers, Reaches};
+ghost use Rattle.bep_json.specs.declared.version.DocVersion.{DocVersion as VersionOf};
+ghost use Rattle.bep_json.specs.Taking.{TakesMember, Fills};
+
+use crate::DocVersion;
+use bep_tree::{Entered, Reader, WalkError, enter, next_key, pass, pass_items, pass_members};
+use std::alloc::Global;
+
+/// What is told so far of the members of an object. A member that comes again takes the place of the one before.
+pub trait Slots: Drop + Sized {
+    /// The names of the members.
+    ghost names: { List (List ℕ) };
+
+    /// What is told of members in a document of a version, by what stands at each name.
+    ghost known: { VersionOf → (List ℕ → Option Data) → Self };
+
+    /// What is told of no members.
+    fn none() -> Self
+        ensures { (version : VersionOf) → result ≡ known version (λ _. None) };
+
+    /// Takes the value of the member of this name, which comes next, and keeps what is told of it. False where no member
+    /// has this name; nothing is taken then.
+    fn take(
+        &mut self,
+        alloc: Global,
+        version: DocVersion,
+        key: &str,
+        reader: &mut Reader<'_>,
+        depth: usize,
+    ) -> Result<bool, WalkError>
+        ensures value { TakesMember names (known version) depth key.now self.old reader.old result self.new reader.new }
+        ensures no_longer { OnOk result (length reader.new ≤ length reader.old) };
+}
+
+/// Takes the value that comes next, and tells of its members. None where it is no object, or has a member of another name.
+pub fn take_object<S: Slots>(
+    alloc: Global,
+    version: DocVersion,
+    reader: &mut Reader<'_>,
+    depth: usize,
+) -> Result<Option<S>, WalkError>
+    ensures value { (d : Data) (rest : List SpecToken) → Stands depth reader.old d rest
+        → Reaches result (λ slots. Fills S.names (S.known version) slots d × (reader.new ≡ rest)) }
+    ensures shorter { OnOk result (length reader.new < length reader.old) }
+{
+    match enter(reader, depth)? {
+        Entered::Object(inside) => take_members(alloc, version, reader, inside),
+        Entered::List(inside) => passed_list(reader, inside),
+        Entered::Leaf(_tree) => Ok(None),
+    }
+}
+
+// Passes the items that are left of a list, which has no members.
+fn passed_list<S: Slots>(reader: &mut Reader<'_>, depth: usize) -> Result<Option<S>, WalkError>
+    ensures value { (ds : ItemsOf) (rest : List SpecToken) → StandItems depth reader.old ds rest
+        → Reaches result (λ slots. (slots ≡ None) × (reader.new ≡ rest)) }
+    ensures shorter { OnOk result (length reader.new < length reader.old) }
+{
+    pass_items(reader, depth)?;
+    Ok(None)
+}
+
+// Takes the members of an object that are still to come, and tells of all.
+fn take_members<S: Slots>(
+    alloc: Global,
+    version: DocVersion,
+    reader: &mut Reader<'_>,
+    depth: usize,
+) -> Result<Option<S>, WalkError>
+    ensures value { (ms : MembersOf) (rest : List SpecToken) → StandMembers depth reader.old no_members ms rest
+        → Reaches result (λ slots. Fills S.names (S.known version) slots (object ms) × (reader.new ≡ rest)) }
+    ensures shorter { OnOk result (length reader.new < length reader.old) }
+{
+    let mut slots = S::none();
+    while let Some(key) = next_key(reader)? {
+        if !slots.take(alloc, version, key, reader, depth)? {
+            pass(reader, depth)?;
+            pass_members(reader, depth)?;
+            return Ok(None);
+        }
+    }
+    Ok(Some(slots))
+}

@@ -1,0 +1,86 @@
+//! Things that are read as a walk along a document's text comes to them, without a tree of the document.
+ghost use Rattle.std.specs.Prelude.{◌≡◌, ◌<◌, false, length, OnOk};
+ghost use Rattle.serde_json.specs.Data.{Items as ItemsOf, Members as MembersOf, array, object};
+ghost use Rattle.bep_tree.specs.View.{view};
+ghost use Rattle.bep_tree.specs.Walk.{Reaches};
+ghost use Rattle.bep_json.specs.declared.version.DocVersion.{DocVersion as VersionOf};
+ghost use Rattle.bep_json.specs.Taking.{judged, Takes};
+
+use crate::{DocVersion, Found, Misread, ReadError, Readable};
+use bep_tree::{Entered, Reader, Tree, WalkError, enter, pass_items, pass_members, tree_at};
+use std::alloc::Global;
+
+/// A thing that can be read where a walk along a document's text comes to it.
+pub trait Taken: Readable {
+    /// Takes the value that comes next, in which lists and objects may nest `depth` deep, and tells which thing it says.
+    fn take(
+        alloc: Global,
+        version: DocVersion,
+        reader: &mut Reader<'_>,
+        depth: usize,
+    ) -> Result<Found<Self>, WalkError>
+        ensures value { Takes (Self.has_shape version) (Self.reads version) depth reader.old result reader.new }
+        ensures shorter { OnOk result (length reader.new < length reader.old) };
+}
+
+/// A thing that no list and no object says.
+pub trait Leaf: Readable {
+    ghost not_list: { (version : VersionOf) (ds : ItemsOf) → Self.has_shape version (array ds) ≡ false };
+
+    ghost not_object: { (version : VersionOf) (ms : MembersOf) → Self.has_shape version (object ms) ≡ false };
+}
+
+/// Takes the value that comes next, which may say such a thing.
+pub fn take_leaf<T: Leaf>(
+    alloc: Global,
+    version: DocVersion,
+    reader: &mut Reader<'_>,
+    depth: usize,
+) -> Result<Found<T>, WalkError>
+    ensures value { Takes (T.has_shape version) (T.reads version) depth reader.old result reader.new }
+    ensures shorter { OnOk result (length reader.new < length reader.old) }
+{
+    match enter(reader, depth)? {
+        Entered::Leaf(tree) => told(alloc, version, &tree),
+        Entered::List(inside) => {
+            pass_items(reader, inside)?;
+            Ok(Err(Misread::Shape))
+        }
+        Entered::Object(inside) => {
+            pass_members(reader, inside)?;
+            Ok(Err(Misread::Shape))
+        }
+    }
+}
+
+/// Takes the value that comes next as a tree, and tells which thing it says.
+pub fn take_tree<T: Readable>(
+    alloc: Global,
+    version: DocVersion,
+    reader: &mut Reader<'_>,
+    depth: usize,
+) -> Result<Found<T>, WalkError>
+    ensures value { Takes (T.has_shape version) (T.reads version) depth reader.old result reader.new }
+    ensures shorter { OnOk result (length reader.new < length reader.old) }
+{
+    let tree = tree_at(alloc, reader, depth)?;
+    told(alloc, version, &tree)
+}
+
+// What is told of this value.
+fn told<T: Readable>(
+    alloc: Global,
+    version: DocVersion,
+    tree: &Tree<'_>,
+) -> Result<Found<T>, WalkError>
+    ensures { Reaches result (λ told. told ≡ judged (T.has_shape version (view tree.now)) (T.reads version (view tree.now))) }
+{
+    if !T::has_shape(version, tree) {
+        return Ok(Err(Misread::Shape));
+    }
+    match T::read(alloc, version, tree) {
+        Ok(thing) => Ok(Ok(thing)),
+        Err(ReadError::Range) => Ok(Err(Misread::Range)),
+        Err(ReadError::Memory) => Err(WalkError::Memory),
+    }
+}
