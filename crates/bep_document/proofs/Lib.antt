@@ -6,3 +6,4 @@ pub mod ReadShort
 pub mod faultless
 pub mod CleanFacts
 pub mod Given
+pub mod Taking

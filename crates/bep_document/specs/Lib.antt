@@ -5,3 +5,4 @@ pub mod Reading
 pub mod Faultless
 pub mod Short
 pub mod Laws
+pub mod inner

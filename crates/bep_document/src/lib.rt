@@ -17,6 +17,7 @@ mod laws;
 mod parts;
 mod read;
 mod reading;
+mod take;
 
 pub use error::DocError;
 pub use fault::{DocFault, Fault};

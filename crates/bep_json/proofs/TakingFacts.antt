@@ -1,18 +1,21 @@
 -- What is told of members, of lists and of both of two things.
 use Rattle.std.proofs.Common.{◌≡◌, ◌∙◌, ℕ, List, [], ◌∷◌, ◌++◌, ◌&&◌, Bool, true, false, Option, Some, None, Result, Ok, Err, refl, sym, ap, subst}
 use Rattle.std.specs.Prelude.{if◌then◌else◌, option_map, unwrap_or}
+use Rattle.std.specs.Bool.{MatchBool}
 use Rattle.std.specs.Str.{bytes_eq}
 use Rattle.std.proofs.lemmas.List.{append_assoc}
 use Rattle.std.proofs.lemmas.Slice.Eq.{bytes_eq-Decides}
+use Rattle.json.specs.Token.{Token}
 use Rattle.serde_json.specs.Data.{Data, Items, no_items, item, Members, put}
 use Rattle.serde_json.specs.Find.{get, get_member}
 use Rattle.serde_json.proofs.Views.{get_member-put, get_member-put_other}
-use Rattle.bep_json.specs.declared.found.Misread.{Misread}
-use Rattle.bep_json.specs.declared.found.Misread.TheVariants.{Shape, Range}
+use Rattle.bep_json.specs.declared.told.Misread.{Misread}
+use Rattle.bep_json.specs.declared.told.Misread.TheVariants.{Shape, Range}
+use Rattle.bep_tree.specs.Names.{is_among}
 use Rattle.bep_json.specs.Reading.{◌>>=◌, read_member, read_or, read_member_or}
 use Rattle.bep_json.specs.Tree.{has_member, may_have_member}
 use Rattle.bep_json.specs.Lists.{have_shape, read_items}
-use Rattle.bep_json.specs.Taking.{judged, with_member, slot, due, due_or, both}
+use Rattle.bep_json.specs.Taking.{judged, Known, with_member, slot, due, due_or, both}
 use Rattle.bep_json.specs.inner.Joined.{joined, followed}
 
 -- ---- members by their names
@@ -105,3 +108,10 @@ both_is true true None None = refl
 both_is true false (Some a) second = refl
 both_is true false None second = refl
 both_is false t first second = refl
+
+-- a slot of an object was filled, and the others are as before
+pub fills : {S : Type 0} (names : List (List ℕ)) (known : (List ℕ → Option Data) → S) (key : List ℕ) (d : Data) (look : List ℕ → Option Data) (new : S) (after before rest : List Token) (filled : Bool)
+    → filled ≡ true → is_among key names ≡ true → new ≡ known (with_member key d look) → after ≡ rest
+    → MatchBool filled (Known names known key d look new after rest) ((is_among key names ≡ false) × (after ≡ before))
+fills names known key d look new after before rest true is named kept passed = (named, kept, passed)
+fills names known key d look new after before rest false is named kept passed = cc

@@ -8,8 +8,8 @@ use Rattle.serde_json.specs.Find.{get}
 use Rattle.bep_tree.specs.Names.{is_among, has_only}
 use Rattle.bep_tree.specs.Walk.{Stands, Reaches}
 use Rattle.bep_tree.specs.declared.walk.WalkError.{WalkError}
-use Rattle.bep_json.specs.declared.found.Misread.{Misread}
-use Rattle.bep_json.specs.declared.found.Misread.TheVariants.{Shape, Range}
+use Rattle.bep_json.specs.declared.told.Misread.{Misread}
+use Rattle.bep_json.specs.declared.told.Misread.TheVariants.{Shape, Range}
 
 -- the thing; or that its value has another shape, or else that something in it is out of range
 abbrev pub judged : {T : Type 0} → Bool → Option T → Result T Misread

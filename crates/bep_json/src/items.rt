@@ -5,10 +5,10 @@ ghost use Rattle.serde_json.specs.Data.{Items as ItemsOf, Members as MembersOf, 
 ghost use Rattle.bep_tree.specs.Walk.{StandItems, StandMembers, Reaches};
 ghost use Rattle.bep_json.specs.Lists.{have_shape, is_list, read_items, read_list};
 ghost use Rattle.bep_json.specs.Taking.{judged, Takes};
-ghost use Rattle.bep_json.specs.declared.found.Misread.TheVariants.{Shape};
+ghost use Rattle.bep_json.specs.declared.told.Misread.TheVariants.{Shape};
 ghost use Rattle.bep_json.specs.inner.Joined.{joined, seen};
 
-use crate::{DocVersion, Found, Misread, Taken};
+use crate::{DocVersion, Told, Misread, Taken};
 use bep_record::Items;
 use bep_tree::{Entered, Reader, WalkError, enter, pass_members};
 use std::alloc::{AllocError, Global};
@@ -19,7 +19,7 @@ impl<T: Taken> Taken for Items<T> {
         version: DocVersion,
         reader: &mut Reader<'_>,
         depth: usize,
-    ) -> Result<Found<Self>, WalkError> {
+    ) -> Result<Told<Self>, WalkError> {
         take_list(alloc, version, reader, depth)
     }
 }
@@ -30,7 +30,7 @@ fn take_list<T: Taken>(
     version: DocVersion,
     reader: &mut Reader<'_>,
     depth: usize,
-) -> Result<Found<Items<T>>, WalkError>
+) -> Result<Told<Items<T>>, WalkError>
     ensures value { Takes (is_list (T.has_shape version)) (read_list (T.reads version)) depth reader.old result reader.new }
     ensures shorter { OnOk result (length reader.new < length reader.old) }
 {
@@ -45,7 +45,7 @@ fn take_list<T: Taken>(
 fn passed_object<T: Drop>(
     reader: &mut Reader<'_>,
     depth: usize,
-) -> Result<Found<Items<T>>, WalkError>
+) -> Result<Told<Items<T>>, WalkError>
     ensures value { (ms : MembersOf) (rest : List SpecToken) → StandMembers depth reader.old no_members ms rest
         → Reaches result (λ told. (told ≡ Err Shape) × (reader.new ≡ rest)) }
     ensures shorter { OnOk result (length reader.new < length reader.old) }
@@ -60,7 +60,7 @@ fn take_items<T: Taken>(
     version: DocVersion,
     reader: &mut Reader<'_>,
     depth: usize,
-) -> Result<Found<Items<T>>, WalkError>
+) -> Result<Told<Items<T>>, WalkError>
     ensures value { (ds : ItemsOf) (rest : List SpecToken) → StandItems depth reader.old ds rest
         → Reaches result (λ told. (told ≡ judged (have_shape (T.has_shape version) ds) (read_items (T.reads version) ds)) × (reader.new ≡ rest)) }
     ensures shorter { OnOk result (length reader.new < length reader.old) }
@@ -74,7 +74,7 @@ fn take_items<T: Taken>(
 }
 
 // These things as items.
-fn as_items<T: Drop>(told: Found<Vec<T>>) -> Found<Items<T>>
+fn as_items<T: Drop>(told: Told<Vec<T>>) -> Told<Items<T>>
     ensures { result ≡ seen told }
 {
     match told {
@@ -84,7 +84,7 @@ fn as_items<T: Drop>(told: Found<Vec<T>>) -> Found<Items<T>>
 }
 
 // What is told of a list so far and of its next item, together.
-fn joined<T: Drop>(told: Found<Vec<T>>, next: Found<T>) -> Result<Found<Vec<T>>, AllocError>
+fn joined<T: Drop>(told: Told<Vec<T>>, next: Told<T>) -> Result<Told<Vec<T>>, AllocError>
     ensures { IfOk result (λ all. seen all ≡ joined (seen told) next) }
 {
     match told {
@@ -101,7 +101,7 @@ fn joined<T: Drop>(told: Found<Vec<T>>, next: Found<T>) -> Result<Found<Vec<T>>,
 }
 
 // These things and one more.
-fn pushed<T: Drop>(mut things: Vec<T>, thing: T) -> Result<Found<Vec<T>>, AllocError>
+fn pushed<T: Drop>(mut things: Vec<T>, thing: T) -> Result<Told<Vec<T>>, AllocError>
     ensures { IfOk result (λ all. seen all ≡ Ok (things.items ++ thing ∷ [])) }
 {
     things.push(thing)?;

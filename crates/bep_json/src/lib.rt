@@ -10,7 +10,7 @@
 
 mod digits;
 mod error;
-mod found;
+mod told;
 mod items;
 mod laws;
 mod lists;
@@ -27,13 +27,13 @@ mod writing;
 
 pub use bep_tree::has_only;
 pub use error::ReadError;
-pub use found::{Found, Misread, both, due, due_or};
+pub use told::{Told, Misread, both, due, due_or};
 pub use laws::{hashes_make_blocks, texts_are_told};
 pub use members::Members;
 pub use nodes::NamedParts;
 pub use numbers::{Nanoseconds, Sequence, Whole};
 pub use readable::{Readable, has, may_have, member, member_or};
-pub use slots::{Slots, take_object};
+pub use slots::{Slots, fill, fill_leaf, take_object};
 pub use taken::{Leaf, Taken, take_leaf, take_tree};
 pub use version::DocVersion;
 pub use writing::{node_value, record_value};

@@ -1,13 +1,13 @@
 //! Objects, whose members are read as a walk along a document's text comes to them.
-ghost use Rattle.std.specs.Prelude.{◌≡◌, ◌<◌, ◌≤◌, ℕ, List, Option, None, length, OnOk, IfOk};
+ghost use Rattle.std.specs.Prelude.{◌≡◌, ◌<◌, ◌≤◌, ℕ, List, Option, None, Some, true, length, OnOk, IfOk};
 ghost use Rattle.std.specs.Bool.{OnTrue};
 ghost use Rattle.json.specs.Token.{Token as SpecToken};
 ghost use Rattle.serde_json.specs.Data.{Data, Items as ItemsOf, Members as MembersOf, no_members, object};
 ghost use Rattle.bep_tree.specs.Walk.{Stands, StandItems, StandMembers, Reaches};
 ghost use Rattle.bep_json.specs.declared.version.DocVersion.{DocVersion as VersionOf};
-ghost use Rattle.bep_json.specs.Taking.{TakesMember, Fills};
+ghost use Rattle.bep_json.specs.Taking.{judged, TakesMember, Fills};
 
-use crate::DocVersion;
+use crate::{DocVersion, Leaf, Taken, Told, take_leaf};
 use bep_tree::{Entered, Reader, WalkError, enter, next_key, pass, pass_items, pass_members};
 use std::alloc::Global;
 
@@ -85,4 +85,36 @@ fn take_members<S: Slots>(
         }
     }
     Ok(Some(slots))
+}
+
+/// Takes the value that comes next into this slot, where such a thing may stand.
+pub fn fill<T: Taken>(
+    slot: &mut Option<Told<T>>,
+    alloc: Global,
+    version: DocVersion,
+    reader: &mut Reader<'_>,
+    depth: usize,
+) -> Result<bool, WalkError>
+    ensures value { (d : Data) (rest : List SpecToken) → Stands depth reader.old d rest
+        → Reaches result (λ filled. (filled ≡ true) × (slot.new ≡ Some (judged (T.has_shape version d) (T.reads version d))) × (reader.new ≡ rest)) }
+    ensures no_longer { OnOk result (length reader.new ≤ length reader.old) }
+{
+    *slot = Some(T::take(alloc, version, reader, depth)?);
+    Ok(true)
+}
+
+/// Takes the value that comes next into this slot, where such a leaf may stand.
+pub fn fill_leaf<T: Leaf>(
+    slot: &mut Option<Told<T>>,
+    alloc: Global,
+    version: DocVersion,
+    reader: &mut Reader<'_>,
+    depth: usize,
+) -> Result<bool, WalkError>
+    ensures value { (d : Data) (rest : List SpecToken) → Stands depth reader.old d rest
+        → Reaches result (λ filled. (filled ≡ true) × (slot.new ≡ Some (judged (T.has_shape version d) (T.reads version d))) × (reader.new ≡ rest)) }
+    ensures no_longer { OnOk result (length reader.new ≤ length reader.old) }
+{
+    *slot = Some(take_leaf(alloc, version, reader, depth)?);
+    Ok(true)
 }

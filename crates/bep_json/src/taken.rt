@@ -6,7 +6,7 @@ ghost use Rattle.bep_tree.specs.Walk.{Reaches};
 ghost use Rattle.bep_json.specs.declared.version.DocVersion.{DocVersion as VersionOf};
 ghost use Rattle.bep_json.specs.Taking.{judged, Takes};
 
-use crate::{DocVersion, Found, Misread, ReadError, Readable};
+use crate::{DocVersion, Told, Misread, ReadError, Readable};
 use bep_tree::{Entered, Reader, Tree, WalkError, enter, pass_items, pass_members, tree_at};
 use std::alloc::Global;
 
@@ -18,7 +18,7 @@ pub trait Taken: Readable {
         version: DocVersion,
         reader: &mut Reader<'_>,
         depth: usize,
-    ) -> Result<Found<Self>, WalkError>
+    ) -> Result<Told<Self>, WalkError>
         ensures value { Takes (Self.has_shape version) (Self.reads version) depth reader.old result reader.new }
         ensures shorter { OnOk result (length reader.new < length reader.old) };
 }
@@ -36,12 +36,12 @@ pub fn take_leaf<T: Leaf>(
     version: DocVersion,
     reader: &mut Reader<'_>,
     depth: usize,
-) -> Result<Found<T>, WalkError>
+) -> Result<Told<T>, WalkError>
     ensures value { Takes (T.has_shape version) (T.reads version) depth reader.old result reader.new }
     ensures shorter { OnOk result (length reader.new < length reader.old) }
 {
     match enter(reader, depth)? {
-        Entered::Leaf(tree) => told(alloc, version, &tree),
+        Entered::Leaf(tree) => told_of(alloc, version, &tree),
         Entered::List(inside) => {
             pass_items(reader, inside)?;
             Ok(Err(Misread::Shape))
@@ -59,20 +59,20 @@ pub fn take_tree<T: Readable>(
     version: DocVersion,
     reader: &mut Reader<'_>,
     depth: usize,
-) -> Result<Found<T>, WalkError>
+) -> Result<Told<T>, WalkError>
     ensures value { Takes (T.has_shape version) (T.reads version) depth reader.old result reader.new }
     ensures shorter { OnOk result (length reader.new < length reader.old) }
 {
     let tree = tree_at(alloc, reader, depth)?;
-    told(alloc, version, &tree)
+    told_of(alloc, version, &tree)
 }
 
 // What is told of this value.
-fn told<T: Readable>(
+fn told_of<T: Readable>(
     alloc: Global,
     version: DocVersion,
     tree: &Tree<'_>,
-) -> Result<Found<T>, WalkError>
+) -> Result<Told<T>, WalkError>
     ensures { Reaches result (λ told. told ≡ judged (T.has_shape version (view tree.now)) (T.reads version (view tree.now))) }
 {
     if !T::has_shape(version, tree) {

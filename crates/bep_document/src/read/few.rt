@@ -1,11 +1,12 @@
 //! Short lists.
-ghost use Rattle.std.specs.Prelude.{◌≡◌, List, []};
+ghost use Rattle.std.specs.Prelude.{◌≡◌, List, [], Ok};
 ghost use Rattle.bep_tree.specs.View.{view};
 ghost use Rattle.bep_json.specs.Lists.{is_list};
 ghost use Rattle.bep_json.specs.Reading.{Gives, read_member_or};
+ghost use Rattle.bep_document.specs.inner.Few.{few_told};
 ghost use Rattle.bep_document.specs.read.Few.{read_few};
 
-use bep_json::{DocVersion, ReadError, Readable, member_or};
+use bep_json::{DocVersion, Misread, ReadError, Readable, Told, member_or};
 use bep_record::Items;
 use bep_tree::Tree;
 use std::alloc::Global;
@@ -40,6 +41,19 @@ impl<T, const MOST: usize> Few<T, MOST> {
         ensures { result ≡ self }
     {
         self.items
+    }
+}
+
+impl<T: Drop, const MOST: usize> Few<T, MOST> {
+    // These things, where they are at most so many.
+    pub(crate) fn of_items(items: Items<T>) -> Told<Self>
+        ensures { result ≡ few_told MOST (Ok items) }
+    {
+        if items.as_slice().len() > MOST {
+            Err(Misread::Range)
+        } else {
+            Ok(Few { items })
+        }
     }
 }
 

@@ -1,7 +1,7 @@
 -- What is told of a list, item by item.
 use Rattle.std.specs.Prelude.{List, [], ◌∷◌, ◌++◌, Vec, Result, Ok, Err}
-use Rattle.bep_json.specs.declared.found.Misread.{Misread}
-use Rattle.bep_json.specs.declared.found.Misread.TheVariants.{Shape, Range}
+use Rattle.bep_json.specs.declared.told.Misread.{Misread}
+use Rattle.bep_json.specs.declared.told.Misread.TheVariants.{Shape, Range}
 
 -- what is told, seen as a list
 abbrev pub seen : {T A : Type 0} → Result (Vec T A) Misread → Result (List T) Misread

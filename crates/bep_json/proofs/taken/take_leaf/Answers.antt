@@ -16,7 +16,7 @@ returns-in-Leaf-clause-value g c = λ d rest stood.
     let leaf = subst (λ entered. Enters entered d c.enter.new.reader rest) c.in-Leaf.is (c.in_ok-tree.ensures.value d rest stood) in
     let shape = g.T.Readable.has_shape c.args.version in
     let reads = g.T.Readable.reads c.args.version in
-    reaches_so _ _ c.told.result (λ told is. (is ∙ ap (λ e. judged (shape e) (reads e)) leaf.0, leaf.2)) c.told.ensures
+    reaches_so _ _ c.told_of.result (λ told is. (is ∙ ap (λ e. judged (shape e) (reads e)) leaf.0, leaf.2)) c.told_of.ensures
 
 pub returns-in_err-pass_items-in-List-clause-value : goal.returns-in_err-pass_items-in-List-clause-value
 returns-in_err-pass_items-in-List-clause-value g c = λ d rest stood.

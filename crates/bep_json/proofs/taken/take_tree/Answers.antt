@@ -14,4 +14,4 @@ returns-clause-value g c = λ d rest stood.
     let tree = c.in_ok-tree.ensures.value d rest stood in
     let shape = g.T.Readable.has_shape c.args.version in
     let reads = g.T.Readable.reads c.args.version in
-    reaches_so _ _ c.told.result (λ told is. (is ∙ ap (λ e. judged (shape e) (reads e)) tree.0, tree.1)) c.told.ensures
+    reaches_so _ _ c.told_of.result (λ told is. (is ∙ ap (λ e. judged (shape e) (reads e)) tree.0, tree.1)) c.told_of.ensures

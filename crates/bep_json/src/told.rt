@@ -12,10 +12,10 @@ pub enum Misread {
 }
 
 /// The thing that a value says, or why it says none.
-pub type Found<T> = Result<T, Misread>;
+pub type Told<T> = Result<T, Misread>;
 
 /// What is told of a member that must be there.
-pub fn due<T: Drop>(found: Option<Found<T>>) -> Found<T>
+pub fn due<T: Drop>(found: Option<Told<T>>) -> Told<T>
     ensures { result ≡ due found }
 {
     match found {
@@ -25,7 +25,7 @@ pub fn due<T: Drop>(found: Option<Found<T>>) -> Found<T>
 }
 
 /// What is told of a member that may be left out. The default stands for it then.
-pub fn due_or<T: Drop>(found: Option<Found<T>>, default: T) -> Found<T>
+pub fn due_or<T: Drop>(found: Option<Told<T>>, default: T) -> Told<T>
     ensures { result ≡ due_or default found }
 {
     match found {
@@ -35,7 +35,7 @@ pub fn due_or<T: Drop>(found: Option<Found<T>>, default: T) -> Found<T>
 }
 
 /// Both things, or what is told of one of them. Another shape is told before a range.
-pub fn both<A: Drop, B: Drop>(first: Found<A>, second: Found<B>) -> Found<(A, B)>
+pub fn both<A: Drop, B: Drop>(first: Told<A>, second: Told<B>) -> Told<(A, B)>
     ensures { result ≡ both first second }
 {
     match first {

@@ -1,0 +1,3 @@
+-- What only private contracts say: no public contract rests on it.
+pub mod Few
+pub mod Flights

@@ -1,0 +1,26 @@
+-- What is told of the members of a message that is on its way.
+use Rattle.std.specs.Prelude.{ℕ, List, [], ◌∷◌, Option, Result, Ok, Err, codes}
+use Rattle.serde_json.specs.Data.{Data}
+use Rattle.bep_index.specs.declared.limits.TheConstants.{MAX_RECORDS}
+use Rattle.bep_json.specs.declared.told.Misread.{Misread}
+use Rattle.bep_json.specs.declared.version.DocVersion.{DocVersion}
+use Rattle.bep_json.specs.Lists.{is_list}
+use Rattle.bep_json.specs.Numbers.{is_flag, read_flag}
+use Rattle.bep_json.specs.Records.{is_record, read_record}
+use Rattle.bep_json.specs.Taking.{slot, due, both}
+use Rattle.bep_json.specs.Texts.{is_text, read_folder_name}
+use Rattle.bep_document.specs.declared.parts.FlightParts.{FlightParts}
+use Rattle.bep_document.specs.declared.take.flights.FlightSlots.{FlightSlots}
+use Rattle.bep_document.specs.read.Few.{read_few}
+
+-- the names of the members
+abbrev pub flight_names : List (List ℕ)
+flight_names = codes "folder" ∷ codes "full" ∷ codes "records" ∷ []
+
+-- what is told of the members, by what stands at each name
+abbrev pub flight_slots : DocVersion → (List ℕ → Option Data) → FlightSlots
+flight_slots version look = record {
+  folder = slot is_text read_folder_name (look (codes "folder"));
+  full = slot is_flag read_flag (look (codes "full"));
+  records = slot (is_list (is_record version)) (read_few MAX_RECORDS (read_record version)) (look (codes "records"));
+}

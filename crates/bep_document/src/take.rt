@@ -1,0 +1,4 @@
+//! What a document says, as a walk along its text comes to it: a reader for each thing that stands in it.
+
+mod few;
+mod flights;
