@@ -4,3 +4,6 @@ pub mod Found
 pub mod Named
 pub mod Signed
 pub mod Taken
+pub mod Tokens
+pub mod InRange
+pub mod OneValue

@@ -1,10 +1,9 @@
 -- What bytes have as their tree, by the value of `json` in them.
-use Rattle.std.proofs.Common.{◌≡◌, ◌∙◌, ℕ, List, Bool, true, false, cond, Option, Some, None, option_and_then, IsUtf8, refl, sym, ap}
+use Rattle.std.proofs.Common.{◌≡◌, ◌∙◌, ℕ, List, Bool, true, false, cond, Some, None, option_and_then, IsUtf8, refl, ap}
 use Rattle.std.specs.Prelude.{if◌then◌else◌}
 use Rattle.std.specs.Str.{is_utf8}
 use Rattle.std.proofs.lemmas.Str.{IsUtf8-from_is_utf8, is_utf8-from_IsUtf8}
 use Rattle.json.specs.Json as json
-use Rattle.serde_json.specs.Data.{Data}
 use Rattle.serde_json.specs.Read.{of_json, read}
 use Rattle.bep_tree.specs.Read.{tree_of}
 use Rattle.bep_tree.specs.View.{data_of}
@@ -19,7 +18,7 @@ of_no_text bytes broken = by_test (is_utf8 bytes) refl
     by_test true e = absurd (broken (IsUtf8-from_is_utf8 bytes e))
     by_test false e = refl
 
-of_text : (text : List ℕ) → IsUtf8 text → tree_of text ≡ option_and_then of_json (json_of text)
+pub of_text : (text : List ℕ) → IsUtf8 text → tree_of text ≡ option_and_then of_json (json_of text)
 of_text text utf8 = ap (λ b. if b then read text else None) (is_utf8-from_IsUtf8 text utf8)
 
 pub of_no_json : (text : List ℕ) → IsUtf8 text → json_of text ≡ None → tree_of text ≡ None
