@@ -7,3 +7,4 @@ pub mod Taken
 pub mod Tokens
 pub mod InRange
 pub mod OneValue
+pub mod Digits
