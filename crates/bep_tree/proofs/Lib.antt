@@ -5,3 +5,7 @@ pub mod Named
 pub mod Signed
 pub mod Taken
 pub mod Walking
+pub mod Tokens
+pub mod InRange
+pub mod OneValue
+pub mod Digits

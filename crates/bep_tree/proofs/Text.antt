@@ -18,7 +18,7 @@ of_no_text bytes broken = by_test (is_utf8 bytes) refl
     by_test true e = absurd (broken (IsUtf8-from_is_utf8 bytes e))
     by_test false e = refl
 
-of_text : (text : List ℕ) → IsUtf8 text → tree_of text ≡ option_and_then of_json (json_of text)
+pub of_text : (text : List ℕ) → IsUtf8 text → tree_of text ≡ option_and_then of_json (json_of text)
 of_text text utf8 = ap (λ b. if b then read text else None) (is_utf8-from_IsUtf8 text utf8)
 
 pub of_no_json : (text : List ℕ) → IsUtf8 text → json_of text ≡ None → tree_of text ≡ None

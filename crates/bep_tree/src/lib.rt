@@ -5,6 +5,8 @@
 //! four points, which are settled here as `serde_json` settles them. `read_tree` refuses what nests too deep, and a number
 //! that is too large for a float. The calls on a tree take the last of members that come twice, and `-0` for no whole number.
 //!
+//! Who reads a document's tokens one after another needs no tree: `json_text` says whether `read_tree` would make one.
+//!
 //! ```rust
 //! let mut scratch = Scratch::new(alloc);
 //! let tree = read_tree(alloc, bytes, &mut scratch)?;
@@ -12,6 +14,7 @@
 //! ```
 #![tactic(auto)]
 
+mod document;
 mod error;
 mod look;
 mod number;
@@ -19,6 +22,7 @@ mod read;
 mod take;
 mod walk;
 
+pub use document::json_text;
 pub use error::TreeError;
 pub use json::{Reader, Scratch};
 pub use look::{as_array, as_bool, as_str, at, get, has_only};

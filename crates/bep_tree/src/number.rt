@@ -1,5 +1,7 @@
 //! Numbers, which a tree keeps as texts.
-ghost use Rattle.std.specs.Prelude.{◌≡◌, ◌==◌, ◌<◌, IsTrue, true, false, is_some, length, slice_index, option_and_then};
+ghost use Rattle.std.specs.Prelude.{◌≡◌, ◌==◌, ◌<◌, ◌≤◌, IsTrue, true, false, is_some, length, slice_index, option_and_then};
+ghost use Rattle.std.specs.Option.{SomeIff};
+ghost use Rattle.std.specs.Str.Parse.{digits_value, IsNumeral};
 ghost use Rattle.serde_json.specs.Find.{as_number, as_u64, as_i64};
 ghost use Rattle.serde_json.specs.Read.{number_of, number_from, float_of};
 ghost use Rattle.bep_tree.specs.View.{view};
@@ -33,10 +35,9 @@ fn unsigned_in(text: &str) -> Option<u64>
     ensures { result ≡ option_and_then as_u64 (number_of text.now) }
 {
     let bytes = text.as_bytes();
-    if has_minus(bytes) {
-        None
-    } else {
-        unsigned(&Numeral::scan(bytes))
+    match few_digits(bytes) {
+        Some(number) => Some(number),
+        None => scanned_unsigned(bytes),
     }
 }
 
@@ -45,6 +46,47 @@ fn signed_in(text: &str) -> Option<i64>
     ensures { result ≡ option_and_then as_i64 (number_of text.now) }
 {
     let bytes = text.as_bytes();
+    match few_digits(bytes) {
+        Some(number) => Some(number as i64),
+        None => scanned_signed(bytes),
+    }
+}
+
+// The number that these bytes write, if they are digits alone, and at most 18 of them: no scan for a sign, a point or an
+// exponent is needed then. Most numbers of documents are such.
+#[inline(always)]
+fn few_digits(bytes: &[u8]) -> Option<u64>
+    ensures { SomeIff result (IsNumeral 10 bytes.now × (length bytes.now ≤ 18)) (digits_value 10 bytes.now) }
+{
+    if bytes.is_empty() || bytes.len() > 18 {
+        return None;
+    }
+    let mut value = 0u64;
+    for byte in bytes {
+        let digit = byte.wrapping_sub(b'0');
+        if digit > 9 {
+            return None;
+        }
+        value = value * 10 + digit as u64;
+    }
+    Some(value)
+}
+
+// The unsigned number of 64 bits that any bytes write.
+fn scanned_unsigned(bytes: &[u8]) -> Option<u64>
+    ensures { result ≡ option_and_then as_u64 (number_of bytes.now) }
+{
+    if has_minus(bytes) {
+        None
+    } else {
+        unsigned(&Numeral::scan(bytes))
+    }
+}
+
+// The signed number of 64 bits that any bytes write.
+fn scanned_signed(bytes: &[u8]) -> Option<i64>
+    ensures { result ≡ option_and_then as_i64 (number_of bytes.now) }
+{
     if has_minus(bytes) {
         below_zero(&Numeral::scan(&bytes[1..]))
     } else {
@@ -81,6 +123,13 @@ pub(crate) fn is_in_range(text: &str) -> bool
     ensures { result ≡ is_some (number_of text.now) }
 {
     let bytes = text.as_bytes();
+    few_digits(bytes).is_some() || is_scanned_in_range(bytes)
+}
+
+// The same of any bytes.
+fn is_scanned_in_range(bytes: &[u8]) -> bool
+    ensures { result ≡ is_some (number_of bytes.now) }
+{
     if has_minus(bytes) {
         fits_below_zero(&Numeral::scan(&bytes[1..]))
     } else {

@@ -12,7 +12,7 @@ use json::{Error, Reader};
 use std::alloc::Global;
 
 // How deep `serde_json` lets arrays and objects nest.
-const MAX_DEPTH: usize = 127;
+pub(crate) const MAX_DEPTH: usize = 127;
 
 /// The tree of these bytes: what it holds is what `serde_json` reads in them. Refuses `NotJson` where that reads nothing;
 /// `Memory` may come in place of any answer. Texts with escapes are written into the scratch.

@@ -2,7 +2,7 @@
 use super::made::{name, node, record};
 use bep_json::{DocVersion, Members, Readable, Whole, member, member_or, node_value, record_value};
 use bep_record::{DeviceId, Name};
-use bep_tree::{Scratch, Tree, get, read_tree};
+use bep_tree::{Scratch, Tree, get, json_text, read_tree};
 use serde_json::Value;
 use std::alloc::Global;
 
@@ -57,9 +57,16 @@ fn written(alloc: Global) -> Option<[bool; 2]> {
     ])
 }
 
+fn found(alloc: Global) -> Option<bool> {
+    let mut scratch = Scratch::new(alloc);
+    let text = json_text(br#"{"size":5}"#, &mut scratch).ok()?;
+    Some(text == Some(r#"{"size":5}"#))
+}
+
 #[test]
 fn trees_find_memory(rt: HostRuntime) {
     assert!(rt; read(rt.alloc()) == Some([true; 3]));
     assert!(rt; made(rt.alloc()) == Some(true));
+    assert!(rt; found(rt.alloc()) == Some(true));
     assert!(rt; written(rt.alloc()) == Some([true; 2]));
 }

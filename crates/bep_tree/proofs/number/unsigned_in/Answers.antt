@@ -1,18 +1,10 @@
-use Rattle.std.proofs.Common.{◌∙◌, drop, false, option_and_then, sym, ap}
-use Rattle.fast_float.specs.Text.{scan}
+use Rattle.std.proofs.Common.{◌∙◌, Some, option_and_then, sym, ap}
 use Rattle.serde_json.specs.Find.{as_u64}
-use Rattle.serde_json.specs.Read.{number_of, number_from}
-use Rattle.bep_tree.proofs.Signed.{below_zero_by, unsigned_by, none_below_zero}
+use Rattle.serde_json.specs.Read.{number_of}
+use Rattle.bep_tree.proofs.Digits.{number_of_digits}
 use Rattle.bep_tree.proofs.number.unsigned_in.Goals as goal
 
-pub returns-then-has_minus : goal.returns-then-has_minus
-returns-then-has_minus c =
-    let s = c.as_bytes-bytes.result.now in
-    sym (none_below_zero (scan (drop 1 s)))
-    ∙ ap (option_and_then as_u64) (sym (below_zero_by s (sym c.if-has_minus.ensures.value))) ∙ ap (λ t. option_and_then as_u64 (number_of t)) c.as_bytes-bytes.ensures.value
-
-pub returns-else-has_minus : goal.returns-else-has_minus
-returns-else-has_minus c =
-    let s = c.as_bytes-bytes.result.now in
-    c.unsigned.ensures ∙ ap (λ p. option_and_then as_u64 (number_from false p)) c.scan.ensures.parts
-    ∙ ap (option_and_then as_u64) (sym (unsigned_by s (sym c.if-has_minus.ensures.value))) ∙ ap (λ t. option_and_then as_u64 (number_of t)) c.as_bytes-bytes.ensures.value
+pub returns-in-Some : goal.returns-in-Some
+returns-in-Some c =
+    let is = c.in-Some.ensures in
+    ap Some is.1 ∙ ap (option_and_then as_u64) (sym (number_of_digits c.as_bytes-bytes.result.now is.0.0 is.0.1)) ∙ ap (λ t. option_and_then as_u64 (number_of t)) c.as_bytes-bytes.ensures.value

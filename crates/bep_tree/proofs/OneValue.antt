@@ -1,0 +1,81 @@
+-- What a document's bytes hold is the value of the one tree that their tokens are.
+use Rattle.std.proofs.Common.{◌≡◌, ◌∙◌, ℕ, List, [], ◌∷◌, Bool, true, false, ◌&&◌, cond, Option, Some, None, is_some, option_and_then, IsUtf8, refl, sym, ap}
+use Rattle.std.specs.Prelude.{if◌then◌else◌, IsSome}
+use Rattle.std.specs.Str.{is_utf8}
+use Rattle.json.specs.Json as json
+use Rattle.json.specs.Lex.{tokens}
+use Rattle.json.specs.Token.{Token}
+use Rattle.serde_json.specs.Data.{Data}
+use Rattle.serde_json.specs.Read.{max_depth, of_json, read}
+use Rattle.bep_tree.specs.Read.{tree_of}
+use Rattle.bep_tree.specs.View.{data_of}
+use Rattle.bep_tree.specs.inner.InRange.{is_in_range, tokens_in_range}
+use Rattle.bep_tree.specs.inner.Text.{json_of, one_value}
+use Rattle.bep_tree.proofs.InRange.{tokens_in_range-value}
+use Rattle.bep_tree.proofs.Same.{read_is}
+use Rattle.bep_tree.proofs.Text.{of_text}
+use Rattle.bep_tree.proofs.Tokens.{tokens_of_value}
+
+-- the one value that tokens are takes all of them
+pub all_of_tokens : (ts : List Token) (j : json.Json) → one_value ts ≡ Some j → json.value max_depth ts ≡ Some (j, [])
+all_of_tokens ts j e = by_value (json.value max_depth ts) refl
+  where
+    by_rest : (i : json.Json) (rest : List Token) → json.if_last i rest ≡ Some j → ◌≡◌ {A = Option (json.Json × List Token)} (Some (i, rest)) (Some (j, []))
+    by_rest i [] f = cc
+    by_rest i (t ∷ rest) f = absurd (cc)
+
+    by_value : (v : Option (json.Json × List Token)) → json.value max_depth ts ≡ v → json.value max_depth ts ≡ Some (j, [])
+    by_value None f = absurd (let never : None ≡ Some j = sym (ap (option_and_then (λ p. json.if_last p.0 p.1)) f) ∙ e in cc)
+    by_value (Some p) f = f ∙ by_rest p.0 p.1 (sym (ap (option_and_then (λ p. json.if_last p.0 p.1)) f) ∙ e)
+
+-- so its numbers are in range where those of the tokens are
+pub in_range_by_tokens : (ts : List Token) (j : json.Json) → one_value ts ≡ Some j → tokens_in_range ts ≡ is_in_range j
+in_range_by_tokens ts j e =
+    ap tokens_in_range (tokens_of_value max_depth ts [] j (all_of_tokens ts j e)) ∙ tokens_in_range-value j [] ∙ last (is_in_range j)
+  where
+    last : (b : Bool) → (b && true) ≡ b
+    last true = refl
+    last false = refl
+
+pub is_document_by : (text : List ℕ) → IsUtf8 text → is_some (tree_of text) ≡ (is_some (json_of text) && tokens_in_range (tokens text))
+is_document_by text utf8 = ap is_some (of_text text utf8) ∙ by_json (json_of text) refl
+  where
+    passed : (b : Bool) (d : Data) → is_some (cond b (Some d) None) ≡ b
+    passed true d = refl
+    passed false d = refl
+
+    by_json : (o : Option json.Json) → json_of text ≡ o → is_some (option_and_then of_json o) ≡ (is_some o && tokens_in_range (tokens text))
+    by_json None e = refl
+    by_json (Some j) e = ap is_some (read_is j) ∙ passed (is_in_range j) (data_of j) ∙ sym (in_range_by_tokens (tokens text) j e)
+
+-- What a walk along the tokens of a document needs: they are one value, and what the document holds is the view of that.
+pub record Holds (bytes : List ℕ) (d : Data) : Type 0 where
+  pub tree : json.Json
+  pub read_whole : json.value max_depth (tokens bytes) ≡ Some (tree, [])
+  pub viewed : d ≡ data_of tree
+  pub in_range : is_in_range tree ≡ true
+
+pub value_of_document : (bytes : List ℕ) (d : Data) → tree_of bytes ≡ Some d → Holds bytes d
+value_of_document bytes d e = by_text (is_utf8 bytes) refl
+  where
+    by_range : (j : json.Json) (b : Bool) → is_in_range j ≡ b → cond b (Some (data_of j)) None ≡ Some d → (d ≡ data_of j) × (is_in_range j ≡ true)
+    by_range j true f g = (cc, f)
+    by_range j false f g = absurd (cc)
+
+    by_json : (o : Option json.Json) → json_of bytes ≡ o → option_and_then of_json o ≡ Some d → Holds bytes d
+    by_json None f g = absurd (cc)
+    by_json (Some j) f g =
+        let fits = by_range j (is_in_range j) refl (sym (read_is j) ∙ g) in
+        record { tree = j; read_whole = all_of_tokens (tokens bytes) j f; viewed = fits.0; in_range = fits.1 }
+
+    by_text : (b : Bool) → is_utf8 bytes ≡ b → Holds bytes d
+    by_text true f = by_json (json_of bytes) refl (sym (ap (λ b. if b then read bytes else None) f) ∙ e)
+    by_text false f = absurd (let never : None ≡ Some d = sym (ap (λ b. if b then read bytes else None) f) ∙ e in cc)
+
+-- the same where it is only known that there is a value, as from `json_text`
+pub value_where_some : (bytes : List ℕ) → IsSome (tree_of bytes) → (d : Data) × (tree_of bytes ≡ Some d) × Holds bytes d
+value_where_some bytes some = by_value (tree_of bytes) refl some
+  where
+    by_value : (o : Option Data) → tree_of bytes ≡ o → IsSome o → (d : Data) × (tree_of bytes ≡ Some d) × Holds bytes d
+    by_value None e f = absurd (cc)
+    by_value (Some d) e f = (d, e, value_of_document bytes d e)
