@@ -7,3 +7,4 @@ pub mod faultless
 pub mod CleanFacts
 pub mod Given
 pub mod Taking
+pub mod told

@@ -1,3 +1,8 @@
 -- What only private contracts say: no public contract rests on it.
 pub mod Few
 pub mod Flights
+pub mod Links
+pub mod Views
+pub mod Shares
+pub mod Folders
+pub mod Rows

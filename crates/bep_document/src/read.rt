@@ -13,3 +13,4 @@ pub(crate) use checks::{CutLists, is_check, read_check_parts};
 pub use devices::has_few_devices;
 pub use few::Few;
 pub use shares::{IndexNumber, index_id_of};
+pub(crate) use views::AnyIndexNumber;

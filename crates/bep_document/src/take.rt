@@ -2,3 +2,8 @@
 
 mod few;
 mod flights;
+mod folders;
+mod links;
+mod rows;
+mod shares;
+mod views;

@@ -15,7 +15,7 @@ use Rattle.bep_tree.specs.Names.{is_among}
 use Rattle.bep_json.specs.Reading.{◌>>=◌, read_member, read_or, read_member_or}
 use Rattle.bep_json.specs.Tree.{has_member, may_have_member}
 use Rattle.bep_json.specs.Lists.{have_shape, read_items}
-use Rattle.bep_json.specs.Taking.{judged, Known, with_member, slot, due, due_or, both}
+use Rattle.bep_json.specs.Taking.{judged, Known, with_member, slot, due, due_or, both, told_as}
 use Rattle.bep_json.specs.inner.Joined.{joined, followed}
 
 -- ---- members by their names
@@ -115,3 +115,74 @@ pub fills : {S : Type 0} (names : List (List ℕ)) (known : (List ℕ → Option
     → MatchBool filled (Known names known key d look new after rest) ((is_among key names ≡ false) × (after ≡ before))
 fills names known key d look new after before rest true is named kept passed = (named, kept, passed)
 fills names known key d look new after before rest false is named kept passed = cc
+
+pub told_as_is : {A B : Type 0} (make : A → B) (shape : Bool) (read : Option A) → told_as make (judged shape read) ≡ judged shape (option_map make read)
+told_as_is make false read = refl
+told_as_is make true None = refl
+told_as_is make true (Some things) = refl
+
+-- ---- what is made of several things is read one after another
+
+paired : {A B C : Type 0} (make : A × B → C) (a : A) (more : Option B) → option_map make (pair (Some a) more) ≡ option_map (λ t. make (a, t)) more
+paired make a None = refl
+paired make a (Some b) = refl
+
+pub read_2 : {A B P : Type 0} (make : A × B → P) (a : Option A) (b : Option B) → option_map make (pair a b) ≡ (a >>= λ x. b >>= λ y. Some (make (x, y)))
+read_2 make None b = refl
+read_2 make (Some x) None = refl
+read_2 make (Some x) (Some y) = refl
+
+pub read_3 : {A B C P : Type 0} (make : A × (B × C) → P) (a : Option A) (b : Option B) (c : Option C)
+    → option_map make (pair a (pair b c)) ≡ (a >>= λ xa. b >>= λ xb. c >>= λ xc. Some (make (xa, (xb, xc))))
+read_3 make None b c = refl
+read_3 make (Some xa) b c = paired make xa (pair b c) ∙ read_2 (λ t. make (xa, t)) b c
+
+pub read_4 : {A B C D P : Type 0} (make : A × (B × (C × D)) → P) (a : Option A) (b : Option B) (c : Option C) (d : Option D)
+    → option_map make (pair a (pair b (pair c d))) ≡ (a >>= λ xa. b >>= λ xb. c >>= λ xc. d >>= λ xd. Some (make (xa, (xb, (xc, xd)))))
+read_4 make None b c d = refl
+read_4 make (Some xa) b c d = paired make xa (pair b (pair c d)) ∙ read_3 (λ t. make (xa, t)) b c d
+
+pub read_5 : {A B C D E P : Type 0} (make : A × (B × (C × (D × E))) → P) (a : Option A) (b : Option B) (c : Option C) (d : Option D) (e : Option E)
+    → option_map make (pair a (pair b (pair c (pair d e)))) ≡ (a >>= λ xa. b >>= λ xb. c >>= λ xc. d >>= λ xd. e >>= λ xe. Some (make (xa, (xb, (xc, (xd, xe))))))
+read_5 make None b c d e = refl
+read_5 make (Some xa) b c d e = paired make xa (pair b (pair c (pair d e))) ∙ read_4 (λ t. make (xa, t)) b c d e
+
+pub read_6 : {A B C D E F P : Type 0} (make : A × (B × (C × (D × (E × F)))) → P) (a : Option A) (b : Option B) (c : Option C) (d : Option D) (e : Option E) (f : Option F)
+    → option_map make (pair a (pair b (pair c (pair d (pair e f))))) ≡ (a >>= λ xa. b >>= λ xb. c >>= λ xc. d >>= λ xd. e >>= λ xe. f >>= λ xf. Some (make (xa, (xb, (xc, (xd, (xe, xf)))))))
+read_6 make None b c d e f = refl
+read_6 make (Some xa) b c d e f = paired make xa (pair b (pair c (pair d (pair e f)))) ∙ read_5 (λ t. make (xa, t)) b c d e f
+
+pub read_7 : {A B C D E F G P : Type 0} (make : A × (B × (C × (D × (E × (F × G))))) → P) (a : Option A) (b : Option B) (c : Option C) (d : Option D) (e : Option E) (f : Option F) (g : Option G)
+    → option_map make (pair a (pair b (pair c (pair d (pair e (pair f g)))))) ≡ (a >>= λ xa. b >>= λ xb. c >>= λ xc. d >>= λ xd. e >>= λ xe. f >>= λ xf. g >>= λ xg. Some (make (xa, (xb, (xc, (xd, (xe, (xf, xg))))))))
+read_7 make None b c d e f g = refl
+read_7 make (Some xa) b c d e f g = paired make xa (pair b (pair c (pair d (pair e (pair f g))))) ∙ read_6 (λ t. make (xa, t)) b c d e f g
+
+pub read_8 : {A B C D E F G H P : Type 0} (make : A × (B × (C × (D × (E × (F × (G × H)))))) → P) (a : Option A) (b : Option B) (c : Option C) (d : Option D) (e : Option E) (f : Option F) (g : Option G) (h : Option H)
+    → option_map make (pair a (pair b (pair c (pair d (pair e (pair f (pair g h))))))) ≡ (a >>= λ xa. b >>= λ xb. c >>= λ xc. d >>= λ xd. e >>= λ xe. f >>= λ xf. g >>= λ xg. h >>= λ xh. Some (make (xa, (xb, (xc, (xd, (xe, (xf, (xg, xh)))))))))
+read_8 make None b c d e f g h = refl
+read_8 make (Some xa) b c d e f g h = paired make xa (pair b (pair c (pair d (pair e (pair f (pair g h)))))) ∙ read_7 (λ t. make (xa, t)) b c d e f g h
+
+pub read_9 : {A B C D E F G H I P : Type 0} (make : A × (B × (C × (D × (E × (F × (G × (H × I))))))) → P) (a : Option A) (b : Option B) (c : Option C) (d : Option D) (e : Option E) (f : Option F) (g : Option G) (h : Option H) (i : Option I)
+    → option_map make (pair a (pair b (pair c (pair d (pair e (pair f (pair g (pair h i)))))))) ≡ (a >>= λ xa. b >>= λ xb. c >>= λ xc. d >>= λ xd. e >>= λ xe. f >>= λ xf. g >>= λ xg. h >>= λ xh. i >>= λ xi. Some (make (xa, (xb, (xc, (xd, (xe, (xf, (xg, (xh, xi))))))))))
+read_9 make None b c d e f g h i = refl
+read_9 make (Some xa) b c d e f g h i = paired make xa (pair b (pair c (pair d (pair e (pair f (pair g (pair h i))))))) ∙ read_8 (λ t. make (xa, t)) b c d e f g h i
+
+pub read_10 : {A B C D E F G H I J P : Type 0} (make : A × (B × (C × (D × (E × (F × (G × (H × (I × J)))))))) → P) (a : Option A) (b : Option B) (c : Option C) (d : Option D) (e : Option E) (f : Option F) (g : Option G) (h : Option H) (i : Option I) (j : Option J)
+    → option_map make (pair a (pair b (pair c (pair d (pair e (pair f (pair g (pair h (pair i j))))))))) ≡ (a >>= λ xa. b >>= λ xb. c >>= λ xc. d >>= λ xd. e >>= λ xe. f >>= λ xf. g >>= λ xg. h >>= λ xh. i >>= λ xi. j >>= λ xj. Some (make (xa, (xb, (xc, (xd, (xe, (xf, (xg, (xh, (xi, xj)))))))))))
+read_10 make None b c d e f g h i j = refl
+read_10 make (Some xa) b c d e f g h i j = paired make xa (pair b (pair c (pair d (pair e (pair f (pair g (pair h (pair i j)))))))) ∙ read_9 (λ t. make (xa, t)) b c d e f g h i j
+
+pub read_11 : {A B C D E F G H I J K P : Type 0} (make : A × (B × (C × (D × (E × (F × (G × (H × (I × (J × K))))))))) → P) (a : Option A) (b : Option B) (c : Option C) (d : Option D) (e : Option E) (f : Option F) (g : Option G) (h : Option H) (i : Option I) (j : Option J) (k : Option K)
+    → option_map make (pair a (pair b (pair c (pair d (pair e (pair f (pair g (pair h (pair i (pair j k)))))))))) ≡ (a >>= λ xa. b >>= λ xb. c >>= λ xc. d >>= λ xd. e >>= λ xe. f >>= λ xf. g >>= λ xg. h >>= λ xh. i >>= λ xi. j >>= λ xj. k >>= λ xk. Some (make (xa, (xb, (xc, (xd, (xe, (xf, (xg, (xh, (xi, (xj, xk))))))))))))
+read_11 make None b c d e f g h i j k = refl
+read_11 make (Some xa) b c d e f g h i j k = paired make xa (pair b (pair c (pair d (pair e (pair f (pair g (pair h (pair i (pair j k))))))))) ∙ read_10 (λ t. make (xa, t)) b c d e f g h i j k
+
+pub read_12 : {A B C D E F G H I J K L P : Type 0} (make : A × (B × (C × (D × (E × (F × (G × (H × (I × (J × (K × L)))))))))) → P) (a : Option A) (b : Option B) (c : Option C) (d : Option D) (e : Option E) (f : Option F) (g : Option G) (h : Option H) (i : Option I) (j : Option J) (k : Option K) (l : Option L)
+    → option_map make (pair a (pair b (pair c (pair d (pair e (pair f (pair g (pair h (pair i (pair j (pair k l))))))))))) ≡ (a >>= λ xa. b >>= λ xb. c >>= λ xc. d >>= λ xd. e >>= λ xe. f >>= λ xf. g >>= λ xg. h >>= λ xh. i >>= λ xi. j >>= λ xj. k >>= λ xk. l >>= λ xl. Some (make (xa, (xb, (xc, (xd, (xe, (xf, (xg, (xh, (xi, (xj, (xk, xl)))))))))))))
+read_12 make None b c d e f g h i j k l = refl
+read_12 make (Some xa) b c d e f g h i j k l = paired make xa (pair b (pair c (pair d (pair e (pair f (pair g (pair h (pair i (pair j (pair k l)))))))))) ∙ read_11 (λ t. make (xa, t)) b c d e f g h i j k l
+
+pub read_13 : {A B C D E F G H I J K L M P : Type 0} (make : A × (B × (C × (D × (E × (F × (G × (H × (I × (J × (K × (L × M))))))))))) → P) (a : Option A) (b : Option B) (c : Option C) (d : Option D) (e : Option E) (f : Option F) (g : Option G) (h : Option H) (i : Option I) (j : Option J) (k : Option K) (l : Option L) (m : Option M)
+    → option_map make (pair a (pair b (pair c (pair d (pair e (pair f (pair g (pair h (pair i (pair j (pair k (pair l m)))))))))))) ≡ (a >>= λ xa. b >>= λ xb. c >>= λ xc. d >>= λ xd. e >>= λ xe. f >>= λ xf. g >>= λ xg. h >>= λ xh. i >>= λ xi. j >>= λ xj. k >>= λ xk. l >>= λ xl. m >>= λ xm. Some (make (xa, (xb, (xc, (xd, (xe, (xf, (xg, (xh, (xi, (xj, (xk, (xl, xm))))))))))))))
+read_13 make None b c d e f g h i j k l m = refl
+read_13 make (Some xa) b c d e f g h i j k l m = paired make xa (pair b (pair c (pair d (pair e (pair f (pair g (pair h (pair i (pair j (pair k (pair l m))))))))))) ∙ read_12 (λ t. make (xa, t)) b c d e f g h i j k l m

@@ -62,3 +62,8 @@ both (Err Shape) b = Err Shape
 both (Err Range) (Err Shape) = Err Shape
 both (Err Range) (Err Range) = Err Range
 both (Err Range) (Ok b) = Err Range
+
+-- the thing that is made of these, where they are told
+abbrev pub told_as : {A B : Type 0} → (A → B) → Result A Misread → Result B Misread
+told_as make (Ok things) = Ok (make things)
+told_as make (Err misread) = Err misread

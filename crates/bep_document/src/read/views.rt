@@ -10,7 +10,7 @@ use bep_tree::Tree;
 use std::alloc::Global;
 
 // The number of an index's id, 0 if no index is known.
-type AnyIndexNumber = Whole<0, 18446744073709551615>;
+pub(crate) type AnyIndexNumber = Whole<0, 18446744073709551615>;
 
 // A device's view of another device's index.
 impl Readable for ViewParts {

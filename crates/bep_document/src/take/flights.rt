@@ -1,14 +1,15 @@
 //! Messages that are on their way.
-ghost use Rattle.bep_document.specs.inner.Flights.{flight_names, flight_slots};
+ghost use Rattle.std.specs.Prelude.{◌≡◌};
+ghost use Rattle.bep_document.specs.inner.Flights.{flight_names, flight_slots, flight_told};
 
-use crate::Few;
+use crate::{Few, FlightParts};
 use bep_index::MAX_RECORDS;
-use bep_json::{DocVersion, Slots, Told, fill, fill_leaf};
+use bep_json::{DocVersion, Misread, Slots, Taken, Told, both, due, fill, fill_leaf, take_object};
 use bep_record::{Entry, FolderName};
 use bep_tree::{Reader, WalkError};
 use std::alloc::Global;
 
-// What is told of the members of a message.
+// What is told of the members of a message that is on its way.
 #[derive(Drop)]
 pub(crate) struct FlightSlots {
     folder: Option<Told<FolderName>>,
@@ -44,4 +45,31 @@ impl Slots for FlightSlots {
             _ => Ok(false),
         }
     }
+}
+
+impl Taken for FlightParts {
+    fn take(
+        alloc: Global,
+        version: DocVersion,
+        reader: &mut Reader<'_>,
+        depth: usize,
+    ) -> Result<Told<Self>, WalkError> {
+        let slots = take_object::<FlightSlots>(alloc, version, reader, depth)?;
+        Ok(flight_told(slots))
+    }
+}
+
+// What is told of a message, by what is told of its members.
+fn flight_told(slots: Option<FlightSlots>) -> Told<FlightParts>
+    ensures { result ≡ flight_told slots }
+{
+    let Some(FlightSlots { folder, full, records }) = slots else {
+        return Err(Misread::Shape);
+    };
+    let (folder, (full, records)) = both(due(folder), both(due(full), due(records)))?;
+    Ok(FlightParts {
+        folder,
+        full,
+        records: records.into_items(),
+    })
 }

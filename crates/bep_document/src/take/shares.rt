@@ -1,0 +1,98 @@
+//! Devices that share a folder.
+ghost use Rattle.std.specs.Prelude.{◌≡◌};
+ghost use Rattle.bep_document.specs.inner.Shares.{share_names, share_slots, share_told};
+
+use crate::{Few, IndexNumber, ShareParts, ViewParts};
+use bep_index::{IndexId, MAX_NAMES};
+use bep_json::{DocVersion, Misread, NamedParts, Sequence, Slots, Taken, Told, both, due, due_or, fill, fill_leaf, take_object};
+use bep_record::{DeviceId, Entry, FolderKind, Items, MAX_PULLS};
+use bep_tree::{Reader, WalkError};
+use std::alloc::Global;
+
+// What is told of the members of a device that shares a folder.
+#[derive(Drop)]
+pub(crate) struct ShareSlots {
+    device: Option<Told<DeviceId>>,
+    kind: Option<Told<FolderKind>>,
+    index_id: Option<Told<IndexNumber>>,
+    max: Option<Told<Sequence>>,
+    own: Option<Told<Few<Entry, MAX_NAMES>>>,
+    store: Option<Told<Items<NamedParts>>>,
+    views: Option<Told<Items<ViewParts>>>,
+    pulls: Option<Told<Few<Entry, MAX_PULLS>>>,
+}
+
+impl Slots for ShareSlots {
+    ghost names = { share_names };
+
+    ghost known = { share_slots };
+
+    fn none() -> Self {
+        ShareSlots {
+            device: None,
+            kind: None,
+            index_id: None,
+            max: None,
+            own: None,
+            store: None,
+            views: None,
+            pulls: None,
+        }
+    }
+
+    fn take(
+        &mut self,
+        alloc: Global,
+        version: DocVersion,
+        key: &str,
+        reader: &mut Reader<'_>,
+        depth: usize,
+    ) -> Result<bool, WalkError> {
+        match key {
+            "device" => fill_leaf(&mut self.device, alloc, version, reader, depth),
+            "kind" => fill_leaf(&mut self.kind, alloc, version, reader, depth),
+            "index_id" => fill_leaf(&mut self.index_id, alloc, version, reader, depth),
+            "max" => fill_leaf(&mut self.max, alloc, version, reader, depth),
+            "own" => fill(&mut self.own, alloc, version, reader, depth),
+            "store" => fill(&mut self.store, alloc, version, reader, depth),
+            "views" => fill(&mut self.views, alloc, version, reader, depth),
+            "pulls" => fill(&mut self.pulls, alloc, version, reader, depth),
+            _ => Ok(false),
+        }
+    }
+}
+
+impl Taken for ShareParts {
+    fn take(
+        alloc: Global,
+        version: DocVersion,
+        reader: &mut Reader<'_>,
+        depth: usize,
+    ) -> Result<Told<Self>, WalkError> {
+        let slots = take_object::<ShareSlots>(alloc, version, reader, depth)?;
+        Ok(share_told(alloc, slots))
+    }
+}
+
+// What is told of a device that shares a folder, by what is told of its members.
+fn share_told(alloc: Global, slots: Option<ShareSlots>) -> Told<ShareParts>
+    ensures { result ≡ share_told slots }
+{
+    let Some(ShareSlots { device, kind, index_id, max, own, store, views, pulls }) = slots else {
+        return Err(Misread::Shape);
+    };
+    let (device, (kind, (index_id, (max, (own, (store, (views, pulls))))))) = both(due(device), both(due(kind), both(due(index_id), both(due(max), both(due_or(own, Few::none(alloc)), both(due_or(store, Items::new(Vec::new(alloc))), both(due_or(views, Items::new(Vec::new(alloc))), due_or(pulls, Few::none(alloc)))))))))?;
+    let Some(index_id) = IndexId::read(index_id.number()) else {
+        return Err(Misread::Range);
+    };
+    Ok(ShareParts {
+        device,
+        kind,
+        index_id,
+        max: max.number(),
+        own: own.into_items(),
+        store,
+        views,
+        pulls: pulls.into_items(),
+    })
+}
