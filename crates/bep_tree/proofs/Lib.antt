@@ -4,7 +4,6 @@ pub mod Found
 pub mod Named
 pub mod Signed
 pub mod Taken
-pub mod Tokens
-pub mod InRange
 pub mod OneValue
 pub mod Digits
+pub mod Passing
