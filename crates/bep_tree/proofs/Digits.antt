@@ -53,7 +53,7 @@ scan_digits s all =
     let end : 0 + digits_len s ≡ length s = omega (arith, digits_len_all s all) in
     let past : get_or s (length s) 0 ≡ 0 = get_or_past s (length s) 0 (omega arith) in
     let whole : take (length s - 0) s ≡ s = take_all (length s - 0) s (omega arith) in
-    rw (end, past, past, whole) refl
+    rw (end, past, past, whole) (refl {a = digits_alone s})
 
 no_minus : (x : ℕ) → 48 ≤ x → (x == 45) ≡ false
 no_minus x h = grind (arith, nat_tests)

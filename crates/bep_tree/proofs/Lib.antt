@@ -9,3 +9,4 @@ pub mod Tokens
 pub mod InRange
 pub mod OneValue
 pub mod Digits
+pub mod Passing

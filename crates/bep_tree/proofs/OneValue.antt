@@ -1,5 +1,5 @@
 -- What a document's bytes hold is the value of the one tree that their tokens are.
-use Rattle.std.proofs.Common.{◌≡◌, ◌∙◌, ℕ, List, [], ◌∷◌, Bool, true, false, ◌&&◌, cond, Option, Some, None, is_some, option_and_then, IsUtf8, refl, sym, ap}
+use Rattle.std.proofs.Common.{◌≡◌, ◌∙◌, ℕ, List, [], ◌∷◌, Bool, true, false, cond, inl, inr, Option, Some, None, is_some, option_and_then, refl, sym, ap}
 use Rattle.std.specs.Prelude.{if◌then◌else◌, IsSome}
 use Rattle.std.specs.Str.{is_utf8}
 use Rattle.json.specs.Json as json
@@ -9,12 +9,11 @@ use Rattle.serde_json.specs.Data.{Data}
 use Rattle.serde_json.specs.Read.{max_depth, of_json, read}
 use Rattle.bep_tree.specs.Read.{tree_of}
 use Rattle.bep_tree.specs.View.{data_of}
-use Rattle.bep_tree.specs.inner.InRange.{is_in_range, tokens_in_range}
+use Rattle.bep_tree.specs.inner.InRange.{is_in_range}
+use Rattle.bep_tree.specs.inner.Passed.{after_value}
 use Rattle.bep_tree.specs.inner.Text.{json_of, one_value}
-use Rattle.bep_tree.proofs.InRange.{tokens_in_range-value}
+use Rattle.bep_tree.proofs.Passing.{passed, not_passed}
 use Rattle.bep_tree.proofs.Same.{read_is}
-use Rattle.bep_tree.proofs.Text.{of_text}
-use Rattle.bep_tree.proofs.Tokens.{tokens_of_value}
 
 -- the one value that tokens are takes all of them
 pub all_of_tokens : (ts : List Token) (j : json.Json) → one_value ts ≡ Some j → json.value max_depth ts ≡ Some (j, [])
@@ -28,25 +27,34 @@ all_of_tokens ts j e = by_value (json.value max_depth ts) refl
     by_value None f = absurd (let never : None ≡ Some j = sym (ap (option_and_then (λ p. json.if_last p.0 p.1)) f) ∙ e in cc)
     by_value (Some p) f = f ∙ by_rest p.0 p.1 (sym (ap (option_and_then (λ p. json.if_last p.0 p.1)) f) ∙ e)
 
--- so its numbers are in range where those of the tokens are
-pub in_range_by_tokens : (ts : List Token) (j : json.Json) → one_value ts ≡ Some j → tokens_in_range ts ≡ is_in_range j
-in_range_by_tokens ts j e =
-    ap tokens_in_range (tokens_of_value max_depth ts [] j (all_of_tokens ts j e)) ∙ tokens_in_range-value j [] ∙ last (is_in_range j)
-  where
-    last : (b : Bool) → (b && true) ≡ b
-    last true = refl
-    last false = refl
+in_range_read : (j : json.Json) (b : Bool) → is_in_range j ≡ b → is_some (of_json j) ≡ b
+in_range_read j true e = ap is_some (read_is j ∙ ap (λ b. cond b (Some (data_of j)) None) e)
+in_range_read j false e = ap is_some (read_is j ∙ ap (λ b. cond b (Some (data_of j)) None) e)
 
-pub is_document_by : (text : List ℕ) → IsUtf8 text → is_some (tree_of text) ≡ (is_some (json_of text) && tokens_in_range (tokens text))
-is_document_by text utf8 = ap is_some (of_text text utf8) ∙ by_json (json_of text) refl
-  where
-    passed : (b : Bool) (d : Data) → is_some (cond b (Some d) None) ≡ b
-    passed true d = refl
-    passed false d = refl
+abbrev pub is_last : List Token → Bool
+is_last [] = true
+is_last (t ∷ ts) = false
 
-    by_json : (o : Option json.Json) → json_of text ≡ o → is_some (option_and_then of_json o) ≡ (is_some o && tokens_in_range (tokens text))
-    by_json None e = refl
-    by_json (Some j) e = ap is_some (read_is j) ∙ passed (is_in_range j) (data_of j) ∙ sym (in_range_by_tokens (tokens text) j e)
+-- a value that was passed is read if it is the last
+pub read_if_last : (ts rest : List Token) → after_value max_depth ts ≡ Some rest → is_some (option_and_then of_json (one_value ts)) ≡ is_last rest
+read_if_last ts rest e =
+    let j = passed (json.value max_depth ts) rest e in
+    ap (λ v. is_some (option_and_then of_json (option_and_then (λ p. json.if_last p.0 p.1) v))) j.1 ∙ by_rest j.0 rest j.2
+  where
+    by_rest : (j : json.Json) (rest : List Token) → is_in_range j ≡ true → is_some (option_and_then of_json (json.if_last j rest)) ≡ is_last rest
+    by_rest j [] f = in_range_read j true f
+    by_rest j (t ∷ rest) f = refl
+
+pub not_read : (ts : List Token) → after_value max_depth ts ≡ None → is_some (option_and_then of_json (one_value ts)) ≡ false
+not_read ts e =
+    elim (not_passed (json.value max_depth ts) e) [
+      | inl none ↦ ap (λ v. is_some (option_and_then of_json (option_and_then (λ p. json.if_last p.0 p.1) v))) none
+      | inr j ↦ ap (λ v. is_some (option_and_then of_json (option_and_then (λ p. json.if_last p.0 p.1) v))) j.2 ∙ by_rest j.0 j.1 j.3
+    ]
+  where
+    by_rest : (j : json.Json) (rest : List Token) → is_in_range j ≡ false → is_some (option_and_then of_json (json.if_last j rest)) ≡ false
+    by_rest j [] f = in_range_read j false f
+    by_rest j (t ∷ rest) f = refl
 
 -- What a walk along the tokens of a document needs: they are one value, and what the document holds is the view of that.
 pub record Holds (bytes : List ℕ) (d : Data) : Type 0 where

@@ -18,6 +18,7 @@ mod document;
 mod error;
 mod look;
 mod number;
+mod pass;
 mod read;
 mod take;
 mod walk;

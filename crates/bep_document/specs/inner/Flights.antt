@@ -31,8 +31,8 @@ flight_slots version look = record {
 abbrev pub flight_of : List ℕ × (Bool × List Entry) → FlightParts
 flight_of t = record {
   folder = t.0;
-  full = t.1;
-  records = t.2;
+  full = t.1.0;
+  records = t.1.1;
 }
 
 -- what is told of the message

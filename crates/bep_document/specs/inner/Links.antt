@@ -34,11 +34,11 @@ link_slots version look = record {
 abbrev pub link_of : ℕ × (ℕ × (Bool × (ℕ × (List FlightParts × List FlightParts)))) → LinkParts
 link_of t = record {
   a = t.0;
-  b = t.1;
-  up = t.2;
-  epoch = t.3;
-  to_a = t.4;
-  to_b = t.5;
+  b = t.1.0;
+  up = t.1.1.0;
+  epoch = t.1.1.1.0;
+  to_a = t.1.1.1.1.0;
+  to_b = t.1.1.1.1.1;
 }
 
 -- what is told of the link

@@ -28,8 +28,8 @@ row_slots version look = record {
 abbrev pub row_of : List ℕ × (ℕ × Entry) → RowParts
 row_of t = record {
   folder = t.0;
-  device = t.1;
-  entry = t.2;
+  device = t.1.0;
+  entry = t.1.1;
 }
 
 -- what is told of the row

@@ -42,13 +42,13 @@ share_slots version look = record {
 abbrev pub share_of : ℕ × (FolderKind × (ℕ × (ℕ × (List Entry × (List NamedParts × (List ViewParts × List Entry)))))) → ShareParts
 share_of t = record {
   device = t.0;
-  kind = t.1;
-  index_id = t.2;
-  max = t.3;
-  own = t.4;
-  store = t.5;
-  views = t.6;
-  pulls = t.7;
+  kind = t.1.0;
+  index_id = t.1.1.0;
+  max = t.1.1.1.0;
+  own = t.1.1.1.1.0;
+  store = t.1.1.1.1.1.0;
+  views = t.1.1.1.1.1.1.0;
+  pulls = t.1.1.1.1.1.1.1;
 }
 
 -- what is told of the device

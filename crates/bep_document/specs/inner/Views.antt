@@ -31,9 +31,9 @@ view_slots version look = record {
 abbrev pub view_of : ℕ × (ℕ × (ℕ × List Entry)) → ViewParts
 view_of t = record {
   of = t.0;
-  index_id = t.1;
-  max = t.2;
-  records = t.3;
+  index_id = t.1.0;
+  max = t.1.1.0;
+  records = t.1.1.1;
 }
 
 -- what is told of the view

@@ -1,7 +1,6 @@
--- Which trees and tokens have no number that is too large for a float.
-use Rattle.std.specs.Prelude.{Bool, true, ◌&&◌, is_some, List, [], ◌∷◌}
+-- Which trees have no number that is too large for a float.
+use Rattle.std.specs.Prelude.{Bool, true, ◌&&◌, is_some}
 use Rattle.json.specs.Json as json
-use Rattle.json.specs.Token as token
 use Rattle.serde_json.specs.Read.{number_of}
 
 abbrev mutual
@@ -20,21 +19,3 @@ abbrev mutual
   pub members_in_range : json.Members → Bool
   members_in_range json.no_members = true
   members_in_range (json.member k j ms) = is_in_range j && members_in_range ms
-
--- the token is no number, or one in range
-abbrev pub token_in_range : token.Token → Bool
-token_in_range token.begin_object = true
-token_in_range token.end_object = true
-token_in_range token.begin_array = true
-token_in_range token.end_array = true
-token_in_range (token.key s) = true
-token_in_range (token.string s) = true
-token_in_range (token.number s) = is_some (number_of s)
-token_in_range (token.boolean b) = true
-token_in_range token.null = true
-token_in_range token.bad = true
-
--- each number among the tokens is in range
-abbrev pub tokens_in_range : List token.Token → Bool
-tokens_in_range [] = true
-tokens_in_range (t ∷ ts) = token_in_range t && tokens_in_range ts

@@ -12,4 +12,4 @@ returns-in_err-items-clause-value g c = λ d rest stood.
 pub returns-clause-value : goal.returns-clause-value
 returns-clause-value g c = λ d rest stood.
     let taken = c.in_ok-items.ensures.value d rest stood in
-    (c.few_of.ensures ∙ ap (few_told g.MOST) taken.0 ∙ few_is _ _ _ d, taken.1)
+    (c.few_of.ensures ∙ ap (few_told g.row.MOST) taken.0 ∙ few_is _ _ _ d, taken.1)
