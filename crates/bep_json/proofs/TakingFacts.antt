@@ -1,5 +1,5 @@
 -- What is told of members, of lists and of both of two things.
-use Rattle.std.proofs.Common.{◌≡◌, ◌∙◌, ℕ, List, [], ◌∷◌, ◌++◌, ◌&&◌, Bool, true, false, Option, Some, None, Result, Ok, Err, refl, sym, ap, subst}
+use Rattle.std.proofs.Common.{◌≡◌, ◌∙◌, ℕ, List, [], ◌∷◌, ◌++◌, ◌&&◌, ◌||◌, Bool, true, false, Option, Some, None, Result, Ok, Err, refl, sym, ap, subst}
 use Rattle.std.specs.Prelude.{if◌then◌else◌, option_map, unwrap_or}
 use Rattle.std.specs.Bool.{MatchBool}
 use Rattle.std.specs.Str.{bytes_eq}
@@ -186,3 +186,17 @@ pub read_13 : {A B C D E F G H I J K L M P : Type 0} (make : A × (B × (C × (D
     → option_map make (pair a (pair b (pair c (pair d (pair e (pair f (pair g (pair h (pair i (pair j (pair k (pair l m)))))))))))) ≡ (a >>= λ xa. b >>= λ xb. c >>= λ xc. d >>= λ xd. e >>= λ xe. f >>= λ xf. g >>= λ xg. h >>= λ xh. i >>= λ xi. j >>= λ xj. k >>= λ xk. l >>= λ xl. m >>= λ xm. Some (make (xa, (xb, (xc, (xd, (xe, (xf, (xg, (xh, (xi, (xj, (xk, (xl, xm))))))))))))))
 read_13 make None b c d e f g h i j k l m = refl
 read_13 make (Some xa) b c d e f g h i j k l m = paired make xa (pair b (pair c (pair d (pair e (pair f (pair g (pair h (pair i (pair j (pair k (pair l m))))))))))) ∙ read_12 (λ t. make (xa, t)) b c d e f g h i j k l m
+
+-- ---- a name that is none of several
+
+-- a key of another name is told from it
+pub other_name : (name key : List ℕ) → (key ≡ name → ⊥) → bytes_eq name key ≡ false
+other_name name key other = by_same (bytes_eq name key) refl
+  where
+    by_same : (same : Bool) → bytes_eq name key ≡ same → bytes_eq name key ≡ false
+    by_same true is = absurd (other (sym ((bytes_eq-Decides name key).0 is)))
+    by_same false is = is
+
+pub neither : (a b : Bool) → a ≡ false → b ≡ false → a || b ≡ false
+neither false b is other = other
+neither true b is other = cc

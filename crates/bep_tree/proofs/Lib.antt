@@ -5,8 +5,6 @@ pub mod Named
 pub mod Signed
 pub mod Taken
 pub mod Walking
-pub mod Tokens
-pub mod InRange
 pub mod OneValue
 pub mod Digits
 pub mod Passing

@@ -5,7 +5,7 @@ ghost use Rattle.bep_tree.specs.Read.{tree_of};
 ghost use Rattle.bep_tree.specs.inner.Text.{one_value};
 
 use crate::Scratch;
-use crate::pass::pass_value;
+use crate::ranged::pass_value;
 use crate::read::MAX_DEPTH;
 use json::Reader;
 use std::alloc::AllocError;

@@ -18,7 +18,7 @@ mod document;
 mod error;
 mod look;
 mod number;
-mod pass;
+mod ranged;
 mod read;
 mod take;
 mod walk;

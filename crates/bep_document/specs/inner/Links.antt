@@ -41,7 +41,11 @@ link_of t = record {
   to_b = t.1.1.1.1.1;
 }
 
+-- what is told of all members
+abbrev pub link_things : LinkSlots → Result (ℕ × (ℕ × (Bool × (ℕ × (List FlightParts × List FlightParts))))) Misread
+link_things slots = (both (due slots.a) (both (due slots.b) (both (due slots.up) (both (due slots.epoch) (both (due_or [] slots.to_a) (due_or [] slots.to_b))))))
+
 -- what is told of the link
 abbrev pub link_told : Option LinkSlots → Result LinkParts Misread
 link_told None = Err Shape
-link_told (Some slots) = told_as link_of (both (due slots.a) (both (due slots.b) (both (due slots.up) (both (due slots.epoch) (both (due_or [] slots.to_a) (due_or [] slots.to_b))))))
+link_told (Some slots) = told_as link_of (link_things slots)

@@ -51,7 +51,11 @@ share_of t = record {
   pulls = t.1.1.1.1.1.1.1;
 }
 
+-- what is told of all members
+abbrev pub share_things : ShareSlots → Result (ℕ × (FolderKind × (ℕ × (ℕ × (List Entry × (List NamedParts × (List ViewParts × List Entry))))))) Misread
+share_things slots = (both (due slots.device) (both (due slots.kind) (both (due slots.index_id) (both (due slots.max) (both (due_or [] slots.own) (both (due_or [] slots.store) (both (due_or [] slots.views) (due_or [] slots.pulls))))))))
+
 -- what is told of the device
 abbrev pub share_told : Option ShareSlots → Result ShareParts Misread
 share_told None = Err Shape
-share_told (Some slots) = told_as share_of (both (due slots.device) (both (due slots.kind) (both (due slots.index_id) (both (due slots.max) (both (due_or [] slots.own) (both (due_or [] slots.store) (both (due_or [] slots.views) (due_or [] slots.pulls))))))))
+share_told (Some slots) = told_as share_of (share_things slots)

@@ -1,6 +1,6 @@
 //! Devices that share a folder.
-ghost use Rattle.std.specs.Prelude.{◌≡◌};
-ghost use Rattle.bep_document.specs.inner.Shares.{share_names, share_slots, share_told};
+ghost use Rattle.std.specs.Prelude.{◌≡◌, Ok};
+ghost use Rattle.bep_document.specs.inner.Shares.{share_names, share_slots, share_told, share_things, share_of};
 
 use crate::{Few, IndexNumber, ShareParts, ViewParts};
 use bep_index::{IndexId, MAX_NAMES};
@@ -8,6 +8,9 @@ use bep_json::{DocVersion, Misread, NamedParts, Sequence, Slots, Taken, Told, bo
 use bep_record::{DeviceId, Entry, FolderKind, Items, MAX_PULLS};
 use bep_tree::{Reader, WalkError};
 use std::alloc::Global;
+
+// The things that the members say.
+type ShareThings = (DeviceId, (FolderKind, (IndexNumber, (Sequence, (Few<Entry, MAX_NAMES>, (Items<NamedParts>, (Items<ViewParts>, Few<Entry, MAX_PULLS>)))))));
 
 // What is told of the members of a device that shares a folder.
 #[derive(Drop)]
@@ -78,10 +81,28 @@ impl Taken for ShareParts {
 fn share_told(alloc: Global, slots: Option<ShareSlots>) -> Told<ShareParts>
     ensures { result ≡ share_told slots }
 {
-    let Some(ShareSlots { device, kind, index_id, max, own, store, views, pulls }) = slots else {
+    let Some(slots) = slots else {
         return Err(Misread::Shape);
     };
-    let (device, (kind, (index_id, (max, (own, (store, (views, pulls))))))) = both(due(device), both(due(kind), both(due(index_id), both(due(max), both(due_or(own, Few::none(alloc)), both(due_or(store, Items::new(Vec::new(alloc))), both(due_or(views, Items::new(Vec::new(alloc))), due_or(pulls, Few::none(alloc)))))))))?;
+    match things_told(alloc, slots) {
+        Ok(things) => share_of(things),
+        Err(misread) => Err(misread),
+    }
+}
+
+// What is told of all members.
+fn things_told(alloc: Global, slots: ShareSlots) -> Told<ShareThings>
+    ensures { result ≡ share_things slots }
+{
+    let ShareSlots { device, kind, index_id, max, own, store, views, pulls } = slots;
+    both(due(device), both(due(kind), both(due(index_id), both(due(max), both(due_or(own, Few::none(alloc)), both(due_or(store, Items::new(Vec::new(alloc))), both(due_or(views, Items::new(Vec::new(alloc))), due_or(pulls, Few::none(alloc)))))))))
+}
+
+// The device that has these things.
+fn share_of(things: ShareThings) -> Told<ShareParts>
+    ensures { result ≡ Ok (share_of things) }
+{
+    let (device, (kind, (index_id, (max, (own, (store, (views, pulls))))))) = things;
     let Some(index_id) = IndexId::read(index_id.number()) else {
         return Err(Misread::Range);
     };

@@ -1,8 +1,9 @@
-use Rattle.std.proofs.Common.{◌≡◌, ◌∙◌, sym, ap, ap₂}
+use Rattle.std.proofs.Common.{◌≡◌, ◌∙◌, refl, sym, ap, ap₂}
+use Rattle.std.specs.Prelude.{codes}
 use Rattle.bep_tree.specs.Names.{is_among}
 use Rattle.bep_tree.proofs.Walking.{reaches_so}
 use Rattle.bep_json.specs.Taking.{with_member}
-use Rattle.bep_json.proofs.TakingFacts.{fills}
+use Rattle.bep_json.proofs.TakingFacts.{fills, other_name, neither}
 use Rattle.bep_document.specs.inner.Shares.{share_names, share_slots}
 use Rattle.bep_document.proofs.take.shares.ShareSlotsSlots.take.Goals as goal
 
@@ -69,3 +70,6 @@ returns-in-pulls-clause-value c = λ look d rest known stood.
       fills share_names slots c.args.key.now d look _ _ _ rest filled is.0 (ap (λ k. is_among k share_names) c.in-pulls.is)
       (ap₂ (λ slot s. record { device = s.device; kind = s.kind; index_id = s.index_id; max = s.max; own = s.own; store = s.store; views = s.views; pulls = slot }) is.1 known ∙ ap (λ k. slots (with_member k d look)) (sym c.in-pulls.is)) is.2)
     (c.fill-in-pulls.ensures.value d rest stood)
+
+pub returns-in_default-clause-value : goal.returns-in_default-clause-value
+returns-in_default-clause-value c = λ look d rest known stood. let key = c.args.key.now in ((neither _ _ (other_name (codes "device") key c.in_default.not-device) (neither _ _ (other_name (codes "kind") key c.in_default.not-kind) (neither _ _ (other_name (codes "index_id") key c.in_default.not-index_id) (neither _ _ (other_name (codes "max") key c.in_default.not-max) (neither _ _ (other_name (codes "own") key c.in_default.not-own) (neither _ _ (other_name (codes "store") key c.in_default.not-store) (neither _ _ (other_name (codes "views") key c.in_default.not-views) (neither _ _ (other_name (codes "pulls") key c.in_default.not-pulls) refl)))))))), refl)

@@ -7,7 +7,7 @@ use Rattle.json.proofs.Grammar.{value_is, value-begin_array, value-begin_object,
 use Rattle.bep_tree.specs.inner.InRange.{is_in_range, items_in_range, members_in_range}
 use Rattle.bep_tree.specs.inner.Passed.{after, after_value, after_items, after_members}
 use Rattle.bep_tree.proofs.Passing.{after-mapped, pass_item, no_item, pass_member, no_member}
-use Rattle.bep_tree.proofs.pass.+pass.Goals as goal
+use Rattle.bep_tree.proofs.ranged.+pass.Goals as goal
 
 pub pass_items-returns-then-not-pass_value-clause-passed : goal.pass_items-returns-then-not-pass_value-clause-passed
 pass_items-returns-then-not-pass_value-clause-passed t c =

@@ -2,7 +2,7 @@ use Rattle.std.proofs.Common.{◌≡◌, ℕ, ◌+◌, ◌*◌, ◌≤◌, lengt
 use Rattle.json.specs.Json as json
 use Rattle.bep_tree.specs.inner.InRange.{items_in_range, members_in_range}
 use Rattle.bep_tree.specs.inner.Passed.{after, after_items, after_members}
-use Rattle.bep_tree.proofs.pass.+pass.Given as goal
+use Rattle.bep_tree.proofs.ranged.+pass.Given as goal
 
 abbrev pub decreases-pass_value : goal.decreases-pass_value
 decreases-pass_value l = 2 * l.depth
