@@ -1,8 +1,10 @@
 //! Why a document can't be read.
 ghost use Rattle.std.specs.Prelude.{◌≡◌};
 ghost use Rattle.bep_document.specs.declared.error.DocError.TheVariants.{Memory};
+ghost use Rattle.bep_document.specs.inner.Texts.{error_of};
 
-use crate::DocFault;
+use crate::{DocFault, Fault};
+use bep_tree::WalkError;
 use std::alloc::{AllocError, AllocFailed};
 use thiserror::Error;
 
@@ -15,6 +17,17 @@ pub enum DocError {
     /// Memory ran out.
     #[error("out of memory")]
     Memory,
+}
+
+impl From<WalkError> for DocError {
+    ghost from_gives = { λ walk error. error ≡ error_of walk };
+
+    fn from(error: WalkError) -> DocError {
+        match error {
+            WalkError::Broken => DocError::Refused(DocFault::nowhere(Fault::NotJson)),
+            WalkError::Memory => DocError::Memory,
+        }
+    }
 }
 
 impl From<AllocError> for DocError {

@@ -26,6 +26,6 @@ pub use laws::{faultless_parts_are_read, readings_are_faultless, records_are_tol
 pub use parts::{CheckParts, FlightParts, FolderParts, LinkParts, RowParts, ShareParts, ViewParts};
 pub use read::{Few, IndexNumber, doc_version, has_few_devices, index_id_of};
 pub use reading::{
-    MAX_BYTES, document_tree, read_cut_document, read_cut_parts, read_cut_text, read_parts,
-    refused, tree_of, unless_found,
+    MAX_BYTES, document_tree, read_cut_document, read_cut_text, read_parts, refused, tree_of,
+    unless_found,
 };

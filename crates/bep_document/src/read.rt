@@ -1,4 +1,4 @@
-//! What the tree of a document says: a reader for each thing that stands in it.
+//! What a document says, in JSON trees: a reader for each thing that stands in it.
 
 mod checks;
 mod devices;
@@ -9,7 +9,7 @@ mod shares;
 mod views;
 
 pub use checks::doc_version;
-pub(crate) use checks::{CutLists, is_check, read_check_parts};
+pub(crate) use checks::CutLists;
 pub use devices::has_few_devices;
 pub use few::Few;
 pub use shares::{IndexNumber, index_id_of};

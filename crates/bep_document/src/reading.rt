@@ -1,18 +1,31 @@
 //! The reading of a document: from its bytes to what it says, or to its fault.
-ghost use Rattle.std.specs.Prelude.{◌≡◌};
+//!
+//! A document is walked through three times: once to see that it is JSON, once for its version, and once for what it says.
+ghost use Rattle.std.specs.Prelude.{◌≡◌, Some};
+ghost use Rattle.serde_json.specs.Data.{Data};
+ghost use Rattle.bep_json.specs.Taking.{judged};
 ghost use Rattle.bep_tree.specs.View.{view};
 ghost use Rattle.bep_tree.specs.Read.{tree_of};
-ghost use Rattle.bep_document.specs.Reading.{Answers, AnswersBy, given, document_tree, unless, first_fault, reading_of_tree, reading_of, reading_of_cut, reading_of_cut_text, reading_of_cut_in, reading_of_cut_document};
+ghost use Rattle.bep_tree.specs.Walk.{Reaches};
+ghost use Rattle.bep_document.specs.Reading.{Answers, AnswersBy, given, document_tree, unless, first_fault, reading_of_tree, reading_of, reading_of_cut_text, reading_of_cut_in, reading_of_cut_document};
 ghost use Rattle.bep_document.specs.Fault.{nowhere};
 ghost use Rattle.bep_document.specs.declared.fault.Fault.TheVariants.{NotJson};
+ghost use Rattle.bep_document.specs.inner.Texts.{AnswersText, version_told, parts_read, cut_parts, cut_in_told};
+ghost use Rattle.bep_document.specs.read.Checks.{is_cut, read_cut, doc_version, is_check, read_check_parts};
 
 use crate::faults::fault_of;
-use crate::read::{CutLists, doc_version, is_check, read_check_parts};
+use crate::read::CutLists;
+use crate::take::{CheckSlots, CutSlot, check_told, cut_told};
 use crate::{CheckParts, DocError, DocFault, Fault};
-use bep_json::{DocVersion, ReadError, Readable};
+use bep_json::{DocVersion, Misread, Taken, Told, Whole, take_member, take_object};
 use bep_record::Items;
-use bep_tree::{Scratch, Tree, TreeError, get, has_only, read_tree};
+use bep_tree::{
+    MAX_DEPTH, Reader, Scratch, Tree, TreeError, WalkError, json_text, read_tree,
+};
 use std::alloc::Global;
+
+// The number of a version.
+type Number = Whole<1, 2>;
 
 /// The most bytes of a document.
 ///
@@ -21,13 +34,12 @@ pub const MAX_BYTES: usize = 67108864;
 
 /// What the bytes of a check document say, or the fault for which it is refused: the one with the smallest number that
 /// applies, at its first place. `Memory` may come in place of any answer.
-#[tactic(auto, unfolding(crate::specs::Reading::reading_of))]
 pub fn read_parts(alloc: Global, bytes: &[u8]) -> Result<CheckParts, DocError>
     ensures { Answers result (reading_of bytes.now) }
 {
     let mut scratch = Scratch::new(alloc);
-    let tree = document_tree(alloc, bytes, &mut scratch)?;
-    parts_of(alloc, tree)
+    let text = document_text(bytes, &mut scratch)?;
+    parts_in(alloc, text, &mut scratch)
 }
 
 /// The error of a fault of the whole document.
@@ -68,21 +80,84 @@ pub fn tree_of<'a>(
     }
 }
 
-// What the tree of a document says.
-#[tactic(auto, unfolding(crate::specs::Reading::reading_of_tree))]
-fn parts_of(alloc: Global, tree: Tree<'_>) -> Result<CheckParts, DocError>
-    ensures { Answers result (reading_of_tree (view tree.entry)) }
+// The text of a document's bytes. Refuses `Range` where they are too many, and `NotJson` where they aren't JSON; `Memory`
+// may come in place of any answer.
+fn document_text<'a>(bytes: &'a [u8], scratch: &mut Scratch) -> Result<&'a str, DocError>
+    ensures { AnswersText result (document_tree bytes.now) }
 {
-    let Some(version) = doc_version(&tree) else {
+    if bytes.len() > MAX_BYTES {
+        return Err(refused(Fault::Range));
+    }
+    text_of(bytes, scratch)
+}
+
+// The text of bytes, however many. Refuses `NotJson` where they aren't JSON; `Memory` may come in place of any answer.
+fn text_of<'a>(bytes: &'a [u8], scratch: &mut Scratch) -> Result<&'a str, DocError>
+    ensures { AnswersText result (given NotJson (tree_of bytes.now)) }
+{
+    match json_text(bytes, scratch)? {
+        Some(text) => Ok(text),
+        None => Err(refused(Fault::NotJson)),
+    }
+}
+
+// What a document's text says.
+fn parts_in(alloc: Global, text: &str, scratch: &mut Scratch) -> Result<CheckParts, DocError>
+    ensures { (d : Data) → tree_of text.now ≡ Some d → Answers result (reading_of_tree d) }
+{
+    let Some(version) = version_in(alloc, text, scratch)? else {
         return Err(refused(Fault::VersionBad));
     };
-    if !is_check(version, &tree) {
-        return Err(refused(Fault::Shape));
+    let told = check_in(alloc, version, text, scratch)?;
+    parts_read(alloc, told)
+}
+
+// The version that a document's text says.
+fn version_in(
+    alloc: Global,
+    text: &str,
+    scratch: &mut Scratch,
+) -> Result<Option<DocVersion>, WalkError>
+    ensures { (d : Data) → tree_of text.now ≡ Some d → Reaches result (λ version. version ≡ doc_version d) }
+{
+    let mut reader = Reader::new(text, scratch)?;
+    let found = take_member::<Number>(alloc, DocVersion::One, &mut reader, MAX_DEPTH, "version")?;
+    Ok(version_told(found))
+}
+
+// The version with the number that is told.
+fn version_told(found: Option<Told<Number>>) -> Option<DocVersion>
+    ensures { result ≡ version_told found }
+{
+    match found {
+        Some(Ok(number)) => DocVersion::of_number(number.number()),
+        Some(Err(_)) => None,
+        None => None,
     }
-    match read_check_parts(alloc, version, tree) {
+}
+
+// What is told of the check document, of this version, in a text.
+fn check_in(
+    alloc: Global,
+    version: DocVersion,
+    text: &str,
+    scratch: &mut Scratch,
+) -> Result<Told<CheckParts>, WalkError>
+    ensures { (d : Data) → tree_of text.now ≡ Some d → Reaches result (λ told. told ≡ judged (is_check version d) (read_check_parts version d)) }
+{
+    let mut reader = Reader::new(text, scratch)?;
+    let slots = take_object::<CheckSlots>(alloc, version, &mut reader, MAX_DEPTH)?;
+    Ok(check_told(version, slots))
+}
+
+// What is read of parts that were told: the parts, if they have no fault.
+fn parts_read(alloc: Global, told: Told<CheckParts>) -> Result<CheckParts, DocError>
+    ensures { Answers result (parts_read told) }
+{
+    match told {
         Ok(parts) => judged(alloc, parts),
-        Err(ReadError::Range) => Err(refused(Fault::Range)),
-        Err(ReadError::Memory) => Err(DocError::Memory),
+        Err(Misread::Shape) => Err(refused(Fault::Shape)),
+        Err(Misread::Range) => Err(refused(Fault::Range)),
     }
 }
 
@@ -104,27 +179,8 @@ pub fn unless_found<T: Drop>(found: Option<DocFault>, thing: T) -> Result<T, Doc
     }
 }
 
-/// What the tree of a cut says by itself, read as in documents of this version, with no rows; or the fault for which it is
-/// refused: `Shape`, `Range`, or the first of those that have a place. `Memory` may come in place of any answer.
-#[tactic(auto, unfolding(crate::specs::Reading::reading_of_cut))]
-pub fn read_cut_parts(
-    alloc: Global,
-    version: DocVersion,
-    tree: &Tree<'_>,
-) -> Result<CheckParts, DocError>
-    ensures { Answers result (reading_of_cut version (view tree.now)) }
-{
-    if !CutLists::has_shape(version, tree) {
-        return Err(refused(Fault::Shape));
-    }
-    match CutLists::read(alloc, version, tree) {
-        Ok(cut) => judged(alloc, cut.with_rows(version, Items::new(Vec::new(alloc)))),
-        Err(ReadError::Range) => Err(refused(Fault::Range)),
-        Err(ReadError::Memory) => Err(DocError::Memory),
-    }
-}
-
-/// What bytes say of a cut alone, as `read_cut_parts` says it of their tree; `NotJson` where they have none.
+/// What bytes say of a cut by itself, read as in documents of this version, with no rows; or the fault for which it is
+/// refused: `NotJson`, `Shape`, `Range`, or the first of those that have a place. `Memory` may come in place of any answer.
 pub fn read_cut_text(
     alloc: Global,
     version: DocVersion,
@@ -133,34 +189,65 @@ pub fn read_cut_text(
     ensures { Answers result (reading_of_cut_text version bytes.now) }
 {
     let mut scratch = Scratch::new(alloc);
-    let tree = tree_of(alloc, bytes, &mut scratch)?;
-    read_cut_parts(alloc, version, &tree)
+    let text = text_of(bytes, &mut scratch)?;
+    let told = cut_of_text(alloc, version, text, &mut scratch)?;
+    parts_read(alloc, cut_parts(alloc, version, told))
+}
+
+// What is told of the cut that a text is.
+fn cut_of_text(
+    alloc: Global,
+    version: DocVersion,
+    text: &str,
+    scratch: &mut Scratch,
+) -> Result<Told<CutLists>, WalkError>
+    ensures { (d : Data) → tree_of text.now ≡ Some d → Reaches result (λ told. told ≡ judged (is_cut version d) (read_cut version d)) }
+{
+    let mut reader = Reader::new(text, scratch)?;
+    CutLists::take(alloc, version, &mut reader, MAX_DEPTH)
+}
+
+// A cut that was told, with no rows.
+fn cut_parts(alloc: Global, version: DocVersion, told: Told<CutLists>) -> Told<CheckParts>
+    ensures { result ≡ cut_parts version told }
+{
+    match told {
+        Ok(cut) => Ok(cut.with_rows(version, Items::new(Vec::new(alloc)))),
+        Err(misread) => Err(misread),
+    }
 }
 
 /// What the bytes of a check document say of its cut, with no rows, or the fault for which it is refused, as `read_parts`
 /// has them. The document's certificate may be missing, and isn't looked at. `Memory` may come in place of any answer.
-#[tactic(auto, unfolding(crate::specs::Reading::reading_of_cut_document))]
 pub fn read_cut_document(alloc: Global, bytes: &[u8]) -> Result<CheckParts, DocError>
     ensures { Answers result (reading_of_cut_document bytes.now) }
 {
     let mut scratch = Scratch::new(alloc);
-    let tree = document_tree(alloc, bytes, &mut scratch)?;
-    cut_in(alloc, &tree)
+    let text = document_text(bytes, &mut scratch)?;
+    cut_in(alloc, text, &mut scratch)
 }
 
-// What the tree of a check document says of its cut.
-#[tactic(auto, unfolding(crate::specs::Reading::reading_of_cut_in))]
-fn cut_in(alloc: Global, tree: &Tree<'_>) -> Result<CheckParts, DocError>
-    ensures { Answers result (reading_of_cut_in (view tree.now)) }
+// What the text of a check document says of its cut.
+fn cut_in(alloc: Global, text: &str, scratch: &mut Scratch) -> Result<CheckParts, DocError>
+    ensures { (d : Data) → tree_of text.now ≡ Some d → Answers result (reading_of_cut_in d) }
 {
-    let Some(version) = doc_version(tree) else {
+    let Some(version) = version_in(alloc, text, scratch)? else {
         return Err(refused(Fault::VersionBad));
     };
-    if !has_only(tree, &["version", "cut", "certificate"]) {
-        return Err(refused(Fault::Shape));
-    }
-    match get(tree, "cut") {
-        Some(cut) => read_cut_parts(alloc, version, cut),
-        None => Err(refused(Fault::Shape)),
-    }
+    let told = cut_member_in(alloc, version, text, scratch)?;
+    parts_read(alloc, cut_parts(alloc, version, told))
+}
+
+// What is told of the cut in the text of a check document of this version.
+fn cut_member_in(
+    alloc: Global,
+    version: DocVersion,
+    text: &str,
+    scratch: &mut Scratch,
+) -> Result<Told<CutLists>, WalkError>
+    ensures { (d : Data) → tree_of text.now ≡ Some d → Reaches result (λ told. told ≡ cut_in_told version d) }
+{
+    let mut reader = Reader::new(text, scratch)?;
+    let slots = take_object::<CutSlot>(alloc, version, &mut reader, MAX_DEPTH)?;
+    Ok(cut_told(slots))
 }

@@ -6,8 +6,8 @@ use Rattle.std.specs.Str.{bytes_eq}
 use Rattle.std.proofs.lemmas.List.{append_assoc}
 use Rattle.std.proofs.lemmas.Slice.Eq.{bytes_eq-Decides}
 use Rattle.json.specs.Token.{Token}
-use Rattle.serde_json.specs.Data.{Data, Items, no_items, item, Members, put}
-use Rattle.serde_json.specs.Find.{get, get_member}
+use Rattle.serde_json.specs.Data.{Data, null, boolean, number, string, array, object, Items, no_items, item, Members, put}
+use Rattle.serde_json.specs.Find.{as_object, get, get_member}
 use Rattle.serde_json.proofs.Views.{get_member-put, get_member-put_other}
 use Rattle.bep_json.specs.declared.told.Misread.{Misread}
 use Rattle.bep_json.specs.declared.told.Misread.TheVariants.{Shape, Range}
@@ -20,7 +20,8 @@ use Rattle.bep_json.specs.inner.Joined.{joined, followed}
 
 -- ---- members by their names
 
-put_by : (same : Bool) (key : List ℕ) (d : Data) (found : Members) (name : List ℕ) → bytes_eq key name ≡ same → get_member name (put key d found) ≡ (if same then Some d else get_member name found)
+-- what stands at a name, once a value was put at the same or at another
+pub put_by : (same : Bool) (key : List ℕ) (d : Data) (found : Members) (name : List ℕ) → bytes_eq key name ≡ same → get_member name (put key d found) ≡ (if same then Some d else get_member name found)
 put_by true key d found name is =
     let one : key ≡ name = (bytes_eq-Decides key name).0 is in
     subst (λ k. get_member name (put k d found) ≡ Some d) (sym one) (get_member-put name d found)
@@ -123,7 +124,7 @@ told_as_is make true (Some things) = refl
 
 -- ---- what is made of several things is read one after another
 
-paired : {A B C : Type 0} (make : A × B → C) (a : A) (more : Option B) → option_map make (pair (Some a) more) ≡ option_map (λ t. make (a, t)) more
+pub paired : {A B C : Type 0} (make : A × B → C) (a : A) (more : Option B) → option_map make (pair (Some a) more) ≡ option_map (λ t. make (a, t)) more
 paired make a None = refl
 paired make a (Some b) = refl
 
@@ -200,3 +201,14 @@ other_name name key other = by_same (bytes_eq name key) refl
 pub neither : (a b : Bool) → a ≡ false → b ≡ false → a || b ≡ false
 neither false b is other = other
 neither true b is other = cc
+
+-- ---- one member of an object
+
+-- what is no object has no members
+pub no_member : (name : List ℕ) (d : Data) → as_object d ≡ None → get name d ≡ None
+no_member name null is = refl
+no_member name (boolean b) is = refl
+no_member name (number n) is = refl
+no_member name (string s) is = refl
+no_member name (array ds) is = refl
+no_member name (object ms) is = cc

@@ -33,7 +33,7 @@ pub use members::Members;
 pub use nodes::NamedParts;
 pub use numbers::{Nanoseconds, Sequence, Whole};
 pub use readable::{Readable, has, may_have, member, member_or};
-pub use slots::{Slots, fill, fill_leaf, take_object};
+pub use slots::{Slots, fill, fill_leaf, take_member, take_object};
 pub use taken::{Leaf, Taken, take_leaf, take_tree};
 pub use version::DocVersion;
 pub use writing::{node_value, record_value};

@@ -3,7 +3,6 @@ pub mod Text
 pub mod Found
 pub mod Named
 pub mod Signed
-pub mod Taken
 pub mod Walking
 pub mod OneValue
 pub mod Digits

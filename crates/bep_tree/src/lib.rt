@@ -20,7 +20,6 @@ mod look;
 mod number;
 mod ranged;
 mod read;
-mod take;
 mod walk;
 
 pub use document::json_text;
@@ -28,8 +27,7 @@ pub use error::TreeError;
 pub use json::{Reader, Scratch};
 pub use look::{as_array, as_bool, as_str, at, get, has_only};
 pub use number::{as_i64, as_u64};
-pub use read::read_tree;
-pub use take::take_member;
+pub use read::{MAX_DEPTH, read_tree};
 pub use walk::{Entered, WalkError, enter, next_key, pass, pass_items, pass_members, tree_at};
 
 /// A JSON tree over a document's text.

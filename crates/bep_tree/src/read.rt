@@ -11,8 +11,8 @@ use crate::{Scratch, Tree, TreeError};
 use json::{Error, Reader};
 use std::alloc::Global;
 
-// How deep `serde_json` lets arrays and objects nest.
-pub(crate) const MAX_DEPTH: usize = 127;
+/// How deep `serde_json` lets arrays and objects nest.
+pub const MAX_DEPTH: usize = 127;
 
 /// The tree of these bytes: what it holds is what `serde_json` reads in them. Refuses `NotJson` where that reads nothing;
 /// `Memory` may come in place of any answer. Texts with escapes are written into the scratch.

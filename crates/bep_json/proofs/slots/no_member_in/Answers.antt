@@ -1,0 +1,11 @@
+use Rattle.std.proofs.Common.{◌≡◌, Err, refl, rules}
+use Rattle.bep_json.proofs.slots.no_member_in.Goals as goal
+
+pub returns-in_err-pass_items : goal.returns-in_err-pass_items
+returns-in_err-pass_items g c = λ ds rest stood.
+    let fails = c.in_err-pass_items.ensures.value ds rest stood in
+    let is : c.from_residual.result ≡ Err c.in_err-pass_items.field-0.0 = search rules in
+    rw is fails
+
+pub returns : goal.returns
+returns g c = λ ds rest stood. (refl, c.in_ok-pass_items.ensures.value ds rest stood)
