@@ -36,12 +36,18 @@ impl Question<Certified> for CertificateOfCut {
 
     ghost tells = { λ _. TellsOfCut };
 
-    fn answer(self, alloc: Global, bytes: &[u8]) -> Result<Answer<Certified>, AllocError> {
-        match read_cut(alloc, bytes) {
-            Ok((version, cut)) => Ok((certify_cut(alloc, version, &cut)?, None)),
+    fn answer(self, alloc: Global, bytes: Vec<u8>) -> Result<Answer<Certified>, AllocError> {
+        match read_cut(alloc, bytes.as_slice()) {
+            Ok((version, cut)) => {
+                drop(bytes);
+                Ok((certify_cut(alloc, version, &cut)?, None))
+            }
             Err(DocError::Refused(fault)) => {
                 let refused = (Certified::Refused, fault_line(alloc, &fault)?);
-                Ok((refused, hint_for(alloc, bytes, &fault, Expected::Cut)))
+                Ok((
+                    refused,
+                    hint_for(alloc, bytes.as_slice(), &fault, Expected::Cut),
+                ))
             }
             Err(DocError::Memory) => Err(AllocError),
         }

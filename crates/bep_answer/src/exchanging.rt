@@ -33,10 +33,10 @@ pub trait Question<T: Drop>: Drop {
     /// That this may be told beside it.
     ghost tells: { Self → List ℕ → Option Beside → Type 0 };
 
-    /// The answer to a document's bytes.
-    fn answer(self, alloc: Global, bytes: &[u8]) -> Result<Answer<T>, AllocError>
-        ensures says { IfOk result (λ told. says self bytes.now told.0.0 told.0.1.items) }
-        ensures tells { IfOk result (λ told. tells self bytes.now told.1) };
+    /// The answer to a document's bytes, which are given up once they are read.
+    fn answer(self, alloc: Global, bytes: Vec<u8>) -> Result<Answer<T>, AllocError>
+        ensures says { IfOk result (λ told. says self bytes.items told.0.0 told.0.1.items) }
+        ensures tells { IfOk result (λ told. tells self bytes.items told.1) };
 }
 
 /// Reads a document, and writes the text of its answer. What is told beside it is for the caller to write.
@@ -51,7 +51,7 @@ pub fn exchange<T: Drop, Q: Question<T>, R: Read, W: Write>(
     ensures beside { IfOk result (λ told. IsTelling (Q.tells question) (R.remaining reader.old) (R.remaining reader.new) told.1) }
 {
     let bytes = read_document(alloc, reader)?;
-    let ((outcome, text), beside) = question.answer(alloc, bytes.as_slice())?;
+    let ((outcome, text), beside) = question.answer(alloc, bytes)?;
     write_all(writer, text.as_slice())?;
     Ok((outcome, beside))
 }

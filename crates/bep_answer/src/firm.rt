@@ -26,12 +26,18 @@ impl Question<Firmness> for FirmnessOfCut {
 
     ghost tells = { λ _. TellsOfCheck };
 
-    fn answer(self, alloc: Global, bytes: &[u8]) -> Result<Answer<Firmness>, AllocError> {
-        match read_check(alloc, bytes) {
-            Ok((cut, rows)) => Ok((report_on(alloc, &cut, &Certificate::of(rows))?, None)),
+    fn answer(self, alloc: Global, bytes: Vec<u8>) -> Result<Answer<Firmness>, AllocError> {
+        match read_check(alloc, bytes.as_slice()) {
+            Ok((cut, rows)) => {
+                drop(bytes);
+                Ok((report_on(alloc, &cut, &Certificate::of(rows))?, None))
+            }
             Err(DocError::Refused(fault)) => {
                 let refused = (Firmness::Refused, fault_line(alloc, &fault)?);
-                Ok((refused, hint_for(alloc, bytes, &fault, Expected::Check)))
+                Ok((
+                    refused,
+                    hint_for(alloc, bytes.as_slice(), &fault, Expected::Check),
+                ))
             }
             Err(DocError::Memory) => Err(AllocError),
         }

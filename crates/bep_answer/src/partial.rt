@@ -28,12 +28,18 @@ impl Question<Partial> for PartOfCut {
 
     ghost tells = { λ _. TellsOfPart };
 
-    fn answer(self, alloc: Global, bytes: &[u8]) -> Result<Answer<Partial>, AllocError> {
-        match read_cut(alloc, bytes) {
-            Ok((version, cut)) => certify_part(alloc, version, &cut),
+    fn answer(self, alloc: Global, bytes: Vec<u8>) -> Result<Answer<Partial>, AllocError> {
+        match read_cut(alloc, bytes.as_slice()) {
+            Ok((version, cut)) => {
+                drop(bytes);
+                certify_part(alloc, version, &cut)
+            }
             Err(DocError::Refused(fault)) => {
                 let refused = (Partial::Refused, fault_line(alloc, &fault)?);
-                Ok((refused, hint_for(alloc, bytes, &fault, Expected::Cut)))
+                Ok((
+                    refused,
+                    hint_for(alloc, bytes.as_slice(), &fault, Expected::Cut),
+                ))
             }
             Err(DocError::Memory) => Err(AllocError),
         }

@@ -30,12 +30,18 @@ impl Question<Outcome> for AuditUnderWinners {
 
     ghost tells = { λ _. TellsOfCut };
 
-    fn answer(self, alloc: Global, bytes: &[u8]) -> Result<Answer<Outcome>, AllocError> {
-        match read_cut(alloc, bytes) {
-            Ok((_, cut)) => Ok((report_under_winners(alloc, &cut)?, None)),
+    fn answer(self, alloc: Global, bytes: Vec<u8>) -> Result<Answer<Outcome>, AllocError> {
+        match read_cut(alloc, bytes.as_slice()) {
+            Ok((_, cut)) => {
+                drop(bytes);
+                Ok((report_under_winners(alloc, &cut)?, None))
+            }
             Err(DocError::Refused(fault)) => {
                 let refused = refusal(alloc, &fault)?;
-                Ok((refused, hint_for(alloc, bytes, &fault, Expected::Cut)))
+                Ok((
+                    refused,
+                    hint_for(alloc, bytes.as_slice(), &fault, Expected::Cut),
+                ))
             }
             Err(DocError::Memory) => Err(AllocError),
         }
@@ -51,12 +57,18 @@ impl Question<Firmness> for FirmnessUnderWinners {
 
     ghost tells = { λ _. TellsOfCut };
 
-    fn answer(self, alloc: Global, bytes: &[u8]) -> Result<Answer<Firmness>, AllocError> {
-        match read_cut(alloc, bytes) {
-            Ok((_, cut)) => Ok((firm_under_winners(alloc, &cut)?, None)),
+    fn answer(self, alloc: Global, bytes: Vec<u8>) -> Result<Answer<Firmness>, AllocError> {
+        match read_cut(alloc, bytes.as_slice()) {
+            Ok((_, cut)) => {
+                drop(bytes);
+                Ok((firm_under_winners(alloc, &cut)?, None))
+            }
             Err(DocError::Refused(fault)) => {
                 let refused = (Firmness::Refused, fault_line(alloc, &fault)?);
-                Ok((refused, hint_for(alloc, bytes, &fault, Expected::Cut)))
+                Ok((
+                    refused,
+                    hint_for(alloc, bytes.as_slice(), &fault, Expected::Cut),
+                ))
             }
             Err(DocError::Memory) => Err(AllocError),
         }

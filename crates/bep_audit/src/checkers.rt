@@ -5,6 +5,7 @@ ghost use Rattle.bep_model.specs.Settled.{IsSettled};
 ghost use Rattle.bep_model.specs.Verdict.{IsVerdict};
 ghost use Rattle.bep_machine.specs.Laws.{StaysPut, StaysSettled};
 ghost use Rattle.bep_tables.specs.Cut.{tables_of};
+ghost use Rattle.bep_tables.specs.Listed.{IsGrouped, cut_listed};
 ghost use Rattle.bep_audit.specs.declared.verdict.Verdict.TheVariants.{Settled};
 ghost use Rattle.bep_audit.specs.Shown.{verdict_shown};
 
@@ -78,6 +79,23 @@ pub fn check<'a>(
     ensures stays_put { IfOk result (λ verdict. verdict ≡ Settled → StaysPut (tables_of cut.now) certificate.now) }
     ensures stays_settled { IfOk result (λ verdict. verdict ≡ Settled → StaysSettled (tables_of cut.now) certificate.now) }
 {
+    let table = Table::of(alloc, cut)?;
+    Ok(check_grouped(cut, &table, certificate))
+}
+
+/// What `check_plain` answers, by the cut's table.
+pub fn check_grouped<'a>(
+    cut: &'a Cut,
+    table: &Table<'a>,
+    certificate: &'a Certificate,
+) -> Verdict<'a>
+    requires { IsGrouped (cut_listed cut.now) table.now }
+    ensures verdict { IsVerdict (tables_of cut.now) certificate.now (verdict_shown result) }
+    ensures settled { (result ≡ Settled) ↔ IsSettled (tables_of cut.now) certificate.now }
+    ensures calm { result ≡ Settled → IsCalm (tables_of cut.now) (contents_of certificate.now) [] }
+    ensures stays_put { result ≡ Settled → StaysPut (tables_of cut.now) certificate.now }
+    ensures stays_settled { result ≡ Settled → StaysSettled (tables_of cut.now) certificate.now }
+{
     settled_is_faultless();
     settled_is_calm();
     settled_stays_put();
@@ -86,11 +104,10 @@ pub fn check<'a>(
     let rows = certificate.rows();
     if let Some(row) = first_disordered(rows) {
         let place = Spot::of_row(row);
-        return Ok(Verdict::at(Reason::CertificateOrder, place));
+        return Verdict::at(Reason::CertificateOrder, place);
     }
-    let table = Table::of(alloc, cut)?;
     match least_failure(cut, table.entries(), rows) {
-        None => Ok(Verdict::Settled),
-        Some(least) => Ok(Verdict::at(least.reason, least.spot)),
+        None => Verdict::Settled,
+        Some(least) => Verdict::at(least.reason, least.spot),
     }
 }

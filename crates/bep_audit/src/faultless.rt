@@ -6,15 +6,15 @@ ghost use Rattle.bep_tables.specs.declared.share.Share.{Share};
 ghost use Rattle.bep_tables.specs.Cut.{tables_of};
 ghost use Rattle.bep_tables.specs.Listed.{listed};
 ghost use Rattle.bep_audit.specs.Group.{IsGroupOf};
-ghost use Rattle.bep_audit.specs.inner.Faultless.{AsksAll, AsksAllHere, AsksAllElsewhere};
+ghost use Rattle.bep_audit.specs.inner.Faultless.{AsksAll, AsksAllHere, AsksAllElsewhere, PassesElsewhere};
 ghost use Rattle.bep_audit.specs.inner.Walk.{FindsLeast};
 
-use crate::group::{all_pass, has_known};
+use crate::group::has_known;
 use crate::winner::is_winner_in;
-use crate::{is_there, is_valid, says_as_winner, share_is_asked, store_holds};
+use crate::{is_harmless, is_there, is_valid, says_as_winner, share_is_asked, store_holds};
 use bep_model::Row;
 use bep_record::{DeviceId, Node, Record, is_clean};
-use bep_tables::{Cut, Share, Source, TableEntry, cut_says, entries_are_held};
+use bep_tables::{Cut, Held, Share, Source, TableEntry, cut_says, entries_are_held};
 
 /// Whether no reason fails at the row's name, as if there were no other row. It looks each device's own record and node
 /// up once. A search for the least failure does so for each reason.
@@ -73,11 +73,27 @@ fn meets_elsewhere(
 ) -> bool
     ensures { IsTrue result ↔ AsksAllElsewhere row.now (map listed group.now) device (option_copied own.entry) }
 {
-    if !all_pass(Source::View, row, group, device, own) {
-        return false;
+    group
+        .iter()
+        .all(|entry| passes_elsewhere(row, entry, device, own))
+}
+
+// Whether the entry is of another device, or the device's own record or its node, or a harmless record.
+#[tactic(auto, unfolding(crate::specs::inner::Faultless::PassesElsewhere))]
+fn passes_elsewhere(
+    row: &Row,
+    entry: &TableEntry<'_>,
+    device: DeviceId,
+    own: Option<&Record>,
+) -> bool
+    ensures { IsTrue result ↔ PassesElsewhere device row.now (option_copied own.entry) (listed entry.now) }
+{
+    if entry.device != device {
+        return true;
     }
-    if !all_pass(Source::Flight, row, group, device, own) {
-        return false;
+    match entry.held {
+        Held::Node(_) => true,
+        Held::Record(Source::Own, _) => true,
+        Held::Record(_, found) => is_harmless(own, &row.entry, found),
     }
-    all_pass(Source::Pull, row, group, device, own)
 }

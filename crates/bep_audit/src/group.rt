@@ -72,8 +72,8 @@ fn meets_elsewhere(
     }
 }
 
-/// Whether each of the device's records from there is harmless.
-pub(crate) fn all_pass(
+// Whether each of the device's records from there is harmless.
+fn all_pass(
     source: Source,
     row: &Row,
     group: &[TableEntry<'_>],

@@ -38,7 +38,7 @@ mod winner;
 
 pub use bep_model::{FirmReason, Reason};
 pub use certifier::{certify, winners};
-pub use checkers::{REASONS, check, check_plain};
+pub use checkers::{REASONS, check, check_grouped, check_plain};
 pub use error::CertifyError;
 pub use failing::meets_asked;
 pub use failure::Failure;

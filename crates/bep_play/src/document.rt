@@ -23,12 +23,18 @@ impl Question<Certified> for DocumentOfEnd {
 
     ghost tells = { λ _. TellsOfEnd };
 
-    fn answer(self, alloc: Global, bytes: &[u8]) -> Result<Answer<Certified>, AllocError> {
-        match read_scenario(alloc, bytes) {
-            Ok(scenario) => run(alloc, scenario),
+    fn answer(self, alloc: Global, bytes: Vec<u8>) -> Result<Answer<Certified>, AllocError> {
+        match read_scenario(alloc, bytes.as_slice()) {
+            Ok(scenario) => {
+                drop(bytes);
+                run(alloc, scenario)
+            }
             Err(DocError::Refused(fault)) => {
                 let refused = (Certified::Refused, fault_line(alloc, &fault)?);
-                Ok((refused, hint_for(alloc, bytes, &fault, Expected::Scenario)))
+                Ok((
+                    refused,
+                    hint_for(alloc, bytes.as_slice(), &fault, Expected::Scenario),
+                ))
             }
             Err(DocError::Memory) => Err(AllocError),
         }

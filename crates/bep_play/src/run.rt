@@ -21,12 +21,18 @@ impl Question<Outcome> for ReportOnEnd {
 
     ghost tells = { λ _. TellsOfRun };
 
-    fn answer(self, alloc: Global, bytes: &[u8]) -> Result<Answer<Outcome>, AllocError> {
-        match read_scenario(alloc, bytes) {
-            Ok(scenario) => Ok((run(alloc, scenario)?, None)),
+    fn answer(self, alloc: Global, bytes: Vec<u8>) -> Result<Answer<Outcome>, AllocError> {
+        match read_scenario(alloc, bytes.as_slice()) {
+            Ok(scenario) => {
+                drop(bytes);
+                Ok((run(alloc, scenario)?, None))
+            }
             Err(DocError::Refused(fault)) => {
                 let refused = refusal(alloc, &fault)?;
-                Ok((refused, hint_for(alloc, bytes, &fault, Expected::Scenario)))
+                Ok((
+                    refused,
+                    hint_for(alloc, bytes.as_slice(), &fault, Expected::Scenario),
+                ))
             }
             Err(DocError::Memory) => Err(AllocError),
         }

@@ -11,6 +11,7 @@
 mod certificate;
 mod error;
 mod input;
+mod known;
 mod output;
 mod reporting;
 mod written;
@@ -24,5 +25,5 @@ pub use certificate::{push_certificate, push_certificate_2};
 pub use error::ReportError;
 pub use input::read_document;
 pub use output::write_all;
-pub use reporting::{push_firm_report, push_report};
+pub use reporting::{push_firm_report, push_report, push_report_by};
 pub use written::{certificate_text, certificate_text_2, report};

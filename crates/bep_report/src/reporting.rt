@@ -6,7 +6,9 @@ ghost use Rattle.bep_audit.specs.Shown.{verdict_shown};
 ghost use Rattle.bep_lines.specs.Lines.{firm_verdict_line, verdict_line};
 ghost use Rattle.bep_report.specs.Report.{is_stored, count_deleted, firm_report_text, folder_text, folders_text, report_text};
 ghost use Rattle.bep_lines.specs.Text.{AppendsWhole};
+ghost use Rattle.bep_tables.specs.Listed.{IsGrouped, cut_listed};
 
+use crate::known::known_in;
 use bep_audit::{FirmVerdict, Verdict};
 use bep_lines::{
     firm_word_of, or_as_before, push_firm, push_folder, push_not_firm, push_not_settled,
@@ -14,7 +16,7 @@ use bep_lines::{
 };
 use bep_map::NameMap;
 use bep_record::Name;
-use bep_tables::{Cut, Share, SharedFolder};
+use bep_tables::{Cut, Share, SharedFolder, Table};
 use std::alloc::{AllocError, Global};
 
 /// Appends the report on the cut: the line of the verdict, then a line for each folder, names rising. Fails for memory
@@ -27,9 +29,24 @@ pub fn push_report(
 ) -> Result<(), AllocError>
     ensures { AppendsWhole result text.old.items text.new.items (report_text cut.now (verdict_shown verdict.now)) }
 {
+    let table = Table::of(alloc, cut)?;
+    push_report_by(alloc, text, cut, &table, verdict)
+}
+
+/// The same by the cut's table.
+pub fn push_report_by(
+    alloc: Global,
+    text: &mut Vec<u8>,
+    cut: &Cut,
+    table: &Table<'_>,
+    verdict: &Verdict<'_>,
+) -> Result<(), AllocError>
+    requires { IsGrouped (cut_listed cut.now) table.now }
+    ensures { AppendsWhole result text.old.items text.new.items (report_text cut.now (verdict_shown verdict.now)) }
+{
     let len = text.len();
     push_verdict(text, verdict)?;
-    let pushed = push_folders(alloc, text, cut, cut.folders());
+    let pushed = push_folders(alloc, text, cut, table, cut.folders());
     or_as_before(text, len, pushed)
 }
 
@@ -43,9 +60,10 @@ pub fn push_firm_report(
 ) -> Result<(), AllocError>
     ensures { AppendsWhole result text.old.items text.new.items (firm_report_text cut.now (firm_shown verdict.now)) }
 {
+    let table = Table::of(alloc, cut)?;
     let len = text.len();
     push_firm_verdict(text, verdict)?;
-    let pushed = push_folders(alloc, text, cut, cut.folders());
+    let pushed = push_folders(alloc, text, cut, &table, cut.folders());
     or_as_before(text, len, pushed)
 }
 
@@ -78,13 +96,15 @@ fn push_folders(
     alloc: Global,
     text: &mut Vec<u8>,
     cut: &Cut,
+    table: &Table<'_>,
     folders: &[SharedFolder],
 ) -> Result<(), AllocError>
+    requires { IsGrouped (cut_listed cut.now) table.now }
     ensures { AppendsWhole result text.old.items text.new.items (folders_text cut.now folders.now) }
 {
     let len = text.len();
     for held in folders {
-        let pushed = push_held(alloc, text, cut, held);
+        let pushed = push_held(alloc, text, cut, table, held);
         or_as_before(text, len, pushed)?;
     }
     Ok(())
@@ -95,11 +115,13 @@ fn push_held(
     alloc: Global,
     text: &mut Vec<u8>,
     cut: &Cut,
+    table: &Table<'_>,
     held: &SharedFolder,
 ) -> Result<(), AllocError>
+    requires { IsGrouped (cut_listed cut.now) table.now }
     ensures { AppendsWhole result text.old.items text.new.items (folder_text cut.now held.now) }
 {
-    let names = cut.known_names(alloc, &held.folder)?;
+    let names = known_in(alloc, cut, table.entries(), &held.folder)?;
     let shares = held.shares.as_slice();
     let deleted = count_deleted(shares, &names);
     push_folder(text, &held.folder, names.len(), deleted, shares.len())

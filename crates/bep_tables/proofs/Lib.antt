@@ -1,5 +1,5 @@
 pub mod Found
-mod Grouped
+mod GroupFacts
 pub mod Tables
 mod Values
 mod Added
@@ -7,3 +7,4 @@ mod Known
 mod Finite
 mod Said
 mod ListingFacts
+mod Regrouped

@@ -3,11 +3,13 @@ ghost use Rattle.std.specs.Prelude.{◌≡◌, IfOk};
 ghost use Rattle.bep_tables.specs.Listed.{IsGrouped, cut_listed};
 
 mod entry;
+mod groups;
 mod laws;
 mod listing;
 
 use crate::Cut;
 pub use entry::{Held, Source, TableEntry};
+use groups::Groups;
 pub use laws::entries_are_held;
 use std::alloc::{AllocError, Global};
 use std::marker::Model;
@@ -34,9 +36,12 @@ impl<'a> Table<'a> {
     pub fn of(alloc: Global, cut: &'a Cut) -> Result<Table<'a>, AllocError>
         ensures { IfOk result (IsGrouped (cut_listed cut.now)) }
     {
-        let mut entries = Vec::new(alloc);
-        listing::add_cut(&mut entries, cut)?;
-        entries.sort()?;
+        let mut list = Vec::new(alloc);
+        listing::add_cut(&mut list, cut)?;
+        let count = list.len();
+        let groups = Groups::of(alloc, list.as_slice())?;
+        drop(list);
+        let entries = groups.entries(alloc, count)?;
         Ok(Table { entries })
     }
 

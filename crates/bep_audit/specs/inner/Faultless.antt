@@ -11,7 +11,7 @@ use Rattle.bep_model.specs.Tables.{Device}
 use Rattle.bep_tables.specs.declared.share.Share.{Share}
 use Rattle.bep_tables.specs.declared.table.entry.Source.TheVariants.{View, Flight, Pull}
 use Rattle.bep_tables.specs.Listed.{Listed}
-use Rattle.bep_audit.specs.Group.{GroupPasses}
+use Rattle.bep_audit.specs.Group.{PassesFrom, GroupPasses}
 use Rattle.bep_audit.specs.Share.{AsksRecord, AsksContent, AsksValid}
 
 -- what they ask of its own record and its node
@@ -29,6 +29,13 @@ AsksAllElsewhere row group device own =
     GroupPasses View device row own group
     × GroupPasses Flight device row own group
     × GroupPasses Pull device row own group
+
+-- what they ask of one of these entries
+unfoldable pub PassesElsewhere : Device → Row → Option Entry → Listed → Type 0
+PassesElsewhere device row own one =
+    PassesFrom View device row own one
+    × PassesFrom Flight device row own one
+    × PassesFrom Pull device row own one
 
 -- what they ask of it
 unfoldable pub AsksAll : Row → List Listed → Share → Type 0

@@ -34,16 +34,22 @@ impl Question<Firmness> for FirmReasonsOfCut {
 
     ghost tells = { λ _. TellsOfCheck };
 
-    fn answer(self, alloc: Global, bytes: &[u8]) -> Result<Answer<Firmness>, AllocError> {
+    fn answer(self, alloc: Global, bytes: Vec<u8>) -> Result<Answer<Firmness>, AllocError> {
         let form = self.form;
-        match read_check(alloc, bytes) {
-            Ok((cut, rows)) => Ok((
-                explain_cut(alloc, form, &cut, &Certificate::of(rows))?,
-                None,
-            )),
+        match read_check(alloc, bytes.as_slice()) {
+            Ok((cut, rows)) => {
+                drop(bytes);
+                Ok((
+                    explain_cut(alloc, form, &cut, &Certificate::of(rows))?,
+                    None,
+                ))
+            }
             Err(DocError::Refused(fault)) => {
                 let refused = (Firmness::Refused, fault_in(alloc, form, &fault)?);
-                Ok((refused, hint_for(alloc, bytes, &fault, Expected::Check)))
+                Ok((
+                    refused,
+                    hint_for(alloc, bytes.as_slice(), &fault, Expected::Check),
+                ))
             }
             Err(DocError::Memory) => Err(AllocError),
         }

@@ -35,13 +35,19 @@ impl Question<Outcome> for ReasonsUnderWinners {
 
     ghost tells = { λ _. TellsOfCut };
 
-    fn answer(self, alloc: Global, bytes: &[u8]) -> Result<Answer<Outcome>, AllocError> {
+    fn answer(self, alloc: Global, bytes: Vec<u8>) -> Result<Answer<Outcome>, AllocError> {
         let form = self.form;
-        match read_cut(alloc, bytes) {
-            Ok((_, cut)) => Ok((explain_cut(alloc, form, &cut)?, None)),
+        match read_cut(alloc, bytes.as_slice()) {
+            Ok((_, cut)) => {
+                drop(bytes);
+                Ok((explain_cut(alloc, form, &cut)?, None))
+            }
             Err(DocError::Refused(fault)) => {
                 let refused = refusal_in(alloc, form, &fault)?;
-                Ok((refused, hint_for(alloc, bytes, &fault, Expected::Cut)))
+                Ok((
+                    refused,
+                    hint_for(alloc, bytes.as_slice(), &fault, Expected::Cut),
+                ))
             }
             Err(DocError::Memory) => Err(AllocError),
         }
@@ -60,13 +66,19 @@ impl Question<Firmness> for FirmReasonsUnderWinners {
 
     ghost tells = { λ _. TellsOfCut };
 
-    fn answer(self, alloc: Global, bytes: &[u8]) -> Result<Answer<Firmness>, AllocError> {
+    fn answer(self, alloc: Global, bytes: Vec<u8>) -> Result<Answer<Firmness>, AllocError> {
         let form = self.form;
-        match read_cut(alloc, bytes) {
-            Ok((_, cut)) => Ok((explain_firm_cut(alloc, form, &cut)?, None)),
+        match read_cut(alloc, bytes.as_slice()) {
+            Ok((_, cut)) => {
+                drop(bytes);
+                Ok((explain_firm_cut(alloc, form, &cut)?, None))
+            }
             Err(DocError::Refused(fault)) => {
                 let refused = (Firmness::Refused, fault_in(alloc, form, &fault)?);
-                Ok((refused, hint_for(alloc, bytes, &fault, Expected::Cut)))
+                Ok((
+                    refused,
+                    hint_for(alloc, bytes.as_slice(), &fault, Expected::Cut),
+                ))
             }
             Err(DocError::Memory) => Err(AllocError),
         }

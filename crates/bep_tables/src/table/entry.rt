@@ -55,6 +55,21 @@ impl<'a> TableEntry<'a> {
     {
         self.folder.cmp(folder).then(self.name.cmp(name))
     }
+
+    // The same entry once more.
+    pub(crate) fn again(&self) -> TableEntry<'a>
+        ensures { listed result ≡ listed self.now }
+    {
+        TableEntry {
+            folder: self.folder,
+            name: self.name,
+            device: self.device,
+            held: match self.held {
+                Held::Record(source, found) => Held::Record(source, found),
+                Held::Node(node) => Held::Node(node),
+            },
+        }
+    }
 }
 
 impl<'a> PartialEq for TableEntry<'a> {

@@ -2,8 +2,10 @@
 use super::made::CHECK;
 use bep_audit::{Certificate, FirmVerdict, Verdict, certify, check, firm_verdict};
 use bep_cut_document::read_cut;
-use bep_report::{push_certificate, push_firm_report, push_report, read_document, write_all};
-use bep_tables::Cut;
+use bep_report::{
+    push_certificate, push_firm_report, push_report, push_report_by, read_document, write_all,
+};
+use bep_tables::{Cut, Table};
 use std::alloc::Global;
 
 fn streams(alloc: Global, text: &mut Vec<u8>) -> [bool; 2] {
@@ -22,7 +24,14 @@ fn settled(alloc: Global, cut: &Cut, rows: &Certificate, text: &mut Vec<u8>) -> 
 }
 
 fn is_told(alloc: Global, cut: &Cut, verdict: &Verdict<'_>, text: &mut Vec<u8>) -> bool {
-    push_report(alloc, text, cut, verdict).is_ok()
+    push_report(alloc, text, cut, verdict).is_ok() && is_told_by_table(alloc, cut, verdict, text)
+}
+
+fn is_told_by_table(alloc: Global, cut: &Cut, verdict: &Verdict<'_>, text: &mut Vec<u8>) -> bool {
+    match Table::of(alloc, cut) {
+        Ok(table) => push_report_by(alloc, text, cut, &table, verdict).is_ok(),
+        Err(_) => false,
+    }
 }
 
 fn firm(alloc: Global, cut: &Cut, rows: &Certificate, text: &mut Vec<u8>) -> bool {

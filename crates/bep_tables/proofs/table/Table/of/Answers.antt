@@ -1,10 +1,11 @@
-use Rattle.std.proofs.Common.{◌++◌, map, ap, ◌∙◌}
-use Rattle.bep_tables.specs.Listed.{listed, cut_listed}
-use Rattle.bep_tables.proofs.Grouped.{grouped}
+use Rattle.std.proofs.Common.{◌++◌, map, ap, subst, ◌∙◌}
+use Rattle.bep_tables.specs.Listed.{IsGrouped, listed, cut_listed}
+use Rattle.bep_tables.specs.inner.Groups.{AreGroups}
 use Rattle.bep_tables.proofs.table.Table.of.Goals as goal
 
 pub returns : goal.returns
 returns c =
-    grouped (cut_listed c.args.cut.now) c.add_cut.new.list.items c.sort.new.self.items
-    (c.in_ok-add_cut.ensures ∙ ap (λ none. map listed none ++ cut_listed c.args.cut.now) c.new-entries.ensures.items)
-    c.in_ok-sort.ensures.sorted c.sort.ensures.stable
+    let all = c.in_ok-add_cut.ensures ∙ ap (λ none. map listed none ++ cut_listed c.args.cut.now) c.new-list.ensures.items in
+    let groups = c.in_ok-groups.groups in
+    let are = subst (λ l. AreGroups (map listed l) groups.groups.items groups.places.entries) c.as_slice.ensures.value c.in_ok-groups.ensures in
+    subst (λ l. IsGrouped l c.in_ok-entries.entries.items) all (c.in_ok-entries.ensures c.add_cut.new.list.items are)

@@ -11,7 +11,7 @@ use Rattle.bep_audit.specs.inner.Walk.{FindsLeast}
 use Rattle.bep_audit.proofs.ReasonWalk.{reasons_start, first_failing_at, failing_is_verdict, failing_is_not_settled}
 use Rattle.bep_audit.proofs.FailingRow.{finds_disordered}
 use Rattle.bep_audit.proofs.LeastWalk.{least_is_first, none_is_settled}
-use Rattle.bep_audit.proofs.checkers.check.Goals as goal
+use Rattle.bep_audit.proofs.checkers.check_grouped.Goals as goal
 
 pub returns-in-Some-clause-verdict : goal.returns-in-Some-clause-verdict
 returns-in-Some-clause-verdict c =
@@ -41,8 +41,8 @@ returns-in-None-clause-stays_put c = λ _. c.settled_stays_put.ensures (tables_o
 pub returns-in-None-clause-stays_settled : goal.returns-in-None-clause-stays_settled
 returns-in-None-clause-stays_settled c = λ _. c.settled_stays_settled.ensures (tables_of c.args.cut.now) c.args.certificate.now (returns-in-None-clause-verdict c)
 
-pub returns-clause-verdict : goal.returns-clause-verdict
-returns-clause-verdict c =
+pub returns-in-Some-least_failure-clause-verdict : goal.returns-in-Some-least_failure-clause-verdict
+returns-in-Some-least_failure-clause-verdict c =
     let t = tables_of c.args.cut.now in
     let rows = c.args.certificate.now in
     let least = failure_shown c.in-Some-least_failure.least in
@@ -50,7 +50,7 @@ returns-clause-verdict c =
     (least_is_first t rows least
     (subst (λ (all : List Row). FindsLeast (tables_of c.args.cut.now) all (λ _. ⊤) (Some (failure_shown c.in-Some-least_failure.least))) c.rows-rows.ensures c.in-Some-least_failure.ensures))
 
-pub returns-clause-settled : goal.returns-clause-settled
-returns-clause-settled c =
+pub returns-in-Some-least_failure-clause-settled : goal.returns-in-Some-least_failure-clause-settled
+returns-in-Some-least_failure-clause-settled c =
     let least = failure_shown c.in-Some-least_failure.least in
-    failing_is_not_settled (tables_of c.args.cut.now) c.args.certificate.now c.settled_is_faultless.ensures c.at-in-Some-least_failure.result least.reason least.place c.at-in-Some-least_failure.ensures (returns-clause-verdict c)
+    failing_is_not_settled (tables_of c.args.cut.now) c.args.certificate.now c.settled_is_faultless.ensures c.at-in-Some-least_failure.result least.reason least.place c.at-in-Some-least_failure.ensures (returns-in-Some-least_failure-clause-verdict c)

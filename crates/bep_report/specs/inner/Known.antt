@@ -1,0 +1,23 @@
+-- The known names of a folder, by a table of the cut.
+use Rattle.std.specs.Prelude.{◌≡◌, ◌++◌, ◌∷◌, [], nat_eq, List, fold, if◌then◌else◌}
+use Rattle.std.specs.Cmp.Lexicographic.{pointwise}
+use Rattle.std.specs.FinMap.{empty, insert}
+use Rattle.bep_model.specs.Tables.{Folder, FileName}
+use Rattle.bep_tables.specs.Listed.{Listed, key_at}
+use Rattle.bep_tables.specs.Names.{Names}
+
+-- the entry's name as well, if it is of the folder
+unfoldable pub with_entry : Folder → Names → Listed → Names
+with_entry folder names one = if pointwise nat_eq one.folder folder then insert names one.name tt else names
+
+-- the names of these entries, as far as they are of the folder
+abbrev pub names_among : Folder → List Listed → Names
+names_among folder = fold (with_entry folder) empty
+
+-- the last of these entries is of this folder and name
+abbrev pub EndsWith : Folder × FileName → List Listed → Type 0
+EndsWith key list = (before : List Listed) × (one : Listed) × (list ≡ before ++ one ∷ []) × (key_at one ≡ key)
+
+-- the entry adds nothing to the names of these
+abbrev pub AddsNothing : Folder → List Listed → Listed → Type 0
+AddsNothing folder list one = with_entry folder (names_among folder list) one ≡ names_among folder list
