@@ -2,7 +2,7 @@
 ghost use Rattle.std.specs.Prelude.{◌≡◌, ◌↔◌, [], map, IfOk};
 ghost use Rattle.bep_tables.specs.Cut.{tables_of};
 ghost use Rattle.bep_audit.specs.Loose.{loose_shown};
-ghost use Rattle.bep_explain.specs.FirmTold.{loose_annotated_of, loose_told_of, loosenings_in, loosenings_of};
+ghost use Rattle.bep_explain.specs.FirmTold.{loose_told_of, loosenings_of};
 ghost use Rattle.bep_explain.specs.Loose.{AreLoosenings, IsTight};
 
 use crate::details::details_of_loose;
@@ -10,11 +10,9 @@ use crate::lines::lines_of;
 use crate::lookup::Lookup;
 use crate::loose::copy_of_loose;
 use crate::loosenings;
-use crate::trees::trees_of;
 use bep_audit::{Certificate, Looseness};
 use bep_model::Row;
 use bep_tables::Cut;
-use serde_json::Value;
 use std::alloc::{AllocError, Global};
 
 /// One of the four further reasons at a place at which it fails, and what is said of it.
@@ -24,15 +22,6 @@ pub struct ExplainedLoose<'a> {
     pub loose: Looseness<'a>,
     /// What a person asks next, each a line: no promise is made of it.
     pub details: Vec<Vec<u8>>,
-}
-
-/// One of the four further reasons at a place at which it fails, and what is said of it as a tree of JSON.
-#[derive(Drop)]
-pub struct AnnotatedLoose<'a> {
-    /// The reason, and where it fails.
-    pub loose: Looseness<'a>,
-    /// What a person asks next, as a list. No contract speaks of it.
-    pub details: Value,
 }
 
 /// All that `loosenings` has, each with its details; or want of memory.
@@ -46,19 +35,6 @@ pub fn explain_loose<'a>(
 {
     let found = loosenings(alloc, cut, certificate)?;
     with_details(alloc, cut, certificate.rows(), found.as_slice())
-}
-
-/// The same, each with the tree of its details.
-pub fn annotate_loose<'a>(
-    alloc: Global,
-    cut: &'a Cut,
-    certificate: &'a Certificate,
-) -> Result<Vec<AnnotatedLoose<'a>>, AllocError>
-    ensures all { IfOk result (λ told. AreLoosenings (tables_of cut.now) certificate.now (loosenings_in (map loose_annotated_of told.items))) }
-    ensures tight { IfOk result (λ told. (loosenings_in (map loose_annotated_of told.items) ≡ []) ↔ IsTight (tables_of cut.now) certificate.now) }
-{
-    let found = loosenings(alloc, cut, certificate)?;
-    with_trees(alloc, cut, certificate.rows(), found.as_slice())
 }
 
 // These, each with its details.
@@ -80,30 +56,6 @@ fn with_details<'a>(
         told.push_reserved(ExplainedLoose {
             loose: copy_of_loose(one),
             details: lines,
-        });
-    }
-    Ok(told)
-}
-
-// These, each with the tree of its details.
-fn with_trees<'a>(
-    alloc: Global,
-    cut: &'a Cut,
-    rows: &'a [Row],
-    found: &[Looseness<'a>],
-) -> Result<Vec<AnnotatedLoose<'a>>, AllocError>
-    ensures { IfOk result (λ told. loosenings_in (map loose_annotated_of told.items) ≡ map loose_shown found.now) }
-{
-    let lookup = Lookup::of(alloc, cut, rows)?;
-    let mut told = Vec::new(alloc);
-    for one in found {
-        let of = lookup.find(one.folder, one.name);
-        let details = details_of_loose(alloc, cut, &of, one)?;
-        let trees = trees_of(alloc, details.as_slice())?;
-        told.reserve(1)?;
-        told.push_reserved(AnnotatedLoose {
-            loose: copy_of_loose(one),
-            details: trees,
         });
     }
     Ok(told)

@@ -9,18 +9,17 @@
 //!
 //! or, as JSON,
 //!
-//!     let told = annotate(alloc, &cut, &Certificate::of(rows))?;
-//!     let text = explanation_json(alloc, told)?;
+//!     let found = failures(alloc, &cut, &certificate)?;
+//!     let text = explanation_json(alloc, &cut, certificate.rows(), found.as_slice())?;
 //!
-//! `loosenings` has all that keeps a cut from being firm beside these; `explain_loose` and `annotate_loose` say more of each,
-//! and `firm_explanation` and `firm_explanation_json` print both.
+//! `loosenings` has all that keeps a cut from being firm beside these; `explain_loose` says more of each, and
+//! `firm_explanation` and `firm_explanation_json` print both.
 //!
 //! `document` answers so from the bytes that come in to the bytes that go out, as `bep_answer` does for the first reason:
 //! `explain_text`, and with the exit status `explain_and_tell` and `explain_firm_and_tell`;
 //! `explain_under_winners_and_tell` and `explain_firm_under_winners_and_tell` explain a cut under the winners of its names.
 #![tactic(auto)]
 
-mod annotated;
 mod by_name;
 mod collect;
 mod coming;
@@ -34,6 +33,7 @@ mod firm_json;
 mod gather;
 mod json;
 mod lines;
+mod list_text;
 mod lookup;
 mod loose;
 mod missing;
@@ -43,14 +43,13 @@ mod text;
 mod trees;
 mod unwon;
 
-pub use annotated::{Annotated, annotate};
 pub use document::{
     FirmReasonsOfCut, FirmReasonsUnderWinners, ReasonsOfCut, ReasonsUnderWinners, explain_and_tell,
     explain_firm_and_tell, explain_firm_under_winners_and_tell, explain_text,
     explain_under_winners_and_tell,
 };
 pub use explained::{Explained, explain};
-pub use firm::{AnnotatedLoose, ExplainedLoose, annotate_loose, explain_loose};
+pub use firm::{ExplainedLoose, explain_loose};
 pub use firm_json::firm_explanation_json;
 pub use gather::failures;
 pub use json::explanation_json;

@@ -6,8 +6,8 @@ use bep_audit::{Certificate, certify};
 use bep_cut_document::{DocVersion, read_cut};
 use bep_document::{DocFault, Fault};
 use bep_explain::{
-    annotate, annotate_loose, explain, explain_loose, explanation, explanation_json, failures,
-    firm_explanation, firm_explanation_json, loosenings,
+    explain, explain_loose, explanation, explanation_json, failures, firm_explanation,
+    firm_explanation_json, loosenings,
 };
 use bep_play::{played, report_on_cut};
 use bep_report::push_certificate_2;
@@ -73,15 +73,14 @@ fn told(alloc: Global, cut: &Cut, rows: &Certificate) -> Option<[bool; 2]> {
     ])
 }
 
-fn annotated(alloc: Global, cut: &Cut, rows: &Certificate) -> Option<bool> {
-    let told = annotate(alloc, cut, rows).ok()?;
-    Some(explanation_json(alloc, told).is_ok())
-}
-
-fn firmly_annotated(alloc: Global, cut: &Cut, rows: &Certificate) -> Option<bool> {
-    let told = annotate(alloc, cut, rows).ok()?;
-    let loose = annotate_loose(alloc, cut, rows).ok()?;
-    Some(firm_explanation_json(alloc, told, loose).is_ok())
+fn told_in_json(alloc: Global, cut: &Cut, rows: &Certificate) -> Option<[bool; 2]> {
+    let found = failures(alloc, cut, rows).ok()?;
+    let loose = loosenings(alloc, cut, rows).ok()?;
+    let (found, loose) = (found.as_slice(), loose.as_slice());
+    Some([
+        explanation_json(alloc, cut, rows.rows(), found).is_ok(),
+        firm_explanation_json(alloc, cut, rows.rows(), found, loose).is_ok(),
+    ])
 }
 
 fn explained(alloc: Global) -> Option<([bool; 3], [bool; 3], [bool; 2], [bool; 2])> {
@@ -91,10 +90,7 @@ fn explained(alloc: Global) -> Option<([bool; 3], [bool; 3], [bool; 2], [bool; 2
         listed(alloc, &cut, &rows),
         under_winners(alloc, &cut),
         told(alloc, &cut, &rows)?,
-        [
-            annotated(alloc, &cut, &rows)?,
-            firmly_annotated(alloc, &cut, &rows)?,
-        ],
+        told_in_json(alloc, &cut, &rows)?,
     ))
 }
 

@@ -1,7 +1,8 @@
 //! All reasons why a document's cut isn't firm.
 ghost use Rattle.std.specs.Prelude.{◌≡◌, IfOk, map};
-ghost use Rattle.bep_explain.specs.Annotated.{annotated_of, failures_in};
-ghost use Rattle.bep_explain.specs.FirmTold.{loose_annotated_of, loose_told_of, loosenings_in, loosenings_of};
+ghost use Rattle.bep_audit.specs.Loose.{loose_shown};
+ghost use Rattle.bep_audit.specs.Walk.{failure_shown};
+ghost use Rattle.bep_explain.specs.FirmTold.{loose_told_of, loosenings_of};
 ghost use Rattle.bep_explain.specs.Told.{failures_of, told_of};
 ghost use Rattle.bep_answer.specs.Beside.{TellsOfCheck};
 ghost use Rattle.bep_explain.specs.document.FirmExplained.{IsFirmExplainedOfBytes, IsFirmExplanation, firmness_told};
@@ -9,11 +10,11 @@ ghost use Rattle.bep_lines.specs.declared.form.Form.TheVariants.{Json, Text};
 
 use crate::document::explain::fault_in;
 use crate::{
-    Annotated, AnnotatedLoose, Explained, ExplainedLoose, annotate, annotate_loose, explain,
-    explain_loose, firm_explanation, firm_explanation_json,
+    Explained, ExplainedLoose, explain, explain_loose, failures, firm_explanation,
+    firm_explanation_json, loosenings,
 };
 use bep_answer::{Answer, Firmness, Question, hint_for};
-use bep_audit::Certificate;
+use bep_audit::{Certificate, Failure, Looseness};
 use bep_cut_document::{DocError, read_check};
 use bep_hints::Expected;
 use bep_lines::Form;
@@ -89,11 +90,11 @@ fn explain_in_json(
     ensures { IfOk result (λ answer. IsFirmExplanation Json cut.now certificate.now answer.0 answer.1.items) }
 {
     firm_is_faultless();
-    let told = annotate(alloc, cut, certificate)?;
-    let loose = annotate_loose(alloc, cut, certificate)?;
-    let outcome = firmness_in(told.as_slice(), loose.as_slice());
-    let text = firm_explanation_json(alloc, told, loose)?;
-    Ok((outcome, text))
+    let found = failures(alloc, cut, certificate)?;
+    let loose = loosenings(alloc, cut, certificate)?;
+    let (told, more) = (found.as_slice(), loose.as_slice());
+    let text = firm_explanation_json(alloc, cut, certificate.rows(), told, more)?;
+    Ok((firmness_in(told, more), text))
 }
 
 /// Firm where nothing is told.
@@ -107,11 +108,11 @@ pub(crate) fn firmness_for(told: &[Explained<'_>], loose: &[ExplainedLoose<'_>])
     }
 }
 
-/// The same of what is told by trees.
-pub(crate) fn firmness_in(told: &[Annotated<'_>], loose: &[AnnotatedLoose<'_>]) -> Firmness
-    ensures { result ≡ firmness_told (failures_in (map annotated_of told.now)) (loosenings_in (map loose_annotated_of loose.now)) }
+/// The same of what was found.
+pub(crate) fn firmness_in(found: &[Failure<'_>], loose: &[Looseness<'_>]) -> Firmness
+    ensures { result ≡ firmness_told (map failure_shown found.now) (map loose_shown loose.now) }
 {
-    match (told, loose) {
+    match (found, loose) {
         ([], []) => Firmness::Firm,
         ([], _) => Firmness::NotFirm,
         _ => Firmness::NotFirm,

@@ -2,16 +2,17 @@
 ghost use Rattle.std.specs.Prelude.{◌≡◌, IfOk, map};
 ghost use Rattle.std.specs.Option.{option_copied};
 ghost use Rattle.serde_json.specs.View.{view};
-ghost use Rattle.bep_explain.specs.Annotated.{IsJsonLine, annotated_of, failures_in};
+ghost use Rattle.bep_audit.specs.Walk.{failure_shown};
+ghost use Rattle.bep_explain.specs.Annotated.{IsJsonLine};
 ghost use Rattle.bep_explain.specs.Found.{verdict_of};
 ghost use Rattle.bep_answer.specs.Answer.{outcome_of};
 ghost use Rattle.bep_explain.specs.document.Explained.{IsExplanation, refusal_tree, text_tree};
 ghost use Rattle.bep_lines.specs.declared.form.Form.TheVariants.{Json};
 
+use crate::failures;
 use crate::json::{device_tree, explanation_json, json_line};
-use crate::{Annotated, annotate};
 use bep_answer::Outcome;
-use bep_audit::Certificate;
+use bep_audit::{Certificate, Failure};
 use bep_document::DocFault;
 use bep_json::Members;
 use bep_tables::Cut;
@@ -26,17 +27,16 @@ pub(crate) fn explain_in_json(
 ) -> Result<(Outcome, Vec<u8>), AllocError>
     ensures { IfOk result (λ answer. IsExplanation Json cut.now certificate.now answer.0 answer.1.items) }
 {
-    let told = annotate(alloc, cut, certificate)?;
-    let outcome = outcome_for(told.as_slice());
-    let text = explanation_json(alloc, told)?;
-    Ok((outcome, text))
+    let found = failures(alloc, cut, certificate)?;
+    let text = explanation_json(alloc, cut, certificate.rows(), found.as_slice())?;
+    Ok((outcome_for(found.as_slice()), text))
 }
 
-/// Settled where nothing is told.
-pub(crate) fn outcome_for(told: &[Annotated<'_>]) -> Outcome
-    ensures { result ≡ outcome_of (verdict_of (failures_in (map annotated_of told.now))) }
+/// Settled where nothing fails.
+pub(crate) fn outcome_for(found: &[Failure<'_>]) -> Outcome
+    ensures { result ≡ outcome_of (verdict_of (map failure_shown found.now)) }
 {
-    match told {
+    match found {
         [] => Outcome::Settled,
         _ => Outcome::NotSettled,
     }

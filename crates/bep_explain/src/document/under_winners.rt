@@ -4,14 +4,14 @@ ghost use Rattle.bep_answer.specs.Beside.{TellsOfCut};
 ghost use Rattle.bep_explain.specs.document.UnderWinners.{IsExplainedUnderWinnersOfBytes, IsExplanationUnderWinners, IsFirmExplainedUnderWinnersOfBytes, IsFirmExplanationUnderWinners};
 ghost use Rattle.bep_lines.specs.declared.form.Form.TheVariants.{Json, Text};
 
-use crate::annotated::annotate_unwon;
 use crate::document::explain::{fault_in, outcome_for, refusal_in};
 use crate::document::firm::{firmness_for, firmness_in};
 use crate::document::json;
 use crate::explained::explain_unwon;
+use crate::unwon::failures_unwon;
 use crate::{
-    annotate_loose, explain_loose, explanation, explanation_json, firm_explanation,
-    firm_explanation_json,
+    explain_loose, explanation, explanation_json, firm_explanation, firm_explanation_json,
+    loosenings,
 };
 use bep_answer::{Answer, Firmness, Outcome, Question, hint_for};
 use bep_audit::winners;
@@ -98,10 +98,9 @@ fn explain_in_json(alloc: Global, cut: &Cut) -> Result<(Outcome, Vec<u8>), Alloc
     ensures { IfOk result (λ answer. IsExplanationUnderWinners Json cut.now answer.0 answer.1.items) }
 {
     let (certificate, _) = winners(alloc, cut)?;
-    let told = annotate_unwon(alloc, cut, &certificate)?;
-    let outcome = json::outcome_for(told.as_slice());
-    let text = explanation_json(alloc, told)?;
-    Ok((outcome, text))
+    let found = failures_unwon(alloc, cut, &certificate)?;
+    let text = explanation_json(alloc, cut, certificate.rows(), found.as_slice())?;
+    Ok((json::outcome_for(found.as_slice()), text))
 }
 
 // The outcome for a cut where firm is asked for, and the text.
@@ -132,9 +131,9 @@ fn explain_firm_in_json(alloc: Global, cut: &Cut) -> Result<(Firmness, Vec<u8>),
 {
     firm_is_faultless();
     let (certificate, _) = winners(alloc, cut)?;
-    let told = annotate_unwon(alloc, cut, &certificate)?;
-    let loose = annotate_loose(alloc, cut, &certificate)?;
-    let outcome = firmness_in(told.as_slice(), loose.as_slice());
-    let text = firm_explanation_json(alloc, told, loose)?;
-    Ok((outcome, text))
+    let found = failures_unwon(alloc, cut, &certificate)?;
+    let loose = loosenings(alloc, cut, &certificate)?;
+    let (told, more) = (found.as_slice(), loose.as_slice());
+    let text = firm_explanation_json(alloc, cut, certificate.rows(), told, more)?;
+    Ok((firmness_in(told, more), text))
 }

@@ -1,27 +1,30 @@
-use Rattle.std.proofs.Common.{◌∙◌, map, refl, ap}
+use Rattle.std.proofs.Common.{◌∙◌, map, ap, subst}
+use Rattle.bep_audit.specs.Loose.{loose_shown}
+use Rattle.bep_audit.specs.Walk.{failure_shown}
 use Rattle.bep_tables.specs.Cut.{tables_of}
-use Rattle.bep_explain.specs.Annotated.{annotated_of, failures_in}
-use Rattle.bep_explain.specs.FirmTold.{loose_annotated_of, loosenings_in}
-use Rattle.bep_explain.specs.document.FirmExplained.{firmness_told}
+use Rattle.bep_lines.specs.declared.form.Form.TheVariants.{Json}
+use Rattle.bep_explain.specs.document.FirmExplained.{IsFirmWritten, firmness_told}
+use Rattle.bep_explain.proofs.JsonFacts.{none_shown}
 use Rattle.bep_explain.proofs.document.FirmFacts.{firm_exactly}
 use Rattle.bep_explain.proofs.document.firm.explain_in_json.Goals as goal
 
 pub returns : goal.returns
 returns c =
-    let told = map annotated_of c.in_ok-told.told.items in
-    let more = map loose_annotated_of c.in_ok-loose.loose.items in
+    let found = map failure_shown c.in_ok-found.found.items in
+    let loose = map loose_shown c.in_ok-loose.loose.items in
+    let settled = none_shown failure_shown _ c.in_ok-found.found.items c.in_ok-found.ensures.settled in
     record {
-      found = failures_in told;
-      all = c.in_ok-told.ensures.all;
-      loose = loosenings_in more;
+      found = found;
+      all = c.in_ok-found.ensures.all;
+      loose = loose;
       all_loose = c.in_ok-loose.ensures.all;
-      settled = c.in_ok-told.ensures.settled;
-      firm =
-          firm_exactly c.firm_is_faultless.ensures (tables_of c.args.cut.now) c.args.certificate.now (failures_in told) (loosenings_in more)
-          c.in_ok-told.ensures.settled c.in_ok-loose.ensures.tight;
+      settled = settled;
+      firm = firm_exactly c.firm_is_faultless.ensures (tables_of c.args.cut.now) c.args.certificate.now found loose settled (none_shown loose_shown _ c.in_ok-loose.loose.items c.in_ok-loose.ensures.tight);
       verdict =
-          c.firmness_in-outcome.ensures
-          ∙ ap (λ shown. firmness_told (failures_in (map annotated_of shown)) (loosenings_in (map loose_annotated_of c.as_slice-2.result.now))) c.as_slice.ensures.value
-          ∙ ap (λ shown. firmness_told (failures_in told) (loosenings_in (map loose_annotated_of shown))) c.as_slice-2.ensures.value;
-      written = (told, more, refl, refl, c.in_ok-text.ensures);
+          c.firmness_in.ensures
+          ∙ ap (λ shown. firmness_told (map failure_shown shown) (map loose_shown c.as_slice-more.result.now)) c.as_slice-told.ensures.value
+          ∙ ap (λ shown. firmness_told found (map loose_shown shown)) c.as_slice-more.ensures.value;
+      written =
+          subst (λ shown. IsFirmWritten Json found (map loose_shown shown) c.in_ok-text.text.items) c.as_slice-more.ensures.value
+          (subst (λ shown. IsFirmWritten Json (map failure_shown shown) (map loose_shown c.as_slice-more.result.now) c.in_ok-text.text.items) c.as_slice-told.ensures.value c.in_ok-text.ensures);
     }
