@@ -169,7 +169,7 @@ def asks(limit):
 
 def flood(limit):
     names = [f"{place:03}" for place in range(1000)]
-    put = lambda second: [step for name in names for step in (["edit", 1, "docs", {"name": name, "type": 1, "modified_s": second}], ["scan", 1, "docs", name])]
+    put = lambda second: [step for name in names for step in (["edit", 1, "docs", {"name": name, "type": 0, "modified_s": second}], ["scan", 1, "docs", name])]
     join = [step for one in range(2, 17) for step in (["connect", 1, one], ["begin", 1, one], ["begin", one, 1], ["deliver", one, 1], ["deliver", 1, one])]
     send = [["announce", 1, one, "docs"] for one in range(2, 17)]
     return repeated_steps(list(range(1, 17)), [[1, one] for one in range(2, 17)], join, put(0) + send + put(1) + send, limit)
