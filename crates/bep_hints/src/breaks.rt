@@ -26,18 +26,29 @@ pub(crate) fn said_of_break(
 ) -> Result<Vec<u8>, AllocError> {
     let bytes = text.as_bytes();
     let (before, rest) = bytes.split_at(place.min(bytes.len()));
+    let (line, column, last) = line_and_column(before);
     let is_short = match how {
-        Break::Short => rest.iter().all(is_blank),
-        Break::NoToken => is_cut(alloc, rest),
+        Break::Short => rest.iter().all(is_blank) && last != b',',
+        Break::NoValue => may_follow(last) && is_cut(alloc, rest),
+        Break::NoKey => may_follow(last) && (rest.iter().all(is_blank) || is_cut_key(alloc, rest)),
         Break::Misplaced => false,
     };
-    let (line, column) = line_and_column(before);
     let column = column.saturating_add(usize::from(!rest.is_empty()));
     said_at(alloc, line, column, is_short)
 }
 
 fn is_blank(byte: &u8) -> bool {
     matches!(*byte, b' ' | b'\t' | b'\n' | b'\r')
+}
+
+// Whether a value or a key may follow this byte, 0 where there is none.
+fn may_follow(last: u8) -> bool {
+    matches!(last, 0 | b'[' | b'{' | b',' | b':')
+}
+
+// The same where a key is expected.
+fn is_cut_key(alloc: Global, rest: &[u8]) -> bool {
+    rest.starts_with(b"\"") && is_cut(alloc, rest)
 }
 
 // Whether these bytes, which don't begin with a token, begin one.
@@ -52,9 +63,10 @@ fn is_cut(alloc: Global, rest: &[u8]) -> bool {
     }
 }
 
-// The line at the end of these bytes, and the column in it, from 1 and from 0.
-fn line_and_column(before: &[u8]) -> (usize, usize) {
-    let (mut line, mut column) = (1usize, 0usize);
+// The line at the end of these bytes, from 1, the column in it, from 0, and the last byte that isn't blank, 0 where there is
+// none.
+fn line_and_column(before: &[u8]) -> (usize, usize, u8) {
+    let (mut line, mut column, mut last) = (1usize, 0usize, 0u8);
     for byte in before {
         if *byte == b'\n' {
             line = line.saturating_add(1);
@@ -62,8 +74,11 @@ fn line_and_column(before: &[u8]) -> (usize, usize) {
         } else {
             column = column.saturating_add(1);
         }
+        if !is_blank(byte) {
+            last = *byte;
+        }
     }
-    (line, column)
+    (line, column, last)
 }
 
 fn said_at(

@@ -17,8 +17,10 @@ pub(crate) enum Survey {
 pub(crate) enum Break {
     /// It ends too early.
     Short,
-    /// Its next bytes are no token, where a value may stand or a key.
-    NoToken,
+    /// Its next bytes are no token, where a value is expected.
+    NoValue,
+    /// Its next bytes are no token, where a key is expected.
+    NoKey,
     /// They are a token that may not stand there.
     Misplaced,
 }
@@ -126,10 +128,12 @@ impl Walk {
 
     // How the text is no JSON where this token may not stand.
     fn broken_at(&self, token: &Token<'_>) -> Break {
+        let wants_key = self.here.holder == Holder::Object && !self.keyed;
         match *token {
-            Token::Bad => Break::NoToken,
+            Token::Bad if wants_key => Break::NoKey,
+            Token::Bad => Break::NoValue,
             // a key, if a colon came
-            Token::String(_) if self.here.holder == Holder::Object => Break::Short,
+            Token::String(_) if wants_key => Break::Short,
             _ => Break::Misplaced,
         }
     }
