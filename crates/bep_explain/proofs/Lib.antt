@@ -15,3 +15,4 @@ pub mod GroupFound
 mod UnwonFacts
 mod PartFacts
 mod JsonFacts
+mod LinesFacts

@@ -1,5 +1,5 @@
 //! An explanation where firm is asked for, as JSON.
-ghost use Rattle.std.specs.Prelude.{◌≡◌, ◌++◌, ◌∷◌, [], ◌&&◌, codes, map, IfOk, OnOk};
+ghost use Rattle.std.specs.Prelude.{◌≡◌, ◌++◌, ◌∷◌, [], codes, map, IfOk, OnOk};
 ghost use Rattle.json.specs.Print.{quoted};
 ghost use Rattle.serde_json.specs.View.{view};
 ghost use Rattle.bep_audit.specs.Loose.{loose_shown};
@@ -7,12 +7,13 @@ ghost use Rattle.bep_audit.specs.Walk.{failure_shown};
 ghost use Rattle.bep_lines.specs.declared.form.Form.TheVariants.{Json};
 ghost use Rattle.bep_explain.specs.FirmTold.{loose_tree};
 ghost use Rattle.bep_explain.specs.document.FirmExplained.{IsFirmWritten};
-ghost use Rattle.bep_explain.specs.inner.Parts.{AddsLoose, flag_text, no_failure, no_loose};
+ghost use Rattle.bep_explain.specs.inner.Parts.{AddsLoose, flag_text};
 
 use crate::details::details_of_loose;
-use crate::json::{begun, is_none, push_failures, push_settled_flag, reason_tree};
+use crate::json::{begun, push_failures, push_settled_flag, reason_tree};
 use crate::list_text::ListText;
 use crate::lookup::Lookup;
+use crate::none::{is_firm, is_none};
 use crate::trees::trees_of;
 use bep_audit::{Failure, Looseness};
 use bep_lines::firm_word_of;
@@ -53,23 +54,6 @@ fn push_firm_flag(text: &mut Vec<u8>, firm: bool) -> Result<(), AllocError>
         text.extend_from_slice(b",\"firm\":false")?;
     }
     Ok(())
-}
-
-// Whether there is none of either.
-fn is_firm(found: &[Failure<'_>], loose: &[Looseness<'_>]) -> bool
-    ensures { result ≡ (no_failure (map failure_shown found.now) && no_loose (map loose_shown loose.now)) }
-{
-    is_none(found) && is_tight(loose)
-}
-
-// Whether there is none of these.
-fn is_tight(loose: &[Looseness<'_>]) -> bool
-    ensures { result ≡ no_loose (map loose_shown loose.now) }
-{
-    match loose {
-        [] => true,
-        _ => false,
-    }
 }
 
 // Writes these into the list, each with its details.

@@ -8,11 +8,12 @@ ghost use Rattle.bep_audit.specs.Walk.{failure_shown};
 ghost use Rattle.bep_lines.specs.declared.form.Form.TheVariants.{Json};
 ghost use Rattle.bep_explain.specs.Annotated.{IsJsonLine, device_tree, failure_tree, reason_tree};
 ghost use Rattle.bep_explain.specs.document.Explained.{IsWritten};
-ghost use Rattle.bep_explain.specs.inner.Parts.{AddsFailures, flag_text, no_failure};
+ghost use Rattle.bep_explain.specs.inner.Parts.{AddsFailures, flag_text};
 
 use crate::details::details_of;
 use crate::list_text::ListText;
 use crate::lookup::Lookup;
+use crate::none::is_none;
 use crate::trees::trees_of;
 use bep_audit::{Failure, Spot};
 use bep_json::Members;
@@ -70,16 +71,6 @@ pub(crate) fn json_line(alloc: Global, tree: &Value) -> Result<Vec<u8>, AllocErr
     let mut text = tree.to_string(alloc)?.into_bytes();
     text.push(b'\n')?;
     Ok(text)
-}
-
-/// Whether nothing fails.
-pub(crate) fn is_none(found: &[Failure<'_>]) -> bool
-    ensures { result ≡ no_failure (map failure_shown found.now) }
-{
-    match found {
-        [] => true,
-        _ => false,
-    }
 }
 
 /// Writes these into the list, each with its details.

@@ -1,19 +1,17 @@
 //! Why a cut isn't settled, in full: every reason that fails, at each place at which it fails.
 //!
-//! The checkers of `bep_audit` tell the first of these alone. A caller reads a document and asks for all, with what a
-//! person asks next of each, and prints it:
+//! The checkers of `bep_audit` tell the first of these alone. A caller asks for all, and prints them with what a
+//! person asks next of each:
 //!
-//!     let (cut, rows) = read_check(alloc, bytes)?;
-//!     let told = explain(alloc, &cut, &Certificate::of(rows))?;
-//!     let text = explanation(alloc, told.as_slice())?;
+//!     let found = failures(alloc, &cut, &certificate)?;
+//!     let text = explanation(alloc, &cut, certificate.rows(), found.as_slice())?;
 //!
 //! or, as JSON,
 //!
-//!     let found = failures(alloc, &cut, &certificate)?;
 //!     let text = explanation_json(alloc, &cut, certificate.rows(), found.as_slice())?;
 //!
-//! `loosenings` has all that keeps a cut from being firm beside these; `explain_loose` says more of each, and
-//! `firm_explanation` and `firm_explanation_json` print both.
+//! `loosenings` has all that keeps a cut from being firm beside these, and `firm_explanation` and `firm_explanation_json` print
+//! both.
 //!
 //! `document` answers so from the bytes that come in to the bytes that go out, as `bep_answer` does for the first reason:
 //! `explain_text`, and with the exit status `explain_and_tell` and `explain_firm_and_tell`;
@@ -27,8 +25,6 @@ mod detail;
 mod details;
 mod differing;
 mod document;
-mod explained;
-mod firm;
 mod firm_json;
 mod gather;
 mod json;
@@ -37,6 +33,7 @@ mod list_text;
 mod lookup;
 mod loose;
 mod missing;
+mod none;
 mod rows;
 mod sources;
 mod text;
@@ -48,8 +45,6 @@ pub use document::{
     explain_firm_and_tell, explain_firm_under_winners_and_tell, explain_text,
     explain_under_winners_and_tell,
 };
-pub use explained::{Explained, explain};
-pub use firm::{ExplainedLoose, explain_loose};
 pub use firm_json::firm_explanation_json;
 pub use gather::failures;
 pub use json::explanation_json;
