@@ -22,6 +22,16 @@ digits 60 check --certify
 twice 60 check
 strangers 20 check
 nested 17 check
+zeros 60 check
+unended 60 check
+singles 60 check
+lists 60 check
+pairs 16 check
+rows 16 certify
+names 60 certify
+steps 16 run
+restarts 16 run
+flood 4 run
 scans 16.783 run
 crowded 17.123 run
 asks 17 run}

@@ -18,12 +18,41 @@ strangers  one object with as many members as there is room for, none of them kn
 nested     objects in one another, 120 deep: refused with 182
 twice      `digits` with one device twice: refused with 185
 
+Documents of one piece as often as there is room for. No check document, refused with 181 (unended) or 182:
+
+zeros      a list of `0`
+unended    the same without its end
+singles    a list of `[0]`
+lists      a list of lists in one another, 126 deep
+objects    a list of `{"":0}`
+
+Check documents, refused with 183 to 185:
+
+members    an object with a member over and over that isn't known
+rows       a certificate of `0`: `certify` doesn't look at it
+pairs      a record's version of `[1,1]`
+hashes     a record's blocks of `""`
+records    a device's records, more than it may have
+messages   messages without records on a link, more than it may have
+nodes      a device's store, of one node
+views      a device's views, of one device without records
+links      one link
+
+Check documents that are read:
+
+escapes    a file whose bytes are written as `\\u0041`
+
 Scenarios that are costly to run:
 
 scans      one file of 16 MiB, scanned again and again: 16.8 MB have 200 scans
 crowded    the same where 4096 other names leave no room for it, so that each scan is refused
 asks       one file of 16 MiB, whose first block is asked for over a link again and again
+steps      a step that is refused
+restarts   a step that isn't
+edits      a small node, put again and again
+flood      1000 names, each changed and sent to 15 devices again and again, none of which takes any message
 """
+import functools
 import hashlib
 import random
 import sys
@@ -138,8 +167,58 @@ def asks(limit):
     return repeated_steps([1, 2], [[1, 2]], [LARGE, SCAN] + begin + told + ask, begin + ask, limit)
 
 
-KINDS = {"names": names, "repeated": repeated, "falling": falling, "contents": contents, "ahead": ahead, "unknown": unknown, "digits": digits, "strangers": strangers, "nested": nested, "twice": twice, "scans": scans, "crowded": crowded, "asks": asks}
+def flood(limit):
+    names = [f"{place:03}" for place in range(1000)]
+    put = lambda second: [step for name in names for step in (["edit", 1, "docs", {"name": name, "type": 0, "modified_s": second}], ["scan", 1, "docs", name])]
+    join = [step for one in range(2, 17) for step in (["connect", 1, one], ["begin", 1, one], ["begin", one, 1], ["deliver", one, 1], ["deliver", 1, one])]
+    send = [["announce", 1, one, "docs"] for one in range(2, 17)]
+    return repeated_steps(list(range(1, 17)), [[1, one] for one in range(2, 17)], join, put(0) + send + put(1) + send, limit)
 
-if len(sys.argv) != 3 or sys.argv[1] not in KINDS:
-    sys.exit(f"usage: make_hostile.py {'|'.join(KINDS)} MEGABYTES")
-sys.stdout.write(text_of(KINDS[sys.argv[1]](int(float(sys.argv[2]) * 1_000_000))))
+
+# What stands before, the piece that is repeated, and what stands after.
+CUT = '{"version":1,"cut":{"folders":['
+SHARE = CUT + '{"folder":"d","devices":[{"device":1,"kind":"send-receive","index_id":1,"max":1'
+SHARE_END = "}]}]"
+END = '},"certificate":[]}'
+RECORD = '{"name":"a","type":0,"modified_s":0,"modified_by":1,"sequence":1'
+OWN = SHARE + ',"own":[' + RECORD
+LINK = '{"a":1,"b":2,"up":true,"epoch":1'
+STEPS = '{"version":1,"folders":[{"folder":"d","devices":[{"device":1,"kind":"send-receive","index_id":1}]}],"links":[],"steps":['
+PIECES = {
+    "zeros": ("[", "0", "]"),
+    "unended": ("[", "0", ""),
+    "singles": ("[", "[0]", "]"),
+    "lists": ("[", "[" * 126 + "]" * 126, "]"),
+    "objects": ("[", '{"":0}', "]"),
+    "members": ('{"version":1,', '"":0', "}"),
+    "rows": (CUT + ']},"certificate":[', "0", "]}"),
+    "pairs": (OWN + ',"version":[', "[1,1]", "]}]" + SHARE_END + END),
+    "hashes": (OWN + ',"version":[],"blocks":[', '""', "]}]" + SHARE_END + END),
+    "records": (SHARE + ',"own":[', RECORD + ',"version":[]}', "]" + SHARE_END + END),
+    "messages": (CUT + '],"links":[' + LINK + ',"to_a":[', '{"folder":"d","full":true,"records":[]}', "]}]" + END),
+    "nodes": (SHARE + ',"store":[', '{"name":"a","type":1,"modified_s":0}', "]" + SHARE_END + END),
+    "views": (SHARE + ',"views":[', '{"of":2,"index_id":0,"max":0,"records":[]}', "]" + SHARE_END + END),
+    "links": (CUT + '],"links":[', LINK + "}", "]" + END),
+    "steps": (STEPS, '["lose",1,2]', "]}"),
+    "restarts": (STEPS, '["restart",1]', "]}"),
+    "edits": (STEPS, '["edit",1,"d",{"name":"a","type":1,"modified_s":0}]', "]}"),
+}
+
+
+def of_pieces(kind, limit):
+    before, piece, after = PIECES[kind]
+    return before + ",".join([piece] * ((limit - len(before) - len(after) + 1) // (len(piece) + 1))) + after
+
+
+def escapes(limit):
+    before, after = SHARE + ',"store":[{"name":"a","type":0,"modified_s":0,"text":"', '"}]' + SHARE_END + END
+    return before + "\\u0041" * min(2**24, (limit - len(before) - len(after)) // 6) + after
+
+
+KINDS = {"names": names, "repeated": repeated, "falling": falling, "contents": contents, "ahead": ahead, "unknown": unknown, "digits": digits, "strangers": strangers, "nested": nested, "twice": twice, "scans": scans, "crowded": crowded, "asks": asks, "flood": flood}
+TEXTS = {"escapes": escapes, **{kind: functools.partial(of_pieces, kind) for kind in PIECES}}
+
+if len(sys.argv) != 3 or sys.argv[1] not in {**KINDS, **TEXTS}:
+    sys.exit(f"usage: make_hostile.py {'|'.join([*KINDS, *TEXTS])} MEGABYTES")
+kind, limit = sys.argv[1], int(float(sys.argv[2]) * 1_000_000)
+sys.stdout.write(TEXTS[kind](limit) if kind in TEXTS else text_of(KINDS[kind](limit)))

@@ -13,3 +13,6 @@ pub mod NameSays
 pub mod RowLists
 pub mod GroupFound
 mod UnwonFacts
+mod PartFacts
+mod JsonFacts
+mod LinesFacts

@@ -2,23 +2,17 @@
 use Rattle.std.specs.Prelude.{◌≡◌, ◌≤◌, ◌++◌, ℕ, Bool, true, false, List, [], ◌∷◌, Option, Some, None, map, codes}
 use Rattle.serde_json.specs.Data.{Data, null, boolean, string, object, no_members, member, depth}
 use Rattle.serde_json.specs.Read.{read, max_depth}
-use Rattle.serde_json.specs.View.{view}
 use Rattle.serde_json.specs.Written.{IsInOrder}
 use Rattle.bep_json.specs.Written.{whole, list_of}
 use Rattle.bep_model.specs.Reasons.{Place}
 use Rattle.bep_model.specs.Tables.{Device}
-use Rattle.bep_audit.specs.Walk.{Failure, failure_shown}
+use Rattle.bep_audit.specs.Walk.{Failure}
 use Rattle.bep_lines.specs.Lines.{word_of, newline}
-use Rattle.bep_explain.specs.declared.annotated.Annotated as lends
 
 -- a failure, and the tree of what is said of it
 pub record Annotated : Type 0 where
   pub failure : Failure
   pub details : Data
-
--- those whose names are lent
-abbrev pub annotated_of : lends.Annotated → Annotated
-annotated_of one = record { failure = failure_shown one.failure; details = view one.details }
 
 -- the failures alone
 abbrev pub failures_in : List Annotated → List Failure

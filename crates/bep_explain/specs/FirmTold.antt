@@ -3,24 +3,17 @@
 use Rattle.std.specs.Prelude.{◌++◌, ◌&&◌, ℕ, List, [], ◌∷◌, Bool, true, false, map, codes}
 use Rattle.std.specs.List.{flat_map}
 use Rattle.serde_json.specs.Data.{Data, boolean, object, no_members, member}
-use Rattle.serde_json.specs.View.{view}
 use Rattle.bep_json.specs.Written.{list_of}
 use Rattle.bep_model.specs.FirmVerdict.{Firm}
-use Rattle.bep_audit.specs.Loose.{Loosening, loose_shown}
+use Rattle.bep_audit.specs.Loose.{Loosening}
 use Rattle.bep_lines.specs.Lines.{firm_verdict_line, firm_word_of, reason_line}
 use Rattle.bep_explain.specs.Annotated.{Annotated, failure_tree, is_none, reason_tree}
 use Rattle.bep_explain.specs.Told.{Told, detail_line, told_text}
-use Rattle.bep_explain.specs.declared.firm.ExplainedLoose as explained
-use Rattle.bep_explain.specs.declared.firm.AnnotatedLoose as annotated
 
 -- one of the four further reasons at a place, and what is said of it
 pub record LooseTold : Type 0 where
   pub loosening : Loosening
   pub details : List (List ℕ)
-
--- those whose names are lent
-abbrev pub loose_told_of : explained.ExplainedLoose → LooseTold
-loose_told_of one = record { loosening = loose_shown one.loose; details = map (λ said. said.items) one.details.items }
 
 -- the reasons and places alone
 abbrev pub loosenings_of : List LooseTold → List Loosening
@@ -44,10 +37,6 @@ firm_explanation_text (one ∷ more) loose = flat_map told_text (one ∷ more) +
 pub record LooseAnnotated : Type 0 where
   pub loosening : Loosening
   pub details : Data
-
--- those whose names are lent
-abbrev pub loose_annotated_of : annotated.AnnotatedLoose → LooseAnnotated
-loose_annotated_of one = record { loosening = loose_shown one.loose; details = view one.details }
 
 -- the reasons and places alone
 abbrev pub loosenings_in : List LooseAnnotated → List Loosening

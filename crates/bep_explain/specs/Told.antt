@@ -2,18 +2,13 @@
 use Rattle.std.specs.Prelude.{◌==◌, ◌++◌, ℕ, List, [], ◌∷◌, map, codes, if◌then◌else◌}
 use Rattle.std.specs.List.{flat_map}
 use Rattle.bep_model.specs.Verdict.{Settled}
-use Rattle.bep_audit.specs.Walk.{Failure, failure_shown}
+use Rattle.bep_audit.specs.Walk.{Failure}
 use Rattle.bep_lines.specs.Lines.{failure_line, verdict_line, newline}
-use Rattle.bep_explain.specs.declared.explained.Explained as lends
 
 -- a failure, and what is said of it
 pub record Told : Type 0 where
   pub failure : Failure
   pub details : List (List ℕ)
-
--- those whose names are lent
-abbrev pub told_of : lends.Explained → Told
-told_of one = record { failure = failure_shown one.failure; details = map (λ said. said.items) one.details.items }
 
 -- the failures alone
 abbrev pub failures_of : List Told → List Failure

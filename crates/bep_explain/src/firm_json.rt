@@ -1,71 +1,80 @@
 //! An explanation where firm is asked for, as JSON.
-ghost use Rattle.std.specs.Prelude.{◌≡◌, ◌++◌, map, IfOk};
+ghost use Rattle.std.specs.Prelude.{◌≡◌, ◌++◌, ◌∷◌, [], codes, map, IfOk, OnOk};
+ghost use Rattle.json.specs.Print.{quoted};
 ghost use Rattle.serde_json.specs.View.{view};
 ghost use Rattle.bep_audit.specs.Loose.{loose_shown};
-ghost use Rattle.bep_explain.specs.Annotated.{IsJsonLine, annotated_of};
-ghost use Rattle.bep_explain.specs.FirmTold.{firm_explanation_tree, is_tight, loose_annotated_of, loose_tree};
+ghost use Rattle.bep_audit.specs.Walk.{failure_shown};
+ghost use Rattle.bep_lines.specs.declared.form.Form.TheVariants.{Json};
+ghost use Rattle.bep_explain.specs.FirmTold.{loose_tree};
+ghost use Rattle.bep_explain.specs.document.FirmExplained.{IsFirmWritten};
+ghost use Rattle.bep_explain.specs.inner.Parts.{AddsLoose, flag_text};
 
-use crate::json::{failure_trees, is_none, json_line, reason_tree};
-use crate::{Annotated, AnnotatedLoose};
-use bep_audit::Looseness;
+use crate::details::details_of_loose;
+use crate::json::{begun, push_failures, push_settled_flag, reason_tree};
+use crate::list_text::ListText;
+use crate::lookup::Lookup;
+use crate::none::{is_firm, is_none};
+use crate::trees::trees_of;
+use bep_audit::{Failure, Looseness};
 use bep_lines::firm_word_of;
-use serde_json::{Value, json};
+use bep_model::Row;
+use bep_tables::Cut;
+use serde_json::Value;
 use std::alloc::{AllocError, Global};
 
-/// All that fails and all that keeps a settled cut from being firm as one JSON document on a line, in order: each with its
-/// reason, place and details, and whether there is none. Or want of memory.
-pub fn firm_explanation_json(
+/// The failures found of a cut under these rows, and then all that was found to keep it from being firm, as one JSON document
+/// on a line, in order: each with its reason, place and details, and whether there is none. Or want of memory.
+///
+/// The tree of one of them at a time is made.
+pub fn firm_explanation_json<'a>(
     alloc: Global,
-    told: Vec<Annotated<'_>>,
-    loose: Vec<AnnotatedLoose<'_>>,
+    cut: &'a Cut,
+    rows: &'a [Row],
+    found: &[Failure<'a>],
+    loose: &[Looseness<'a>],
 ) -> Result<Vec<u8>, AllocError>
-    ensures { IfOk result (λ text. IsJsonLine (firm_explanation_tree (map annotated_of told.entry.items) (map loose_annotated_of loose.entry.items)) text.items) }
+    ensures { IfOk result (λ text. IsFirmWritten Json (map failure_shown found.now) (map loose_shown loose.now) text.items) }
 {
-    let tree = firm_explanation_tree(alloc, told, loose)?;
-    json_line(alloc, &tree)
+    let mut list = ListText::behind(begun(alloc)?)?;
+    push_failures(alloc, &mut list, cut, rows, found)?;
+    push_loose(alloc, &mut list, cut, rows, loose)?;
+    let mut text = list.end()?;
+    push_firm_flag(&mut text, is_firm(found, loose))?;
+    push_settled_flag(&mut text, is_none(found))?;
+    Ok(text)
 }
 
-// The tree of all of these.
-#[tactic(auto, unfolding(crate::specs::FirmTold::firm_explanation_tree))]
-fn firm_explanation_tree(
-    alloc: Global,
-    told: Vec<Annotated<'_>>,
-    loose: Vec<AnnotatedLoose<'_>>,
-) -> Result<Value, AllocError>
-    ensures { IfOk result (λ v. view v ≡ firm_explanation_tree (map annotated_of told.entry.items) (map loose_annotated_of loose.entry.items)) }
+// Writes whether the cut is firm.
+fn push_firm_flag(text: &mut Vec<u8>, firm: bool) -> Result<(), AllocError>
+    ensures { OnOk result (text.new.items ≡ text.old.items ++ (44 ∷ (quoted (codes "firm") ++ 58 ∷ flag_text firm))) }
 {
-    let settled = is_none(told.as_slice());
-    let firm = settled && is_tight(loose.as_slice());
-    let trees = failure_trees(alloc, told)?;
-    let failures = Value::Array(with_loose_trees(alloc, trees, loose)?);
-    json!(in alloc; {"failures": failures, "firm": firm, "settled": settled})
-}
-
-// Whether there is none of these.
-fn is_tight(loose: &[AnnotatedLoose<'_>]) -> bool
-    ensures { result ≡ is_tight (map loose_annotated_of loose.now) }
-{
-    match loose {
-        [] => true,
-        _ => false,
+    if firm {
+        text.extend_from_slice(b",\"firm\":true")?;
+    } else {
+        text.extend_from_slice(b",\"firm\":false")?;
     }
+    Ok(())
 }
 
-// The trees so far, and behind them those of these, in order.
-fn with_loose_trees(
+// Writes these into the list, each with its details.
+fn push_loose<'a>(
     alloc: Global,
-    trees: Vec<Value>,
-    more: Vec<AnnotatedLoose<'_>>,
-) -> Result<Vec<Value>, AllocError>
-    ensures { IfOk result (λ all. map view all.items ≡ map view trees.items ++ map loose_tree (map loose_annotated_of more.entry.items)) }
+    list: &mut ListText,
+    cut: &'a Cut,
+    rows: &'a [Row],
+    found: &[Looseness<'a>],
+) -> Result<(), AllocError>
+    ensures { OnOk result (AddsLoose (map loose_shown found.now) list.old list.new) }
 {
-    let mut all = trees;
-    for one in more {
-        let AnnotatedLoose { loose, details } = one;
-        let tree = loose_tree(alloc, &loose, details)?;
-        all.push(tree)?;
+    let lookup = Lookup::of(alloc, cut, rows)?;
+    for one in found {
+        let of = lookup.find(one.folder, one.name);
+        let details = details_of_loose(alloc, cut, &of, one)?;
+        let trees = trees_of(alloc, details.as_slice())?;
+        let tree = loose_tree(alloc, one, trees)?;
+        list.push(alloc, &tree)?;
     }
-    Ok(all)
+    Ok(())
 }
 
 // The tree of one of them.

@@ -1,26 +1,23 @@
 //! Why a cut isn't settled, in full: every reason that fails, at each place at which it fails.
 //!
-//! The checkers of `bep_audit` tell the first of these alone. A caller reads a document and asks for all, with what a
-//! person asks next of each, and prints it:
+//! The checkers of `bep_audit` tell the first of these alone. A caller asks for all, and prints them with what a
+//! person asks next of each:
 //!
-//!     let (cut, rows) = read_check(alloc, bytes)?;
-//!     let told = explain(alloc, &cut, &Certificate::of(rows))?;
-//!     let text = explanation(alloc, told.as_slice())?;
+//!     let found = failures(alloc, &cut, &certificate)?;
+//!     let text = explanation(alloc, &cut, certificate.rows(), found.as_slice())?;
 //!
 //! or, as JSON,
 //!
-//!     let told = annotate(alloc, &cut, &Certificate::of(rows))?;
-//!     let text = explanation_json(alloc, told)?;
+//!     let text = explanation_json(alloc, &cut, certificate.rows(), found.as_slice())?;
 //!
-//! `loosenings` has all that keeps a cut from being firm beside these; `explain_loose` and `annotate_loose` say more of each,
-//! and `firm_explanation` and `firm_explanation_json` print both.
+//! `loosenings` has all that keeps a cut from being firm beside these, and `firm_explanation` and `firm_explanation_json` print
+//! both.
 //!
 //! `document` answers so from the bytes that come in to the bytes that go out, as `bep_answer` does for the first reason:
 //! `explain_text`, and with the exit status `explain_and_tell` and `explain_firm_and_tell`;
 //! `explain_under_winners_and_tell` and `explain_firm_under_winners_and_tell` explain a cut under the winners of its names.
 #![tactic(auto)]
 
-mod annotated;
 mod by_name;
 mod collect;
 mod coming;
@@ -28,29 +25,26 @@ mod detail;
 mod details;
 mod differing;
 mod document;
-mod explained;
-mod firm;
 mod firm_json;
 mod gather;
 mod json;
 mod lines;
+mod list_text;
 mod lookup;
 mod loose;
 mod missing;
+mod none;
 mod rows;
 mod sources;
 mod text;
 mod trees;
 mod unwon;
 
-pub use annotated::{Annotated, annotate};
 pub use document::{
     FirmReasonsOfCut, FirmReasonsUnderWinners, ReasonsOfCut, ReasonsUnderWinners, explain_and_tell,
     explain_firm_and_tell, explain_firm_under_winners_and_tell, explain_text,
     explain_under_winners_and_tell,
 };
-pub use explained::{Explained, explain};
-pub use firm::{AnnotatedLoose, ExplainedLoose, annotate_loose, explain_loose};
 pub use firm_json::firm_explanation_json;
 pub use gather::failures;
 pub use json::explanation_json;

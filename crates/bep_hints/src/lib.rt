@@ -9,10 +9,13 @@
 //!     }
 #![tactic(auto)]
 
+mod breaks;
 mod leaves;
+mod level;
 mod members;
 mod scenario;
 mod sentence;
+mod survey;
 mod walk;
 mod wrong;
 

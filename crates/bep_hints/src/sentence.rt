@@ -1,17 +1,23 @@
 //! What is said of a fault.
 ghost use Rattle.std.specs.Prelude.{◌≡◌, IfSome};
 
+use crate::breaks::{said_of_break, said_of_bytes};
 use crate::members::Holds::Single;
 use crate::members::{Expected, Sort};
+use crate::survey::{Survey, look_over};
 use crate::walk::{Flaw, LEVELS, Step, look};
 use crate::wrong::Wrong;
 use bep_document::{MAX_BYTES, doc_version};
 use bep_lines::{Piece, push_pieces};
 use bep_record::MAX_DEVICES;
 use bep_tree::{Scratch, Tree, TreeError, as_array, as_u64, get, read_tree};
-use serde_json::Value;
-use serde_json::error::{Category, Error};
 use std::alloc::{AllocError, Global};
+
+// The most bytes of memory that a tree may take for each byte of its document, and that any tree may take, if a hint is looked
+// for in it.
+const MOST_FOR_EACH: usize = 16;
+
+const MOST_FOR_ANY: usize = 4194304;
 
 /// A sentence for a person on where a document is at fault.
 #[derive(Drop)]
@@ -54,40 +60,32 @@ fn said_of(alloc: Global, bytes: &[u8], expected: Expected) -> Result<Vec<u8>, A
             ],
         );
     }
+    let Ok(text) = std::str::from_utf8(bytes) else {
+        return said_of_bytes(alloc, bytes);
+    };
+    match look_over(alloc, text)? {
+        Survey::Broken(place, how) => said_of_break(alloc, text, place, how),
+        Survey::Whole(memory) if memory > most_memory(bytes.len()) => {
+            let why = "the document has too many small values to be looked through for its fault";
+            said(alloc, &[Piece::Text(why)])
+        }
+        Survey::Whole(_) => said_of_json(alloc, bytes, expected),
+    }
+}
+
+// The most bytes of memory that the tree of a document of so many bytes may take.
+fn most_memory(length: usize) -> usize {
+    length.saturating_mul(MOST_FOR_EACH).max(MOST_FOR_ANY)
+}
+
+// What is at fault in JSON.
+fn said_of_json(alloc: Global, bytes: &[u8], expected: Expected) -> Result<Vec<u8>, AllocError> {
     let mut scratch = Scratch::new(alloc);
     match read_tree(alloc, bytes, &mut scratch) {
         Ok(tree) => said_of_tree(alloc, &tree, expected),
-        Err(TreeError::NotJson) => said_of_text(alloc, bytes),
+        Err(TreeError::NotJson) => Ok(Vec::new(alloc)),
         Err(TreeError::Memory) => Err(AllocError),
     }
-}
-
-// Where the bytes aren't JSON. `serde_json` tells the place; `json` doesn't. It refuses whatever `read_tree` refused.
-fn said_of_text(alloc: Global, bytes: &[u8]) -> Result<Vec<u8>, AllocError> {
-    match Value::from_slice(alloc, bytes) {
-        Ok(_) => Ok(Vec::new(alloc)),
-        Err(error) => said_of_error(alloc, &error),
-    }
-}
-
-fn said_of_error(alloc: Global, error: &Error) -> Result<Vec<u8>, AllocError> {
-    let what = match error.classify() {
-        Category::Memory => return Err(AllocError),
-        Category::Eof => ": the JSON ends before it is whole",
-        _ =>
-            ": this isn't JSON, nests too deep, or has too large a number or half a surrogate pair",
-    };
-    let (line, column) = (error.line() as u64, error.column() as u64);
-    said(
-        alloc,
-        &[
-            Piece::Text("line "),
-            Piece::Number(line),
-            Piece::Text(", column "),
-            Piece::Number(column),
-            Piece::Text(what),
-        ],
-    )
 }
 
 // What is at fault in a tree.
@@ -228,7 +226,8 @@ fn number_in(value: &Tree<'_>, name: &str) -> Option<u64> {
     }
 }
 
-fn said(alloc: Global, pieces: &[Piece<'_>]) -> Result<Vec<u8>, AllocError> {
+/// The text of these pieces.
+pub(crate) fn said(alloc: Global, pieces: &[Piece<'_>]) -> Result<Vec<u8>, AllocError> {
     let mut text = Vec::new(alloc);
     push_pieces(&mut text, pieces)?;
     Ok(text)

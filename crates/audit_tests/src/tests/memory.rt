@@ -6,8 +6,7 @@ use bep_audit::{Certificate, certify};
 use bep_cut_document::{DocVersion, read_cut};
 use bep_document::{DocFault, Fault};
 use bep_explain::{
-    annotate, annotate_loose, explain, explain_loose, explanation, explanation_json, failures,
-    firm_explanation, firm_explanation_json, loosenings,
+    explanation, explanation_json, failures, firm_explanation, firm_explanation_json, loosenings,
 };
 use bep_play::{played, report_on_cut};
 use bep_report::push_certificate_2;
@@ -71,37 +70,25 @@ fn stepped(alloc: Global) -> Option<bool> {
     Some(played(alloc, scenario).is_ok())
 }
 
-fn told(alloc: Global, cut: &Cut, rows: &Certificate) -> Option<[bool; 2]> {
-    let told = explain(alloc, cut, rows).ok()?;
-    let loose = explain_loose(alloc, cut, rows).ok()?;
+fn told(alloc: Global, cut: &Cut, rows: &Certificate) -> Option<[bool; 4]> {
+    let found = failures(alloc, cut, rows).ok()?;
+    let loose = loosenings(alloc, cut, rows).ok()?;
+    let (found, loose, rows) = (found.as_slice(), loose.as_slice(), rows.rows());
     Some([
-        explanation(alloc, told.as_slice()).is_ok(),
-        firm_explanation(alloc, told.as_slice(), loose.as_slice()).is_ok(),
+        explanation(alloc, cut, rows, found).is_ok(),
+        firm_explanation(alloc, cut, rows, found, loose).is_ok(),
+        explanation_json(alloc, cut, rows, found).is_ok(),
+        firm_explanation_json(alloc, cut, rows, found, loose).is_ok(),
     ])
 }
 
-fn annotated(alloc: Global, cut: &Cut, rows: &Certificate) -> Option<bool> {
-    let told = annotate(alloc, cut, rows).ok()?;
-    Some(explanation_json(alloc, told).is_ok())
-}
-
-fn firmly_annotated(alloc: Global, cut: &Cut, rows: &Certificate) -> Option<bool> {
-    let told = annotate(alloc, cut, rows).ok()?;
-    let loose = annotate_loose(alloc, cut, rows).ok()?;
-    Some(firm_explanation_json(alloc, told, loose).is_ok())
-}
-
-fn explained(alloc: Global) -> Option<([bool; 3], [bool; 3], [bool; 2], [bool; 2])> {
+fn explained(alloc: Global) -> Option<([bool; 3], [bool; 3], [bool; 4])> {
     let (_, cut) = read_cut(alloc, CUT.as_bytes()).ok()?;
     let rows = certify(alloc, &cut).ok()?;
     Some((
         listed(alloc, &cut, &rows),
         under_winners(alloc, &cut),
         told(alloc, &cut, &rows)?,
-        [
-            annotated(alloc, &cut, &rows)?,
-            firmly_annotated(alloc, &cut, &rows)?,
-        ],
     ))
 }
 
@@ -111,6 +98,6 @@ fn answers_find_memory(rt: HostRuntime) {
     let mut text = Vec::new(alloc);
     assert!(rt; asked(alloc, &mut text) == [true; 2]);
     assert!(rt; refused(alloc) == [true; 2]);
-    assert!(rt; explained(alloc) == Some(([true; 3], [true; 3], [true; 2], [true; 2])));
+    assert!(rt; explained(alloc) == Some(([true; 3], [true; 3], [true; 4])));
     assert!(rt; stepped(alloc) == Some(true));
 }

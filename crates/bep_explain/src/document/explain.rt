@@ -1,19 +1,20 @@
 //! All reasons why a document's cut isn't settled.
 ghost use Rattle.std.specs.Prelude.{◌≡◌, IfOk, map};
 ghost use Rattle.bep_explain.specs.Found.{verdict_of};
-ghost use Rattle.bep_explain.specs.Told.{failures_of, told_of};
+ghost use Rattle.bep_audit.specs.Walk.{failure_shown};
 ghost use Rattle.bep_answer.specs.Answer.{outcome_of};
 ghost use Rattle.bep_answer.specs.Beside.{TellsOfCheck};
-ghost use Rattle.bep_explain.specs.document.Explained.{IsExplainedOfBytes, IsExplanation, IsRefusal};
+ghost use Rattle.bep_explain.specs.document.Explained.{IsExplainedOfBytes, IsExplanation, IsRefusal, IsWritten};
 ghost use Rattle.bep_answer.specs.declared.outcome.Outcome.TheVariants as outcomes;
 
-use crate::document::json::{explain_in_json, refusal_json};
-use crate::{Explained, explain, explanation};
+use crate::document::json::refusal_json;
+use crate::{explanation, explanation_json, failures};
 use bep_answer::{Answer, Outcome, Question, fault_line, hint_for};
-use bep_audit::Certificate;
+use bep_audit::{Certificate, Failure};
 use bep_cut_document::{DocError, DocFault, read_check};
 use bep_hints::Expected;
 use bep_lines::Form;
+use bep_model::Row;
 use bep_tables::Cut;
 use std::alloc::{AllocError, Global};
 
@@ -61,21 +62,32 @@ fn explain_cut(
 ) -> Result<(Outcome, Vec<u8>), AllocError>
     ensures { IfOk result (λ answer. IsExplanation form cut.now certificate.now answer.0 answer.1.items) }
 {
+    let found = failures(alloc, cut, certificate)?;
+    let text = written(alloc, form, cut, certificate.rows(), found.as_slice())?;
+    Ok((outcome_for(found.as_slice()), text))
+}
+
+/// The failures found of a cut under these rows, with details, in this form.
+pub(crate) fn written<'a>(
+    alloc: Global,
+    form: Form,
+    cut: &'a Cut,
+    rows: &'a [Row],
+    found: &[Failure<'a>],
+) -> Result<Vec<u8>, AllocError>
+    ensures { IfOk result (λ text. IsWritten form (map failure_shown found.now) text.items) }
+{
     match form {
-        Form::Text => {
-            let told = explain(alloc, cut, certificate)?;
-            let text = explanation(alloc, told.as_slice())?;
-            Ok((outcome_for(told.as_slice()), text))
-        }
-        Form::Json => explain_in_json(alloc, cut, certificate),
+        Form::Text => explanation(alloc, cut, rows, found),
+        Form::Json => explanation_json(alloc, cut, rows, found),
     }
 }
 
-/// Settled where nothing is told.
-pub(crate) fn outcome_for(told: &[Explained<'_>]) -> Outcome
-    ensures { result ≡ outcome_of (verdict_of (failures_of (map told_of told.now))) }
+/// Settled where nothing fails.
+pub(crate) fn outcome_for(found: &[Failure<'_>]) -> Outcome
+    ensures { result ≡ outcome_of (verdict_of (map failure_shown found.now)) }
 {
-    match told {
+    match found {
         [] => Outcome::Settled,
         _ => Outcome::NotSettled,
     }

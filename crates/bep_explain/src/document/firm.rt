@@ -1,23 +1,18 @@
 //! All reasons why a document's cut isn't firm.
 ghost use Rattle.std.specs.Prelude.{◌≡◌, IfOk, map};
-ghost use Rattle.bep_explain.specs.Annotated.{annotated_of, failures_in};
-ghost use Rattle.bep_explain.specs.FirmTold.{loose_annotated_of, loose_told_of, loosenings_in, loosenings_of};
-ghost use Rattle.bep_explain.specs.Told.{failures_of, told_of};
+ghost use Rattle.bep_audit.specs.Loose.{loose_shown};
+ghost use Rattle.bep_audit.specs.Walk.{failure_shown};
 ghost use Rattle.bep_answer.specs.Beside.{TellsOfCheck};
-ghost use Rattle.bep_explain.specs.document.FirmExplained.{IsFirmExplainedOfBytes, IsFirmExplanation, firmness_told};
-ghost use Rattle.bep_lines.specs.declared.form.Form.TheVariants.{Json, Text};
+ghost use Rattle.bep_explain.specs.document.FirmExplained.{IsFirmExplainedOfBytes, IsFirmExplanation, IsFirmWritten, firmness_told};
 
 use crate::document::explain::fault_in;
-use crate::{
-    Annotated, AnnotatedLoose, Explained, ExplainedLoose, annotate, annotate_loose, explain,
-    explain_loose, firm_explanation, firm_explanation_json,
-};
+use crate::{failures, firm_explanation, firm_explanation_json, loosenings};
 use bep_answer::{Answer, Firmness, Question, hint_for};
-use bep_audit::Certificate;
+use bep_audit::{Certificate, Failure, Looseness};
 use bep_cut_document::{DocError, read_check};
 use bep_hints::Expected;
 use bep_lines::Form;
-use bep_model::firm_is_faultless;
+use bep_model::{Row, firm_is_faultless};
 use bep_tables::Cut;
 use std::alloc::{AllocError, Global};
 
@@ -65,59 +60,36 @@ fn explain_cut(
 ) -> Result<(Firmness, Vec<u8>), AllocError>
     ensures { IfOk result (λ answer. IsFirmExplanation form cut.now certificate.now answer.0 answer.1.items) }
 {
+    firm_is_faultless();
+    let found = failures(alloc, cut, certificate)?;
+    let loose = loosenings(alloc, cut, certificate)?;
+    let (told, more) = (found.as_slice(), loose.as_slice());
+    let text = firm_written(alloc, form, cut, certificate.rows(), told, more)?;
+    Ok((firmness_for(told, more), text))
+}
+
+/// The failures found of a cut under these rows, and what was found to keep it from being firm, with details, in this form.
+pub(crate) fn firm_written<'a>(
+    alloc: Global,
+    form: Form,
+    cut: &'a Cut,
+    rows: &'a [Row],
+    found: &[Failure<'a>],
+    loose: &[Looseness<'a>],
+) -> Result<Vec<u8>, AllocError>
+    ensures { IfOk result (λ text. IsFirmWritten form (map failure_shown found.now) (map loose_shown loose.now) text.items) }
+{
     match form {
-        Form::Text => explain_in_lines(alloc, cut, certificate),
-        Form::Json => explain_in_json(alloc, cut, certificate),
+        Form::Text => firm_explanation(alloc, cut, rows, found, loose),
+        Form::Json => firm_explanation_json(alloc, cut, rows, found, loose),
     }
 }
 
-// The same in lines.
-fn explain_in_lines(
-    alloc: Global,
-    cut: &Cut,
-    certificate: &Certificate,
-) -> Result<(Firmness, Vec<u8>), AllocError>
-    ensures { IfOk result (λ answer. IsFirmExplanation Text cut.now certificate.now answer.0 answer.1.items) }
+/// Firm where nothing was found.
+pub(crate) fn firmness_for(found: &[Failure<'_>], loose: &[Looseness<'_>]) -> Firmness
+    ensures { result ≡ firmness_told (map failure_shown found.now) (map loose_shown loose.now) }
 {
-    firm_is_faultless();
-    let told = explain(alloc, cut, certificate)?;
-    let loose = explain_loose(alloc, cut, certificate)?;
-    let text = firm_explanation(alloc, told.as_slice(), loose.as_slice())?;
-    Ok((firmness_for(told.as_slice(), loose.as_slice()), text))
-}
-
-// The same as one JSON document.
-fn explain_in_json(
-    alloc: Global,
-    cut: &Cut,
-    certificate: &Certificate,
-) -> Result<(Firmness, Vec<u8>), AllocError>
-    ensures { IfOk result (λ answer. IsFirmExplanation Json cut.now certificate.now answer.0 answer.1.items) }
-{
-    firm_is_faultless();
-    let told = annotate(alloc, cut, certificate)?;
-    let loose = annotate_loose(alloc, cut, certificate)?;
-    let outcome = firmness_in(told.as_slice(), loose.as_slice());
-    let text = firm_explanation_json(alloc, told, loose)?;
-    Ok((outcome, text))
-}
-
-/// Firm where nothing is told.
-pub(crate) fn firmness_for(told: &[Explained<'_>], loose: &[ExplainedLoose<'_>]) -> Firmness
-    ensures { result ≡ firmness_told (failures_of (map told_of told.now)) (loosenings_of (map loose_told_of loose.now)) }
-{
-    match (told, loose) {
-        ([], []) => Firmness::Firm,
-        ([], _) => Firmness::NotFirm,
-        _ => Firmness::NotFirm,
-    }
-}
-
-/// The same of what is told by trees.
-pub(crate) fn firmness_in(told: &[Annotated<'_>], loose: &[AnnotatedLoose<'_>]) -> Firmness
-    ensures { result ≡ firmness_told (failures_in (map annotated_of told.now)) (loosenings_in (map loose_annotated_of loose.now)) }
-{
-    match (told, loose) {
+    match (found, loose) {
         ([], []) => Firmness::Firm,
         ([], _) => Firmness::NotFirm,
         _ => Firmness::NotFirm,

@@ -1,46 +1,15 @@
-//! All that fails as JSON.
-ghost use Rattle.std.specs.Prelude.{◌≡◌, IfOk, map};
+//! A refusal as JSON.
+ghost use Rattle.std.specs.Prelude.{◌≡◌, IfOk};
 ghost use Rattle.std.specs.Option.{option_copied};
 ghost use Rattle.serde_json.specs.View.{view};
-ghost use Rattle.bep_explain.specs.Annotated.{IsJsonLine, annotated_of, failures_in};
-ghost use Rattle.bep_explain.specs.Found.{verdict_of};
-ghost use Rattle.bep_answer.specs.Answer.{outcome_of};
-ghost use Rattle.bep_explain.specs.document.Explained.{IsExplanation, refusal_tree, text_tree};
-ghost use Rattle.bep_lines.specs.declared.form.Form.TheVariants.{Json};
+ghost use Rattle.bep_explain.specs.Annotated.{IsJsonLine};
+ghost use Rattle.bep_explain.specs.document.Explained.{refusal_tree, text_tree};
 
-use crate::json::{device_tree, explanation_json, json_line};
-use crate::{Annotated, annotate};
-use bep_answer::Outcome;
-use bep_audit::Certificate;
+use crate::json::{device_tree, json_line};
 use bep_document::DocFault;
 use bep_json::Members;
-use bep_tables::Cut;
 use serde_json::Value;
 use std::alloc::{AllocError, Global};
-
-/// The outcome for a cut and its certificate, and all that fails as one JSON document.
-pub(crate) fn explain_in_json(
-    alloc: Global,
-    cut: &Cut,
-    certificate: &Certificate,
-) -> Result<(Outcome, Vec<u8>), AllocError>
-    ensures { IfOk result (λ answer. IsExplanation Json cut.now certificate.now answer.0 answer.1.items) }
-{
-    let told = annotate(alloc, cut, certificate)?;
-    let outcome = outcome_for(told.as_slice());
-    let text = explanation_json(alloc, told)?;
-    Ok((outcome, text))
-}
-
-/// Settled where nothing is told.
-pub(crate) fn outcome_for(told: &[Annotated<'_>]) -> Outcome
-    ensures { result ≡ outcome_of (verdict_of (failures_in (map annotated_of told.now))) }
-{
-    match told {
-        [] => Outcome::Settled,
-        _ => Outcome::NotSettled,
-    }
-}
 
 /// The fault for which a document is refused as a JSON document.
 pub(crate) fn refusal_json(alloc: Global, fault: &DocFault) -> Result<Vec<u8>, AllocError>

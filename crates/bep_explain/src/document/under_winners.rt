@@ -2,17 +2,11 @@
 ghost use Rattle.std.specs.Prelude.{IfOk};
 ghost use Rattle.bep_answer.specs.Beside.{TellsOfCut};
 ghost use Rattle.bep_explain.specs.document.UnderWinners.{IsExplainedUnderWinnersOfBytes, IsExplanationUnderWinners, IsFirmExplainedUnderWinnersOfBytes, IsFirmExplanationUnderWinners};
-ghost use Rattle.bep_lines.specs.declared.form.Form.TheVariants.{Json, Text};
 
-use crate::annotated::annotate_unwon;
-use crate::document::explain::{fault_in, outcome_for, refusal_in};
-use crate::document::firm::{firmness_for, firmness_in};
-use crate::document::json;
-use crate::explained::explain_unwon;
-use crate::{
-    annotate_loose, explain_loose, explanation, explanation_json, firm_explanation,
-    firm_explanation_json,
-};
+use crate::document::explain::{fault_in, outcome_for, refusal_in, written};
+use crate::document::firm::{firm_written, firmness_for};
+use crate::loosenings;
+use crate::unwon::failures_unwon;
 use bep_answer::{Answer, Firmness, Outcome, Question, hint_for};
 use bep_audit::winners;
 use bep_cut_document::{DocError, read_cut};
@@ -89,64 +83,21 @@ impl Question<Firmness> for FirmReasonsUnderWinners {
 fn explain_cut(alloc: Global, form: Form, cut: &Cut) -> Result<(Outcome, Vec<u8>), AllocError>
     ensures { IfOk result (λ answer. IsExplanationUnderWinners form cut.now answer.0 answer.1.items) }
 {
-    match form {
-        Form::Text => explain_in_lines(alloc, cut),
-        Form::Json => explain_in_json(alloc, cut),
-    }
-}
-
-// The same in lines.
-fn explain_in_lines(alloc: Global, cut: &Cut) -> Result<(Outcome, Vec<u8>), AllocError>
-    ensures { IfOk result (λ answer. IsExplanationUnderWinners Text cut.now answer.0 answer.1.items) }
-{
     let (certificate, _) = winners(alloc, cut)?;
-    let told = explain_unwon(alloc, cut, &certificate)?;
-    let text = explanation(alloc, told.as_slice())?;
-    Ok((outcome_for(told.as_slice()), text))
-}
-
-// The same as one JSON document.
-fn explain_in_json(alloc: Global, cut: &Cut) -> Result<(Outcome, Vec<u8>), AllocError>
-    ensures { IfOk result (λ answer. IsExplanationUnderWinners Json cut.now answer.0 answer.1.items) }
-{
-    let (certificate, _) = winners(alloc, cut)?;
-    let told = annotate_unwon(alloc, cut, &certificate)?;
-    let outcome = json::outcome_for(told.as_slice());
-    let text = explanation_json(alloc, told)?;
-    Ok((outcome, text))
+    let found = failures_unwon(alloc, cut, &certificate)?;
+    let text = written(alloc, form, cut, certificate.rows(), found.as_slice())?;
+    Ok((outcome_for(found.as_slice()), text))
 }
 
 // The outcome for a cut where firm is asked for, and the text.
 fn explain_firm_cut(alloc: Global, form: Form, cut: &Cut) -> Result<(Firmness, Vec<u8>), AllocError>
     ensures { IfOk result (λ answer. IsFirmExplanationUnderWinners form cut.now answer.0 answer.1.items) }
 {
-    match form {
-        Form::Text => explain_firm_in_lines(alloc, cut),
-        Form::Json => explain_firm_in_json(alloc, cut),
-    }
-}
-
-// The same in lines.
-fn explain_firm_in_lines(alloc: Global, cut: &Cut) -> Result<(Firmness, Vec<u8>), AllocError>
-    ensures { IfOk result (λ answer. IsFirmExplanationUnderWinners Text cut.now answer.0 answer.1.items) }
-{
     firm_is_faultless();
     let (certificate, _) = winners(alloc, cut)?;
-    let told = explain_unwon(alloc, cut, &certificate)?;
-    let loose = explain_loose(alloc, cut, &certificate)?;
-    let text = firm_explanation(alloc, told.as_slice(), loose.as_slice())?;
-    Ok((firmness_for(told.as_slice(), loose.as_slice()), text))
-}
-
-// The same as one JSON document.
-fn explain_firm_in_json(alloc: Global, cut: &Cut) -> Result<(Firmness, Vec<u8>), AllocError>
-    ensures { IfOk result (λ answer. IsFirmExplanationUnderWinners Json cut.now answer.0 answer.1.items) }
-{
-    firm_is_faultless();
-    let (certificate, _) = winners(alloc, cut)?;
-    let told = annotate_unwon(alloc, cut, &certificate)?;
-    let loose = annotate_loose(alloc, cut, &certificate)?;
-    let outcome = firmness_in(told.as_slice(), loose.as_slice());
-    let text = firm_explanation_json(alloc, told, loose)?;
-    Ok((outcome, text))
+    let found = failures_unwon(alloc, cut, &certificate)?;
+    let loose = loosenings(alloc, cut, &certificate)?;
+    let (told, more) = (found.as_slice(), loose.as_slice());
+    let text = firm_written(alloc, form, cut, certificate.rows(), told, more)?;
+    Ok((firmness_for(told, more), text))
 }

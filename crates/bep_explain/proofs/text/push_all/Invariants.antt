@@ -1,9 +1,8 @@
-use Rattle.std.proofs.Common.{◌≡◌, ◌++◌, drop, map}
-use Rattle.std.specs.List.{flat_map}
-use Rattle.bep_explain.specs.Told.{told_of, told_text}
+use Rattle.std.proofs.Common.{◌≡◌, ◌++◌, List, drop, map}
+use Rattle.bep_audit.specs.Walk.{Failure, failure_shown}
+use Rattle.bep_explain.specs.inner.Lines.{AddsLines}
 use Rattle.bep_explain.proofs.text.push_all.Given as goal
 
--- the text so far, with the lines of those that are left, is the whole
+-- those whose lines are written, with those that are left, are all
 abbrev pub invariant-loop-one : goal.invariant-loop-one
-invariant-loop-one l =
-    l.text.items ++ flat_map told_text (map told_of (drop l.one-index l.told)) ≡ l.fn.text.items ++ flat_map told_text (map told_of l.told)
+invariant-loop-one l = (done : List Failure) × (done ++ map failure_shown (drop l.one-index l.found) ≡ map failure_shown l.found) × AddsLines done l.fn.text.items l.text.items

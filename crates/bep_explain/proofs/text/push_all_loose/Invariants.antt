@@ -1,9 +1,8 @@
-use Rattle.std.proofs.Common.{◌≡◌, ◌++◌, drop, map}
-use Rattle.std.specs.List.{flat_map}
-use Rattle.bep_explain.specs.FirmTold.{loose_text, loose_told_of}
+use Rattle.std.proofs.Common.{◌≡◌, ◌++◌, List, drop, map}
+use Rattle.bep_audit.specs.Loose.{Loosening, loose_shown}
+use Rattle.bep_explain.specs.inner.Lines.{AddsLooseLines}
 use Rattle.bep_explain.proofs.text.push_all_loose.Given as goal
 
--- the text so far, with the lines of those that are left, is the whole
+-- those whose lines are written, with those that are left, are all
 abbrev pub invariant-loop-one : goal.invariant-loop-one
-invariant-loop-one l =
-    l.text.items ++ flat_map loose_text (map loose_told_of (drop l.one-index l.loose)) ≡ l.fn.text.items ++ flat_map loose_text (map loose_told_of l.loose)
+invariant-loop-one l = (done : List Loosening) × (done ++ map loose_shown (drop l.one-index l.found) ≡ map loose_shown l.found) × AddsLooseLines done l.fn.text.items l.text.items

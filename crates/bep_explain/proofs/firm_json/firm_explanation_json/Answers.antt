@@ -1,0 +1,7 @@
+use Rattle.bep_explain.proofs.JsonFacts.{whole_firm_explanation}
+use Rattle.bep_explain.proofs.firm_json.firm_explanation_json.Goals as goal
+
+pub returns : goal.returns
+returns c =
+    whole_firm_explanation _ _ _ _ _ _ _ _ _ _ _ c.in_ok-begun.ensures c.in_ok-list.ensures c.in_ok-push_failures.ensures c.in_ok-push_loose.ensures c.in_ok-text.ensures
+    c.is_firm.ensures c.in_ok-push_firm_flag.ensures c.is_none.ensures c.in_ok-push_settled_flag.ensures

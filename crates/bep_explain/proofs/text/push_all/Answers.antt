@@ -1,0 +1,21 @@
+use Rattle.std.proofs.Common.{◌++◌, ◌∷◌, [], map, subst}
+use Rattle.bep_audit.specs.Walk.{failure_shown}
+use Rattle.bep_explain.specs.Told.{Told}
+use Rattle.bep_explain.specs.inner.Lines.{AddsLines}
+use Rattle.bep_explain.proofs.JsonFacts.{all_found, one_further}
+use Rattle.bep_explain.proofs.LinesFacts.{lines_one}
+use Rattle.bep_explain.proofs.text.push_all.Goals as goal
+
+pub loop-one-preserved : goal.loop-one-preserved
+loop-one-preserved c =
+    let had = c.loop-one.invariant in
+    let one : Told = record { failure = failure_shown c.one-item.result; details = map (λ said. said.items) c.as_slice-in-loop-one.result.now } in (
+      had.0 ++ failure_shown c.one-item.result ∷ [],
+      one_further failure_shown c.args.found.now c.loop-one.one-index c.one-item.result had.0 c.loop-one-test.true c.one-item.is had.1,
+      lines_one had.0 one _ _ _ had.2 c.in_ok-push_told.ensures,
+    )
+
+pub returns : goal.returns
+returns c =
+    let had = c.loop-one.invariant in
+    subst (λ found. AddsLines found c.args.text.now.items c.loop-one.text.items) (all_found failure_shown c.args.found.now c.loop-one.one-index had.0 c.loop-one-test.false had.1) had.2
