@@ -5,3 +5,4 @@ pub mod BlockFacts
 pub mod WrittenFacts
 pub mod RecordSays
 pub mod TakingFacts
+pub mod PairFacts

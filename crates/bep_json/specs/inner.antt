@@ -1,2 +1,4 @@
 -- What only private contracts say: no public contract rests on it.
 pub mod Joined
+pub mod NextItem
+pub mod VectorTold

@@ -9,7 +9,10 @@ ghost use Rattle.bep_json.specs.Nodes.{is_node, has_node_members, has_one_body, 
 
 use crate::numbers::kind_of;
 use crate::texts::{HexBytes, TextBytes};
-use crate::{DocVersion, Told, Nanoseconds, ReadError, Readable, Taken, Whole, is_object, member, member_or, take_tree};
+use crate::{
+    DocVersion, Nanoseconds, ReadError, Readable, Taken, Told, Whole, is_object, member, member_or,
+    take_tree,
+};
 use bep_record::{Items, Kind, Name, NodeParts, Target};
 use bep_tree::{Reader, Tree, WalkError, get};
 use std::alloc::Global;

@@ -10,7 +10,8 @@ ghost use Rattle.bep_json.specs.Records.{is_record, has_record_members, has_due_
 
 use crate::numbers::{is_whole, kind_of};
 use crate::{
-    DocVersion, Told, Leaf, Nanoseconds, ReadError, Readable, Sequence, Taken, Whole, is_object, member, member_or, take_tree,
+    DocVersion, Leaf, Nanoseconds, ReadError, Readable, Sequence, Taken, Told, Whole, is_object,
+    member, member_or, take_tree,
 };
 use bep_record::{
     BASE_BLOCK_SIZE, Block, BlockSize, DeviceId, Entry, Items, Kind, MAX_FILE_SIZE, Name, Target,

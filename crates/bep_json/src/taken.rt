@@ -6,7 +6,7 @@ ghost use Rattle.bep_tree.specs.Walk.{Reaches};
 ghost use Rattle.bep_json.specs.declared.version.DocVersion.{DocVersion as VersionOf};
 ghost use Rattle.bep_json.specs.Taking.{judged, Takes};
 
-use crate::{DocVersion, Told, Misread, ReadError, Readable};
+use crate::{DocVersion, Misread, ReadError, Readable, Told};
 use bep_tree::{Entered, Reader, Tree, WalkError, enter, pass_items, pass_members, tree_at};
 use std::alloc::Global;
 
