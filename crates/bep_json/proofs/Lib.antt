@@ -6,3 +6,5 @@ pub mod WrittenFacts
 pub mod RecordSays
 pub mod TakingFacts
 pub mod PairFacts
+pub mod SaidFacts
+pub mod NodeTold

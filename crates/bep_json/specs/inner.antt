@@ -1,4 +1,6 @@
 -- What only private contracts say: no public contract rests on it.
 pub mod Joined
 pub mod NextItem
+pub mod Nodes
+pub mod Said
 pub mod VectorTold

@@ -14,6 +14,7 @@ mod items;
 mod laws;
 mod lists;
 mod members;
+mod node_slots;
 mod nodes;
 mod numbers;
 mod pairs;
