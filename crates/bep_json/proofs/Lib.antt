@@ -8,3 +8,4 @@ pub mod TakingFacts
 pub mod PairFacts
 pub mod SaidFacts
 pub mod NodeTold
+pub mod RecordTold

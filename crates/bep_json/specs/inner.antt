@@ -2,5 +2,6 @@
 pub mod Joined
 pub mod NextItem
 pub mod Nodes
+pub mod Records
 pub mod Said
 pub mod VectorTold
