@@ -5,3 +5,7 @@ pub mod BlockFacts
 pub mod WrittenFacts
 pub mod RecordSays
 pub mod TakingFacts
+pub mod PairFacts
+pub mod SaidFacts
+pub mod NodeTold
+pub mod RecordTold

@@ -18,6 +18,10 @@ within low high n = if nat_le low n && nat_le n high then Some n else None
 abbrev pub read_number : ℕ → ℕ → Data → Option ℕ
 read_number low high d = option_and_then as_u64 (as_number d) >>= within low high
 
+-- an unsigned number of 64 bits
+abbrev pub read_unsigned : Data → Option ℕ
+read_unsigned d = option_and_then as_u64 (as_number d)
+
 -- a signed number of 64 bits
 abbrev pub read_signed : Data → Option ℤ
 read_signed d = option_and_then as_i64 (as_number d)

@@ -8,7 +8,7 @@ ghost use Rattle.bep_json.specs.Taking.{judged, Takes};
 ghost use Rattle.bep_json.specs.declared.told.Misread.TheVariants.{Shape};
 ghost use Rattle.bep_json.specs.inner.Joined.{joined, seen};
 
-use crate::{DocVersion, Told, Misread, Taken};
+use crate::{DocVersion, Misread, Taken, Told};
 use bep_record::Items;
 use bep_tree::{Entered, Reader, WalkError, enter, pass_members};
 use std::alloc::{AllocError, Global};

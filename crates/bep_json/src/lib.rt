@@ -10,30 +10,34 @@
 
 mod digits;
 mod error;
-mod told;
 mod items;
 mod laws;
 mod lists;
 mod members;
+mod node_slots;
 mod nodes;
 mod numbers;
+mod pairs;
 mod readable;
+mod record_slots;
 mod records;
 mod slots;
 mod taken;
 mod texts;
+mod told;
+mod vectors;
 mod version;
 mod writing;
 
 pub use bep_tree::has_only;
 pub use error::ReadError;
-pub use told::{Told, Misread, both, due, due_or};
 pub use laws::{hashes_make_blocks, texts_are_told};
 pub use members::Members;
 pub use nodes::NamedParts;
 pub use numbers::{Nanoseconds, Sequence, Whole};
 pub use readable::{Readable, has, may_have, member, member_or};
 pub use slots::{Slots, fill, fill_leaf, take_member, take_object};
-pub use taken::{Leaf, Taken, take_leaf, take_tree};
+pub use taken::{Leaf, Taken, take_leaf};
+pub use told::{Misread, Told, both, due, due_or};
 pub use version::DocVersion;
 pub use writing::{node_value, record_value};

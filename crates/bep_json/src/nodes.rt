@@ -9,9 +9,9 @@ ghost use Rattle.bep_json.specs.Nodes.{is_node, has_node_members, has_one_body, 
 
 use crate::numbers::kind_of;
 use crate::texts::{HexBytes, TextBytes};
-use crate::{DocVersion, Told, Nanoseconds, ReadError, Readable, Taken, Whole, is_object, member, member_or, take_tree};
+use crate::{DocVersion, Nanoseconds, ReadError, Readable, Whole, is_object, member, member_or};
 use bep_record::{Items, Kind, Name, NodeParts, Target};
-use bep_tree::{Reader, Tree, WalkError, get};
+use bep_tree::{Tree, get};
 use std::alloc::Global;
 
 /// A name and what a store holds there, whether the parts fit together or not.
@@ -116,16 +116,5 @@ fn hex_body(alloc: Global, version: DocVersion, value: &Tree<'_>) -> Result<Item
     match get(value, "hex") {
         Some(digits) => Ok(HexBytes::read(alloc, version, digits)?.into_items()),
         None => Ok(Items::new(Vec::new(alloc))),
-    }
-}
-
-impl Taken for NamedParts {
-    fn take(
-        alloc: Global,
-        version: DocVersion,
-        reader: &mut Reader<'_>,
-        depth: usize,
-    ) -> Result<Told<Self>, WalkError> {
-        take_tree(alloc, version, reader, depth)
     }
 }

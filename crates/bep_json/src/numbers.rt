@@ -2,7 +2,7 @@
 ghost use Rattle.std.specs.Prelude.{◌≡◌, ◌≤◌, ℕ, refl};
 ghost use Rattle.bep_tree.specs.View.{view};
 ghost use Rattle.bep_json.specs.Reading.{Gives};
-ghost use Rattle.bep_json.specs.Numbers.{is_whole, is_flag, read_number, read_signed, read_flag, read_kind, greatest_id};
+ghost use Rattle.bep_json.specs.Numbers.{is_whole, is_flag, read_number, read_unsigned, read_signed, read_flag, read_kind, greatest_id};
 
 use crate::{DocVersion, Leaf, ReadError, Readable};
 use bep_record::{DeviceId, Kind};
@@ -70,6 +70,29 @@ impl<const LOW: u64, const HIGH: u64> Readable for Whole<LOW, HIGH> {
 }
 
 impl<const LOW: u64, const HIGH: u64> Leaf for Whole<LOW, HIGH> {
+    ghost not_list = { λ _ _. refl };
+
+    ghost not_object = { λ _ _. refl };
+}
+
+impl Readable for u64 {
+    ghost has_shape = { λ _. is_whole };
+
+    ghost reads = { λ _. read_unsigned };
+
+    fn has_shape(_version: DocVersion, value: &Tree<'_>) -> bool {
+        is_whole(value)
+    }
+
+    fn read(_alloc: Global, _version: DocVersion, value: &Tree<'_>) -> Result<Self, ReadError> {
+        match as_u64(value) {
+            Some(number) => Ok(number),
+            None => Err(ReadError::Range),
+        }
+    }
+}
+
+impl Leaf for u64 {
     ghost not_list = { λ _ _. refl };
 
     ghost not_object = { λ _ _. refl };

@@ -10,19 +10,20 @@ ghost use Rattle.bep_json.specs.Records.{is_record, has_record_members, has_due_
 
 use crate::numbers::{is_whole, kind_of};
 use crate::{
-    DocVersion, Told, Leaf, Nanoseconds, ReadError, Readable, Sequence, Taken, Whole, is_object, member, member_or, take_tree,
+    DocVersion, Leaf, Nanoseconds, ReadError, Readable, Sequence, Whole, is_object, member,
+    member_or,
 };
 use bep_record::{
     BASE_BLOCK_SIZE, Block, BlockSize, DeviceId, Entry, Items, Kind, MAX_FILE_SIZE, Name, Target,
     Vector,
 };
-use bep_tree::{Reader, Tree, WalkError, as_bool, as_u64, get};
+use bep_tree::{Tree, as_bool, as_u64, get};
 use std::alloc::{AllocError, Global};
 use std::marker::Model;
 
 // How many bytes a file has.
 #[derive(Clone, Copy, Debug)]
-struct FileSize {
+pub(crate) struct FileSize {
     bytes: u64,
 }
 
@@ -40,7 +41,15 @@ impl Model for FileSize {
 }
 
 impl FileSize {
-    fn bytes(self) -> u64
+    // No bytes.
+    pub(crate) fn zero() -> Self
+        ensures { result ≡ 0 }
+    {
+        FileSize { bytes: 0 }
+    }
+
+    // How many they are.
+    pub(crate) fn bytes(self) -> u64
         ensures value { result ≡ self }
         ensures most { self ≤ MAX_FILE_SIZE }
     {
@@ -71,9 +80,11 @@ impl Leaf for FileSize {
     ghost not_object = { λ _ _. refl };
 }
 
-type AnyBlockSize = Whole<0, 4294967295>;
+// A block size, whether files have it or not.
+pub(crate) type AnyBlockSize = Whole<0, 4294967295>;
 
-type Hashes = Items<[u8; 32]>;
+// The hashes of blocks.
+pub(crate) type Hashes = Items<[u8; 32]>;
 
 // A record, well formed or not.
 impl Readable for Entry {
@@ -94,7 +105,7 @@ impl Readable for Entry {
         let modified_by = member::<DeviceId>(alloc, version, value, "modified_by")?;
         let counters = member::<Vector>(alloc, version, value, "version")?;
         let sequence = member::<Sequence>(alloc, version, value, "sequence")?;
-        let size = member_or::<FileSize>(alloc, version, value, "size", FileSize { bytes: 0 })?;
+        let size = member_or::<FileSize>(alloc, version, value, "size", FileSize::zero())?;
         let modified_ns = member_or::<Nanoseconds>(
             alloc,
             version,
@@ -184,7 +195,7 @@ fn is_present(value: &Tree<'_>) -> bool
 }
 
 // The block size of a record that doesn't say one.
-fn default_block_size(kind: Kind, deleted: bool) -> AnyBlockSize
+pub(crate) fn default_block_size(kind: Kind, deleted: bool) -> AnyBlockSize
     ensures { result ≡ default_block_size kind deleted }
 {
     match (kind, deleted) {
@@ -196,7 +207,11 @@ fn default_block_size(kind: Kind, deleted: bool) -> AnyBlockSize
 }
 
 // The blocks of a file of this size that have these hashes, as far as the file goes; behind its end they are empty.
-fn blocks_of(alloc: Global, size: u64, hashes: &[[u8; 32]]) -> Result<Items<Block>, AllocError>
+pub(crate) fn blocks_of(
+    alloc: Global,
+    size: u64,
+    hashes: &[[u8; 32]],
+) -> Result<Items<Block>, AllocError>
     requires { size ≤ MAX_FILE_SIZE }
     ensures { IfOk result (λ blocks. blocks ≡ blocks_from size 0 hashes.now) }
 {
@@ -233,16 +248,5 @@ fn block_at(offset: u64, size: u64, block_bytes: u32, hash: [u8; 32]) -> Block
         offset,
         size: len as u32,
         hash,
-    }
-}
-
-impl Taken for Entry {
-    fn take(
-        alloc: Global,
-        version: DocVersion,
-        reader: &mut Reader<'_>,
-        depth: usize,
-    ) -> Result<Told<Self>, WalkError> {
-        take_tree(alloc, version, reader, depth)
     }
 }

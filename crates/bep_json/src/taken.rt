@@ -6,8 +6,8 @@ ghost use Rattle.bep_tree.specs.Walk.{Reaches};
 ghost use Rattle.bep_json.specs.declared.version.DocVersion.{DocVersion as VersionOf};
 ghost use Rattle.bep_json.specs.Taking.{judged, Takes};
 
-use crate::{DocVersion, Told, Misread, ReadError, Readable};
-use bep_tree::{Entered, Reader, Tree, WalkError, enter, pass_items, pass_members, tree_at};
+use crate::{DocVersion, Misread, ReadError, Readable, Told};
+use bep_tree::{Entered, Reader, Tree, WalkError, enter, pass_items, pass_members};
 use std::alloc::Global;
 
 /// A thing that can be read where a walk along a document's text comes to it.
@@ -51,20 +51,6 @@ pub fn take_leaf<T: Leaf>(
             Ok(Err(Misread::Shape))
         }
     }
-}
-
-/// Takes the value that comes next as a tree, and tells which thing it says.
-pub fn take_tree<T: Readable>(
-    alloc: Global,
-    version: DocVersion,
-    reader: &mut Reader<'_>,
-    depth: usize,
-) -> Result<Told<T>, WalkError>
-    ensures value { Takes (T.has_shape version) (T.reads version) depth reader.old result reader.new }
-    ensures shorter { OnOk result (length reader.new < length reader.old) }
-{
-    let tree = tree_at(alloc, reader, depth)?;
-    told_of(alloc, version, &tree)
 }
 
 // What is told of this value.

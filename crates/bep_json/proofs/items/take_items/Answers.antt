@@ -1,4 +1,4 @@
-use Rattle.std.proofs.Common.{◌≡◌, ◌∙◌, ◌<◌, length, [], Ok, None, Err, refl, sym, ap, subst, rules, arith}
+use Rattle.std.proofs.Common.{◌≡◌, ◌∙◌, ◌<◌, length, [], Ok, None, Err, sym, ap, subst, rules, arith}
 use Rattle.json.specs.Json.{after_end_array}
 use Rattle.bep_tree.specs.Walk.{Stands, StandItems}
 use Rattle.bep_tree.proofs.Walking.{item_comes, list_ends}
@@ -10,11 +10,11 @@ use Rattle.bep_json.proofs.items.take_items.Goals as goal
 
 pub loop-alloc-init : goal.loop-alloc-init
 loop-alloc-init g c = record {
-    items = λ ds rest stood.
+  items = λ ds rest stood.
       let all = judged (have_shape (g.T.Readable.has_shape c.args.version) ds) (read_items (g.T.Readable.reads c.args.version) ds) in
       (ds, stood, ap (λ none. followed (Ok none) all) c.new.ensures.items ∙ followed_first all);
-    no_longer = omega arith;
-  }
+  no_longer = omega arith;
+}
 
 pub returns-in_err-item-clause-value : goal.returns-in_err-item-clause-value
 returns-in_err-item-clause-value g c = λ ds rest stood.
@@ -30,20 +30,19 @@ loop-alloc-preserved g c =
     let going : (after_end_array c.loop-alloc.reader ≡ None) × (c.take_end_array.new.self ≡ c.loop-alloc.reader) = grind arith in
     record {
       items = λ ds rest stood.
-        let there = c.loop-alloc.invariant.items ds rest stood in
-        let one = item_comes c.args.depth c.loop-alloc.reader there.0 rest going.0 there.1 in
-        let taken = c.in_ok-item.ensures.value one.0 one.2 (subst (λ ts. Stands c.args.depth ts one.0 one.2) (sym going.1) one.4) in
-        let shape = g.T.Readable.has_shape c.args.version in
-        let reads = g.T.Readable.reads c.args.version in
-        let rest_of = judged (have_shape shape one.1) (read_items reads one.1) in
-        (
-          one.1,
-          subst (λ ts. StandItems c.args.depth ts one.1 rest) (sym taken.1) one.5,
-          ap (λ told. followed told rest_of) (c.in_ok-told.ensures ∙ ap (joined (seen c.loop-alloc.told)) taken.0)
-          ∙ item_joined shape reads (seen c.loop-alloc.told) one.0 one.1
-          ∙ ap (λ ds. followed (seen c.loop-alloc.told) (judged (have_shape shape ds) (read_items reads ds))) (sym one.3)
-          ∙ there.2,
-        );
+          let there = c.loop-alloc.invariant.items ds rest stood in
+          let one = item_comes c.args.depth c.loop-alloc.reader there.0 rest going.0 there.1 in
+          let taken = c.in_ok-item.ensures.value one.0 one.2 (subst (λ ts. Stands c.args.depth ts one.0 one.2) (sym going.1) one.4) in
+          let shape = g.T.Readable.has_shape c.args.version in
+          let reads = g.T.Readable.reads c.args.version in
+          let rest_of = judged (have_shape shape one.1) (read_items reads one.1) in (
+            one.1,
+            subst (λ ts. StandItems c.args.depth ts one.1 rest) (sym taken.1) one.5,
+            ap (λ told. followed told rest_of) (c.in_ok-told.ensures ∙ ap (joined (seen c.loop-alloc.told)) taken.0)
+                ∙ item_joined shape reads (seen c.loop-alloc.told) one.0 one.1
+                ∙ ap (λ ds. followed (seen c.loop-alloc.told) (judged (have_shape shape ds) (read_items reads ds))) (sym one.3)
+                ∙ there.2,
+          );
       no_longer = let shorter : length c.take.new.reader < length c.loop-alloc.reader = rw (← going.1) c.in_ok-item.ensures.shorter in omega (arith, c.loop-alloc.invariant.no_longer);
     }
 

@@ -1,4 +1,4 @@
-use Rattle.std.proofs.Common.{◌≡◌, ◌∙◌, ◌<◌, ◌&&◌, length, Bool, true, false, Some, None, Err, refl, sym, ap, ap₂, subst, rules, arith}
+use Rattle.std.proofs.Common.{◌≡◌, ◌∙◌, ◌&&◌, Bool, true, false, Some, None, Err, sym, ap, ap₂, subst, rules, arith}
 use Rattle.std.specs.Bool.{MatchBool}
 use Rattle.json.specs.Json.{read_key}
 use Rattle.json.proofs.Grammar.{read_key-shorter}
@@ -39,17 +39,16 @@ loop-slots-preserved g c =
     let key : read_key c.loop-slots.reader ≡ Some (Some c.in-Some.key.now, c.next_key.new.reader) = grind arith in
     record {
       members = λ ms rest stood.
-        let there = c.loop-slots.invariant.members ms rest stood in
-        let one = member_comes c.args.depth c.in-Some.key.now c.loop-slots.reader c.next_key.new.reader there.0 ms rest key there.1 in
-        let d = one.0 in
-        let name = c.in-Some.key.now in
-        let known = was_known _ c.in_ok-take.field-0 c.if-not-branch.false (c.in_ok-take.ensures.value (λ n. get_member n there.0) d one.1 there.3 one.2) in
-        (
-          put name d there.0,
-          subst (λ ts. StandMembers c.args.depth ts (put name d there.0) ms rest) (sym known.2) one.3,
-          put_among g.S.Slots.names name d there.0 ∙ ap₂ (λ a b. a && b) known.0 there.2,
-          known.1 ∙ ap (g.S.Slots.known c.args.version) (look_put name d there.0),
-        );
+          let there = c.loop-slots.invariant.members ms rest stood in
+          let one = member_comes c.args.depth c.in-Some.key.now c.loop-slots.reader c.next_key.new.reader there.0 ms rest key there.1 in
+          let d = one.0 in
+          let name = c.in-Some.key.now in
+          let known = was_known _ c.in_ok-take.field-0 c.if-not-branch.false (c.in_ok-take.ensures.value (λ n. get_member n there.0) d one.1 there.3 one.2) in (
+            put name d there.0,
+            subst (λ ts. StandMembers c.args.depth ts (put name d there.0) ms rest) (sym known.2) one.3,
+            put_among g.S.Slots.names name d there.0 ∙ ap₂ (λ a b. a && b) known.0 there.2,
+            known.1 ∙ ap (g.S.Slots.known c.args.version) (look_put name d there.0),
+          );
       no_longer = let shorter = read_key-shorter _ _ _ key in omega (arith, c.in_ok-take.ensures.no_longer, c.loop-slots.invariant.no_longer);
     }
 

@@ -1,4 +1,4 @@
-use Rattle.std.proofs.Common.{◌≡◌, ◌≤◌, List, length, Bool, true}
+use Rattle.std.proofs.Common.{◌≡◌, ◌≤◌, List, length, true}
 use Rattle.json.specs.Token.{Token as SpecToken}
 use Rattle.serde_json.specs.Data.{Members as MembersOf, no_members}
 use Rattle.serde_json.specs.Find.{get_member}
@@ -11,7 +11,7 @@ abbrev pub invariant-loop-slots : goal.invariant-loop-slots
 invariant-loop-slots g l = record {
   members : (ms : MembersOf) (rest : List SpecToken) → StandMembers l.depth l.initial.reader no_members ms rest
       → (found : MembersOf) × StandMembers l.depth l.reader found ms rest × (are_among g.S.Slots.names found ≡ true)
-        × (l.slots ≡ g.S.Slots.known l.version (λ name. get_member name found));
+      × (l.slots ≡ g.S.Slots.known l.version (λ name. get_member name found));
   no_longer : length l.reader ≤ length l.initial.reader;
 }
 

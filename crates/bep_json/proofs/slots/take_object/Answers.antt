@@ -1,4 +1,4 @@
-use Rattle.std.proofs.Common.{◌≡◌, ◌∙◌, Err, false, ap, sym, subst, rules}
+use Rattle.std.proofs.Common.{◌≡◌, Err, false, ap, sym, subst, rules}
 use Rattle.std.specs.Prelude.{option_map, unwrap_or}
 use Rattle.bep_tree.specs.Names.{are_among, has_only}
 use Rattle.bep_tree.specs.Walk.{Enters, Reaches}

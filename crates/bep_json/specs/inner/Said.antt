@@ -1,0 +1,30 @@
+-- What is said by a member that may be left out.
+use Rattle.std.specs.Prelude.{Option, None, Some, Result, Ok, Err, option_map}
+use Rattle.serde_json.specs.Data.{Data}
+use Rattle.bep_json.specs.declared.told.Misread.{Misread}
+
+-- the thing that is told
+abbrev pub thing_of : {T : Type 0} → Result T Misread → Option T
+thing_of (Ok thing) = Some thing
+thing_of (Err misread) = None
+
+-- the thing that the member says, if it is there
+abbrev pub said : {T : Type 0} → Option (Result T Misread) → Option T
+said None = None
+said (Some told) = thing_of told
+
+-- the thing that the member says, or this one where it isn't there
+abbrev pub said_or : {T : Type 0} → T → Option (Result T Misread) → Option T
+said_or default None = Some default
+said_or default (Some told) = thing_of told
+
+-- whether the member is there, and what it says
+abbrev pub optional : {T : Type 0} → Option (Result T Misread) → Result (Option T) Misread
+optional None = Ok None
+optional (Some (Ok thing)) = Ok (Some thing)
+optional (Some (Err misread)) = Err misread
+
+-- the same, of what stands there
+abbrev pub read_optional : {T : Type 0} → (Data → Option T) → Option Data → Option (Option T)
+read_optional reads None = Some None
+read_optional reads (Some d) = option_map Some (reads d)
