@@ -8,8 +8,8 @@ mod links;
 mod shares;
 mod views;
 
-pub use checks::doc_version;
 pub(crate) use checks::CutLists;
+pub use checks::doc_version;
 pub use devices::has_few_devices;
 pub use few::Few;
 pub use shares::{IndexNumber, index_id_of};

@@ -19,9 +19,7 @@ use crate::take::{CheckSlots, CutSlot, check_told, cut_told};
 use crate::{CheckParts, DocError, DocFault, Fault};
 use bep_json::{DocVersion, Misread, Taken, Told, Whole, take_member, take_object};
 use bep_record::Items;
-use bep_tree::{
-    MAX_DEPTH, Reader, Scratch, Tree, TreeError, WalkError, json_text, read_tree,
-};
+use bep_tree::{MAX_DEPTH, Reader, Scratch, Tree, TreeError, WalkError, json_text, read_tree};
 use std::alloc::Global;
 
 // The number of a version.

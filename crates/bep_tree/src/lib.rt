@@ -28,7 +28,7 @@ pub use json::{Reader, Scratch};
 pub use look::{as_array, as_bool, as_str, at, get, has_only};
 pub use number::{as_i64, as_u64};
 pub use read::{MAX_DEPTH, read_tree};
-pub use walk::{Entered, WalkError, enter, next_key, pass, pass_items, pass_members, tree_at};
+pub use walk::{Entered, WalkError, enter, next_key, pass, pass_items, pass_members};
 
 /// A JSON tree over a document's text.
 pub type Tree<'a> = json::Value<'a>;

@@ -4,13 +4,12 @@ ghost use Rattle.json.specs.Token.{Token as SpecToken};
 ghost use Rattle.json.specs.Json.{read_key};
 ghost use Rattle.json.specs.Reads.{token_of};
 ghost use Rattle.serde_json.specs.Data.{Data, Items, Members, put};
-ghost use Rattle.bep_tree.specs.View.{view};
 ghost use Rattle.bep_tree.specs.declared.walk.WalkError.TheVariants.{Memory};
 ghost use Rattle.bep_tree.specs.Walk.{Stands, StandItems, StandMembers, Reaches, Enters};
 
 use crate::Tree;
-use json::{Error, Reader, Token};
-use std::alloc::{AllocError, AllocFailed, Global};
+use json::{Reader, Token};
+use std::alloc::{AllocError, AllocFailed};
 
 /// Why a walk goes no further.
 #[derive(Clone, Copy, Debug, PartialEq, Eq)]
@@ -87,23 +86,6 @@ fn inside(depth: usize) -> Result<usize, WalkError>
         Err(WalkError::Broken)
     } else {
         Ok(depth - 1)
-    }
-}
-
-/// The value that comes next, as a tree.
-pub fn tree_at<'a>(
-    alloc: Global,
-    reader: &mut Reader<'a>,
-    depth: usize,
-) -> Result<Tree<'a>, WalkError>
-    ensures value { (d : Data) (rest : List SpecToken) → Stands depth reader.old d rest
-        → Reaches result (λ tree. (view tree ≡ d) × (reader.new ≡ rest)) }
-    ensures shorter { OnOk result (length reader.new < length reader.old) }
-{
-    match Tree::read(alloc, reader, depth) {
-        Ok(tree) => Ok(tree),
-        Err(Error::OutOfMemory) => Err(WalkError::Memory),
-        Err(_) => Err(WalkError::Broken),
     }
 }
 

@@ -13,7 +13,7 @@ use Rattle.bep_record.specs.declared.limits.TheConstants.{MAX_FOLDERS}
 use Rattle.bep_document.specs.declared.parts.FolderParts.{FolderParts}
 use Rattle.bep_document.specs.declared.parts.LinkParts.{LinkParts}
 use Rattle.bep_document.specs.declared.take.cut.CutSlots.{CutSlots}
-use Rattle.bep_document.specs.inner.Cuts.{cut_names, cut_slots, cut_with, cut_of_told, cut_told}
+use Rattle.bep_document.specs.inner.Cuts.{cut_names, cut_slots, cut_of_told, cut_told}
 use Rattle.bep_document.specs.read.Checks.{is_cut, read_cut, if_few_devices}
 use Rattle.bep_document.specs.read.Devices.{has_few_devices}
 use Rattle.bep_document.specs.read.Few.{read_few}

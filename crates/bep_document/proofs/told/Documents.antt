@@ -1,5 +1,5 @@
 -- What is told of the members of a check document is what is told of it.
-use Rattle.std.proofs.Common.{◌≡◌, ◌∙◌, ℕ, [], ◌&&◌, Bool, true, false, List, Option, Some, None, Err, refl, sym, ap, ap₂}
+use Rattle.std.proofs.Common.{◌≡◌, ◌∙◌, ◌&&◌, Bool, true, false, Option, Some, None, Err, refl, sym, ap, ap₂}
 use Rattle.std.specs.Prelude.{codes, if◌then◌else◌, option_map, unwrap_or}
 use Rattle.serde_json.specs.Data.{Data}
 use Rattle.serde_json.specs.Find.{get}
@@ -15,7 +15,7 @@ use Rattle.bep_document.specs.declared.take.documents.CheckSlots.{CheckSlots}
 use Rattle.bep_document.specs.declared.take.documents.CutSlot.{CutSlot}
 use Rattle.bep_document.specs.inner.Documents.{document_names, check_slots, check_of, check_told, noted, cut_slot, cut_slot_told}
 use Rattle.bep_document.specs.inner.Texts.{cut_in_told}
-use Rattle.bep_document.specs.read.Checks.{is_cut, read_cut, is_check, with_rows, read_check_parts}
+use Rattle.bep_document.specs.read.Checks.{is_cut, read_cut, is_check, read_check_parts}
 use Rattle.bep_document.specs.read.Folders.{is_row, read_row}
 
 -- that something stands at a name

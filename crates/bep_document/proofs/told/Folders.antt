@@ -1,13 +1,13 @@
 -- What is told of the members of a folder is what is told of it.
-use Rattle.std.proofs.Common.{◌≡◌, ◌∙◌, ℕ, [], ◌&&◌, Option, Some, None, sym, ap, ap₂}
+use Rattle.std.proofs.Common.{◌≡◌, ◌∙◌, ◌&&◌, Option, Some, None, sym, ap, ap₂}
 use Rattle.std.specs.Prelude.{codes}
 use Rattle.serde_json.specs.Data.{Data}
 use Rattle.serde_json.specs.Find.{get}
 use Rattle.bep_json.specs.declared.version.DocVersion.{DocVersion}
-use Rattle.bep_json.specs.Reading.{read_member, read_member_or}
-use Rattle.bep_json.specs.Tree.{has_member, may_have_member}
+use Rattle.bep_json.specs.Reading.{read_member}
+use Rattle.bep_json.specs.Tree.{has_member}
 use Rattle.bep_json.specs.Taking.{judged, Fills, both, told_as}
-use Rattle.bep_json.proofs.TakingFacts.{due_is, due_or_is, both_is, told_as_is, pair, read_2}
+use Rattle.bep_json.proofs.TakingFacts.{due_is, both_is, told_as_is, pair, read_2}
 use Rattle.bep_document.specs.declared.take.folders.FolderSlots.{FolderSlots}
 use Rattle.bep_document.specs.inner.Folders.{folder_names, folder_slots, folder_of, folder_told}
 use Rattle.bep_json.specs.Lists.{is_list, read_list}

@@ -1,5 +1,5 @@
 -- What is told of the members of a link is what is told of it.
-use Rattle.std.proofs.Common.{◌≡◌, ◌∙◌, ℕ, [], ◌&&◌, Option, Some, None, sym, ap, ap₂}
+use Rattle.std.proofs.Common.{◌≡◌, ◌∙◌, [], ◌&&◌, Option, Some, None, sym, ap, ap₂}
 use Rattle.std.specs.Prelude.{codes}
 use Rattle.serde_json.specs.Data.{Data}
 use Rattle.serde_json.specs.Find.{get}
@@ -10,7 +10,7 @@ use Rattle.bep_json.specs.Taking.{judged, Fills, both, told_as}
 use Rattle.bep_json.proofs.TakingFacts.{due_is, due_or_is, both_is, told_as_is, pair, read_6}
 use Rattle.bep_document.specs.declared.take.links.LinkSlots.{LinkSlots}
 use Rattle.bep_document.specs.inner.Links.{link_names, link_slots, link_of, link_told}
-use Rattle.bep_json.specs.Lists.{is_list, read_list}
+use Rattle.bep_json.specs.Lists.{is_list}
 use Rattle.bep_document.specs.read.Few.{read_few}
 use Rattle.bep_json.specs.Numbers.{is_whole, is_flag, read_number, read_flag, greatest_id}
 use Rattle.bep_index.specs.declared.limits.TheConstants.{MAX_SEQUENCE}

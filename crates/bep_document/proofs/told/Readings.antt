@@ -1,6 +1,6 @@
 -- What is told of a document, as its reading.
-use Rattle.std.proofs.Common.{◌≡◌, ◌∙◌, ℕ, ◌&&◌, Bool, true, false, List, [], Option, Some, None, Err, refl, sym, ap, arith}
-use Rattle.std.specs.Prelude.{codes, if◌then◌else◌, nat_le, option_and_then, is_some}
+use Rattle.std.proofs.Common.{◌≡◌, ◌∙◌, ℕ, Bool, true, false, List, [], Option, Some, None, Err, refl, sym, ap, arith}
+use Rattle.std.specs.Prelude.{codes, if◌then◌else◌, option_and_then, is_some}
 use Rattle.std.proofs.lemmas.Bool.Decides.{nat_tests}
 use Rattle.serde_json.specs.Data.{Data, Num, unsigned, negative, float}
 use Rattle.serde_json.specs.Find.{as_number, as_integer, as_u64, get}

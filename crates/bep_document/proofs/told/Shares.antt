@@ -1,5 +1,5 @@
 -- What is told of the members of a device that shares a folder is what is told of it.
-use Rattle.std.proofs.Common.{◌≡◌, ◌∙◌, ℕ, [], ◌&&◌, Option, Some, None, sym, ap, ap₂}
+use Rattle.std.proofs.Common.{◌≡◌, ◌∙◌, [], ◌&&◌, Option, Some, None, sym, ap, ap₂}
 use Rattle.std.specs.Prelude.{codes}
 use Rattle.serde_json.specs.Data.{Data}
 use Rattle.serde_json.specs.Find.{get}

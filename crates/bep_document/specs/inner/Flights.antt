@@ -1,14 +1,14 @@
 -- What is told of the members of a message that is on its way.
-use Rattle.std.specs.Prelude.{ℕ, Bool, List, [], ◌∷◌, Option, None, Some, Result, Ok, Err, codes}
+use Rattle.std.specs.Prelude.{ℕ, Bool, List, [], ◌∷◌, Option, None, Some, Result, Err, codes}
 use Rattle.serde_json.specs.Data.{Data}
 use Rattle.bep_json.specs.declared.told.Misread.{Misread}
 use Rattle.bep_json.specs.declared.told.Misread.TheVariants.{Shape}
 use Rattle.bep_json.specs.declared.version.DocVersion.{DocVersion}
-use Rattle.bep_json.specs.Taking.{slot, due, due_or, both, told_as}
+use Rattle.bep_json.specs.Taking.{slot, due, both, told_as}
 use Rattle.bep_document.specs.declared.parts.FlightParts.{FlightParts}
 use Rattle.bep_document.specs.declared.take.flights.FlightSlots.{FlightSlots}
 use Rattle.bep_json.specs.Records.{is_record, read_record}
-use Rattle.bep_json.specs.Lists.{is_list, read_list}
+use Rattle.bep_json.specs.Lists.{is_list}
 use Rattle.bep_document.specs.read.Few.{read_few}
 use Rattle.bep_json.specs.Numbers.{is_flag, read_flag}
 use Rattle.bep_json.specs.Texts.{is_text, read_folder_name}

@@ -1,10 +1,10 @@
 -- What is told of the members of a folder.
-use Rattle.std.specs.Prelude.{ℕ, Bool, List, [], ◌∷◌, Option, None, Some, Result, Ok, Err, codes}
+use Rattle.std.specs.Prelude.{ℕ, List, [], ◌∷◌, Option, None, Some, Result, Err, codes}
 use Rattle.serde_json.specs.Data.{Data}
 use Rattle.bep_json.specs.declared.told.Misread.{Misread}
 use Rattle.bep_json.specs.declared.told.Misread.TheVariants.{Shape}
 use Rattle.bep_json.specs.declared.version.DocVersion.{DocVersion}
-use Rattle.bep_json.specs.Taking.{slot, due, due_or, both, told_as}
+use Rattle.bep_json.specs.Taking.{slot, due, both, told_as}
 use Rattle.bep_document.specs.declared.parts.FolderParts.{FolderParts}
 use Rattle.bep_document.specs.declared.take.folders.FolderSlots.{FolderSlots}
 use Rattle.bep_json.specs.Lists.{is_list, read_list}

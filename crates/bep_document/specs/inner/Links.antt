@@ -1,5 +1,5 @@
 -- What is told of the members of a link.
-use Rattle.std.specs.Prelude.{ℕ, Bool, List, [], ◌∷◌, Option, None, Some, Result, Ok, Err, codes}
+use Rattle.std.specs.Prelude.{ℕ, Bool, List, [], ◌∷◌, Option, None, Some, Result, Err, codes}
 use Rattle.serde_json.specs.Data.{Data}
 use Rattle.bep_json.specs.declared.told.Misread.{Misread}
 use Rattle.bep_json.specs.declared.told.Misread.TheVariants.{Shape}
@@ -7,7 +7,7 @@ use Rattle.bep_json.specs.declared.version.DocVersion.{DocVersion}
 use Rattle.bep_json.specs.Taking.{slot, due, due_or, both, told_as}
 use Rattle.bep_document.specs.declared.parts.LinkParts.{LinkParts}
 use Rattle.bep_document.specs.declared.take.links.LinkSlots.{LinkSlots}
-use Rattle.bep_json.specs.Lists.{is_list, read_list}
+use Rattle.bep_json.specs.Lists.{is_list}
 use Rattle.bep_document.specs.read.Few.{read_few}
 use Rattle.bep_json.specs.Numbers.{is_whole, is_flag, read_number, read_flag, greatest_id}
 use Rattle.bep_index.specs.declared.limits.TheConstants.{MAX_SEQUENCE}

@@ -1,10 +1,10 @@
 -- What is told of the members of a row.
-use Rattle.std.specs.Prelude.{ℕ, Bool, List, [], ◌∷◌, Option, None, Some, Result, Ok, Err, codes}
+use Rattle.std.specs.Prelude.{ℕ, List, [], ◌∷◌, Option, None, Some, Result, Err, codes}
 use Rattle.serde_json.specs.Data.{Data}
 use Rattle.bep_json.specs.declared.told.Misread.{Misread}
 use Rattle.bep_json.specs.declared.told.Misread.TheVariants.{Shape}
 use Rattle.bep_json.specs.declared.version.DocVersion.{DocVersion}
-use Rattle.bep_json.specs.Taking.{slot, due, due_or, both, told_as}
+use Rattle.bep_json.specs.Taking.{slot, due, both, told_as}
 use Rattle.bep_document.specs.declared.parts.RowParts.{RowParts}
 use Rattle.bep_document.specs.declared.take.rows.RowSlots.{RowSlots}
 use Rattle.bep_json.specs.Records.{is_record, read_record}

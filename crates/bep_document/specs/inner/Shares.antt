@@ -1,5 +1,5 @@
 -- What is told of the members of a device that shares a folder.
-use Rattle.std.specs.Prelude.{ℕ, Bool, List, [], ◌∷◌, Option, None, Some, Result, Ok, Err, codes}
+use Rattle.std.specs.Prelude.{ℕ, List, [], ◌∷◌, Option, None, Some, Result, Err, codes}
 use Rattle.serde_json.specs.Data.{Data}
 use Rattle.bep_json.specs.declared.told.Misread.{Misread}
 use Rattle.bep_json.specs.declared.told.Misread.TheVariants.{Shape}

@@ -63,7 +63,14 @@ impl Taken for FlightParts {
 fn flight_told(slots: Option<FlightSlots>) -> Told<FlightParts>
     ensures { result ≡ flight_told slots }
 {
-    let Some(FlightSlots { folder, full, records }) = slots else {
+    let Some(
+        FlightSlots {
+            folder,
+            full,
+            records,
+        },
+    ) = slots
+    else {
         return Err(Misread::Shape);
     };
     let (folder, (full, records)) = both(due(folder), both(due(full), due(records)))?;

@@ -63,8 +63,5 @@ fn folder_told(slots: Option<FolderSlots>) -> Told<FolderParts>
         return Err(Misread::Shape);
     };
     let (folder, devices) = both(due(folder), due(devices))?;
-    Ok(FolderParts {
-        folder,
-        devices,
-    })
+    Ok(FolderParts { folder, devices })
 }

@@ -3,13 +3,31 @@ ghost use Rattle.std.specs.Prelude.{◌≡◌, Ok};
 ghost use Rattle.bep_document.specs.inner.Links.{link_names, link_slots, link_told, link_things, link_of};
 
 use crate::{Few, FlightParts, LinkParts};
-use bep_json::{DocVersion, Misread, Sequence, Slots, Taken, Told, both, due, due_or, fill, fill_leaf, take_object};
+use bep_json::{
+    DocVersion, Misread, Sequence, Slots, Taken, Told, both, due, due_or, fill, fill_leaf,
+    take_object,
+};
 use bep_record::{DeviceId, MAX_MESSAGES};
 use bep_tree::{Reader, WalkError};
 use std::alloc::Global;
 
 // The things that the members say.
-type LinkThings = (DeviceId, (DeviceId, (bool, (Sequence, (Few<FlightParts, MAX_MESSAGES>, Few<FlightParts, MAX_MESSAGES>)))));
+type LinkThings = (
+    DeviceId,
+    (
+        DeviceId,
+        (
+            bool,
+            (
+                Sequence,
+                (
+                    Few<FlightParts, MAX_MESSAGES>,
+                    Few<FlightParts, MAX_MESSAGES>,
+                ),
+            ),
+        ),
+    ),
+);
 
 // What is told of the members of a link.
 #[derive(Drop)]
@@ -87,8 +105,30 @@ fn link_told(alloc: Global, slots: Option<LinkSlots>) -> Told<LinkParts>
 fn things_told(alloc: Global, slots: LinkSlots) -> Told<LinkThings>
     ensures { result ≡ link_things slots }
 {
-    let LinkSlots { a, b, up, epoch, to_a, to_b } = slots;
-    both(due(a), both(due(b), both(due(up), both(due(epoch), both(due_or(to_a, Few::none(alloc)), due_or(to_b, Few::none(alloc)))))))
+    let LinkSlots {
+        a,
+        b,
+        up,
+        epoch,
+        to_a,
+        to_b,
+    } = slots;
+    both(
+        due(a),
+        both(
+            due(b),
+            both(
+                due(up),
+                both(
+                    due(epoch),
+                    both(
+                        due_or(to_a, Few::none(alloc)),
+                        due_or(to_b, Few::none(alloc)),
+                    ),
+                ),
+            ),
+        ),
+    )
 }
 
 // The link that has these things.

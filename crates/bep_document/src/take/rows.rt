@@ -62,7 +62,14 @@ impl Taken for RowParts {
 fn row_told(slots: Option<RowSlots>) -> Told<RowParts>
     ensures { result ≡ row_told slots }
 {
-    let Some(RowSlots { folder, device, entry }) = slots else {
+    let Some(
+        RowSlots {
+            folder,
+            device,
+            entry,
+        },
+    ) = slots
+    else {
         return Err(Misread::Shape);
     };
     let (folder, (device, entry)) = both(due(folder), both(due(device), due(entry)))?;

@@ -4,13 +4,31 @@ ghost use Rattle.bep_document.specs.inner.Shares.{share_names, share_slots, shar
 
 use crate::{Few, IndexNumber, ShareParts, ViewParts};
 use bep_index::{IndexId, MAX_NAMES};
-use bep_json::{DocVersion, Misread, NamedParts, Sequence, Slots, Taken, Told, both, due, due_or, fill, fill_leaf, take_object};
+use bep_json::{
+    DocVersion, Misread, NamedParts, Sequence, Slots, Taken, Told, both, due, due_or, fill,
+    fill_leaf, take_object,
+};
 use bep_record::{DeviceId, Entry, FolderKind, Items, MAX_PULLS};
 use bep_tree::{Reader, WalkError};
 use std::alloc::Global;
 
 // The things that the members say.
-type ShareThings = (DeviceId, (FolderKind, (IndexNumber, (Sequence, (Few<Entry, MAX_NAMES>, (Items<NamedParts>, (Items<ViewParts>, Few<Entry, MAX_PULLS>)))))));
+type ShareThings = (
+    DeviceId,
+    (
+        FolderKind,
+        (
+            IndexNumber,
+            (
+                Sequence,
+                (
+                    Few<Entry, MAX_NAMES>,
+                    (Items<NamedParts>, (Items<ViewParts>, Few<Entry, MAX_PULLS>)),
+                ),
+            ),
+        ),
+    ),
+);
 
 // What is told of the members of a device that shares a folder.
 #[derive(Drop)]
@@ -94,8 +112,38 @@ fn share_told(alloc: Global, slots: Option<ShareSlots>) -> Told<ShareParts>
 fn things_told(alloc: Global, slots: ShareSlots) -> Told<ShareThings>
     ensures { result ≡ share_things slots }
 {
-    let ShareSlots { device, kind, index_id, max, own, store, views, pulls } = slots;
-    both(due(device), both(due(kind), both(due(index_id), both(due(max), both(due_or(own, Few::none(alloc)), both(due_or(store, Items::new(Vec::new(alloc))), both(due_or(views, Items::new(Vec::new(alloc))), due_or(pulls, Few::none(alloc)))))))))
+    let ShareSlots {
+        device,
+        kind,
+        index_id,
+        max,
+        own,
+        store,
+        views,
+        pulls,
+    } = slots;
+    both(
+        due(device),
+        both(
+            due(kind),
+            both(
+                due(index_id),
+                both(
+                    due(max),
+                    both(
+                        due_or(own, Few::none(alloc)),
+                        both(
+                            due_or(store, Items::new(Vec::new(alloc))),
+                            both(
+                                due_or(views, Items::new(Vec::new(alloc))),
+                                due_or(pulls, Few::none(alloc)),
+                            ),
+                        ),
+                    ),
+                ),
+            ),
+        ),
+    )
 }
 
 // The device that has these things.

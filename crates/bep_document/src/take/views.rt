@@ -5,7 +5,9 @@ ghost use Rattle.bep_document.specs.inner.Views.{view_names, view_slots, view_to
 use crate::read::AnyIndexNumber;
 use crate::{Few, ViewParts};
 use bep_index::MAX_NAMES;
-use bep_json::{DocVersion, Misread, Sequence, Slots, Taken, Told, both, due, fill, fill_leaf, take_object};
+use bep_json::{
+    DocVersion, Misread, Sequence, Slots, Taken, Told, both, due, fill, fill_leaf, take_object,
+};
 use bep_record::{DeviceId, Entry};
 use bep_tree::{Reader, WalkError};
 use std::alloc::Global;
@@ -67,10 +69,21 @@ impl Taken for ViewParts {
 fn view_told(slots: Option<ViewSlots>) -> Told<ViewParts>
     ensures { result ≡ view_told slots }
 {
-    let Some(ViewSlots { of, index_id, max, records }) = slots else {
+    let Some(
+        ViewSlots {
+            of,
+            index_id,
+            max,
+            records,
+        },
+    ) = slots
+    else {
         return Err(Misread::Shape);
     };
-    let (of, (index_id, (max, records))) = both(due(of), both(due(index_id), both(due(max), due(records))))?;
+    let (of, (index_id, (max, records))) = both(
+        due(of),
+        both(due(index_id), both(due(max), due(records))),
+    )?;
     Ok(ViewParts {
         of,
         index_id: index_id.number(),

@@ -1,4 +1,4 @@
-use Rattle.std.proofs.Common.{◌≡◌, ◌∙◌, [], Err, sym, ap, subst, rules}
+use Rattle.std.proofs.Common.{◌≡◌, ◌∙◌, [], Err, sym, subst, rules}
 use Rattle.bep_tree.specs.Walk.{Stands}
 use Rattle.bep_document.proofs.told.Documents.{check_is}
 use Rattle.bep_document.proofs.told.Readings.{document_stands}

@@ -1,5 +1,5 @@
-use Rattle.std.proofs.Common.{◌≡◌, ◌∙◌, sym, ap, subst}
-use Rattle.bep_document.specs.Reading.{Answers, reading_of_cut_in}
+use Rattle.std.proofs.Common.{◌∙◌, sym, ap, subst}
+use Rattle.bep_document.specs.Reading.{Answers}
 use Rattle.bep_document.specs.inner.Texts.{cut_parts, parts_read}
 use Rattle.bep_document.proofs.told.Readings.{cut_in_reading, no_version_of_cut}
 use Rattle.bep_document.proofs.reading.cut_in.Goals as goal

@@ -1,4 +1,4 @@
-use Rattle.std.proofs.Common.{◌≡◌, [], sym, subst}
+use Rattle.std.proofs.Common.{[], sym, subst}
 use Rattle.bep_tree.specs.Walk.{Stands}
 use Rattle.bep_tree.proofs.Walking.{reaches_so}
 use Rattle.bep_document.proofs.told.Readings.{document_stands}

@@ -1,6 +1,6 @@
-use Rattle.std.proofs.Common.{◌≡◌, ◌∙◌, sym, ap, subst}
-use Rattle.bep_document.specs.Reading.{Answers, reading_of_tree}
-use Rattle.bep_document.specs.inner.Texts.{cut_parts, parts_read}
+use Rattle.std.proofs.Common.{◌∙◌, sym, ap, subst}
+use Rattle.bep_document.specs.Reading.{Answers}
+use Rattle.bep_document.specs.inner.Texts.{parts_read}
 use Rattle.bep_document.proofs.told.Readings.{check_reading, no_version}
 use Rattle.bep_document.proofs.reading.parts_in.Goals as goal
 

@@ -1,4 +1,4 @@
-use Rattle.std.proofs.Common.{◌≡◌, ◌∙◌, sym, ap, subst}
+use Rattle.std.proofs.Common.{◌∙◌, sym, ap, subst}
 use Rattle.bep_document.specs.Reading.{Answers, ◌>>=◌, reading_of_cut}
 use Rattle.bep_document.specs.inner.Texts.{cut_parts, parts_read}
 use Rattle.bep_document.proofs.told.Readings.{cut_reading}

@@ -1,4 +1,4 @@
-use Rattle.std.proofs.Common.{◌≡◌, ◌∙◌, ap}
+use Rattle.std.proofs.Common.{◌∙◌, ap}
 use Rattle.bep_tree.specs.Read.{tree_of}
 use Rattle.bep_tree.proofs.OneValue.{value_where_some}
 use Rattle.bep_document.specs.Reading.{given}

@@ -1,4 +1,4 @@
-use Rattle.std.proofs.Common.{◌≡◌, ◌∙◌, ◌<◌, length, true, false, Some, None, Err, refl, sym, ap, subst, rules, arith}
+use Rattle.std.proofs.Common.{◌≡◌, ◌∙◌, true, false, Some, None, Err, sym, ap, subst, rules, arith}
 use Rattle.json.specs.Json.{read_key}
 use Rattle.json.proofs.Grammar.{read_key-shorter}
 use Rattle.serde_json.specs.Data.{put}
@@ -37,16 +37,15 @@ loop-found-preserved-in_ok-fill_leaf g c =
     let key : read_key c.loop-found.reader ≡ Some (Some c.in-Some.key.now, c.next_key.new.reader) = grind arith in
     record {
       members = λ ms rest stood.
-        let there = c.loop-found.invariant.members ms rest stood in
-        let one = member_comes c.args.depth c.in-Some.key.now c.loop-found.reader c.next_key.new.reader there.0 ms rest key there.1 in
-        let filled = c.in_ok-fill_leaf.ensures.value one.0 one.1 one.2 in
-        let found = put c.in-Some.key.now one.0 there.0 in
-        let told = slot (g.T.Readable.has_shape c.args.version) (g.T.Readable.reads c.args.version) in
-        (
-          found,
-          subst (λ ts. StandMembers c.args.depth ts found ms rest) (sym filled.2) one.3,
-          filled.1 ∙ sym (ap told (put_by true c.in-Some.key.now one.0 there.0 c.args.name.now (sym c.if-eq.ensures))),
-        );
+          let there = c.loop-found.invariant.members ms rest stood in
+          let one = member_comes c.args.depth c.in-Some.key.now c.loop-found.reader c.next_key.new.reader there.0 ms rest key there.1 in
+          let filled = c.in_ok-fill_leaf.ensures.value one.0 one.1 one.2 in
+          let found = put c.in-Some.key.now one.0 there.0 in
+          let told = slot (g.T.Readable.has_shape c.args.version) (g.T.Readable.reads c.args.version) in (
+            found,
+            subst (λ ts. StandMembers c.args.depth ts found ms rest) (sym filled.2) one.3,
+            filled.1 ∙ sym (ap told (put_by true c.in-Some.key.now one.0 there.0 c.args.name.now (sym c.if-eq.ensures))),
+          );
       no_longer = let shorter = read_key-shorter _ _ _ key in omega (arith, c.in_ok-fill_leaf.ensures.no_longer, c.loop-found.invariant.no_longer);
     }
 
@@ -55,16 +54,15 @@ loop-found-preserved g c =
     let key : read_key c.loop-found.reader ≡ Some (Some c.in-Some.key.now, c.next_key.new.reader) = grind arith in
     record {
       members = λ ms rest stood.
-        let there = c.loop-found.invariant.members ms rest stood in
-        let one = member_comes c.args.depth c.in-Some.key.now c.loop-found.reader c.next_key.new.reader there.0 ms rest key there.1 in
-        let passed = c.in_ok-pass.ensures.value one.0 one.1 one.2 in
-        let found = put c.in-Some.key.now one.0 there.0 in
-        let told = slot (g.T.Readable.has_shape c.args.version) (g.T.Readable.reads c.args.version) in
-        (
-          found,
-          subst (λ ts. StandMembers c.args.depth ts found ms rest) (sym passed) one.3,
-          there.2 ∙ sym (ap told (put_by false c.in-Some.key.now one.0 there.0 c.args.name.now (sym c.if-eq.ensures))),
-        );
+          let there = c.loop-found.invariant.members ms rest stood in
+          let one = member_comes c.args.depth c.in-Some.key.now c.loop-found.reader c.next_key.new.reader there.0 ms rest key there.1 in
+          let passed = c.in_ok-pass.ensures.value one.0 one.1 one.2 in
+          let found = put c.in-Some.key.now one.0 there.0 in
+          let told = slot (g.T.Readable.has_shape c.args.version) (g.T.Readable.reads c.args.version) in (
+            found,
+            subst (λ ts. StandMembers c.args.depth ts found ms rest) (sym passed) one.3,
+            there.2 ∙ sym (ap told (put_by false c.in-Some.key.now one.0 there.0 c.args.name.now (sym c.if-eq.ensures))),
+          );
       no_longer = let shorter = read_key-shorter _ _ _ key in omega (arith, c.in_ok-pass.ensures.shorter, c.loop-found.invariant.no_longer);
     }
 

@@ -1,6 +1,6 @@
 use Rattle.std.proofs.Common.{◌≡◌, ◌∙◌, Err, ap, sym, subst, rules}
 use Rattle.serde_json.specs.Find.{get}
-use Rattle.bep_tree.specs.Walk.{Enters, Reaches}
+use Rattle.bep_tree.specs.Walk.{Enters}
 use Rattle.bep_tree.proofs.Walking.{reaches_so}
 use Rattle.bep_json.specs.Taking.{slot}
 use Rattle.bep_json.proofs.TakingFacts.{no_member}

@@ -1,4 +1,4 @@
-use Rattle.std.proofs.Common.{◌≡◌, ◌∙◌, ap, ap₂}
+use Rattle.std.proofs.Common.{◌∙◌, ap, ap₂}
 use Rattle.bep_json.specs.Taking.{both, due_or}
 use Rattle.bep_document.proofs.take.links.things_told.Goals as goal
 
