@@ -222,28 +222,9 @@ fn optional<T: Drop>(found: Option<Told<T>>) -> Told<Option<T>>
 fn record_of(alloc: Global, things: RecordThings) -> Result<Entry, AllocError>
     ensures { IfOk result (λ entry. entry ≡ record_of things) }
 {
-    let (
-        name,
-        (
-            kind,
-            (
-                modified_s,
-                (
-                    modified_by,
-                    (
-                        counters,
-                        (
-                            sequence,
-                            (
-                                size,
-                                (modified_ns, (deleted, (invalid, (block_size, (hashes, target))))),
-                            ),
-                        ),
-                    ),
-                ),
-            ),
-        ),
-    ) = things;
+    let (name, (kind, (modified_s, (modified_by, things)))) = things;
+    let (counters, (sequence, (size, (modified_ns, things)))) = things;
+    let (deleted, (invalid, (block_size, (hashes, target)))) = things;
     let blocks = blocks_of(alloc, size.bytes(), hashes.as_slice())?;
     let block_size = block_size.unwrap_or(default_block_size(kind, deleted));
     Ok(Entry {
