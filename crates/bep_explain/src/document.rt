@@ -3,7 +3,7 @@
 mod answers;
 mod explain;
 mod firm;
-mod json;
+mod refusals;
 mod under_winners;
 
 pub use answers::{

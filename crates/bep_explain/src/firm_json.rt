@@ -9,8 +9,8 @@ ghost use Rattle.bep_explain.specs.FirmTold.{loose_tree};
 ghost use Rattle.bep_explain.specs.document.FirmExplained.{IsFirmWritten};
 ghost use Rattle.bep_explain.specs.inner.Parts.{AddsLoose, flag_text};
 
+use crate::as_json::{begun, push_failures, push_settled_flag, reason_tree};
 use crate::details::details_of_loose;
-use crate::json::{begun, push_failures, push_settled_flag, reason_tree};
 use crate::list_text::ListText;
 use crate::lookup::Lookup;
 use crate::none::{is_firm, is_none};

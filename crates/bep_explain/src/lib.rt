@@ -18,6 +18,7 @@
 //! `explain_under_winners_and_tell` and `explain_firm_under_winners_and_tell` explain a cut under the winners of its names.
 #![tactic(auto)]
 
+mod as_json;
 mod by_name;
 mod collect;
 mod coming;
@@ -27,7 +28,6 @@ mod differing;
 mod document;
 mod firm_json;
 mod gather;
-mod json;
 mod lines;
 mod list_text;
 mod lookup;
@@ -40,6 +40,7 @@ mod text;
 mod trees;
 mod unwon;
 
+pub use as_json::explanation_json;
 pub use document::{
     FirmReasonsOfCut, FirmReasonsUnderWinners, ReasonsOfCut, ReasonsUnderWinners, explain_and_tell,
     explain_firm_and_tell, explain_firm_under_winners_and_tell, explain_text,
@@ -47,6 +48,5 @@ pub use document::{
 };
 pub use firm_json::firm_explanation_json;
 pub use gather::failures;
-pub use json::explanation_json;
 pub use loose::loosenings;
 pub use text::{explanation, firm_explanation};

@@ -1,6 +1,6 @@
 //! The details of a failure as trees of JSON. No contract speaks of what they say.
+use crate::as_json::device_tree;
 use crate::detail::{Detail, What};
-use crate::json::device_tree;
 use bep_blocks::blocks;
 use bep_json::{Members, record_value};
 use bep_record::{Block, Kind, Node, Record};

@@ -7,7 +7,7 @@ ghost use Rattle.bep_answer.specs.Beside.{TellsOfCheck};
 ghost use Rattle.bep_explain.specs.document.Explained.{IsExplainedOfBytes, IsExplanation, IsRefusal, IsWritten};
 ghost use Rattle.bep_answer.specs.declared.outcome.Outcome.TheVariants as outcomes;
 
-use crate::document::json::refusal_json;
+use crate::document::refusals::refusal_json;
 use crate::{explanation, explanation_json, failures};
 use bep_answer::{Answer, Outcome, Question, fault_line, hint_for};
 use bep_audit::{Certificate, Failure};

@@ -5,7 +5,7 @@ ghost use Rattle.serde_json.specs.View.{view};
 ghost use Rattle.bep_explain.specs.Annotated.{IsJsonLine};
 ghost use Rattle.bep_explain.specs.document.Explained.{refusal_tree, text_tree};
 
-use crate::json::{device_tree, json_line};
+use crate::as_json::{device_tree, json_line};
 use bep_document::DocFault;
 use bep_json::Members;
 use serde_json::Value;

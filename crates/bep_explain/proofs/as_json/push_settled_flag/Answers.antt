@@ -2,7 +2,7 @@ use Rattle.std.proofs.Common.{◌++◌, ◌∷◌, [], codes, ◌∙◌, ap, sym
 use Rattle.json.proofs.OnLiterals.{json_on_literals}
 use Rattle.json.specs.Print.{quoted}
 use Rattle.bep_explain.specs.inner.Parts.{flag_text}
-use Rattle.bep_explain.proofs.json.push_settled_flag.Goals as goal
+use Rattle.bep_explain.proofs.as_json.push_settled_flag.Goals as goal
 
 pub returns-in_ok-extend_from_slice : goal.returns-in_ok-extend_from_slice
 unfolding json_on_literals

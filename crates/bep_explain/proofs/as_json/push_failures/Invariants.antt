@@ -1,7 +1,7 @@
 use Rattle.std.proofs.Common.{◌≡◌, ◌++◌, List, drop, map}
 use Rattle.bep_audit.specs.Walk.{Failure, failure_shown}
 use Rattle.bep_explain.specs.inner.Parts.{AddsFailures}
-use Rattle.bep_explain.proofs.json.push_failures.Given as goal
+use Rattle.bep_explain.proofs.as_json.push_failures.Given as goal
 
 -- those that stand in the list, with those that are left, are all
 abbrev pub invariant-loop-one : goal.invariant-loop-one

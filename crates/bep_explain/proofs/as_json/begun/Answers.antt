@@ -1,7 +1,7 @@
 use Rattle.std.proofs.Common.{◌∙◌, ◌++◌, ◌∷◌, [], codes, ap}
 use Rattle.json.proofs.OnLiterals.{json_on_literals}
 use Rattle.json.specs.Print.{quoted}
-use Rattle.bep_explain.proofs.json.begun.Goals as goal
+use Rattle.bep_explain.proofs.as_json.begun.Goals as goal
 
 pub returns : goal.returns
 unfolding json_on_literals

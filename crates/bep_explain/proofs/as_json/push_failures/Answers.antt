@@ -3,7 +3,7 @@ use Rattle.serde_json.specs.View.{view}
 use Rattle.bep_audit.specs.Walk.{failure_shown}
 use Rattle.bep_explain.specs.inner.Parts.{AddsFailures}
 use Rattle.bep_explain.proofs.JsonFacts.{adds_one, all_found, one_further}
-use Rattle.bep_explain.proofs.json.push_failures.Goals as goal
+use Rattle.bep_explain.proofs.as_json.push_failures.Goals as goal
 
 pub loop-one-preserved : goal.loop-one-preserved
 loop-one-preserved c =
