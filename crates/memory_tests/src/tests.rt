@@ -10,3 +10,4 @@ mod records;
 mod reports;
 mod scenarios;
 mod trees;
+mod walks;

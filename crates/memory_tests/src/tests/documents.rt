@@ -4,12 +4,12 @@ ghost use Rattle.std.specs.Prelude.{None};
 use super::made::{CHECK, docs, name};
 use bep_document::{
     DocFault, Fault, Found, Judge, document_tree, first_bad_link, first_fault, first_twice,
-    has_few_devices, index_id_of, read_cut_document, read_cut_parts, read_cut_text, read_parts,
-    tree_of, unless_found,
+    has_few_devices, index_id_of, read_cut_document, read_cut_text, read_parts, tree_of,
+    unless_found,
 };
 use bep_json::DocVersion;
 use bep_record::DeviceId;
-use bep_tree::{Scratch, get};
+use bep_tree::Scratch;
 use std::alloc::Global;
 
 fn faults(alloc: Global) -> Option<[bool; 2]> {
@@ -26,16 +26,15 @@ fn index_id(alloc: Global) -> Option<bool> {
     Some(index_id_of(alloc, DocVersion::One, &share).is_ok())
 }
 
-fn cut(alloc: Global) -> Option<bool> {
+fn tree(alloc: Global) -> bool {
     let mut scratch = Scratch::new(alloc);
-    let tree = document_tree(alloc, CHECK.as_bytes(), &mut scratch).ok()?;
-    Some(read_cut_parts(alloc, DocVersion::One, get(&tree, "cut")?).is_ok())
+    document_tree(alloc, CHECK.as_bytes(), &mut scratch).is_ok()
 }
 
 fn trees(alloc: Global) -> Option<[bool; 3]> {
     let text = br#"{"folders":[]}"#;
     Some([
-        cut(alloc)?,
+        tree(alloc),
         index_id(alloc)?,
         read_cut_text(alloc, DocVersion::One, text).is_ok(),
     ])
