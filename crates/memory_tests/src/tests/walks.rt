@@ -1,0 +1,140 @@
+//! `bep_tree` and `bep_json`: walks along a text.
+ghost use Rattle.memory_tests.specs.Walks.{sized_names, sized_slots};
+
+use bep_json::{
+    DocVersion, Slots, Taken, Told, Whole, fill, fill_leaf, take_leaf, take_member, take_object,
+};
+use bep_record::Vector;
+use bep_tree::{
+    Entered, MAX_DEPTH, Reader, Scratch, WalkError, enter, next_key, pass, pass_items, pass_members,
+};
+use std::alloc::Global;
+
+type Digit = Whole<0, 9>;
+
+// What is told of an object that has a size alone.
+#[derive(Drop)]
+struct Sized {
+    size: Option<Told<Digit>>,
+}
+
+impl Slots for Sized {
+    ghost names = { sized_names };
+
+    ghost known = { λ _. sized_slots };
+
+    fn none() -> Self {
+        Sized { size: None }
+    }
+
+    fn take(
+        &mut self,
+        alloc: Global,
+        version: DocVersion,
+        key: &str,
+        reader: &mut Reader<'_>,
+        depth: usize,
+    ) -> Result<bool, WalkError> {
+        match key {
+            "size" => fill_leaf(&mut self.size, alloc, version, reader, depth),
+            _ => Ok(false),
+        }
+    }
+}
+
+fn digit(told: Option<Told<Digit>>) -> Option<u64> {
+    Some(told?.ok()?.number())
+}
+
+// The keys of the object that the text is, its values passed each in another way.
+fn passed(alloc: Global) -> Option<[bool; 4]> {
+    let mut scratch = Scratch::new(alloc);
+    let mut reader = Reader::new(r#"{"a":[1],"b":[2,3],"c":{"d":4}}"#, &mut scratch).ok()?;
+    let Entered::Object(inside) = enter(&mut reader, 2).ok()? else {
+        return None;
+    };
+    let first = next_key(&mut reader).ok()? == Some("a") && pass(&mut reader, inside).is_ok();
+    let second = next_key(&mut reader).ok()? == Some("b") && is_list(&mut reader, inside)?;
+    let third = next_key(&mut reader).ok()? == Some("c") && is_object(&mut reader, inside)?;
+    Some([first, second, third, next_key(&mut reader).ok()?.is_none()])
+}
+
+fn is_list(reader: &mut Reader<'_>, depth: usize) -> Option<bool> {
+    match enter(reader, depth).ok()? {
+        Entered::List(inside) => Some(pass_items(reader, inside).is_ok()),
+        _ => None,
+    }
+}
+
+fn is_object(reader: &mut Reader<'_>, depth: usize) -> Option<bool> {
+    match enter(reader, depth).ok()? {
+        Entered::Object(inside) => Some(pass_members(reader, inside).is_ok()),
+        _ => None,
+    }
+}
+
+fn member(alloc: Global) -> Option<u64> {
+    let mut scratch = Scratch::new(alloc);
+    let mut reader = Reader::new(r#"{"size":4,"name":"a","size":5}"#, &mut scratch).ok()?;
+    digit(take_member(alloc, DocVersion::One, &mut reader, MAX_DEPTH, "size").ok()?)
+}
+
+fn object(alloc: Global) -> Option<u64> {
+    let mut scratch = Scratch::new(alloc);
+    let mut reader = Reader::new(r#"{"size":4,"size":5}"#, &mut scratch).ok()?;
+    digit(
+        take_object::<Sized>(alloc, DocVersion::One, &mut reader, MAX_DEPTH)
+            .ok()??
+            .size,
+    )
+}
+
+fn leaf(alloc: Global) -> Option<u64> {
+    let mut scratch = Scratch::new(alloc);
+    let mut reader = Reader::new("5", &mut scratch).ok()?;
+    digit(take_leaf(alloc, DocVersion::One, &mut reader, MAX_DEPTH).ok())
+}
+
+fn slots(alloc: Global) -> Option<u64> {
+    let mut scratch = Scratch::new(alloc);
+    let mut reader = Reader::new("5", &mut scratch).ok()?;
+    let mut slots = Sized::none();
+    let taken = Sized::take(
+        &mut slots,
+        alloc,
+        DocVersion::One,
+        "size",
+        &mut reader,
+        MAX_DEPTH,
+    );
+    if taken.ok()? { digit(slots.size) } else { None }
+}
+
+fn vector(alloc: Global) -> Option<bool> {
+    let mut scratch = Scratch::new(alloc);
+    let mut reader = Reader::new("[[1,2],[3,4]]", &mut scratch).ok()?;
+    let told = Vector::take(alloc, DocVersion::One, &mut reader, MAX_DEPTH)
+        .ok()?
+        .ok()?;
+    Some(told.counters() == [(1, 2), (3, 4)].as_slice())
+}
+
+fn filled(alloc: Global) -> Option<bool> {
+    let mut scratch = Scratch::new(alloc);
+    let mut reader = Reader::new("[[1,2]]", &mut scratch).ok()?;
+    let mut slot = None;
+    fill::<Vector>(&mut slot, alloc, DocVersion::One, &mut reader, MAX_DEPTH).ok()?;
+    Some(slot?.ok()?.counters() == [(1, 2)].as_slice())
+}
+
+#[test]
+fn walks_find_memory(rt: HostRuntime) {
+    let alloc = rt.alloc();
+    assert!(rt; passed(alloc) == Some([true; 4]));
+    assert!(rt; member(alloc) == Some(5));
+    assert!(rt; object(alloc) == Some(5));
+    assert!(rt; leaf(alloc) == Some(5));
+    assert!(rt; slots(alloc) == Some(5));
+    assert!(rt; vector(alloc) == Some(true));
+    assert!(rt; filled(alloc) == Some(true));
+}
