@@ -95,19 +95,18 @@ fn leaf(alloc: Global) -> Option<u64> {
     digit(take_leaf(alloc, DocVersion::One, &mut reader, MAX_DEPTH).ok())
 }
 
+fn size(slots: &mut Sized, alloc: Global, reader: &mut Reader<'_>) -> Option<bool> {
+    slots
+        .take(alloc, DocVersion::One, "size", reader, MAX_DEPTH)
+        .ok()
+}
+
 fn slots(alloc: Global) -> Option<u64> {
     let mut scratch = Scratch::new(alloc);
     let mut reader = Reader::new("5", &mut scratch).ok()?;
     let mut slots = Sized::none();
-    let taken = Sized::take(
-        &mut slots,
-        alloc,
-        DocVersion::One,
-        "size",
-        &mut reader,
-        MAX_DEPTH,
-    );
-    if taken.ok()? { digit(slots.size) } else { None }
+    let taken = size(&mut slots, alloc, &mut reader)?;
+    if taken { digit(slots.size) } else { None }
 }
 
 fn vector(alloc: Global) -> Option<bool> {
