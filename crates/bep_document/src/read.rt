@@ -1,16 +1,12 @@
-//! What a document says, in JSON trees: a reader for each thing that stands in it.
+//! What a scenario reads in JSON trees, as a document says it too.
 
-mod checks;
 mod devices;
 mod few;
-mod folders;
-mod links;
-mod shares;
-mod views;
+mod index_id;
+mod version;
 
-pub(crate) use checks::CutLists;
-pub use checks::doc_version;
 pub use devices::has_few_devices;
 pub use few::Few;
-pub use shares::{IndexNumber, index_id_of};
-pub(crate) use views::AnyIndexNumber;
+pub(crate) use index_id::AnyIndexNumber;
+pub use index_id::{IndexNumber, index_id_of};
+pub use version::doc_version;

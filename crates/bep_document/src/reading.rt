@@ -14,8 +14,7 @@ ghost use Rattle.bep_document.specs.inner.Texts.{AnswersText, version_told, part
 ghost use Rattle.bep_document.specs.read.Checks.{is_cut, read_cut, doc_version, is_check, read_check_parts};
 
 use crate::faults::fault_of;
-use crate::read::CutLists;
-use crate::take::{CheckSlots, CutSlot, check_told, cut_told};
+use crate::take::{CheckSlots, CutLists, CutSlot, check_told, cut_told};
 use crate::{CheckParts, DocError, DocFault, Fault};
 use bep_json::{DocVersion, Misread, Taken, Told, Whole, take_member, take_object};
 use bep_record::Items;

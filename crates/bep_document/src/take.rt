@@ -10,4 +10,5 @@ mod rows;
 mod shares;
 mod views;
 
+pub(crate) use cut::CutLists;
 pub(crate) use documents::{CheckSlots, CutSlot, check_told, cut_told};

@@ -8,7 +8,7 @@ use Rattle.bep_tree.specs.View.{view, items_view}
 use Rattle.json.specs.declared.value.Value.{Value}
 use Rattle.bep_record.specs.Vector.{RisesAbove, IsVersion, greatest_counter, most_counters}
 use Rattle.bep_json.specs.Reading.{◌>>=◌}
-use Rattle.bep_json.specs.Lists.{two_items, have_shape, read_items, rises_above, is_version}
+use Rattle.bep_json.specs.Lists.{have_shape, read_items, rises_above, is_version}
 
 pub have_shape-all : {A : Type 0} (shape : Data → Bool) (values : List (Value A)) → list_all (λ v. shape (view v)) values ≡ have_shape shape (items_view values)
 have_shape-all shape [] = refl
@@ -45,16 +45,3 @@ rises_decides low (pair ∷ more) =
 pub version_decides : (pairs : List (ℕ × ℕ)) → Decides (is_version pairs) (IsVersion pairs × (length pairs ≤ most_counters))
 unfolding is_version
 version_decides pairs = Decides-and _ _ (rises_decides 0 pairs) (leb_decides (length pairs) most_counters)
-
-pub two_of-few : {A : Type 0} (values : List (Value A)) → length values < 2 → two_items (items_view values) ≡ None
-two_of-few [] few = refl
-two_of-few (v ∷ []) few = refl
-two_of-few (v ∷ w ∷ more) few = absurd (omega arith)
-
-pub two_of-many : {A : Type 0} (values : List (Value A)) → 3 ≤ length values → two_items (items_view values) ≡ None
-two_of-many [] many = absurd (omega arith)
-two_of-many (v ∷ []) many = absurd (omega arith)
-two_of-many (v ∷ w ∷ []) many = absurd (omega arith)
-two_of-many (v ∷ w ∷ x ∷ more) many = refl
-
-pub ruleset two_of_others = (two_of-few, two_of-many)

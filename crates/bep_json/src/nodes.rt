@@ -9,7 +9,9 @@ ghost use Rattle.bep_json.specs.Nodes.{is_node, has_node_members, has_one_body, 
 
 use crate::numbers::kind_of;
 use crate::texts::{HexBytes, TextBytes};
-use crate::{DocVersion, Nanoseconds, ReadError, Readable, Whole, is_object, member, member_or};
+use crate::{
+    DocVersion, Nanoseconds, ReadError, Readable, Shaped, Whole, is_object, member, member_or,
+};
 use bep_record::{Items, Kind, Name, NodeParts, Target};
 use bep_tree::{Tree, get};
 use std::alloc::Global;
@@ -24,11 +26,13 @@ pub struct NamedParts {
 }
 
 // A node, whether it fits its kind or not.
-impl Readable for NamedParts {
+impl Shaped for NamedParts {
     ghost has_shape = { λ _. is_node };
 
     ghost reads = { read_node };
+}
 
+impl Readable for NamedParts {
     #[tactic(auto, unfolding(crate::specs::Nodes::is_node))]
     fn has_shape(version: DocVersion, value: &Tree<'_>) -> bool {
         has_node_members(version, value) && has_one_body(value) && has_due_target(value)

@@ -4,7 +4,7 @@ ghost use Rattle.bep_tree.specs.View.{view};
 ghost use Rattle.bep_json.specs.Reading.{Gives};
 ghost use Rattle.bep_json.specs.Numbers.{is_whole, is_flag, read_number, read_unsigned, read_signed, read_flag, read_kind, greatest_id};
 
-use crate::{DocVersion, Leaf, ReadError, Readable};
+use crate::{DocVersion, Leaf, ReadError, Readable, Shaped};
 use bep_record::{DeviceId, Kind};
 use bep_tree::{Tree, as_bool, as_i64, as_u64};
 use std::alloc::Global;
@@ -52,11 +52,13 @@ impl<const LOW: u64, const HIGH: u64> Whole<LOW, HIGH> {
     }
 }
 
-impl<const LOW: u64, const HIGH: u64> Readable for Whole<LOW, HIGH> {
+impl<const LOW: u64, const HIGH: u64> Shaped for Whole<LOW, HIGH> {
     ghost has_shape = { λ _. is_whole };
 
     ghost reads = { λ _. read_number LOW HIGH };
+}
 
+impl<const LOW: u64, const HIGH: u64> Readable for Whole<LOW, HIGH> {
     fn has_shape(_version: DocVersion, value: &Tree<'_>) -> bool {
         is_whole(value)
     }
@@ -75,11 +77,13 @@ impl<const LOW: u64, const HIGH: u64> Leaf for Whole<LOW, HIGH> {
     ghost not_object = { λ _ _. refl };
 }
 
-impl Readable for u64 {
+impl Shaped for u64 {
     ghost has_shape = { λ _. is_whole };
 
     ghost reads = { λ _. read_unsigned };
+}
 
+impl Readable for u64 {
     fn has_shape(_version: DocVersion, value: &Tree<'_>) -> bool {
         is_whole(value)
     }
@@ -98,11 +102,13 @@ impl Leaf for u64 {
     ghost not_object = { λ _ _. refl };
 }
 
-impl Readable for i64 {
+impl Shaped for i64 {
     ghost has_shape = { λ _. is_whole };
 
     ghost reads = { λ _. read_signed };
+}
 
+impl Readable for i64 {
     fn has_shape(_version: DocVersion, value: &Tree<'_>) -> bool {
         is_whole(value)
     }
@@ -121,11 +127,13 @@ impl Leaf for i64 {
     ghost not_object = { λ _ _. refl };
 }
 
-impl Readable for bool {
+impl Shaped for bool {
     ghost has_shape = { λ _. is_flag };
 
     ghost reads = { λ _. read_flag };
+}
 
+impl Readable for bool {
     fn has_shape(_version: DocVersion, value: &Tree<'_>) -> bool {
         as_bool(value).is_some()
     }
@@ -144,11 +152,13 @@ impl Leaf for bool {
     ghost not_object = { λ _ _. refl };
 }
 
-impl Readable for DeviceId {
+impl Shaped for DeviceId {
     ghost has_shape = { λ _. is_whole };
 
     ghost reads = { λ _. read_number 1 greatest_id };
+}
 
+impl Readable for DeviceId {
     fn has_shape(_version: DocVersion, value: &Tree<'_>) -> bool {
         is_whole(value)
     }
@@ -170,11 +180,13 @@ impl Leaf for DeviceId {
     ghost not_object = { λ _ _. refl };
 }
 
-impl Readable for Kind {
+impl Shaped for Kind {
     ghost has_shape = { λ _. is_whole };
 
     ghost reads = { λ _. read_kind };
+}
 
+impl Readable for Kind {
     fn has_shape(_version: DocVersion, value: &Tree<'_>) -> bool {
         is_whole(value)
     }

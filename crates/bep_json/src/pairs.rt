@@ -8,9 +8,16 @@ ghost use Rattle.bep_json.specs.Taking.{judged};
 ghost use Rattle.bep_json.specs.declared.told.Misread.TheVariants.{Shape};
 ghost use Rattle.bep_json.specs.inner.NextItem.{IsNextItem};
 
-use crate::{DocVersion, Leaf, Misread, Taken, Told, both, take_leaf};
+use crate::{DocVersion, Leaf, Misread, Shaped, Taken, Told, both, take_leaf};
 use bep_tree::{Entered, Reader, WalkError, enter, pass_items, pass_members};
 use std::alloc::Global;
+
+// A pair of unsigned numbers, written as a list.
+impl Shaped for (u64, u64) {
+    ghost has_shape = { λ _. is_pair };
+
+    ghost reads = { λ _. read_pair };
+}
 
 impl Taken for (u64, u64) {
     fn take(

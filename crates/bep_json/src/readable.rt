@@ -10,21 +10,24 @@ use crate::{DocVersion, ReadError};
 use bep_tree::{Tree, get};
 use std::alloc::Global;
 
-/// A thing that stands in a JSON tree.
-pub trait Readable: Drop + Sized {
+/// A thing that a JSON value may say.
+pub trait Shaped {
     /// Which values of a document of a version have the thing's shape.
     ghost has_shape: { VersionOf → Data → Bool };
 
     /// Which thing a value of a document of a version stands for, where each of its parts is inside its range.
     ghost reads: { VersionOf → Data → Option Self };
+}
 
+/// A thing that can be read from a JSON tree.
+pub trait Readable: Shaped + Drop + Sized {
     /// Whether the value has the thing's shape: its members, and their kinds.
     fn has_shape(version: DocVersion, value: &Tree<'_>) -> bool
-        ensures { result ≡ has_shape version (view value.now) };
+        ensures { result ≡ Self.has_shape version (view value.now) };
 
     /// The thing that the value stands for. `Range` where there is none; `Memory` may come in place of any answer.
     fn read(alloc: Global, version: DocVersion, value: &Tree<'_>) -> Result<Self, ReadError>
-        ensures { Gives result (reads version (view value.now)) };
+        ensures { Gives result (Self.reads version (view value.now)) };
 }
 
 /// Whether the value has a member of this name that has a `T`'s shape.

@@ -1,23 +1,14 @@
 //! Records, well formed or not.
-ghost use Rattle.std.specs.Prelude.{◌≡◌, ◌≤◌, ◌+◌, ◌-◌, min, false, codes, refl, IfOk};
-ghost use Rattle.bep_tree.specs.View.{view};
+ghost use Rattle.std.specs.Prelude.{◌≡◌, ◌≤◌, ◌+◌, ◌-◌, min, refl, IfOk};
 ghost use Rattle.bep_record.specs.Block.{block_size_of};
-ghost use Rattle.bep_json.specs.Reading.{Gives};
-ghost use Rattle.bep_json.specs.Numbers.{is_whole, read_number, read_flag, read_kind};
-ghost use Rattle.bep_json.specs.Reading.{read_member, read_member_or};
+ghost use Rattle.bep_json.specs.Numbers.{is_whole, read_number};
 ghost use Rattle.bep_json.specs.Version.{most_file_bytes};
-ghost use Rattle.bep_json.specs.Records.{is_record, has_record_members, has_due_block_size, says_file, says_present, read_record, blocks_from, default_block_size};
+ghost use Rattle.bep_json.specs.Records.{is_record, read_record, blocks_from, default_block_size};
 
-use crate::numbers::{is_whole, kind_of};
-use crate::{
-    DocVersion, Leaf, Nanoseconds, ReadError, Readable, Sequence, Whole, is_object, member,
-    member_or,
-};
-use bep_record::{
-    BASE_BLOCK_SIZE, Block, BlockSize, DeviceId, Entry, Items, Kind, MAX_FILE_SIZE, Name, Target,
-    Vector,
-};
-use bep_tree::{Tree, as_bool, as_u64, get};
+use crate::numbers::is_whole;
+use crate::{DocVersion, Leaf, ReadError, Readable, Shaped, Whole};
+use bep_record::{BASE_BLOCK_SIZE, Block, BlockSize, Entry, Items, Kind, MAX_FILE_SIZE};
+use bep_tree::{Tree, as_u64};
 use std::alloc::{AllocError, Global};
 use std::marker::Model;
 
@@ -57,11 +48,13 @@ impl FileSize {
     }
 }
 
-impl Readable for FileSize {
+impl Shaped for FileSize {
     ghost has_shape = { λ _. is_whole };
 
     ghost reads = { λ version. read_number 0 (most_file_bytes version) };
+}
 
+impl Readable for FileSize {
     fn has_shape(_version: DocVersion, value: &Tree<'_>) -> bool {
         is_whole(value)
     }
@@ -87,111 +80,10 @@ pub(crate) type AnyBlockSize = Whole<0, 4294967295>;
 pub(crate) type Hashes = Items<[u8; 32]>;
 
 // A record, well formed or not.
-impl Readable for Entry {
+impl Shaped for Entry {
     ghost has_shape = { is_record };
 
     ghost reads = { read_record };
-
-    #[tactic(auto, unfolding(crate::specs::Records::is_record))]
-    fn has_shape(version: DocVersion, value: &Tree<'_>) -> bool {
-        has_record_members(version, value) && has_due_block_size(version, value)
-    }
-
-    #[tactic(auto, unfolding(crate::specs::Records::read_record))]
-    fn read(alloc: Global, version: DocVersion, value: &Tree<'_>) -> Result<Self, ReadError> {
-        let name = member::<Name>(alloc, version, value, "name")?;
-        let kind = member::<Kind>(alloc, version, value, "type")?;
-        let modified_s = member::<i64>(alloc, version, value, "modified_s")?;
-        let modified_by = member::<DeviceId>(alloc, version, value, "modified_by")?;
-        let counters = member::<Vector>(alloc, version, value, "version")?;
-        let sequence = member::<Sequence>(alloc, version, value, "sequence")?;
-        let size = member_or::<FileSize>(alloc, version, value, "size", FileSize::zero())?;
-        let modified_ns = member_or::<Nanoseconds>(
-            alloc,
-            version,
-            value,
-            "modified_ns",
-            Whole::new(0),
-        )?;
-        let deleted = member_or::<bool>(alloc, version, value, "deleted", false)?;
-        let invalid = member_or::<bool>(alloc, version, value, "invalid", false)?;
-        let usual = default_block_size(kind, deleted);
-        let block_size = member_or::<AnyBlockSize>(alloc, version, value, "block_size", usual)?;
-        let none = Items::new(Vec::new(alloc));
-        let hashes = member_or::<Hashes>(alloc, version, value, "blocks", none)?;
-        let blocks = blocks_of(alloc, size.bytes(), hashes.as_slice())?;
-        let target = member_or::<Target>(alloc, version, value, "target", Target::empty(alloc))?;
-        Ok(Entry {
-            name,
-            kind,
-            size: size.bytes(),
-            modified_s,
-            modified_ns: modified_ns.number() as u32,
-            modified_by,
-            deleted,
-            invalid,
-            no_permissions: true,
-            version: counters,
-            sequence: sequence.number(),
-            block_size: block_size.number() as u32,
-            blocks,
-            target,
-        })
-    }
-}
-
-// Whether the value is an object with the members of a record, each of its kind, and no others.
-#[tactic(auto, unfolding(crate::specs::Records::has_record_members))]
-fn has_record_members(version: DocVersion, value: &Tree<'_>) -> bool
-    ensures { result ≡ has_record_members (view value.now) }
-{
-    is_object!(version, value;
-        has "name": Name, has "type": Kind, has "modified_s": i64, has "modified_by": DeviceId,
-        has "version": Vector, has "sequence": Sequence, may_have "size": FileSize,
-        may_have "modified_ns": Nanoseconds, may_have "deleted": bool, may_have "invalid": bool,
-        may_have "block_size": AnyBlockSize, may_have "blocks": Hashes, may_have "target": Target)
-}
-
-// Whether the record says its block size, where its document's version asks for that: in version 2, where it is of a
-// file that isn't deleted.
-#[tactic(auto, unfolding(crate::specs::Records::has_due_block_size))]
-fn has_due_block_size(version: DocVersion, value: &Tree<'_>) -> bool
-    ensures { result ≡ has_due_block_size version (view value.now) }
-{
-    match version {
-        DocVersion::One => true,
-        DocVersion::Two => {
-            !(is_file(value) && is_present(value)) || get(value, "block_size").is_some()
-        }
-    }
-}
-
-// Whether the value says that it is of a file.
-fn is_file(value: &Tree<'_>) -> bool
-    ensures { result ≡ says_file (read_member (codes "type") read_kind (view value.now)) }
-{
-    match get(value, "type") {
-        Some(kind) => match kind_of(kind) {
-            Some(Kind::File) => true,
-            Some(Kind::Directory) => false,
-            Some(Kind::Symlink) => false,
-            None => false,
-        },
-        None => false,
-    }
-}
-
-// Whether the value doesn't say that it is deleted.
-fn is_present(value: &Tree<'_>) -> bool
-    ensures { result ≡ says_present (read_member_or (codes "deleted") read_flag false (view value.now)) }
-{
-    match get(value, "deleted") {
-        Some(flag) => match as_bool(flag) {
-            Some(deleted) => !deleted,
-            None => false,
-        },
-        None => true,
-    }
 }
 
 // The block size of a record that doesn't say one.

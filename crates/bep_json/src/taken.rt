@@ -6,12 +6,12 @@ ghost use Rattle.bep_tree.specs.Walk.{Reaches};
 ghost use Rattle.bep_json.specs.declared.version.DocVersion.{DocVersion as VersionOf};
 ghost use Rattle.bep_json.specs.Taking.{judged, Takes};
 
-use crate::{DocVersion, Misread, ReadError, Readable, Told};
+use crate::{DocVersion, Misread, ReadError, Readable, Shaped, Told};
 use bep_tree::{Entered, Reader, Tree, WalkError, enter, pass_items, pass_members};
 use std::alloc::Global;
 
 /// A thing that can be read where a walk along a document's text comes to it.
-pub trait Taken: Readable {
+pub trait Taken: Shaped + Drop + Sized {
     /// Takes the value that comes next, in which lists and objects may nest `depth` deep, and tells which thing it says.
     fn take(
         alloc: Global,

@@ -5,17 +5,19 @@ ghost use Rattle.bep_json.specs.Reading.{Gives};
 ghost use Rattle.bep_json.specs.Texts.{is_text, read_name, read_target, read_folder_name, read_folder_kind, read_hash, fits_file, read_text_bytes, read_hex_bytes};
 
 use crate::digits::{bytes_of, hash_of};
-use crate::{DocVersion, Leaf, ReadError, Readable, Taken, Told, take_leaf};
+use crate::{DocVersion, Leaf, ReadError, Readable, Shaped, Taken, Told, take_leaf};
 use bep_record::{FolderKind, FolderName, Items, Name, RecordError, Target};
 use bep_tree::{Reader, Tree, WalkError, as_str};
 use std::alloc::Global;
 use std::marker::Model;
 
-impl Readable for Name {
+impl Shaped for Name {
     ghost has_shape = { λ _. is_text };
 
     ghost reads = { λ _. read_name };
+}
 
+impl Readable for Name {
     fn has_shape(_version: DocVersion, value: &Tree<'_>) -> bool {
         as_str(value).is_some()
     }
@@ -39,11 +41,13 @@ impl Leaf for Name {
     ghost not_object = { λ _ _. refl };
 }
 
-impl Readable for Target {
+impl Shaped for Target {
     ghost has_shape = { λ _. is_text };
 
     ghost reads = { λ _. read_target };
+}
 
+impl Readable for Target {
     fn has_shape(_version: DocVersion, value: &Tree<'_>) -> bool {
         as_str(value).is_some()
     }
@@ -67,11 +71,13 @@ impl Leaf for Target {
     ghost not_object = { λ _ _. refl };
 }
 
-impl Readable for FolderName {
+impl Shaped for FolderName {
     ghost has_shape = { λ _. is_text };
 
     ghost reads = { λ _. read_folder_name };
+}
 
+impl Readable for FolderName {
     fn has_shape(_version: DocVersion, value: &Tree<'_>) -> bool {
         as_str(value).is_some()
     }
@@ -96,11 +102,13 @@ impl Leaf for FolderName {
 }
 
 // What a device does with a folder, by its name.
-impl Readable for FolderKind {
+impl Shaped for FolderKind {
     ghost has_shape = { λ _. is_text };
 
     ghost reads = { λ _. read_folder_kind };
+}
 
+impl Readable for FolderKind {
     fn has_shape(_version: DocVersion, value: &Tree<'_>) -> bool {
         as_str(value).is_some()
     }
@@ -122,11 +130,13 @@ impl Leaf for FolderKind {
 }
 
 // A SHA-256 (FIPS 180-4).
-impl Readable for [u8; 32] {
+impl Shaped for [u8; 32] {
     ghost has_shape = { λ _. is_text };
 
     ghost reads = { λ _. read_hash };
+}
 
+impl Readable for [u8; 32] {
     fn has_shape(_version: DocVersion, value: &Tree<'_>) -> bool {
         as_str(value).is_some()
     }
@@ -188,11 +198,13 @@ impl TextBytes {
     }
 }
 
-impl Readable for TextBytes {
+impl Shaped for TextBytes {
     ghost has_shape = { λ _. is_text };
 
     ghost reads = { read_text_bytes };
+}
 
+impl Readable for TextBytes {
     fn has_shape(_version: DocVersion, value: &Tree<'_>) -> bool {
         as_str(value).is_some()
     }
@@ -240,11 +252,13 @@ impl HexBytes {
     }
 }
 
-impl Readable for HexBytes {
+impl Shaped for HexBytes {
     ghost has_shape = { λ _. is_text };
 
     ghost reads = { read_hex_bytes };
+}
 
+impl Readable for HexBytes {
     fn has_shape(_version: DocVersion, value: &Tree<'_>) -> bool {
         as_str(value).is_some()
     }

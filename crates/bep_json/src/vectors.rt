@@ -1,11 +1,18 @@
 //! Version vectors, which are read as a walk along a document's text comes to them.
 ghost use Rattle.std.specs.Prelude.{◌≡◌};
+ghost use Rattle.bep_json.specs.Lists.{is_list, is_pair, read_version};
 ghost use Rattle.bep_json.specs.inner.VectorTold.{vector_told};
 
-use crate::{DocVersion, Misread, Taken, Told};
+use crate::{DocVersion, Misread, Shaped, Taken, Told};
 use bep_record::{Items, Vector};
 use bep_tree::{Reader, WalkError};
 use std::alloc::Global;
+
+impl Shaped for Vector {
+    ghost has_shape = { λ _. is_list is_pair };
+
+    ghost reads = { λ _. read_version };
+}
 
 impl Taken for Vector {
     fn take(

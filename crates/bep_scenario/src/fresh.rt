@@ -5,7 +5,7 @@ ghost use Rattle.bep_json.specs.Lists.{is_pair};
 ghost use Rattle.bep_scenario.specs.Fresh.{is_fresh_share, read_fresh_share, is_fresh_folder, read_fresh_folder, fresh_link, read_fresh_link};
 
 use bep_document::{FolderParts, IndexNumber, LinkParts, ShareParts, index_id_of};
-use bep_json::{DocVersion, ReadError, Readable, is_object, member};
+use bep_json::{DocVersion, ReadError, Readable, Shaped, is_object, member};
 use bep_record::{DeviceId, FolderKind, FolderName, Items};
 use bep_tree::Tree;
 use std::alloc::{AllocError, Global};
@@ -40,11 +40,13 @@ pub(crate) fn into_parts<P: Drop>(
 }
 
 // A device that shares a folder.
-impl Readable for Fresh<ShareParts> {
+impl Shaped for Fresh<ShareParts> {
     ghost has_shape = { λ _. is_fresh_share };
 
     ghost reads = { λ _. read_fresh_share };
+}
 
+impl Readable for Fresh<ShareParts> {
     #[tactic(auto, unfolding(crate::specs::Fresh::is_fresh_share))]
     fn has_shape(version: DocVersion, value: &Tree<'_>) -> bool {
         is_object!(version, value; has "device": DeviceId, has "kind": FolderKind, has "index_id": IndexNumber)
@@ -67,11 +69,13 @@ impl Readable for Fresh<ShareParts> {
 }
 
 // A folder.
-impl Readable for Fresh<FolderParts> {
+impl Shaped for Fresh<FolderParts> {
     ghost has_shape = { λ _. is_fresh_folder };
 
     ghost reads = { λ _. read_fresh_folder };
+}
 
+impl Readable for Fresh<FolderParts> {
     #[tactic(auto, unfolding(crate::specs::Fresh::is_fresh_folder))]
     fn has_shape(version: DocVersion, value: &Tree<'_>) -> bool {
         is_object!(version, value; has "folder": FolderName, has "devices": Items<Fresh<ShareParts>>)
@@ -88,11 +92,13 @@ impl Readable for Fresh<FolderParts> {
 }
 
 // A link.
-impl Readable for Fresh<LinkParts> {
+impl Shaped for Fresh<LinkParts> {
     ghost has_shape = { λ _. is_pair };
 
     ghost reads = { λ _. read_fresh_link };
+}
 
+impl Readable for Fresh<LinkParts> {
     fn has_shape(version: DocVersion, value: &Tree<'_>) -> bool {
         <(u64, u64)>::has_shape(version, value)
     }

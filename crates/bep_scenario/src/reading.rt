@@ -12,7 +12,7 @@ use bep_document::{
     CheckParts, DocError, Fault, Few, FolderParts, LinkParts, doc_version, document_tree,
     has_few_devices, refused, unless_found,
 };
-use bep_json::{DocVersion, ReadError, Readable, Whole, is_object, member};
+use bep_json::{DocVersion, ReadError, Readable, Shaped, Whole, is_object, member};
 use bep_record::{Items, MAX_FOLDERS};
 use bep_tree::{Scratch, Tree};
 use std::alloc::Global;
@@ -21,11 +21,13 @@ type FreshFolders = Few<Fresh<FolderParts>, MAX_FOLDERS>;
 
 type FreshLinks = Items<Fresh<LinkParts>>;
 
-impl Readable for ScenarioParts {
+impl Shaped for ScenarioParts {
     ghost has_shape = { is_scenario };
 
     ghost reads = { read_scenario };
+}
 
+impl Readable for ScenarioParts {
     #[tactic(auto, unfolding(crate::specs::Reading::is_scenario))]
     fn has_shape(version: DocVersion, value: &Tree<'_>) -> bool {
         is_object!(version, value;

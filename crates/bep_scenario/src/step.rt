@@ -11,17 +11,19 @@ use crate::items::{ends_at, has_item, has_items, item};
 use crate::words::{NameWord, PairWord, Word, word_of};
 use bep_document::IndexNumber;
 use bep_index::IndexId;
-use bep_json::{DocVersion, NamedParts, ReadError, Readable};
+use bep_json::{DocVersion, NamedParts, ReadError, Readable, Shaped};
 use bep_machine::Step;
 use bep_record::{DeviceId, FolderName, Name};
 use bep_tree::{Tree, at};
 use std::alloc::Global;
 
-impl Readable for StepParts {
+impl Shaped for StepParts {
     ghost has_shape = { is_step };
 
     ghost reads = { read_step };
+}
 
+impl Readable for StepParts {
     #[tactic(auto, unfolding(crate::specs::Steps::is_step))]
     fn has_shape(version: DocVersion, value: &Tree<'_>) -> bool {
         has_form(version, first_word(value), value)

@@ -1,12 +1,11 @@
 //! Short lists.
 ghost use Rattle.std.specs.Prelude.{◌≡◌, List, [], Ok};
-ghost use Rattle.bep_tree.specs.View.{view};
 ghost use Rattle.bep_json.specs.Lists.{is_list};
-ghost use Rattle.bep_json.specs.Reading.{Gives, read_member_or};
+ghost use Rattle.bep_json.specs.Reading.{Gives};
 ghost use Rattle.bep_document.specs.inner.Few.{few_told};
 ghost use Rattle.bep_document.specs.read.Few.{read_few};
 
-use bep_json::{DocVersion, Misread, ReadError, Readable, Told, member_or};
+use bep_json::{DocVersion, Misread, ReadError, Readable, Shaped, Told};
 use bep_record::Items;
 use bep_tree::Tree;
 use std::alloc::Global;
@@ -57,11 +56,13 @@ impl<T: Drop, const MOST: usize> Few<T, MOST> {
     }
 }
 
-impl<T: Readable, const MOST: usize> Readable for Few<T, MOST> {
+impl<T: Shaped, const MOST: usize> Shaped for Few<T, MOST> {
     ghost has_shape = { λ version. is_list (T.has_shape version) };
 
     ghost reads = { λ version. read_few MOST (T.reads version) };
+}
 
+impl<T: Readable, const MOST: usize> Readable for Few<T, MOST> {
     fn has_shape(version: DocVersion, value: &Tree<'_>) -> bool {
         <Items<T>>::has_shape(version, value)
     }
@@ -73,18 +74,4 @@ impl<T: Readable, const MOST: usize> Readable for Few<T, MOST> {
         }
         Ok(Few { items })
     }
-}
-
-// At most so many things of the list at a member; none where there is no such member. `Range` where the member is no such
-// list; `Memory` may come in place of any answer.
-pub(crate) fn few_or_none<T: Readable, const MOST: usize>(
-    alloc: Global,
-    version: DocVersion,
-    value: &Tree<'_>,
-    name: &str,
-) -> Result<Items<T>, ReadError>
-    ensures { Gives result (read_member_or name.now (read_few MOST (T.reads version)) [] (view value.now)) }
-{
-    let few = member_or::<Few<T, MOST>>(alloc, version, value, name, Few::none(alloc))?;
-    Ok(few.into_items())
 }

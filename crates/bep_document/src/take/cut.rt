@@ -1,14 +1,48 @@
 //! Cuts.
 ghost use Rattle.std.specs.Prelude.{◌≡◌};
 ghost use Rattle.bep_tree.specs.Walk.{Reaches};
+ghost use Rattle.bep_document.specs.read.Checks.{is_cut, read_cut};
 ghost use Rattle.bep_document.specs.inner.Cuts.{cut_names, cut_slots, cut_told, cut_with};
 
-use crate::read::CutLists;
-use crate::{Few, FolderParts, LinkParts, has_few_devices};
-use bep_json::{DocVersion, Misread, Slots, Taken, Told, both, due, due_or, fill, take_object};
+use crate::{CheckParts, Few, FolderParts, LinkParts, RowParts, has_few_devices};
+use bep_json::{
+    DocVersion, Misread, Shaped, Slots, Taken, Told, both, due, due_or, fill, take_object,
+};
 use bep_record::{Items, MAX_FOLDERS};
 use bep_tree::{Reader, WalkError};
 use std::alloc::Global;
+use std::marker::Model;
+
+// The folders and the links of a cut.
+#[derive(Debug, Drop)]
+pub(crate) struct CutLists {
+    folders: Items<FolderParts>,
+    links: Items<LinkParts>,
+}
+
+impl Model for CutLists {
+    ghost use Rattle.std.specs.Prelude.{List};
+    ghost use Rattle.bep_document.specs.declared.parts.FolderParts.{FolderParts};
+    ghost use Rattle.bep_document.specs.declared.parts.LinkParts.{LinkParts};
+
+    ghost Value = { List FolderParts × List LinkParts };
+
+    ghost view = { λ cut. (cut.folders, cut.links) };
+}
+
+impl CutLists {
+    // The document of this version that has this cut and these rows.
+    pub(crate) fn with_rows(self, version: DocVersion, certificate: Items<RowParts>) -> CheckParts
+        ensures { result ≡ record { version = version; folders = self.0; links = self.1; certificate = certificate } }
+    {
+        CheckParts {
+            version,
+            folders: self.folders,
+            links: self.links,
+            certificate,
+        }
+    }
+}
 
 // What is told of the members of a cut.
 #[derive(Drop)]
@@ -45,6 +79,12 @@ impl Slots for CutSlots {
     }
 }
 
+impl Shaped for CutLists {
+    ghost has_shape = { is_cut };
+
+    ghost reads = { read_cut };
+}
+
 impl Taken for CutLists {
     fn take(
         alloc: Global,
@@ -79,7 +119,7 @@ fn cut_with(
     ensures { Reaches result (λ told. told ≡ cut_with (folders, links)) }
 {
     if has_few_devices(alloc, folders.as_slice())? {
-        Ok(Ok(CutLists::new(folders, links)))
+        Ok(Ok(CutLists { folders, links }))
     } else {
         Ok(Err(Misread::Range))
     }

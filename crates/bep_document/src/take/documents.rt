@@ -5,7 +5,7 @@ ghost use Rattle.serde_json.specs.Data.{Data};
 ghost use Rattle.bep_tree.specs.Walk.{Stands, Reaches};
 ghost use Rattle.bep_document.specs.inner.Documents.{document_names, check_slots, cut_slot, noted, check_told, cut_slot_told};
 
-use crate::read::CutLists;
+use crate::take::CutLists;
 use crate::{CheckParts, RowParts};
 use bep_json::{DocVersion, Misread, Slots, Told, Whole, both, due, fill, fill_leaf};
 use bep_record::Items;

@@ -1,10 +1,13 @@
 //! Messages that are on their way.
 ghost use Rattle.std.specs.Prelude.{◌≡◌};
 ghost use Rattle.bep_document.specs.inner.Flights.{flight_names, flight_slots, flight_told};
+ghost use Rattle.bep_document.specs.read.Links.{is_flight, read_flight};
 
 use crate::{Few, FlightParts};
 use bep_index::MAX_RECORDS;
-use bep_json::{DocVersion, Misread, Slots, Taken, Told, both, due, fill, fill_leaf, take_object};
+use bep_json::{
+    DocVersion, Misread, Shaped, Slots, Taken, Told, both, due, fill, fill_leaf, take_object,
+};
 use bep_record::{Entry, FolderName};
 use bep_tree::{Reader, WalkError};
 use std::alloc::Global;
@@ -45,6 +48,12 @@ impl Slots for FlightSlots {
             _ => Ok(false),
         }
     }
+}
+
+impl Shaped for FlightParts {
+    ghost has_shape = { is_flight };
+
+    ghost reads = { read_flight };
 }
 
 impl Taken for FlightParts {

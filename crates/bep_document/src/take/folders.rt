@@ -1,9 +1,12 @@
 //! Folders.
 ghost use Rattle.std.specs.Prelude.{◌≡◌};
 ghost use Rattle.bep_document.specs.inner.Folders.{folder_names, folder_slots, folder_told};
+ghost use Rattle.bep_document.specs.read.Folders.{is_folder, read_folder};
 
 use crate::{FolderParts, ShareParts};
-use bep_json::{DocVersion, Misread, Slots, Taken, Told, both, due, fill, fill_leaf, take_object};
+use bep_json::{
+    DocVersion, Misread, Shaped, Slots, Taken, Told, both, due, fill, fill_leaf, take_object,
+};
 use bep_record::{FolderName, Items};
 use bep_tree::{Reader, WalkError};
 use std::alloc::Global;
@@ -41,6 +44,12 @@ impl Slots for FolderSlots {
             _ => Ok(false),
         }
     }
+}
+
+impl Shaped for FolderParts {
+    ghost has_shape = { is_folder };
+
+    ghost reads = { read_folder };
 }
 
 impl Taken for FolderParts {

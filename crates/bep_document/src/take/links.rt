@@ -1,10 +1,11 @@
 //! Links between two devices.
 ghost use Rattle.std.specs.Prelude.{◌≡◌, Ok};
 ghost use Rattle.bep_document.specs.inner.Links.{link_names, link_slots, link_told, link_things, link_of};
+ghost use Rattle.bep_document.specs.read.Links.{is_link, read_link};
 
 use crate::{Few, FlightParts, LinkParts};
 use bep_json::{
-    DocVersion, Misread, Sequence, Slots, Taken, Told, both, due, due_or, fill, fill_leaf,
+    DocVersion, Misread, Sequence, Shaped, Slots, Taken, Told, both, due, due_or, fill, fill_leaf,
     take_object,
 };
 use bep_record::{DeviceId, MAX_MESSAGES};
@@ -74,6 +75,12 @@ impl Slots for LinkSlots {
             _ => Ok(false),
         }
     }
+}
+
+impl Shaped for LinkParts {
+    ghost has_shape = { is_link };
+
+    ghost reads = { read_link };
 }
 
 impl Taken for LinkParts {

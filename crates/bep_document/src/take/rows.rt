@@ -1,9 +1,12 @@
 //! Rows of a certificate.
 ghost use Rattle.std.specs.Prelude.{◌≡◌};
 ghost use Rattle.bep_document.specs.inner.Rows.{row_names, row_slots, row_told};
+ghost use Rattle.bep_document.specs.read.Folders.{is_row, read_row};
 
 use crate::RowParts;
-use bep_json::{DocVersion, Misread, Slots, Taken, Told, both, due, fill, fill_leaf, take_object};
+use bep_json::{
+    DocVersion, Misread, Shaped, Slots, Taken, Told, both, due, fill, fill_leaf, take_object,
+};
 use bep_record::{DeviceId, Entry, FolderName};
 use bep_tree::{Reader, WalkError};
 use std::alloc::Global;
@@ -44,6 +47,12 @@ impl Slots for RowSlots {
             _ => Ok(false),
         }
     }
+}
+
+impl Shaped for RowParts {
+    ghost has_shape = { is_row };
+
+    ghost reads = { read_row };
 }
 
 impl Taken for RowParts {

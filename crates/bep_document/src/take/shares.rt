@@ -1,11 +1,12 @@
 //! Devices that share a folder.
 ghost use Rattle.std.specs.Prelude.{◌≡◌, Ok};
 ghost use Rattle.bep_document.specs.inner.Shares.{share_names, share_slots, share_told, share_things, share_of};
+ghost use Rattle.bep_document.specs.read.Shares.{is_share, read_share};
 
 use crate::{Few, IndexNumber, ShareParts, ViewParts};
 use bep_index::{IndexId, MAX_NAMES};
 use bep_json::{
-    DocVersion, Misread, NamedParts, Sequence, Slots, Taken, Told, both, due, due_or, fill,
+    DocVersion, Misread, NamedParts, Sequence, Shaped, Slots, Taken, Told, both, due, due_or, fill,
     fill_leaf, take_object,
 };
 use bep_record::{DeviceId, Entry, FolderKind, Items, MAX_PULLS};
@@ -81,6 +82,12 @@ impl Slots for ShareSlots {
             _ => Ok(false),
         }
     }
+}
+
+impl Shaped for ShareParts {
+    ghost has_shape = { is_share };
+
+    ghost reads = { read_share };
 }
 
 impl Taken for ShareParts {

@@ -1,12 +1,14 @@
 //! What a device knows of another's index.
 ghost use Rattle.std.specs.Prelude.{◌≡◌};
 ghost use Rattle.bep_document.specs.inner.Views.{view_names, view_slots, view_told};
+ghost use Rattle.bep_document.specs.read.Views.{is_view, read_view};
 
 use crate::read::AnyIndexNumber;
 use crate::{Few, ViewParts};
 use bep_index::MAX_NAMES;
 use bep_json::{
-    DocVersion, Misread, Sequence, Slots, Taken, Told, both, due, fill, fill_leaf, take_object,
+    DocVersion, Misread, Sequence, Shaped, Slots, Taken, Told, both, due, fill, fill_leaf,
+    take_object,
 };
 use bep_record::{DeviceId, Entry};
 use bep_tree::{Reader, WalkError};
@@ -51,6 +53,12 @@ impl Slots for ViewSlots {
             _ => Ok(false),
         }
     }
+}
+
+impl Shaped for ViewParts {
+    ghost has_shape = { is_view };
+
+    ghost reads = { read_view };
 }
 
 impl Taken for ViewParts {

@@ -11,7 +11,7 @@ use Rattle.bep_json.proofs.items.take_items.Goals as goal
 pub loop-alloc-init : goal.loop-alloc-init
 loop-alloc-init g c = record {
   items = λ ds rest stood.
-      let all = judged (have_shape (g.T.Readable.has_shape c.args.version) ds) (read_items (g.T.Readable.reads c.args.version) ds) in
+      let all = judged (have_shape (g.T.Shaped.has_shape c.args.version) ds) (read_items (g.T.Shaped.reads c.args.version) ds) in
       (ds, stood, ap (λ none. followed (Ok none) all) c.new.ensures.items ∙ followed_first all);
   no_longer = omega arith;
 }
@@ -33,8 +33,8 @@ loop-alloc-preserved g c =
           let there = c.loop-alloc.invariant.items ds rest stood in
           let one = item_comes c.args.depth c.loop-alloc.reader there.0 rest going.0 there.1 in
           let taken = c.in_ok-item.ensures.value one.0 one.2 (subst (λ ts. Stands c.args.depth ts one.0 one.2) (sym going.1) one.4) in
-          let shape = g.T.Readable.has_shape c.args.version in
-          let reads = g.T.Readable.reads c.args.version in
+          let shape = g.T.Shaped.has_shape c.args.version in
+          let reads = g.T.Shaped.reads c.args.version in
           let rest_of = judged (have_shape shape one.1) (read_items reads one.1) in (
             one.1,
             subst (λ ts. StandItems c.args.depth ts one.1 rest) (sym taken.1) one.5,
@@ -50,8 +50,8 @@ pub returns-clause-value : goal.returns-clause-value
 returns-clause-value g c = λ ds rest stood.
     let there = c.loop-alloc.invariant.items ds rest stood in
     let ends = list_ends c.args.depth c.loop-alloc.reader c.take_end_array.new.self there.0 rest c.loop-alloc-test.ensures there.1 in
-    let shape = g.T.Readable.has_shape c.args.version in
-    let reads = g.T.Readable.reads c.args.version in
+    let shape = g.T.Shaped.has_shape c.args.version in
+    let reads = g.T.Shaped.reads c.args.version in
     let last : followed (seen c.loop-alloc.told) (Ok []) ≡ judged (have_shape shape ds) (read_items reads ds) =
     ap (λ ds. followed (seen c.loop-alloc.told) (judged (have_shape shape ds) (read_items reads ds))) (sym ends.0) ∙ there.2 in
     (c.as_items.ensures ∙ sym (followed_last (seen c.loop-alloc.told)) ∙ last, ends.1)

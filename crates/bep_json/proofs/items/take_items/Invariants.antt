@@ -12,8 +12,8 @@ abbrev pub invariant-loop-alloc : goal.invariant-loop-alloc
 invariant-loop-alloc g l = record {
   items : (ds : ItemsOf) (rest : List SpecToken) → StandItems l.depth l.initial.reader ds rest
       → (more : ItemsOf) × StandItems l.depth l.reader more rest
-      × (followed (seen l.told) (judged (have_shape (g.T.Readable.has_shape l.version) more) (read_items (g.T.Readable.reads l.version) more))
-      ≡ judged (have_shape (g.T.Readable.has_shape l.version) ds) (read_items (g.T.Readable.reads l.version) ds));
+      × (followed (seen l.told) (judged (have_shape (g.T.Shaped.has_shape l.version) more) (read_items (g.T.Shaped.reads l.version) more))
+      ≡ judged (have_shape (g.T.Shaped.has_shape l.version) ds) (read_items (g.T.Shaped.reads l.version) ds));
   no_longer : length l.reader ≤ length l.initial.reader;
 }
 

@@ -10,5 +10,5 @@ use Rattle.bep_json.proofs.lists.have_shape.Goals as goal
 pub returns : goal.returns
 returns g c =
     let values = c.args.items.now in
-    let e = all_from_yields_List (λ (v : Value Global). g.T.Readable.has_shape c.args.version (view v)) _ _ c.all.result c.all.ensures.ran (YieldsList-from_slice values cc) (λ x b q k. search (rules, tests)) in
-    e ∙ have_shape-all (g.T.Readable.has_shape c.args.version) values
+    let e = all_from_yields_List (λ (v : Value Global). g.T.Shaped.has_shape c.args.version (view v)) _ _ c.all.result c.all.ensures.ran (YieldsList-from_slice values cc) (λ x b q k. search (rules, tests)) in
+    e ∙ have_shape-all (g.T.Shaped.has_shape c.args.version) values

@@ -8,7 +8,7 @@ pub loop-item-preserved : goal.loop-item-preserved
 loop-item-preserved g c =
     let items = c.args.items.now in
     let i = c.loop-item.item-index in
-    let step = one_more_is_read (g.T.Readable.reads c.args.version) items i c.item-item.result c.loop-item.things.items c.in_ok-thing.thing c.loop-item-test.true c.item-item.is c.in_ok-thing.ensures in
-    ap (λ (things : List g.row.T.Denot). with_front things (read_items (g.T.Readable.reads c.args.version) (items_view (drop (i + 1) items)))) c.in_ok-push.ensures.items
+    let step = one_more_is_read (g.T.Shaped.reads c.args.version) items i c.item-item.result c.loop-item.things.items c.in_ok-thing.thing c.loop-item-test.true c.item-item.is c.in_ok-thing.ensures in
+    ap (λ (things : List g.row.T.Denot). with_front things (read_items (g.T.Shaped.reads c.args.version) (items_view (drop (i + 1) items)))) c.in_ok-push.ensures.items
     ∙ step
     ∙ c.loop-item.invariant

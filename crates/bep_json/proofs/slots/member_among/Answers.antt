@@ -41,7 +41,7 @@ loop-found-preserved-in_ok-fill_leaf g c =
           let one = member_comes c.args.depth c.in-Some.key.now c.loop-found.reader c.next_key.new.reader there.0 ms rest key there.1 in
           let filled = c.in_ok-fill_leaf.ensures.value one.0 one.1 one.2 in
           let found = put c.in-Some.key.now one.0 there.0 in
-          let told = slot (g.T.Readable.has_shape c.args.version) (g.T.Readable.reads c.args.version) in (
+          let told = slot (g.T.Shaped.has_shape c.args.version) (g.T.Shaped.reads c.args.version) in (
             found,
             subst (λ ts. StandMembers c.args.depth ts found ms rest) (sym filled.2) one.3,
             filled.1 ∙ sym (ap told (put_by true c.in-Some.key.now one.0 there.0 c.args.name.now (sym c.if-eq.ensures))),
@@ -58,7 +58,7 @@ loop-found-preserved g c =
           let one = member_comes c.args.depth c.in-Some.key.now c.loop-found.reader c.next_key.new.reader there.0 ms rest key there.1 in
           let passed = c.in_ok-pass.ensures.value one.0 one.1 one.2 in
           let found = put c.in-Some.key.now one.0 there.0 in
-          let told = slot (g.T.Readable.has_shape c.args.version) (g.T.Readable.reads c.args.version) in (
+          let told = slot (g.T.Shaped.has_shape c.args.version) (g.T.Shaped.reads c.args.version) in (
             found,
             subst (λ ts. StandMembers c.args.depth ts found ms rest) (sym passed) one.3,
             there.2 ∙ sym (ap told (put_by false c.in-Some.key.now one.0 there.0 c.args.name.now (sym c.if-eq.ensures))),
@@ -71,5 +71,5 @@ returns g c = λ ms rest stood.
     let closed : read_key c.loop-found.reader ≡ Some (None, c.next_key.new.reader) = grind arith in
     let there = c.loop-found.invariant.members ms rest stood in
     let ends = object_ends c.args.depth c.loop-found.reader c.next_key.new.reader there.0 ms rest closed there.1 in
-    let told = slot (g.T.Readable.has_shape c.args.version) (g.T.Readable.reads c.args.version) in
+    let told = slot (g.T.Shaped.has_shape c.args.version) (g.T.Shaped.reads c.args.version) in
     (there.2 ∙ ap (λ found. told (get_member c.args.name.now found)) (sym ends.0), ends.1)

@@ -11,7 +11,7 @@ abbrev pub invariant-loop-found : goal.invariant-loop-found
 invariant-loop-found g l = record {
   members : (ms : MembersOf) (rest : List SpecToken) → StandMembers l.depth l.initial.reader no_members ms rest
       → (before : MembersOf) × StandMembers l.depth l.reader before ms rest
-      × (l.found ≡ slot (g.T.Readable.has_shape l.version) (g.T.Readable.reads l.version) (get_member l.name before));
+      × (l.found ≡ slot (g.T.Shaped.has_shape l.version) (g.T.Shaped.reads l.version) (get_member l.name before));
   no_longer : length l.reader ≤ length l.initial.reader;
 }
 
