@@ -1,7 +1,8 @@
 //! Values of one piece: whether they are what they should be. And in which words it is told what a value should be.
 use crate::members::Sort;
+use crate::vectors::{is_list_of_pairs, is_vector};
 use bep_json::{DocVersion, Nanoseconds, ReadError, Readable, Sequence, Whole};
-use bep_record::{DeviceId, FolderKind, FolderName, Kind, Name, Target, Vector};
+use bep_record::{DeviceId, FolderKind, FolderName, Kind, Name, Target};
 use bep_tree::{Tree, as_bool, as_i64, as_str, as_u64};
 use std::alloc::Global;
 
@@ -12,7 +13,7 @@ pub(crate) fn has_shape(version: DocVersion, sort: Sort, value: &Tree<'_>) -> bo
         // one that begins with a known word isn't of one piece
         Sort::Step => false,
         Sort::Flag => as_bool(value).is_some(),
-        Sort::Version => Vector::has_shape(version, value),
+        Sort::Version => is_list_of_pairs(version, value),
         Sort::FolderKind
         | Sort::FolderName
         | Sort::Name
@@ -46,7 +47,7 @@ pub(crate) fn is_in_range(
         Sort::Name => reads::<Name>(alloc, version, value),
         Sort::Target => reads::<Target>(alloc, version, value),
         Sort::Hash => reads::<[u8; 32]>(alloc, version, value),
-        Sort::Version => reads::<Vector>(alloc, version, value),
+        Sort::Version => is_vector(alloc, value),
         Sort::Text => fits_file(version, value),
         Sort::Hex => is_hex(version, value),
         _ => true,

@@ -16,6 +16,7 @@ mod members;
 mod scenario;
 mod sentence;
 mod survey;
+mod vectors;
 mod walk;
 mod wrong;
 

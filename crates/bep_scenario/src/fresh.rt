@@ -4,6 +4,7 @@ ghost use Rattle.bep_tree.specs.View.{view};
 ghost use Rattle.bep_json.specs.Lists.{is_pair};
 ghost use Rattle.bep_scenario.specs.Fresh.{is_fresh_share, read_fresh_share, is_fresh_folder, read_fresh_folder, fresh_link, read_fresh_link};
 
+use crate::pairs::{is_pair, pair_of};
 use bep_document::{FolderParts, IndexNumber, LinkParts, ShareParts, index_id_of};
 use bep_json::{DocVersion, ReadError, Readable, Shaped, is_object, member};
 use bep_record::{DeviceId, FolderKind, FolderName, Items};
@@ -100,12 +101,14 @@ impl Shaped for Fresh<LinkParts> {
 
 impl Readable for Fresh<LinkParts> {
     fn has_shape(version: DocVersion, value: &Tree<'_>) -> bool {
-        <(u64, u64)>::has_shape(version, value)
+        is_pair(version, value)
     }
 
     #[tactic(auto, unfolding(crate::specs::Fresh::read_fresh_link))]
-    fn read(alloc: Global, version: DocVersion, value: &Tree<'_>) -> Result<Self, ReadError> {
-        let (first, second) = <(u64, u64)>::read(alloc, version, value)?;
+    fn read(alloc: Global, _version: DocVersion, value: &Tree<'_>) -> Result<Self, ReadError> {
+        let Some((first, second)) = pair_of(value) else {
+            return Err(ReadError::Range);
+        };
         let (Some(a), Some(b)) = (DeviceId::read(first), DeviceId::read(second)) else {
             return Err(ReadError::Range);
         };

@@ -14,6 +14,7 @@ mod fresh;
 mod items;
 mod laws;
 mod making;
+mod pairs;
 mod parts;
 mod reading;
 mod scenario;
