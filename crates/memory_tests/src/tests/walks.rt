@@ -1,5 +1,5 @@
 //! `bep_tree` and `bep_json`: walks along a text.
-ghost use Rattle.memory_tests.specs.Walks.{sized_names, sized_slots};
+ghost use Rattle.memory_tests.specs.inner.Walks.{sized_names, sized_slots};
 
 use bep_json::{
     DocVersion, Slots, Taken, Told, Whole, fill, fill_leaf, take_leaf, take_member, take_object,

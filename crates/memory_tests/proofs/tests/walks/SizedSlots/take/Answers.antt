@@ -3,7 +3,7 @@ use Rattle.bep_tree.specs.Names.{is_among}
 use Rattle.bep_tree.proofs.Walking.{reaches_so}
 use Rattle.bep_json.specs.Taking.{with_member}
 use Rattle.bep_json.proofs.TakingFacts.{fills}
-use Rattle.memory_tests.specs.Walks.{sized_names, sized_slots}
+use Rattle.memory_tests.specs.inner.Walks.{sized_names, sized_slots}
 use Rattle.memory_tests.proofs.tests.walks.SizedSlots.take.Goals as goal
 
 pub returns-in-size-clause-value : goal.returns-in-size-clause-value
