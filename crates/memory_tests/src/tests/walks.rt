@@ -1,5 +1,7 @@
 //! `bep_tree` and `bep_json`: walks along a text.
-ghost use Rattle.memory_tests.specs.inner.Walks.{sized_names, sized_slots};
+ghost use Rattle.std.specs.Prelude.{[], ◌∷◌, codes};
+ghost use Rattle.bep_json.specs.Numbers.{is_whole, read_number};
+ghost use Rattle.bep_json.specs.Taking.{slot};
 
 use bep_json::{
     DocVersion, Slots, Taken, Told, Whole, fill, fill_leaf, take_leaf, take_member, take_object,
@@ -19,9 +21,9 @@ struct Sized {
 }
 
 impl Slots for Sized {
-    ghost names = { sized_names };
+    ghost names = { codes "size" ∷ [] };
 
-    ghost known = { λ _. sized_slots };
+    ghost known = { λ _ look. record { size = slot is_whole (read_number 0 9) (look (codes "size")) } };
 
     fn none() -> Self {
         Sized { size: None }
