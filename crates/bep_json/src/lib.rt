@@ -1,12 +1,12 @@
 //! Readers of numbers, texts, lists, records and nodes in JSON: over a tree of `bep_tree`, or along a document's text, without
 //! a tree.
 //!
-//! Over a tree, each thing is read in two walks. The first asks whether the tree has the thing's shape: members and kinds of values.
-//! The second makes the thing, where every number and text is inside its range. A caller reads a message so:
+//! Over a tree, each thing is read in two walks. The first asks whether the tree has the thing's shape: members and kinds of
+//! values. The second makes the thing, where every number and text is inside its range. A caller reads a folder's nodes so:
 //!
-//!     if !(has_only(tree, &["folder", "records"]) && has::<Items<Entry>>(version, tree, "records")) { .. }
+//!     if !(has_only(tree, &["folder", "nodes"]) && has::<Items<NamedParts>>(version, tree, "nodes")) { .. }
 //!     let folder = member::<FolderName>(alloc, version, tree, "folder")?;
-//!     let records = member::<Items<Entry>>(alloc, version, tree, "records")?;
+//!     let nodes = member::<Items<NamedParts>>(alloc, version, tree, "nodes")?;
 //!
 //! Along a text, each thing is read where a reader of its tokens comes to it. What is told of an object's members is kept in
 //! slots until all have come. A caller reads a list of records so:

@@ -86,7 +86,7 @@ pub fn member_or<T: Readable>(
 /// Whether the value is an object with these members, each of its thing's shape, and no others. A member after `has`
 /// must be there, one after `may_have` may be left out.
 ///
-///     is_object!(version, value; has "folders": Items<FolderParts>, may_have "links": Items<LinkParts>)
+///     is_object!(version, value; has "folder": FolderName, may_have "nodes": Items<NamedParts>)
 #[macro_export]
 macro_rules! is_object {
     ($version:expr, $value:expr; $($asked:ident $name:literal: $thing:ty),+) => {

@@ -88,7 +88,8 @@ fn take_members<S: Slots>(
     Ok(Some(slots))
 }
 
-/// Takes the value that comes next into this slot, where such a thing may stand.
+/// Takes the value that comes next into this slot, where such a thing may stand. True, as `Slots::take` answers of a member
+/// that it knows.
 pub fn fill<T: Taken>(
     slot: &mut Option<Told<T>>,
     alloc: Global,
@@ -104,7 +105,7 @@ pub fn fill<T: Taken>(
     Ok(true)
 }
 
-/// Takes the value that comes next into this slot, where such a leaf may stand.
+/// Takes the value that comes next into this slot, where such a leaf may stand. True, as of `fill`.
 pub fn fill_leaf<T: Leaf>(
     slot: &mut Option<Told<T>>,
     alloc: Global,
