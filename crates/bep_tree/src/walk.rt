@@ -1,10 +1,10 @@
 //! Walking along a document's text, from value to value.
-ghost use Rattle.std.specs.Prelude.{◌≡◌, ◌<◌, List, ◌∷◌, suc, length, None, Some, OnOk, MatchResult, option_map};
+ghost use Rattle.std.specs.Prelude.{◌≡◌, ◌<◌, List, ◌∷◌, suc, length, None, Some, OnOk, IfErr, MatchResult, option_map};
 ghost use Rattle.json.specs.Token.{Token as SpecToken};
 ghost use Rattle.json.specs.Json.{read_key};
 ghost use Rattle.json.specs.Reads.{token_of};
 ghost use Rattle.serde_json.specs.Data.{Data, Items, Members, put};
-ghost use Rattle.bep_tree.specs.declared.walk.WalkError.TheVariants.{Memory};
+ghost use Rattle.bep_tree.specs.declared.walk.WalkError.TheVariants.{Broken, Memory};
 ghost use Rattle.bep_tree.specs.Walk.{Stands, StandItems, StandMembers, Reaches, Enters};
 
 use crate::Tree;
@@ -52,6 +52,7 @@ pub fn enter<'a>(reader: &mut Reader<'a>, depth: usize) -> Result<Entered<'a>, W
     ensures value { (d : Data) (rest : List SpecToken) → Stands depth reader.old d rest
         → Reaches result (λ entered. Enters entered d reader.new rest) }
     ensures shorter { OnOk result (length reader.new < length reader.old) }
+    ensures takes_no_memory { IfErr result (λ error. error ≡ Broken) }
 {
     match reader.next() {
         Some(token) => begun_with(token, depth),
@@ -61,8 +62,9 @@ pub fn enter<'a>(reader: &mut Reader<'a>, depth: usize) -> Result<Entered<'a>, W
 
 // What a value begins with whose first token is this one.
 fn begun_with<'a>(token: Token<'a>, depth: usize) -> Result<Entered<'a>, WalkError>
-    ensures { (d : Data) (next : List SpecToken) (rest : List SpecToken) → Stands depth (token_of token.entry ∷ next) d rest
+    ensures value { (d : Data) (next : List SpecToken) (rest : List SpecToken) → Stands depth (token_of token.entry ∷ next) d rest
         → Reaches result (λ entered. Enters entered d next rest) }
+    ensures takes_no_memory { IfErr result (λ error. error ≡ Broken) }
 {
     match token {
         Token::BeginArray => Ok(Entered::List(inside(depth)?)),
@@ -94,6 +96,7 @@ pub fn pass(reader: &mut Reader<'_>, depth: usize) -> Result<(), WalkError>
     ensures value { (d : Data) (rest : List SpecToken) → Stands depth reader.old d rest
         → Reaches result (λ _. reader.new ≡ rest) }
     ensures shorter { OnOk result (length reader.new < length reader.old) }
+    ensures takes_no_memory { IfErr result (λ error. error ≡ Broken) }
 {
     match reader.skip_value(depth) {
         Ok(_) => Ok(()),
@@ -106,6 +109,7 @@ pub fn pass_items(reader: &mut Reader<'_>, depth: usize) -> Result<(), WalkError
     ensures value { (ds : Items) (rest : List SpecToken) → StandItems depth reader.old ds rest
         → Reaches result (λ _. reader.new ≡ rest) }
     ensures no_longer { OnOk result (length reader.new < length reader.old) }
+    ensures takes_no_memory { IfErr result (λ error. error ≡ Broken) }
 {
     while !reader.take_end_array() {
         pass(reader, depth)?;
@@ -131,6 +135,7 @@ pub fn pass_members(reader: &mut Reader<'_>, depth: usize) -> Result<(), WalkErr
     ensures value { (found : Members) (ms : Members) (rest : List SpecToken) → StandMembers depth reader.old found ms rest
         → Reaches result (λ _. reader.new ≡ rest) }
     ensures no_longer { OnOk result (length reader.new < length reader.old) }
+    ensures takes_no_memory { IfErr result (λ error. error ≡ Broken) }
 {
     while let Some(_) = next_key(reader)? {
         pass(reader, depth)?;
