@@ -1,6 +1,6 @@
 -- What a document's bytes hold is the value of the one tree that their tokens are.
 use Rattle.std.proofs.Common.{◌≡◌, ◌∙◌, ℕ, List, [], ◌∷◌, Bool, true, false, cond, inl, inr, Option, Some, None, is_some, option_and_then, refl, sym, ap}
-use Rattle.std.specs.Prelude.{if◌then◌else◌, IsSome}
+use Rattle.std.specs.Prelude.{if◌then◌else◌}
 use Rattle.std.specs.Str.{is_utf8}
 use Rattle.json.specs.Json as json
 use Rattle.json.specs.Lex.{tokens}
@@ -79,11 +79,3 @@ value_of_document bytes d e = by_text (is_utf8 bytes) refl
     by_text : (b : Bool) → is_utf8 bytes ≡ b → Holds bytes d
     by_text true f = by_json (json_of bytes) refl (sym (ap (λ b. if b then read bytes else None) f) ∙ e)
     by_text false f = absurd (let never : None ≡ Some d = sym (ap (λ b. if b then read bytes else None) f) ∙ e in cc)
-
--- the same where it is only known that there is a value, as from `json_text`
-pub value_where_some : (bytes : List ℕ) → IsSome (tree_of bytes) → (d : Data) × (tree_of bytes ≡ Some d) × Holds bytes d
-value_where_some bytes some = by_value (tree_of bytes) refl some
-  where
-    by_value : (o : Option Data) → tree_of bytes ≡ o → IsSome o → (d : Data) × (tree_of bytes ≡ Some d) × Holds bytes d
-    by_value None e f = absurd (cc)
-    by_value (Some d) e f = (d, e, value_of_document bytes d e)

@@ -2,3 +2,4 @@
 pub mod InRange
 pub mod Text
 pub mod Passed
+pub mod Numbered

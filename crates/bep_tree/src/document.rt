@@ -1,40 +1,48 @@
 //! Whether bytes are a document, without a tree.
-ghost use Rattle.std.specs.Prelude.{◌≡◌, None, is_some, IfOk, IsSome, MatchOption, option_and_then};
-ghost use Rattle.serde_json.specs.Read.{of_json};
+ghost use Rattle.std.specs.Prelude.{◌≡◌, None, Some, IfOk, MatchOption};
+ghost use Rattle.serde_json.specs.Data.{Data};
+ghost use Rattle.bep_tree.specs.Number.{number_at};
 ghost use Rattle.bep_tree.specs.Read.{tree_of};
-ghost use Rattle.bep_tree.specs.inner.Text.{one_value};
 
 use crate::Scratch;
-use crate::ranged::pass_value;
-use crate::read::MAX_DEPTH;
+use crate::numbered::number_in;
 use json::Reader;
 use std::alloc::AllocError;
 
 /// The text of these bytes, if `serde_json` reads a value in them: if `read_tree` makes a tree of them. This makes none.
-pub fn json_text<'a>(bytes: &'a [u8], scratch: &mut Scratch) -> Result<Option<&'a str>, AllocError>
-    ensures { IfOk result (λ found. MatchOption found (tree_of bytes.now ≡ None) (λ text. (text.now ≡ bytes.now) × IsSome (tree_of bytes.now))) }
+/// With it comes the whole number at the value's member of this name, the last of them, if there is one.
+pub fn json_text<'a>(
+    bytes: &'a [u8],
+    name: &str,
+    scratch: &mut Scratch,
+) -> Result<Option<(&'a str, Option<u64>)>, AllocError>
+    ensures { IfOk result (λ found. MatchOption found (tree_of bytes.now ≡ None)
+        (λ said. (said.0.now ≡ bytes.now) × (d : Data) × (tree_of bytes.now ≡ Some d) × (said.1 ≡ number_at name.now d))) }
 {
     let Ok(text) = std::str::from_utf8(bytes) else {
         return Ok(None);
     };
-    if is_document(text, scratch)? {
-        Ok(Some(text))
-    } else {
-        Ok(None)
+    match number_in_text(text, name, scratch)? {
+        Some(number) => Ok(Some((text, number))),
+        None => Ok(None),
     }
 }
 
-// Whether there is a value in this text.
-fn is_document(text: &str, scratch: &mut Scratch) -> Result<bool, AllocError>
-    ensures { IfOk result (λ is. is ≡ is_some (tree_of text.now)) }
+// The whole number at the member of this name in the value that is this text, if it is one.
+fn number_in_text(
+    text: &str,
+    name: &str,
+    scratch: &mut Scratch,
+) -> Result<Option<Option<u64>>, AllocError>
+    ensures { IfOk result (λ found. MatchOption found (tree_of text.now ≡ None)
+        (λ number. (d : Data) × (tree_of text.now ≡ Some d) × (number ≡ number_at name.now d))) }
 {
     let mut reader = Reader::new(text, scratch)?;
-    Ok(is_one_value(&mut reader))
-}
-
-// Whether what is left to read is one value, its numbers in range.
-fn is_one_value(reader: &mut Reader<'_>) -> bool
-    ensures { result ≡ is_some (option_and_then of_json (one_value reader.old)) }
-{
-    pass_value(reader, MAX_DEPTH) && reader.next().is_none()
+    let Some(number) = number_in(&mut reader, name) else {
+        return Ok(None);
+    };
+    match reader.next() {
+        None => Ok(Some(number)),
+        Some(_) => Ok(None),
+    }
 }

@@ -18,6 +18,7 @@ mod document;
 mod error;
 mod look;
 mod number;
+mod numbered;
 mod ranged;
 mod read;
 mod walk;

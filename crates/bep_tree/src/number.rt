@@ -31,7 +31,7 @@ pub fn as_i64(tree: &Tree<'_>) -> Option<i64>
 }
 
 // The unsigned number of 64 bits that the text writes.
-fn unsigned_in(text: &str) -> Option<u64>
+pub(crate) fn unsigned_in(text: &str) -> Option<u64>
     ensures { result ≡ option_and_then as_u64 (number_of text.now) }
 {
     let bytes = text.as_bytes();

@@ -1,6 +1,7 @@
 //! Passing over a value, and looking at its numbers on the way.
-ghost use Rattle.std.specs.Prelude.{◌≡◌, ◌<◌, Some, None, IsTrue, length};
+ghost use Rattle.std.specs.Prelude.{◌≡◌, ◌<◌, ◌≤◌, ◌∷◌, Some, None, IsTrue, length};
 ghost use Rattle.std.specs.Bool.{MatchBool};
+ghost use Rattle.json.specs.Reads.{token_of};
 ghost use Rattle.bep_tree.specs.inner.Passed.{after_value, after_items, after_members};
 
 use crate::number::is_in_range;
@@ -8,13 +9,24 @@ use json::{Reader, Token};
 
 // Passes the next value, if there is one, its numbers are in range, and its arrays and objects nest at most this deep.
 #[cycle(pass)]
-pub(crate) fn pass_value(reader: &mut Reader<'_>, depth: usize) -> bool
+#[inline(always)]
+fn pass_value(reader: &mut Reader<'_>, depth: usize) -> bool
     ensures passed { MatchBool result (after_value depth reader.old ≡ Some reader.new) (after_value depth reader.old ≡ None) }
     ensures shorter { IsTrue result → length reader.new < length reader.old }
 {
-    let Some(token) = reader.next() else {
-        return false;
-    };
+    match reader.next() {
+        Some(token) => pass_begun(reader, token, depth),
+        None => false,
+    }
+}
+
+// The same of the value that begins with this token.
+#[cycle(pass)]
+#[inline(always)]
+pub(crate) fn pass_begun(reader: &mut Reader<'_>, token: Token<'_>, depth: usize) -> bool
+    ensures passed { MatchBool result (after_value depth (token_of token.entry ∷ reader.old) ≡ Some reader.new) (after_value depth (token_of token.entry ∷ reader.old) ≡ None) }
+    ensures no_longer { IsTrue result → length reader.new ≤ length reader.old }
+{
     match token {
         Token::Number(text) => is_in_range(text),
         Token::String(_) | Token::Bool(_) | Token::Null => true,

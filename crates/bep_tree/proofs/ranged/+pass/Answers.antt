@@ -57,54 +57,44 @@ pass_members-returns-in-Err-clause-passed t c =
     let l = c.loop-reader in
     l.invariant.2 ∙ ap (after members_in_range) (members_no_key (value c.args.depth) l.invariant.0 l.reader c.in-Err.ensures.value)
 
-pub pass_value-returns-in_default-clause-passed : goal.pass_value-returns-in_default-clause-passed
-pass_value-returns-in_default-clause-passed t c =
+pub pass_value-returns-in-None-clause-passed : goal.pass_value-returns-in-None-clause-passed
+pass_value-returns-in-None-clause-passed t c =
     let empty : c.args.reader.now ≡ [] = grind arith in
     ap (after_value c.args.depth) empty ∙ ap (after is_in_range) (value_is c.args.depth [])
 
-pub pass_value-returns-in-Number-clause-passed : goal.pass_value-returns-in-Number-clause-passed
-pass_value-returns-in-Number-clause-passed t c =
-    let first : c.args.reader.now ≡ token_of c.in-Some.token ∷ c.next.new.self = grind arith in
-    rw (value_is c.args.depth c.args.reader.now, first) (grind arith)
+pub pass_begun-returns-in-Number-clause-passed : goal.pass_begun-returns-in-Number-clause-passed
+pass_begun-returns-in-Number-clause-passed t c = rw (value_is c.args.depth (token_of c.args.token ∷ c.args.reader.now)) (grind arith)
 
-pub pass_value-returns-in-String-clause-passed : goal.pass_value-returns-in-String-clause-passed
-pass_value-returns-in-String-clause-passed t c =
-    let first : c.args.reader.now ≡ token_of c.in-Some.token ∷ c.next.new.self = grind arith in
-    rw (value_is c.args.depth c.args.reader.now, first) (grind arith)
+pub pass_begun-returns-in-String-clause-passed : goal.pass_begun-returns-in-String-clause-passed
+pass_begun-returns-in-String-clause-passed t c = rw (value_is c.args.depth (token_of c.args.token ∷ c.args.reader.now)) (grind arith)
 
-pub pass_value-returns-in-EndObject-clause-passed : goal.pass_value-returns-in-EndObject-clause-passed
-pass_value-returns-in-EndObject-clause-passed t c =
-    let first : c.args.reader.now ≡ token_of c.in-Some.token ∷ c.next.new.self = grind arith in
-    rw (value_is c.args.depth c.args.reader.now, first) (grind arith)
+pub pass_begun-returns-in-EndObject-clause-passed : goal.pass_begun-returns-in-EndObject-clause-passed
+pass_begun-returns-in-EndObject-clause-passed t c = rw (value_is c.args.depth (token_of c.args.token ∷ c.args.reader.now)) (grind arith)
 
-pub pass_value-returns-then-depth-gt0-clause-passed : goal.pass_value-returns-then-depth-gt0-clause-passed
-pass_value-returns-then-depth-gt0-clause-passed t c =
-    let first : c.args.reader.now ≡ token_of c.in-Some.token ∷ c.next.new.self = grind arith in
-    let opened : c.args.reader.now ≡ Token.begin_array ∷ c.next.new.self = first ∙ ap (λ k. token_of k ∷ c.next.new.self) c.in-BeginArray.is in
-    let same : after_value c.args.depth c.args.reader.now ≡ after_items (c.args.depth - 1) c.next.new.self =
-    ap (after_value c.args.depth) opened ∙ ap (after is_in_range) (value-begin_array c.args.depth c.next.new.self (omega arith)) ∙ after-mapped items_in_range is_in_range json.array (λ js. refl) (json.items (value (c.args.depth - 1)) (length c.next.new.self) c.next.new.self) in
+pub pass_begun-returns-then-depth-gt0-clause-passed : goal.pass_begun-returns-then-depth-gt0-clause-passed
+pass_begun-returns-then-depth-gt0-clause-passed t c =
+    let opened : token_of c.args.token ∷ c.args.reader.now ≡ Token.begin_array ∷ c.args.reader.now = ap (λ k. token_of k ∷ c.args.reader.now) c.in-BeginArray.is in
+    let same : after_value c.args.depth (token_of c.args.token ∷ c.args.reader.now) ≡ after_items (c.args.depth - 1) c.args.reader.now =
+    ap (after_value c.args.depth) opened ∙ ap (after is_in_range) (value-begin_array c.args.depth c.args.reader.now (omega arith)) ∙ after-mapped items_in_range is_in_range json.array (λ js. refl) (json.items (value (c.args.depth - 1)) (length c.args.reader.now) c.args.reader.now) in
     rw same c.pass_items.ensures.passed
 
-pub pass_value-returns-else-depth-gt0-clause-passed : goal.pass_value-returns-else-depth-gt0-clause-passed
+pub pass_begun-returns-else-depth-gt0-clause-passed : goal.pass_begun-returns-else-depth-gt0-clause-passed
 unfolding value
-pass_value-returns-else-depth-gt0-clause-passed t c =
-    let first : c.args.reader.now ≡ token_of c.in-Some.token ∷ c.next.new.self = grind arith in
+pass_begun-returns-else-depth-gt0-clause-passed t c =
     let none : c.args.depth ≡ 0 = omega arith in
-    let fails : after_value c.args.depth c.args.reader.now ≡ None = ap₂ after_value none (first ∙ ap (λ k. token_of k ∷ c.next.new.self) c.in-BeginArray.is) in
-    subst (λ d. MatchBool (ltb 0 d) (after_value c.args.depth c.args.reader.now ≡ Some c.next.new.self) (after_value c.args.depth c.args.reader.now ≡ None)) (sym none) fails
+    let fails : after_value c.args.depth (token_of c.args.token ∷ c.args.reader.now) ≡ None = ap₂ after_value none (ap (λ k. token_of k ∷ c.args.reader.now) c.in-BeginArray.is) in
+    subst (λ d. MatchBool (ltb 0 d) (after_value c.args.depth (token_of c.args.token ∷ c.args.reader.now) ≡ Some c.args.reader.now) (after_value c.args.depth (token_of c.args.token ∷ c.args.reader.now) ≡ None)) (sym none) fails
 
-pub pass_value-returns-then-depth-gt0-2-clause-passed : goal.pass_value-returns-then-depth-gt0-2-clause-passed
-pass_value-returns-then-depth-gt0-2-clause-passed t c =
-    let first : c.args.reader.now ≡ token_of c.in-Some.token ∷ c.next.new.self = grind arith in
-    let opened : c.args.reader.now ≡ Token.begin_object ∷ c.next.new.self = first ∙ ap (λ k. token_of k ∷ c.next.new.self) c.in-BeginObject.is in
-    let same : after_value c.args.depth c.args.reader.now ≡ after_members (c.args.depth - 1) c.next.new.self =
-    ap (after_value c.args.depth) opened ∙ ap (after is_in_range) (value-begin_object c.args.depth c.next.new.self (omega arith)) ∙ after-mapped members_in_range is_in_range json.object (λ ms. refl) (json.members (value (c.args.depth - 1)) (length c.next.new.self) c.next.new.self) in
+pub pass_begun-returns-then-depth-gt0-2-clause-passed : goal.pass_begun-returns-then-depth-gt0-2-clause-passed
+pass_begun-returns-then-depth-gt0-2-clause-passed t c =
+    let opened : token_of c.args.token ∷ c.args.reader.now ≡ Token.begin_object ∷ c.args.reader.now = ap (λ k. token_of k ∷ c.args.reader.now) c.in-BeginObject.is in
+    let same : after_value c.args.depth (token_of c.args.token ∷ c.args.reader.now) ≡ after_members (c.args.depth - 1) c.args.reader.now =
+    ap (after_value c.args.depth) opened ∙ ap (after is_in_range) (value-begin_object c.args.depth c.args.reader.now (omega arith)) ∙ after-mapped members_in_range is_in_range json.object (λ ms. refl) (json.members (value (c.args.depth - 1)) (length c.args.reader.now) c.args.reader.now) in
     rw same c.pass_members.ensures.passed
 
-pub pass_value-returns-else-depth-gt0-2-clause-passed : goal.pass_value-returns-else-depth-gt0-2-clause-passed
+pub pass_begun-returns-else-depth-gt0-2-clause-passed : goal.pass_begun-returns-else-depth-gt0-2-clause-passed
 unfolding value
-pass_value-returns-else-depth-gt0-2-clause-passed t c =
-    let first : c.args.reader.now ≡ token_of c.in-Some.token ∷ c.next.new.self = grind arith in
+pass_begun-returns-else-depth-gt0-2-clause-passed t c =
     let none : c.args.depth ≡ 0 = omega arith in
-    let fails : after_value c.args.depth c.args.reader.now ≡ None = ap₂ after_value none (first ∙ ap (λ k. token_of k ∷ c.next.new.self) c.in-BeginObject.is) in
-    subst (λ d. MatchBool (ltb 0 d) (after_value c.args.depth c.args.reader.now ≡ Some c.next.new.self) (after_value c.args.depth c.args.reader.now ≡ None)) (sym none) fails
+    let fails : after_value c.args.depth (token_of c.args.token ∷ c.args.reader.now) ≡ None = ap₂ after_value none (ap (λ k. token_of k ∷ c.args.reader.now) c.in-BeginObject.is) in
+    subst (λ d. MatchBool (ltb 0 d) (after_value c.args.depth (token_of c.args.token ∷ c.args.reader.now) ≡ Some c.args.reader.now) (after_value c.args.depth (token_of c.args.token ∷ c.args.reader.now) ≡ None)) (sym none) fails

@@ -5,13 +5,16 @@ use Rattle.bep_tree.specs.inner.Passed.{after, after_items, after_members}
 use Rattle.bep_tree.proofs.ranged.+pass.Given as goal
 
 abbrev pub decreases-pass_value : goal.decreases-pass_value
-decreases-pass_value l = 2 * l.depth
+decreases-pass_value l = 3 * l.depth + 1
+
+abbrev pub decreases-pass_begun : goal.decreases-pass_begun
+decreases-pass_begun l = 3 * l.depth
 
 abbrev pub decreases-pass_items : goal.decreases-pass_items
-decreases-pass_items l = 2 * l.depth + 1
+decreases-pass_items l = 3 * l.depth + 2
 
 abbrev pub decreases-pass_members : goal.decreases-pass_members
-decreases-pass_members l = 2 * l.depth + 1
+decreases-pass_members l = 3 * l.depth + 2
 
 -- what follows the items that are left is what follows all
 abbrev pub invariant-pass_items-loop-reader : goal.invariant-pass_items-loop-reader
