@@ -28,7 +28,7 @@ fn is_read(alloc: Global, bytes: &[u8], word: &str) -> bool {
     }
     if word == "pass" {
         let mut scratch = Scratch::new(alloc);
-        return json_text(bytes, &mut scratch).is_ok();
+        return json_text(bytes, "version", &mut scratch).is_ok();
     }
     Value::from_slice(alloc, bytes).is_ok()
 }

@@ -1,28 +1,26 @@
 //! The reading of a document: from its bytes to what it says, or to its fault.
 //!
-//! A document is walked through three times: once to see that it is JSON, once for its version, and once for what it says.
-ghost use Rattle.std.specs.Prelude.{◌≡◌, Some};
+//! A document is walked through twice: once to see that it is JSON, and for its version, and once for what it says.
+ghost use Rattle.std.specs.Prelude.{◌≡◌, Some, option_and_then};
 ghost use Rattle.serde_json.specs.Data.{Data};
 ghost use Rattle.bep_json.specs.Taking.{judged};
+ghost use Rattle.bep_json.specs.Version.{version_of};
 ghost use Rattle.bep_tree.specs.View.{view};
 ghost use Rattle.bep_tree.specs.Read.{tree_of};
 ghost use Rattle.bep_tree.specs.Walk.{Reaches};
-ghost use Rattle.bep_document.specs.Reading.{Answers, AnswersBy, given, document_tree, unless, first_fault, reading_of_tree, reading_of, reading_of_cut_text, reading_of_cut_in, reading_of_cut_document};
+ghost use Rattle.bep_document.specs.Reading.{Answers, AnswersBy, given, document_tree, unless, first_fault, reading_of, reading_of_cut_text, reading_of_cut_document};
 ghost use Rattle.bep_document.specs.Fault.{nowhere};
 ghost use Rattle.bep_document.specs.declared.fault.Fault.TheVariants.{NotJson};
-ghost use Rattle.bep_document.specs.inner.Texts.{AnswersText, version_told, parts_read, cut_parts, cut_in_told};
-ghost use Rattle.bep_document.specs.read.Checks.{is_cut, read_cut, doc_version, is_check, read_check_parts};
+ghost use Rattle.bep_document.specs.inner.Texts.{AnswersDocument, AnswersText, parts_read, cut_parts, cut_in_told};
+ghost use Rattle.bep_document.specs.read.Checks.{is_cut, read_cut, is_check, read_check_parts};
 
 use crate::faults::fault_of;
 use crate::take::{CheckSlots, CutLists, CutSlot, check_told, cut_told};
 use crate::{CheckParts, DocError, DocFault, Fault};
-use bep_json::{DocVersion, Misread, Taken, Told, Whole, take_member, take_object};
+use bep_json::{DocVersion, Misread, Taken, Told, take_object};
 use bep_record::Items;
 use bep_tree::{MAX_DEPTH, Reader, Scratch, Tree, TreeError, WalkError, json_text, read_tree};
 use std::alloc::Global;
-
-// The number of a version.
-type Number = Whole<1, 2>;
 
 /// The most bytes of a document.
 ///
@@ -35,8 +33,9 @@ pub fn read_parts(alloc: Global, bytes: &[u8]) -> Result<CheckParts, DocError>
     ensures { Answers result (reading_of bytes.now) }
 {
     let mut scratch = Scratch::new(alloc);
-    let text = document_text(bytes, &mut scratch)?;
-    parts_in(alloc, text, &mut scratch)
+    let (text, version) = document_text(bytes, &mut scratch)?;
+    let told = check_in(alloc, version, text, &mut scratch)?;
+    parts_read(alloc, told)
 }
 
 /// The error of a fault of the whole document.
@@ -77,58 +76,45 @@ pub fn tree_of<'a>(
     }
 }
 
-// The text of a document's bytes. Refuses `Range` where they are too many, and `NotJson` where they aren't JSON; `Memory`
-// may come in place of any answer.
-fn document_text<'a>(bytes: &'a [u8], scratch: &mut Scratch) -> Result<&'a str, DocError>
-    ensures { AnswersText result (document_tree bytes.now) }
+// The text of a document's bytes, and its version. Refuses `Range` where they are too many, `NotJson` where they aren't JSON,
+// and `VersionBad` where the document says no version; `Memory` may come in place of any answer.
+fn document_text<'a>(
+    bytes: &'a [u8],
+    scratch: &mut Scratch,
+) -> Result<(&'a str, DocVersion), DocError>
+    ensures { AnswersDocument result (document_tree bytes.now) }
 {
     if bytes.len() > MAX_BYTES {
         return Err(refused(Fault::Range));
     }
-    text_of(bytes, scratch)
+    let (text, found) = text_of(bytes, scratch)?;
+    match found {
+        Some(version) => Ok((text, version)),
+        None => Err(refused(Fault::VersionBad)),
+    }
 }
 
-// The text of bytes, however many. Refuses `NotJson` where they aren't JSON; `Memory` may come in place of any answer.
-fn text_of<'a>(bytes: &'a [u8], scratch: &mut Scratch) -> Result<&'a str, DocError>
+// The text of bytes, however many, and the version that they say, if they say one. Refuses `NotJson` where they aren't JSON;
+// `Memory` may come in place of any answer.
+fn text_of<'a>(
+    bytes: &'a [u8],
+    scratch: &mut Scratch,
+) -> Result<(&'a str, Option<DocVersion>), DocError>
     ensures { AnswersText result (given NotJson (tree_of bytes.now)) }
 {
-    match json_text(bytes, scratch)? {
-        Some(text) => Ok(text),
+    let found = json_text(bytes, "version", scratch)?;
+    match found {
+        Some((text, number)) => Ok((text, version_of(number))),
         None => Err(refused(Fault::NotJson)),
     }
 }
 
-// What a document's text says.
-fn parts_in(alloc: Global, text: &str, scratch: &mut Scratch) -> Result<CheckParts, DocError>
-    ensures { (d : Data) → tree_of text.now ≡ Some d → Answers result (reading_of_tree d) }
+// The version with this number, if there is one.
+fn version_of(number: Option<u64>) -> Option<DocVersion>
+    ensures { result ≡ option_and_then version_of number }
 {
-    let Some(version) = version_in(alloc, text, scratch)? else {
-        return Err(refused(Fault::VersionBad));
-    };
-    let told = check_in(alloc, version, text, scratch)?;
-    parts_read(alloc, told)
-}
-
-// The version that a document's text says.
-fn version_in(
-    alloc: Global,
-    text: &str,
-    scratch: &mut Scratch,
-) -> Result<Option<DocVersion>, WalkError>
-    ensures { (d : Data) → tree_of text.now ≡ Some d → Reaches result (λ version. version ≡ doc_version d) }
-{
-    let mut reader = Reader::new(text, scratch)?;
-    let found = take_member::<Number>(alloc, DocVersion::One, &mut reader, MAX_DEPTH, "version")?;
-    Ok(version_told(found))
-}
-
-// The version with the number that is told.
-fn version_told(found: Option<Told<Number>>) -> Option<DocVersion>
-    ensures { result ≡ version_told found }
-{
-    match found {
-        Some(Ok(number)) => DocVersion::of_number(number.number()),
-        Some(Err(_)) => None,
+    match number {
+        Some(number) => DocVersion::of_number(number),
         None => None,
     }
 }
@@ -186,7 +172,7 @@ pub fn read_cut_text(
     ensures { Answers result (reading_of_cut_text version bytes.now) }
 {
     let mut scratch = Scratch::new(alloc);
-    let text = text_of(bytes, &mut scratch)?;
+    let (text, _version) = text_of(bytes, &mut scratch)?;
     let told = cut_of_text(alloc, version, text, &mut scratch)?;
     parts_read(alloc, cut_parts(alloc, version, told))
 }
@@ -220,18 +206,8 @@ pub fn read_cut_document(alloc: Global, bytes: &[u8]) -> Result<CheckParts, DocE
     ensures { Answers result (reading_of_cut_document bytes.now) }
 {
     let mut scratch = Scratch::new(alloc);
-    let text = document_text(bytes, &mut scratch)?;
-    cut_in(alloc, text, &mut scratch)
-}
-
-// What the text of a check document says of its cut.
-fn cut_in(alloc: Global, text: &str, scratch: &mut Scratch) -> Result<CheckParts, DocError>
-    ensures { (d : Data) → tree_of text.now ≡ Some d → Answers result (reading_of_cut_in d) }
-{
-    let Some(version) = version_in(alloc, text, scratch)? else {
-        return Err(refused(Fault::VersionBad));
-    };
-    let told = cut_member_in(alloc, version, text, scratch)?;
+    let (text, version) = document_text(bytes, &mut scratch)?;
+    let told = cut_member_in(alloc, version, text, &mut scratch)?;
     parts_read(alloc, cut_parts(alloc, version, told))
 }
 

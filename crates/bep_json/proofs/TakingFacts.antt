@@ -201,14 +201,3 @@ other_name name key other = by_same (bytes_eq name key) refl
 pub neither : (a b : Bool) → a ≡ false → b ≡ false → a || b ≡ false
 neither false b is other = other
 neither true b is other = cc
-
--- ---- one member of an object
-
--- what is no object has no members
-pub no_member : (name : List ℕ) (d : Data) → as_object d ≡ None → get name d ≡ None
-no_member name null is = refl
-no_member name (boolean b) is = refl
-no_member name (number n) is = refl
-no_member name (string s) is = refl
-no_member name (array ds) is = refl
-no_member name (object ms) is = cc

@@ -3,10 +3,9 @@ ghost use Rattle.std.specs.Prelude.{◌≡◌, ◌<◌, ◌≤◌, ℕ, List, Op
 ghost use Rattle.std.specs.Bool.{OnTrue};
 ghost use Rattle.json.specs.Token.{Token as SpecToken};
 ghost use Rattle.serde_json.specs.Data.{Data, Items as ItemsOf, Members as MembersOf, no_members, object};
-ghost use Rattle.serde_json.specs.Find.{get, get_member};
 ghost use Rattle.bep_tree.specs.Walk.{Stands, StandItems, StandMembers, Reaches};
 ghost use Rattle.bep_json.specs.declared.version.DocVersion.{DocVersion as VersionOf};
-ghost use Rattle.bep_json.specs.Taking.{judged, slot, TakesMember, Fills};
+ghost use Rattle.bep_json.specs.Taking.{judged, TakesMember, Fills};
 
 use crate::{DocVersion, Leaf, Taken, Told, take_leaf};
 use bep_tree::{Entered, Reader, WalkError, enter, next_key, pass, pass_items, pass_members};
@@ -119,57 +118,4 @@ pub fn fill_leaf<T: Leaf>(
 {
     *slot = Some(take_leaf(alloc, version, reader, depth)?);
     Ok(true)
-}
-
-/// Takes the value that comes next, and tells of its last member of this name; of none where it is no object, or has no
-/// such member. What other members it has isn't looked at.
-pub fn take_member<T: Leaf>(
-    alloc: Global,
-    version: DocVersion,
-    reader: &mut Reader<'_>,
-    depth: usize,
-    name: &str,
-) -> Result<Option<Told<T>>, WalkError>
-    ensures { (d : Data) (rest : List SpecToken) → Stands depth reader.old d rest
-        → Reaches result (λ found. (found ≡ slot (T.has_shape version) (T.reads version) (get name.now d)) × (reader.new ≡ rest)) }
-{
-    match enter(reader, depth)? {
-        Entered::Object(inside) => member_among(alloc, version, reader, inside, name),
-        Entered::List(inside) => no_member_in(reader, inside),
-        Entered::Leaf(_tree) => Ok(None),
-    }
-}
-
-// Passes the items that are left of a list, which has no members.
-fn no_member_in<T: Drop>(
-    reader: &mut Reader<'_>,
-    depth: usize,
-) -> Result<Option<Told<T>>, WalkError>
-    ensures { (ds : ItemsOf) (rest : List SpecToken) → StandItems depth reader.old ds rest
-        → Reaches result (λ found. (found ≡ None) × (reader.new ≡ rest)) }
-{
-    pass_items(reader, depth)?;
-    Ok(None)
-}
-
-// Tells of the last member of this name among those that are still to come, and passes the others.
-fn member_among<T: Leaf>(
-    alloc: Global,
-    version: DocVersion,
-    reader: &mut Reader<'_>,
-    depth: usize,
-    name: &str,
-) -> Result<Option<Told<T>>, WalkError>
-    ensures { (ms : MembersOf) (rest : List SpecToken) → StandMembers depth reader.old no_members ms rest
-        → Reaches result (λ found. (found ≡ slot (T.has_shape version) (T.reads version) (get_member name.now ms)) × (reader.new ≡ rest)) }
-{
-    let mut found = None;
-    while let Some(key) = next_key(reader)? {
-        if key == name {
-            fill_leaf(&mut found, alloc, version, reader, depth)?;
-        } else {
-            pass(reader, depth)?;
-        }
-    }
-    Ok(found)
 }

@@ -13,11 +13,18 @@ const MOST_READ: usize = 67108865;
 // The most bytes that are asked of the reader at once.
 const PIECE: usize = 65536;
 
+// The room of the buffer to read into, most of which is never touched. The allocator of the system's C library gives memory
+// of this size back to the system when it is let go of, and keeps smaller memory from then on. The lists of a document are
+// smaller. So what held one list holds another one later, and the system needn't clear each page anew.
+const ROOM: usize = 4_194_304;
+
 // So many bytes to read into.
 fn buffer_of(alloc: Global, len: usize) -> Result<Vec<u8>, AllocError>
     ensures { IfOk result (λ buffer. length buffer.items ≡ len) }
 {
-    vec![in alloc; 0; len]
+    let mut buffer = Vec::with_capacity(alloc, ROOM)?;
+    buffer.resize(len, 0)?;
+    Ok(buffer)
 }
 
 // Appends what one read gives, and says how many bytes that is.

@@ -1,16 +1,15 @@
 -- What is told of a document, as its reading.
-use Rattle.std.proofs.Common.{◌≡◌, ◌∙◌, ℕ, Bool, true, false, List, [], Option, Some, None, Err, refl, sym, ap, arith}
-use Rattle.std.specs.Prelude.{codes, if◌then◌else◌, option_and_then, is_some}
-use Rattle.std.proofs.lemmas.Bool.Decides.{nat_tests}
-use Rattle.serde_json.specs.Data.{Data, Num, unsigned, negative, float}
-use Rattle.serde_json.specs.Find.{as_number, as_integer, as_u64, get}
+use Rattle.std.proofs.Common.{◌≡◌, ◌∙◌, ℕ, Bool, true, false, List, [], Option, Some, None, Err, refl, sym, ap}
+use Rattle.std.specs.Prelude.{codes, if◌then◌else◌, option_and_then}
+use Rattle.serde_json.specs.Data.{Data}
+use Rattle.serde_json.specs.Find.{get}
 use Rattle.bep_json.specs.declared.version.DocVersion.{DocVersion}
-use Rattle.bep_json.specs.Numbers.{is_whole, read_number, within}
 use Rattle.bep_json.specs.Reading as json
 use Rattle.bep_json.specs.Taking.{judged, due, slot}
 use Rattle.bep_json.specs.Tree.{names_of}
 use Rattle.bep_json.specs.Version.{version_of}
 use Rattle.bep_tree.specs.Names.{has_only}
+use Rattle.bep_tree.specs.Number.{number_at, whole_number}
 use Rattle.bep_tree.specs.Read.{tree_of}
 use Rattle.bep_tree.specs.Walk.{Stands}
 use Rattle.bep_tree.proofs.OneValue.{value_of_document}
@@ -22,29 +21,36 @@ use Rattle.bep_document.specs.declared.parts.FolderParts.{FolderParts}
 use Rattle.bep_document.specs.declared.parts.LinkParts.{LinkParts}
 use Rattle.bep_document.specs.Fault.{nowhere}
 use Rattle.bep_document.specs.declared.error.DocError.{DocError}
+use Rattle.bep_document.specs.declared.fault.DocFault.{DocFault}
 use Rattle.bep_document.specs.declared.error.DocError.TheVariants as errors
 use Rattle.bep_json.specs.declared.told.Misread.TheVariants as misread
-use Rattle.bep_document.specs.inner.Texts.{version_told, parts_read, cut_parts, cut_in_told}
+use Rattle.bep_document.specs.inner.Texts.{parts_read, cut_parts, cut_in_told}
 use Rattle.bep_document.specs.read.Checks.{is_cut, read_cut, doc_version, read_doc_version, check_members, is_check, read_check_parts}
 
 -- ---- the version
 
--- the versions have the numbers 1 and 2
-in_range : (n : ℕ) → version_told (Some (judged true (within 1 2 n))) ≡ version_of n
-in_range n = grind (arith, nat_tests)
+number_version : (number : Option ℕ) → option_and_then version_of number ≡ json.◌>>=◌ number version_of
+number_version None = refl
+number_version (Some n) = refl
 
-by_number : (n : Option Num) → version_told (Some (judged (is_some (option_and_then as_integer n)) (json.◌>>=◌ (option_and_then as_u64 n) (within 1 2)))) ≡ json.◌>>=◌ (option_and_then as_u64 n) version_of
-by_number None = refl
-by_number (Some (unsigned n)) = in_range n
-by_number (Some (negative z)) = refl
-by_number (Some (float x)) = refl
+found_number : (found : Option Data) → option_and_then version_of (option_and_then whole_number found) ≡ json.◌>>=◌ found read_doc_version
+found_number None = refl
+found_number (Some d) = number_version (whole_number d)
 
-of_found : (found : Option Data) → version_told (slot is_whole (read_number 1 2) found) ≡ json.◌>>=◌ found read_doc_version
-of_found None = refl
-of_found (Some d) = by_number (as_number d)
+pub version_is : (d : Data) → option_and_then version_of (number_at (codes "version") d) ≡ doc_version d
+version_is d = found_number (get (codes "version") d)
 
-pub version_is : (d : Data) → version_told (slot is_whole (read_number 1 2) (get (codes "version") d)) ≡ doc_version d
-version_is d = of_found (get (codes "version") d)
+-- ---- a refusal stays one, whatever comes next
+abbrev refused_with : {A B : Type 0} → DocFault → Reading A → Reading B
+refused_with fault (Read x) = Refused fault
+refused_with fault (Refused other) = Refused other
+
+-- a document that is refused, or says no version, is refused
+pub refused_before : {A : Type 0} (error : DocError) (reading : Reading Data) (next : DocVersion → Data → Reading A) → IsRefusal error (reading >>= λ d. given VersionBad (doc_version d))
+    → IsRefusal error (reading >>= λ d. given VersionBad (doc_version d) >>= λ version. next version d)
+refused_before errors.Memory reading next is = tt
+refused_before (errors.Refused fault) (Refused other) next is = ap (refused_with fault) is
+refused_before (errors.Refused fault) (Read d) next is = ap (λ r. r >>= λ version. next version d) is
 
 -- ---- what a document says
 

@@ -59,8 +59,8 @@ fn written(alloc: Global) -> Option<[bool; 2]> {
 
 fn found(alloc: Global) -> Option<bool> {
     let mut scratch = Scratch::new(alloc);
-    let text = json_text(br#"{"size":5}"#, &mut scratch).ok()?;
-    Some(text == Some(r#"{"size":5}"#))
+    let (text, size) = json_text(br#"{"size":5}"#, "size", &mut scratch).ok()??;
+    Some(text == r#"{"size":5}"# && size == Some(5))
 }
 
 #[test]

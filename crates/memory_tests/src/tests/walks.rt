@@ -3,9 +3,7 @@ ghost use Rattle.std.specs.Prelude.{[], ◌∷◌, codes};
 ghost use Rattle.bep_json.specs.Numbers.{is_whole, read_number};
 ghost use Rattle.bep_json.specs.Taking.{slot};
 
-use bep_json::{
-    DocVersion, Slots, Taken, Told, Whole, fill, fill_leaf, take_leaf, take_member, take_object,
-};
+use bep_json::{DocVersion, Slots, Taken, Told, Whole, fill, fill_leaf, take_leaf, take_object};
 use bep_record::Vector;
 use bep_tree::{
     Entered, MAX_DEPTH, Reader, Scratch, WalkError, enter, next_key, pass, pass_items, pass_members,
@@ -75,12 +73,6 @@ fn is_object(reader: &mut Reader<'_>, depth: usize) -> Option<bool> {
     }
 }
 
-fn member(alloc: Global) -> Option<u64> {
-    let mut scratch = Scratch::new(alloc);
-    let mut reader = Reader::new(r#"{"size":4,"name":"a","size":5}"#, &mut scratch).ok()?;
-    digit(take_member(alloc, DocVersion::One, &mut reader, MAX_DEPTH, "size").ok()?)
-}
-
 fn object(alloc: Global) -> Option<u64> {
     let mut scratch = Scratch::new(alloc);
     let mut reader = Reader::new(r#"{"size":4,"size":5}"#, &mut scratch).ok()?;
@@ -132,7 +124,6 @@ fn filled(alloc: Global) -> Option<bool> {
 fn walks_find_memory(rt: HostRuntime) {
     let alloc = rt.alloc();
     assert!(rt; passed(alloc) == Some([true; 4]));
-    assert!(rt; member(alloc) == Some(5));
     assert!(rt; object(alloc) == Some(5));
     assert!(rt; leaf(alloc) == Some(5));
     assert!(rt; slots(alloc) == Some(5));
