@@ -4,10 +4,9 @@
 ghost use Rattle.std.specs.Prelude.{◌≡◌, Some};
 ghost use Rattle.serde_json.specs.Data.{Data};
 ghost use Rattle.bep_json.specs.Taking.{judged};
-ghost use Rattle.bep_tree.specs.View.{view};
 ghost use Rattle.bep_tree.specs.Read.{tree_of};
 ghost use Rattle.bep_tree.specs.Walk.{Reaches};
-ghost use Rattle.bep_document.specs.Reading.{Answers, AnswersBy, given, document_tree, unless, first_fault, reading_of_tree, reading_of, reading_of_cut_text, reading_of_cut_in, reading_of_cut_document};
+ghost use Rattle.bep_document.specs.Reading.{Answers, AnswersVersioned, given, document_tree, of_told, unless, first_fault, reading_of, reading_of_cut_text, reading_of_cut_document};
 ghost use Rattle.bep_document.specs.Fault.{nowhere};
 ghost use Rattle.bep_document.specs.declared.fault.Fault.TheVariants.{NotJson};
 ghost use Rattle.bep_document.specs.inner.Texts.{AnswersText, version_told, parts_read, cut_parts, cut_in_told};
@@ -18,7 +17,7 @@ use crate::take::{CheckSlots, CutLists, CutSlot, check_told, cut_told};
 use crate::{CheckParts, DocError, DocFault, Fault};
 use bep_json::{DocVersion, Misread, Taken, Told, Whole, take_member, take_object};
 use bep_record::Items;
-use bep_tree::{MAX_DEPTH, Reader, Scratch, Tree, TreeError, WalkError, json_text, read_tree};
+use bep_tree::{MAX_DEPTH, Reader, Scratch, WalkError, json_text};
 use std::alloc::Global;
 
 // The number of a version.
@@ -35,8 +34,9 @@ pub fn read_parts(alloc: Global, bytes: &[u8]) -> Result<CheckParts, DocError>
     ensures { Answers result (reading_of bytes.now) }
 {
     let mut scratch = Scratch::new(alloc);
-    let text = document_text(bytes, &mut scratch)?;
-    parts_in(alloc, text, &mut scratch)
+    let (version, text) = versioned_text(alloc, bytes, &mut scratch)?;
+    let told = check_in(alloc, version, text, &mut scratch)?;
+    parts_read(alloc, told)
 }
 
 /// The error of a fault of the whole document.
@@ -46,34 +46,19 @@ pub fn refused(fault: Fault) -> DocError
     DocError::Refused(DocFault::nowhere(fault))
 }
 
-/// The tree of a document's bytes. Refuses `Range` where they are too many, and `NotJson` where they aren't JSON; `Memory`
-/// may come in place of any answer. Texts with escapes are written into the scratch.
-pub fn document_tree<'a>(
+/// The version that a document's bytes say, and their text. Refuses `Range` where they are too many, `NotJson` where they aren't
+/// JSON, and `VersionBad` where they say no version; `Memory` may come in place of any answer.
+pub fn versioned_text<'a>(
     alloc: Global,
     bytes: &'a [u8],
-    scratch: &'a mut Scratch,
-) -> Result<Tree<'a>, DocError>
-    ensures { AnswersBy view result (document_tree bytes.now) }
+    scratch: &mut Scratch,
+) -> Result<(DocVersion, &'a str), DocError>
+    ensures { AnswersVersioned result (document_tree bytes.now) }
 {
-    if bytes.len() > MAX_BYTES {
-        return Err(refused(Fault::Range));
-    }
-    tree_of(alloc, bytes, scratch)
-}
-
-/// The tree of bytes, however many. Refuses `NotJson` where they aren't JSON; `Memory` may come in place of any answer.
-/// Texts with escapes are written into the scratch.
-pub fn tree_of<'a>(
-    alloc: Global,
-    bytes: &'a [u8],
-    scratch: &'a mut Scratch,
-) -> Result<Tree<'a>, DocError>
-    ensures { AnswersBy view result (given NotJson (tree_of bytes.now)) }
-{
-    match read_tree(alloc, bytes, scratch) {
-        Ok(tree) => Ok(tree),
-        Err(TreeError::NotJson) => Err(refused(Fault::NotJson)),
-        Err(TreeError::Memory) => Err(DocError::Memory),
+    let text = document_text(bytes, scratch)?;
+    match version_in(alloc, text, scratch)? {
+        Some(version) => Ok((version, text)),
+        None => Err(refused(Fault::VersionBad)),
     }
 }
 
@@ -96,17 +81,6 @@ fn text_of<'a>(bytes: &'a [u8], scratch: &mut Scratch) -> Result<&'a str, DocErr
         Some(text) => Ok(text),
         None => Err(refused(Fault::NotJson)),
     }
-}
-
-// What a document's text says.
-fn parts_in(alloc: Global, text: &str, scratch: &mut Scratch) -> Result<CheckParts, DocError>
-    ensures { (d : Data) → tree_of text.now ≡ Some d → Answers result (reading_of_tree d) }
-{
-    let Some(version) = version_in(alloc, text, scratch)? else {
-        return Err(refused(Fault::VersionBad));
-    };
-    let told = check_in(alloc, version, text, scratch)?;
-    parts_read(alloc, told)
 }
 
 // The version that a document's text says.
@@ -151,8 +125,15 @@ fn check_in(
 fn parts_read(alloc: Global, told: Told<CheckParts>) -> Result<CheckParts, DocError>
     ensures { Answers result (parts_read told) }
 {
+    judged(alloc, thing_told(told)?)
+}
+
+/// The thing that was told. Refuses `Shape` or `Range` where none was.
+pub fn thing_told<T: Drop>(told: Told<T>) -> Result<T, DocError>
+    ensures { Answers result (of_told told) }
+{
     match told {
-        Ok(parts) => judged(alloc, parts),
+        Ok(thing) => Ok(thing),
         Err(Misread::Shape) => Err(refused(Fault::Shape)),
         Err(Misread::Range) => Err(refused(Fault::Range)),
     }
@@ -220,18 +201,8 @@ pub fn read_cut_document(alloc: Global, bytes: &[u8]) -> Result<CheckParts, DocE
     ensures { Answers result (reading_of_cut_document bytes.now) }
 {
     let mut scratch = Scratch::new(alloc);
-    let text = document_text(bytes, &mut scratch)?;
-    cut_in(alloc, text, &mut scratch)
-}
-
-// What the text of a check document says of its cut.
-fn cut_in(alloc: Global, text: &str, scratch: &mut Scratch) -> Result<CheckParts, DocError>
-    ensures { (d : Data) → tree_of text.now ≡ Some d → Answers result (reading_of_cut_in d) }
-{
-    let Some(version) = version_in(alloc, text, scratch)? else {
-        return Err(refused(Fault::VersionBad));
-    };
-    let told = cut_member_in(alloc, version, text, scratch)?;
+    let (version, text) = versioned_text(alloc, bytes, &mut scratch)?;
+    let told = cut_member_in(alloc, version, text, &mut scratch)?;
     parts_read(alloc, cut_parts(alloc, version, told))
 }
 

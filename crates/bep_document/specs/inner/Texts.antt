@@ -14,10 +14,10 @@ use Rattle.bep_tree.specs.Read.{tree_of}
 use Rattle.bep_tree.specs.declared.walk.WalkError.{WalkError}
 use Rattle.bep_tree.specs.declared.walk.WalkError.TheVariants as walk
 use Rattle.bep_document.specs.Fault.{nowhere}
-use Rattle.bep_document.specs.Reading.{Reading, Read, Refused, IsRefusal, first_fault, unless, without_rows}
+use Rattle.bep_document.specs.Reading.{Reading, Read, IsRefusal, ◌>>=◌, of_told, first_fault, unless, without_rows}
 use Rattle.bep_document.specs.declared.error.DocError.{DocError}
 use Rattle.bep_document.specs.declared.error.DocError.TheVariants as errors
-use Rattle.bep_document.specs.declared.fault.Fault.TheVariants.{NotJson, Shape, Range}
+use Rattle.bep_document.specs.declared.fault.Fault.TheVariants.{NotJson}
 use Rattle.bep_document.specs.declared.parts.CheckParts.{CheckParts}
 use Rattle.bep_document.specs.declared.parts.FolderParts.{FolderParts}
 use Rattle.bep_document.specs.declared.parts.LinkParts.{LinkParts}
@@ -41,9 +41,7 @@ version_told (Some (Ok number)) = version_of number
 
 -- what is read of parts that were told
 abbrev pub parts_read : Result CheckParts Misread → Reading CheckParts
-parts_read (Ok parts) = unless (first_fault parts) parts
-parts_read (Err misread.Shape) = Refused (nowhere Shape)
-parts_read (Err misread.Range) = Refused (nowhere Range)
+parts_read told = of_told told >>= λ parts. unless (first_fault parts) parts
 
 -- a cut that was told, with no rows
 abbrev pub cut_parts : DocVersion → Result (List FolderParts × List LinkParts) Misread → Result CheckParts Misread
