@@ -1,6 +1,7 @@
 -- The reading of a check document: what its bytes say, or the one fault for which it is refused. The smallest number
 -- that applies is told, at its first place (this project's profile).
 use Rattle.std.specs.Prelude.{◌≡◌, ℕ, nat_le, Bool, ⊤, List, [], length, Option, Some, None, Result, Ok, Err, if◌then◌else◌, codes}
+use Rattle.std.specs.Borrow.{Bor}
 use Rattle.serde_json.specs.Data.{Data}
 use Rattle.serde_json.specs.Find.{get}
 use Rattle.bep_tree.specs.Names.{has_only}
@@ -13,6 +14,8 @@ use Rattle.bep_document.specs.declared.fault.Fault.TheVariants.{NotJson, Version
 use Rattle.bep_document.specs.declared.parts.FolderParts.{FolderParts}
 use Rattle.bep_document.specs.declared.parts.LinkParts.{LinkParts}
 use Rattle.bep_document.specs.declared.parts.CheckParts.{CheckParts}
+use Rattle.bep_json.specs.declared.told.Misread.{Misread}
+use Rattle.bep_json.specs.declared.told.Misread.TheVariants as misread
 use Rattle.bep_json.specs.declared.version.DocVersion.{DocVersion}
 use Rattle.bep_document.specs.Fault.{nowhere}
 use Rattle.bep_document.specs.faults.Judge.{◌else_at◌}
@@ -42,6 +45,12 @@ AnswersBy view (Err error) reading = IsRefusal error reading
 -- the same, where what is read is seen as it is
 abbrev pub Answers : {T : Type 0} → Result T DocError → Reading T → Type 0
 Answers answer reading = AnswersBy (λ x. x) answer reading
+
+-- what is read of a thing that was told along a document's text
+abbrev pub of_told : {T : Type 0} → Result T Misread → Reading T
+of_told (Ok thing) = Read thing
+of_told (Err misread.Shape) = Refused (nowhere Shape)
+of_told (Err misread.Range) = Refused (nowhere Range)
 
 -- the second step, if the first gave a thing
 infixl 10 ◌>>=◌
@@ -76,6 +85,11 @@ abbrev pub document_tree : List ℕ → Reading Data
 document_tree bytes = do
   short ← passed Range is_short bytes
   given NotJson (tree_of short)
+
+-- the answer is a text in which the tree stands that was read, and the version that it says; or the fault; or memory ran out
+abbrev pub AnswersVersioned : Result (DocVersion × Bor (List ℕ)) DocError → Reading Data → Type 0
+AnswersVersioned (Ok (version, text)) reading = (d : Data) × (reading ≡ Read d) × (tree_of text.now ≡ Some d) × (doc_version d ≡ Some version)
+AnswersVersioned (Err error) reading = IsRefusal error (reading >>= λ d. given VersionBad (doc_version d))
 
 -- what bytes say, by what their tree says
 abbrev pub of_bytes : {T : Type 0} → (Data → Reading T) → List ℕ → Reading T

@@ -24,8 +24,8 @@ pub use fault::{DocFault, Fault};
 pub use faults::{Found, Judge, first_bad_link, first_fault, first_twice, is_node};
 pub use laws::{faultless_parts_are_read, readings_are_faultless, records_are_told};
 pub use parts::{CheckParts, FlightParts, FolderParts, LinkParts, RowParts, ShareParts, ViewParts};
-pub use read::{Few, IndexNumber, doc_version, has_few_devices, index_id_of};
+pub use read::{Few, IndexNumber, doc_version, has_few_devices};
 pub use reading::{
-    MAX_BYTES, document_tree, read_cut_document, read_cut_text, read_parts, refused, tree_of,
-    unless_found,
+    MAX_BYTES, read_cut_document, read_cut_text, read_parts, refused, thing_told, unless_found,
+    versioned_text,
 };

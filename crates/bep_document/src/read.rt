@@ -1,4 +1,4 @@
-//! What a scenario reads in JSON trees, as a document says it too.
+//! What check documents and scenarios both say.
 
 mod devices;
 mod few;
@@ -8,5 +8,5 @@ mod version;
 pub use devices::has_few_devices;
 pub use few::Few;
 pub(crate) use index_id::AnyIndexNumber;
-pub use index_id::{IndexNumber, index_id_of};
+pub use index_id::IndexNumber;
 pub use version::doc_version;

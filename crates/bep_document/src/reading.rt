@@ -5,13 +5,12 @@ ghost use Rattle.std.specs.Prelude.{◌≡◌, Some, option_and_then};
 ghost use Rattle.serde_json.specs.Data.{Data};
 ghost use Rattle.bep_json.specs.Taking.{judged};
 ghost use Rattle.bep_json.specs.Version.{version_of};
-ghost use Rattle.bep_tree.specs.View.{view};
 ghost use Rattle.bep_tree.specs.Read.{tree_of};
 ghost use Rattle.bep_tree.specs.Walk.{Reaches};
-ghost use Rattle.bep_document.specs.Reading.{Answers, AnswersBy, given, document_tree, unless, first_fault, reading_of, reading_of_cut_text, reading_of_cut_document};
+ghost use Rattle.bep_document.specs.Reading.{Answers, AnswersVersioned, given, document_tree, of_told, unless, first_fault, reading_of, reading_of_cut_text, reading_of_cut_document};
 ghost use Rattle.bep_document.specs.Fault.{nowhere};
 ghost use Rattle.bep_document.specs.declared.fault.Fault.TheVariants.{NotJson};
-ghost use Rattle.bep_document.specs.inner.Texts.{AnswersDocument, AnswersText, parts_read, cut_parts, cut_in_told};
+ghost use Rattle.bep_document.specs.inner.Texts.{AnswersText, parts_read, cut_parts, cut_in_told};
 ghost use Rattle.bep_document.specs.read.Checks.{is_cut, read_cut, is_check, read_check_parts};
 
 use crate::faults::fault_of;
@@ -19,7 +18,7 @@ use crate::take::{CheckSlots, CutLists, CutSlot, check_told, cut_told};
 use crate::{CheckParts, DocError, DocFault, Fault};
 use bep_json::{DocVersion, Misread, Taken, Told, take_object};
 use bep_record::Items;
-use bep_tree::{MAX_DEPTH, Reader, Scratch, Tree, TreeError, WalkError, json_text, read_tree};
+use bep_tree::{MAX_DEPTH, Reader, Scratch, WalkError, json_text};
 use std::alloc::Global;
 
 /// The most bytes of a document.
@@ -33,7 +32,7 @@ pub fn read_parts(alloc: Global, bytes: &[u8]) -> Result<CheckParts, DocError>
     ensures { Answers result (reading_of bytes.now) }
 {
     let mut scratch = Scratch::new(alloc);
-    let (text, version) = document_text(bytes, &mut scratch)?;
+    let (version, text) = versioned_text(bytes, &mut scratch)?;
     let told = check_in(alloc, version, text, &mut scratch)?;
     parts_read(alloc, told)
 }
@@ -45,51 +44,20 @@ pub fn refused(fault: Fault) -> DocError
     DocError::Refused(DocFault::nowhere(fault))
 }
 
-/// The tree of a document's bytes. Refuses `Range` where they are too many, and `NotJson` where they aren't JSON; `Memory`
-/// may come in place of any answer. Texts with escapes are written into the scratch.
-pub fn document_tree<'a>(
-    alloc: Global,
-    bytes: &'a [u8],
-    scratch: &'a mut Scratch,
-) -> Result<Tree<'a>, DocError>
-    ensures { AnswersBy view result (document_tree bytes.now) }
-{
-    if bytes.len() > MAX_BYTES {
-        return Err(refused(Fault::Range));
-    }
-    tree_of(alloc, bytes, scratch)
-}
-
-/// The tree of bytes, however many. Refuses `NotJson` where they aren't JSON; `Memory` may come in place of any answer.
-/// Texts with escapes are written into the scratch.
-pub fn tree_of<'a>(
-    alloc: Global,
-    bytes: &'a [u8],
-    scratch: &'a mut Scratch,
-) -> Result<Tree<'a>, DocError>
-    ensures { AnswersBy view result (given NotJson (tree_of bytes.now)) }
-{
-    match read_tree(alloc, bytes, scratch) {
-        Ok(tree) => Ok(tree),
-        Err(TreeError::NotJson) => Err(refused(Fault::NotJson)),
-        Err(TreeError::Memory) => Err(DocError::Memory),
-    }
-}
-
-// The text of a document's bytes, and its version. Refuses `Range` where they are too many, `NotJson` where they aren't JSON,
-// and `VersionBad` where the document says no version; `Memory` may come in place of any answer.
-fn document_text<'a>(
+/// The version that a document's bytes say, and their text. Refuses `Range` where they are too many, `NotJson` where they aren't
+/// JSON, and `VersionBad` where they say no version; `Memory` may come in place of any answer.
+pub fn versioned_text<'a>(
     bytes: &'a [u8],
     scratch: &mut Scratch,
-) -> Result<(&'a str, DocVersion), DocError>
-    ensures { AnswersDocument result (document_tree bytes.now) }
+) -> Result<(DocVersion, &'a str), DocError>
+    ensures { AnswersVersioned result (document_tree bytes.now) }
 {
     if bytes.len() > MAX_BYTES {
         return Err(refused(Fault::Range));
     }
     let (text, found) = text_of(bytes, scratch)?;
     match found {
-        Some(version) => Ok((text, version)),
+        Some(version) => Ok((version, text)),
         None => Err(refused(Fault::VersionBad)),
     }
 }
@@ -137,8 +105,15 @@ fn check_in(
 fn parts_read(alloc: Global, told: Told<CheckParts>) -> Result<CheckParts, DocError>
     ensures { Answers result (parts_read told) }
 {
+    judged(alloc, thing_told(told)?)
+}
+
+/// The thing that was told. Refuses `Shape` or `Range` where none was.
+pub fn thing_told<T: Drop>(told: Told<T>) -> Result<T, DocError>
+    ensures { Answers result (of_told told) }
+{
     match told {
-        Ok(parts) => judged(alloc, parts),
+        Ok(thing) => Ok(thing),
         Err(Misread::Shape) => Err(refused(Fault::Shape)),
         Err(Misread::Range) => Err(refused(Fault::Range)),
     }
@@ -206,7 +181,7 @@ pub fn read_cut_document(alloc: Global, bytes: &[u8]) -> Result<CheckParts, DocE
     ensures { Answers result (reading_of_cut_document bytes.now) }
 {
     let mut scratch = Scratch::new(alloc);
-    let (text, version) = document_text(bytes, &mut scratch)?;
+    let (version, text) = versioned_text(bytes, &mut scratch)?;
     let told = cut_member_in(alloc, version, text, &mut scratch)?;
     parts_read(alloc, cut_parts(alloc, version, told))
 }

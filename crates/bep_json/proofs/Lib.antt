@@ -5,6 +5,7 @@ pub mod BlockFacts
 pub mod WrittenFacts
 pub mod RecordSays
 pub mod TakingFacts
+pub mod TupleFacts
 pub mod PairFacts
 pub mod SaidFacts
 pub mod NodeTold

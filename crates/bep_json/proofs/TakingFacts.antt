@@ -15,7 +15,7 @@ use Rattle.bep_tree.specs.Names.{is_among}
 use Rattle.bep_json.specs.Reading.{◌>>=◌, read_member, read_or, read_member_or}
 use Rattle.bep_json.specs.Tree.{has_member, may_have_member}
 use Rattle.bep_json.specs.Lists.{have_shape, read_items}
-use Rattle.bep_json.specs.Taking.{judged, Known, with_member, slot, due, due_or, both, told_as}
+use Rattle.bep_json.specs.Taking.{judged, Known, with_member, slot, due, due_or, noted, both, told_as}
 use Rattle.bep_json.specs.inner.Joined.{joined, followed}
 
 -- ---- members by their names
@@ -187,6 +187,27 @@ pub read_13 : {A B C D E F G H I J K L M P : Type 0} (make : A × (B × (C × (D
     → option_map make (pair a (pair b (pair c (pair d (pair e (pair f (pair g (pair h (pair i (pair j (pair k (pair l m)))))))))))) ≡ (a >>= λ xa. b >>= λ xb. c >>= λ xc. d >>= λ xd. e >>= λ xe. f >>= λ xf. g >>= λ xg. h >>= λ xh. i >>= λ xi. j >>= λ xj. k >>= λ xk. l >>= λ xl. m >>= λ xm. Some (make (xa, (xb, (xc, (xd, (xe, (xf, (xg, (xh, (xi, (xj, (xk, (xl, xm))))))))))))))
 read_13 make None b c d e f g h i j k l m = refl
 read_13 make (Some xa) b c d e f g h i j k l m = paired make xa (pair b (pair c (pair d (pair e (pair f (pair g (pair h (pair i (pair j (pair k (pair l m))))))))))) ∙ read_12 (λ t. make (xa, t)) b c d e f g h i j k l m
+
+-- ---- a member that must be there, whatever it says
+
+-- that something stands at a name
+abbrev pub stands : Option Data → Option Bool
+stands found = found >>= λ _. Some true
+
+noted_judged : {T : Type 0} (shape : Bool) (read : Option T) → noted (Some (judged shape read)) ≡ judged shape (Some true)
+noted_judged false read = refl
+noted_judged true None = refl
+noted_judged true (Some thing) = refl
+
+pub noted_is : {T : Type 0} (shape : Data → Bool) (reads : Data → Option T) (found : Option Data) → noted (slot shape reads found) ≡ judged (unwrap_or (option_map shape found) false) (stands found)
+noted_is shape reads None = refl
+noted_is shape reads (Some d) = noted_judged (shape d) (reads d)
+
+-- where the member doesn't stand, the shape is another
+pub as_if_there : {B P : Type 0} (shape : Data → Bool) (found : Option Data) (others : Bool) (make : Bool × B → P) (more : Option B)
+    → judged (unwrap_or (option_map shape found) false && others) (option_map make (pair (stands found) more)) ≡ judged (unwrap_or (option_map shape found) false && others) (option_map (λ t. make (true, t)) more)
+as_if_there shape None others make more = refl
+as_if_there shape (Some d) others make more = ap (judged (shape d && others)) (paired make true more)
 
 -- ---- a name that is none of several
 

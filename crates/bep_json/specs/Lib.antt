@@ -12,4 +12,5 @@ pub mod Says
 pub mod Back
 pub mod Laws
 pub mod Taking
+pub mod Tuples
 pub mod inner

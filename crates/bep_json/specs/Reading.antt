@@ -16,14 +16,10 @@ abbrev pub Fails : {T : Type 0} → ReadError → Option T → Type 0
 Fails Range read = read ≡ None
 Fails Memory read = Unit {0}
 
--- the answer is the thing, seen by a view, or Range where there is none; or memory ran out
-abbrev pub GivesBy : {X T : Type 0} → (X → T) → Result X ReadError → Option T → Type 0
-GivesBy view (Ok x) read = read ≡ Some (view x)
-GivesBy view (Err e) read = Fails e read
-
--- the same, where the thing is seen as it is
+-- the answer is the thing, or Range where there is none; or memory ran out
 abbrev pub Gives : {T : Type 0} → Result T ReadError → Option T → Type 0
-Gives answer read = GivesBy (λ x. x) answer read
+Gives (Ok x) read = read ≡ Some x
+Gives (Err e) read = Fails e read
 
 -- the thing at a member
 abbrev pub read_member : {T : Type 0} → List ℕ → (Data → Option T) → Data → Option T

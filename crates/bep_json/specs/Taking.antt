@@ -54,6 +54,13 @@ abbrev pub due_or : {T : Type 0} → T → Option (Result T Misread) → Result 
 due_or default None = Ok default
 due_or default (Some told) = told
 
+-- a member that must be there, whatever it says
+abbrev pub noted : {T : Type 0} → Option (Result T Misread) → Result Bool Misread
+noted None = Err Shape
+noted (Some (Ok thing)) = Ok true
+noted (Some (Err Range)) = Ok true
+noted (Some (Err Shape)) = Err Shape
+
 -- both things; or what is told of one of them, of another shape before out of range
 abbrev pub both : {A B : Type 0} → Result A Misread → Result B Misread → Result (A × B) Misread
 both (Ok a) (Ok b) = Ok (a, b)

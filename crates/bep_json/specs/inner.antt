@@ -1,6 +1,5 @@
 -- What only private contracts say: no public contract rests on it.
 pub mod Joined
-pub mod NextItem
 pub mod Nodes
 pub mod Records
 pub mod Said

@@ -1,16 +1,15 @@
 //! Lists, whose items are read as a walk along a document's text comes to them.
-ghost use Rattle.std.specs.Prelude.{◌≡◌, ◌<◌, List, [], ◌∷◌, ◌++◌, length, Ok, Err, OnOk, IfOk};
+ghost use Rattle.std.specs.Prelude.{◌≡◌, ◌<◌, List, [], ◌∷◌, ◌++◌, length, Ok, OnOk, IfOk};
 ghost use Rattle.json.specs.Token.{Token as SpecToken};
-ghost use Rattle.serde_json.specs.Data.{Items as ItemsOf, Members as MembersOf, no_members};
-ghost use Rattle.bep_tree.specs.Walk.{StandItems, StandMembers, Reaches};
+ghost use Rattle.serde_json.specs.Data.{Items as ItemsOf};
+ghost use Rattle.bep_tree.specs.Walk.{StandItems, Reaches};
 ghost use Rattle.bep_json.specs.Lists.{have_shape, is_list, read_items, read_list};
 ghost use Rattle.bep_json.specs.Taking.{judged, Takes};
-ghost use Rattle.bep_json.specs.declared.told.Misread.TheVariants.{Shape};
 ghost use Rattle.bep_json.specs.inner.Joined.{joined, seen};
 
-use crate::{DocVersion, Misread, Taken, Told};
+use crate::{DocVersion, Misread, Taken, Told, enter_list};
 use bep_record::Items;
-use bep_tree::{Entered, Reader, WalkError, enter, pass_members};
+use bep_tree::{Reader, WalkError};
 use std::alloc::{AllocError, Global};
 
 impl<T: Taken> Taken for Items<T> {
@@ -34,24 +33,10 @@ fn take_list<T: Taken>(
     ensures value { Takes (is_list (T.has_shape version)) (read_list (T.reads version)) depth reader.old result reader.new }
     ensures shorter { OnOk result (length reader.new < length reader.old) }
 {
-    match enter(reader, depth)? {
-        Entered::List(inside) => take_items(alloc, version, reader, inside),
-        Entered::Object(inside) => passed_object(reader, inside),
-        Entered::Leaf(_tree) => Ok(Err(Misread::Shape)),
+    match enter_list(reader, depth)? {
+        Some(inside) => take_items(alloc, version, reader, inside),
+        None => Ok(Err(Misread::Shape)),
     }
-}
-
-// Passes the members that are left of an object, which is no list.
-fn passed_object<T: Drop>(
-    reader: &mut Reader<'_>,
-    depth: usize,
-) -> Result<Told<Items<T>>, WalkError>
-    ensures value { (ms : MembersOf) (rest : List SpecToken) → StandMembers depth reader.old no_members ms rest
-        → Reaches result (λ told. (told ≡ Err Shape) × (reader.new ≡ rest)) }
-    ensures shorter { OnOk result (length reader.new < length reader.old) }
-{
-    pass_members(reader, depth)?;
-    Ok(Err(Misread::Shape))
 }
 
 // Takes the items of a list that are still to come, and tells which things they say.

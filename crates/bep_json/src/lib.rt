@@ -1,23 +1,23 @@
-//! Readers of numbers, texts, lists, records and nodes in JSON: over a tree of `bep_tree`, or along a document's text, without
-//! a tree.
+//! Readers of numbers, texts, lists, records and nodes in JSON, along a document's text; a number or a text is read in a tree
+//! of `bep_tree`, too.
 //!
-//! Over a tree, each thing is read in two walks. The first asks whether the tree has the thing's shape: members and kinds of
-//! values. The second makes the thing, where every number and text is inside its range. A caller reads a folder's nodes so:
-//!
-//!     if !(has_only(tree, &["folder", "nodes"]) && has::<Items<NamedParts>>(version, tree, "nodes")) { .. }
-//!     let folder = member::<FolderName>(alloc, version, tree, "folder")?;
-//!     let nodes = member::<Items<NamedParts>>(alloc, version, tree, "nodes")?;
-//!
-//! Along a text, each thing is read where a reader of its tokens comes to it. What is told of an object's members is kept in
-//! slots until all have come. A caller reads a list of records so:
+//! Each thing is read where a reader of the text's tokens comes to it. What is told of an object's members is kept in slots
+//! until all have come; what is told of a list's items is kept as a list, or as a tuple where each has its own place. A
+//! caller reads a list of records so:
 //!
 //!     let told = <Items<Entry>>::take(alloc, version, &mut reader, depth)?;
+//!
+//! and a list of a device and a folder so:
+//!
+//!     let Some(inside) = enter_list(&mut reader, depth)? else { .. };
+//!     let told = <(DeviceId, (FolderName, ()))>::take_items(alloc, version, &mut reader, inside)?;
 #![tactic(auto)]
 
 mod digits;
 mod error;
 mod items;
 mod laws;
+mod leaves;
 mod lists;
 mod members;
 mod node_slots;
@@ -31,19 +31,21 @@ mod slots;
 mod taken;
 mod texts;
 mod told;
+mod tuples;
 mod vectors;
 mod version;
 mod writing;
 
-pub use bep_tree::has_only;
 pub use error::ReadError;
 pub use laws::{hashes_make_blocks, texts_are_told};
+pub use lists::enter_list;
 pub use members::Members;
 pub use nodes::NamedParts;
 pub use numbers::{Nanoseconds, Sequence, Whole};
-pub use readable::{Readable, Shaped, has, may_have, member, member_or};
+pub use readable::{Readable, Shaped};
 pub use slots::{Slots, fill, fill_leaf, take_object};
 pub use taken::{Leaf, Taken, take_leaf};
-pub use told::{Misread, Told, both, due, due_or};
+pub use told::{Misread, Told, both, due, due_or, noted};
+pub use tuples::Tuple;
 pub use version::DocVersion;
 pub use writing::{node_value, record_value};

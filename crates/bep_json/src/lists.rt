@@ -1,13 +1,14 @@
-//! Lists of things in JSON trees.
-ghost use Rattle.std.specs.Prelude.{◌≡◌};
-ghost use Rattle.bep_tree.specs.View.{items_view};
-ghost use Rattle.bep_json.specs.Reading.{GivesBy};
-ghost use Rattle.bep_json.specs.Lists.{have_shape, is_list, read_items, read_list};
+//! Lists: which values are such, and how a walk along a document's text enters one.
+ghost use Rattle.std.specs.Prelude.{◌≡◌, ◌<◌, List, length, None, OnOk};
+ghost use Rattle.json.specs.Token.{Token as SpecToken};
+ghost use Rattle.serde_json.specs.Data.{Data, Members as MembersOf, no_members};
+ghost use Rattle.bep_tree.specs.Walk.{Stands, StandMembers, Reaches};
+ghost use Rattle.bep_json.specs.Lists.{is_list, read_list};
+ghost use Rattle.bep_json.specs.Tuples.{EntersList};
 
-use crate::{DocVersion, ReadError, Readable, Shaped};
+use crate::Shaped;
 use bep_record::Items;
-use bep_tree::{Tree, as_array};
-use std::alloc::Global;
+use bep_tree::{Entered, Reader, WalkError, enter, pass_members};
 
 impl<T: Shaped> Shaped for Items<T> {
     ghost has_shape = { λ version. is_list (T.has_shape version) };
@@ -15,41 +16,26 @@ impl<T: Shaped> Shaped for Items<T> {
     ghost reads = { λ version. read_list (T.reads version) };
 }
 
-impl<T: Readable> Readable for Items<T> {
-    fn has_shape(version: DocVersion, value: &Tree<'_>) -> bool {
-        match as_array(value) {
-            Some(items) => have_shape::<T>(version, items),
-            None => false,
-        }
-    }
-
-    fn read(alloc: Global, version: DocVersion, value: &Tree<'_>) -> Result<Self, ReadError> {
-        let Some(items) = as_array(value) else {
-            return Err(ReadError::Range);
-        };
-        Ok(Items::new(read_items(alloc, version, items)?))
+/// Takes the bracket of the list that comes next, and tells how deep lists and objects may nest inside it. None where the
+/// value that comes next is no list; it is passed then.
+pub fn enter_list(reader: &mut Reader<'_>, depth: usize) -> Result<Option<usize>, WalkError>
+    ensures value { (d : Data) (rest : List SpecToken) → Stands depth reader.old d rest
+        → Reaches result (λ inside. EntersList inside d reader.new rest) }
+    ensures shorter { OnOk result (length reader.new < length reader.old) }
+{
+    match enter(reader, depth)? {
+        Entered::List(inside) => Ok(Some(inside)),
+        Entered::Object(inside) => passed_object(reader, inside),
+        Entered::Leaf(_tree) => Ok(None),
     }
 }
 
-// Whether each item has a `T`'s shape.
-fn have_shape<T: Readable>(version: DocVersion, items: &[Tree<'_>]) -> bool
-    ensures { result ≡ have_shape (T.has_shape version) (items_view items.now) }
+// Passes the members of an object, which is no list.
+fn passed_object(reader: &mut Reader<'_>, depth: usize) -> Result<Option<usize>, WalkError>
+    ensures value { (ms : MembersOf) (rest : List SpecToken) → StandMembers depth reader.old no_members ms rest
+        → Reaches result (λ inside. (inside ≡ None) × (reader.new ≡ rest)) }
+    ensures shorter { OnOk result (length reader.new < length reader.old) }
 {
-    items.iter().all(|item| T::has_shape(version, item))
-}
-
-// The thing of each item, in order.
-fn read_items<T: Readable>(
-    alloc: Global,
-    version: DocVersion,
-    items: &[Tree<'_>],
-) -> Result<Vec<T>, ReadError>
-    ensures { GivesBy (λ things. things.items) result (read_items (T.reads version) (items_view items.now)) }
-{
-    let mut things = Vec::with_capacity(alloc, items.len())?;
-    for item in items {
-        let thing = T::read(alloc, version, item)?;
-        things.push(thing)?;
-    }
-    Ok(things)
+    pass_members(reader, depth)?;
+    Ok(None)
 }

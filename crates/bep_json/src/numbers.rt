@@ -213,7 +213,7 @@ pub(crate) fn is_whole(value: &Tree<'_>) -> bool
 }
 
 // The kind whose number the value is.
-pub(crate) fn kind_of(value: &Tree<'_>) -> Option<Kind>
+fn kind_of(value: &Tree<'_>) -> Option<Kind>
     ensures { result ≡ read_kind (view value.now) }
 {
     match as_u64(value) {

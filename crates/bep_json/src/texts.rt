@@ -5,9 +5,9 @@ ghost use Rattle.bep_json.specs.Reading.{Gives};
 ghost use Rattle.bep_json.specs.Texts.{is_text, read_name, read_target, read_folder_name, read_folder_kind, read_hash, fits_file, read_text_bytes, read_hex_bytes};
 
 use crate::digits::{bytes_of, hash_of};
-use crate::{DocVersion, Leaf, ReadError, Readable, Shaped, Taken, Told, take_leaf};
+use crate::{DocVersion, Leaf, ReadError, Readable, Shaped};
 use bep_record::{FolderKind, FolderName, Items, Name, RecordError, Target};
-use bep_tree::{Reader, Tree, WalkError, as_str};
+use bep_tree::{Tree, as_str};
 use std::alloc::Global;
 use std::marker::Model;
 
@@ -157,17 +157,6 @@ impl Leaf for [u8; 32] {
     ghost not_list = { λ _ _. refl };
 
     ghost not_object = { λ _ _. refl };
-}
-
-impl Taken for [u8; 32] {
-    fn take(
-        alloc: Global,
-        version: DocVersion,
-        reader: &mut Reader<'_>,
-        depth: usize,
-    ) -> Result<Told<Self>, WalkError> {
-        take_leaf(alloc, version, reader, depth)
-    }
 }
 
 // Whether a file may have these bytes.

@@ -1,6 +1,6 @@
 //! What is told of a value: the thing that it says, or why it says none.
 ghost use Rattle.std.specs.Prelude.{◌≡◌};
-ghost use Rattle.bep_json.specs.Taking.{due, due_or, both};
+ghost use Rattle.bep_json.specs.Taking.{due, due_or, noted, both};
 
 /// Why a value says no thing.
 #[derive(Clone, Copy, Debug, PartialEq, Eq)]
@@ -31,6 +31,18 @@ pub fn due_or<T: Drop>(found: Option<Told<T>>, default: T) -> Told<T>
     match found {
         Some(told) => told,
         None => Ok(default),
+    }
+}
+
+/// What is told of a member that must be there, whatever it says.
+pub fn noted<T: Drop>(found: Option<Told<T>>) -> Told<bool>
+    ensures { result ≡ noted found }
+{
+    match found {
+        Some(Ok(_)) => Ok(true),
+        Some(Err(Misread::Range)) => Ok(true),
+        Some(Err(Misread::Shape)) => Err(Misread::Shape),
+        None => Err(Misread::Shape),
     }
 }
 

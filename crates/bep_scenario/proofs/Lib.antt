@@ -1,6 +1,6 @@
 pub mod FaultlessFacts
 pub mod RangeFacts
 pub mod InsertFacts
-pub mod PairFacts
 pub mod StartFacts
+pub mod told
 mod EmptyStores

@@ -7,3 +7,4 @@ pub mod Reading
 pub mod Faultless
 pub mod Configured
 pub mod Scenario
+pub mod inner

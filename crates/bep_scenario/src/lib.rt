@@ -9,12 +9,12 @@
 //!     }
 #![tactic(auto)]
 
+mod behind;
 mod faults;
 mod fresh;
-mod items;
 mod laws;
 mod making;
-mod pairs;
+mod members;
 mod parts;
 mod reading;
 mod scenario;

@@ -1,90 +1,55 @@
 //! The reading of a scenario document: from its bytes to what it says, or to its fault.
-ghost use Rattle.std.specs.Prelude.{◌≡◌};
-ghost use Rattle.bep_tree.specs.View.{view};
+ghost use Rattle.std.specs.Prelude.{◌≡◌, Some};
+ghost use Rattle.serde_json.specs.Data.{Data};
+ghost use Rattle.bep_tree.specs.Read.{tree_of};
+ghost use Rattle.bep_tree.specs.Walk.{Reaches};
+ghost use Rattle.bep_json.specs.Taking.{judged};
 ghost use Rattle.bep_document.specs.Reading.{Answers, unless};
 ghost use Rattle.bep_scenario.specs.Faults.{first_fault};
-ghost use Rattle.bep_scenario.specs.Reading.{is_scenario, read_scenario, reading_of_tree, reading_of};
+ghost use Rattle.bep_scenario.specs.Reading.{is_scenario, read_scenario, reading_of};
+ghost use Rattle.bep_scenario.specs.inner.Members.{parts_read};
 
+use crate::ScenarioParts;
 use crate::faults::fault_of;
-use crate::fresh::{Fresh, into_parts};
-use crate::{ScenarioParts, StepParts};
-use bep_document::{
-    CheckParts, DocError, Fault, Few, FolderParts, LinkParts, doc_version, document_tree,
-    has_few_devices, refused, unless_found,
-};
-use bep_json::{DocVersion, ReadError, Readable, Shaped, Whole, is_object, member};
-use bep_record::{Items, MAX_FOLDERS};
-use bep_tree::{Scratch, Tree};
+use crate::members::{ScenarioSlots, scenario_told};
+use bep_document::{DocError, thing_told, unless_found, versioned_text};
+use bep_json::{DocVersion, Told, take_object};
+use bep_tree::{MAX_DEPTH, Reader, Scratch, WalkError};
 use std::alloc::Global;
-
-type FreshFolders = Few<Fresh<FolderParts>, MAX_FOLDERS>;
-
-type FreshLinks = Items<Fresh<LinkParts>>;
-
-impl Shaped for ScenarioParts {
-    ghost has_shape = { is_scenario };
-
-    ghost reads = { read_scenario };
-}
-
-impl Readable for ScenarioParts {
-    #[tactic(auto, unfolding(crate::specs::Reading::is_scenario))]
-    fn has_shape(version: DocVersion, value: &Tree<'_>) -> bool {
-        is_object!(version, value;
-            has "version": Whole<1, 2>, has "folders": FreshFolders, has "links": FreshLinks,
-            has "steps": Items<StepParts>)
-    }
-
-    #[tactic(auto, unfolding(crate::specs::Reading::read_scenario))]
-    fn read(alloc: Global, version: DocVersion, value: &Tree<'_>) -> Result<Self, ReadError> {
-        let fresh = member::<FreshFolders>(alloc, version, value, "folders")?.into_items();
-        let folders = into_parts(alloc, fresh)?;
-        if !has_few_devices(alloc, folders.as_slice())? {
-            return Err(ReadError::Range);
-        }
-        let fresh = member::<FreshLinks>(alloc, version, value, "links")?;
-        let links = into_parts(alloc, fresh)?;
-        let steps = member::<Items<StepParts>>(alloc, version, value, "steps")?;
-        let certificate = Items::new(Vec::new(alloc));
-        let cluster = CheckParts {
-            version,
-            folders,
-            links,
-            certificate,
-        };
-        Ok(ScenarioParts { cluster, steps })
-    }
-}
 
 /// What the bytes of a scenario document say, or the fault for which it is refused: the one with the smallest number that
 /// applies, at its first place. `Memory` may come in place of any answer.
 ///
 /// This project's profile.
-#[tactic(auto, unfolding(crate::specs::Reading::reading_of))]
 pub fn read_scenario_parts(alloc: Global, bytes: &[u8]) -> Result<ScenarioParts, DocError>
     ensures { Answers result (reading_of bytes.now) }
 {
     let mut scratch = Scratch::new(alloc);
-    let tree = document_tree(alloc, bytes, &mut scratch)?;
-    parts_of(alloc, &tree)
+    let (version, text) = versioned_text(bytes, &mut scratch)?;
+    let told = scenario_in(alloc, version, text, &mut scratch)?;
+    parts_read(alloc, told)
 }
 
-// What the tree of a document says.
-#[tactic(auto, unfolding(crate::specs::Reading::reading_of_tree))]
-fn parts_of(alloc: Global, tree: &Tree<'_>) -> Result<ScenarioParts, DocError>
-    ensures { Answers result (reading_of_tree (view tree.now)) }
+// What is told of the scenario, of this version, in a text.
+fn scenario_in(
+    alloc: Global,
+    version: DocVersion,
+    text: &str,
+    scratch: &mut Scratch,
+) -> Result<Told<ScenarioParts>, WalkError>
+    ensures { (d : Data) → tree_of text.now ≡ Some d → Reaches result (λ told. told ≡ judged (is_scenario version d) (read_scenario version d)) }
 {
-    let Some(version) = doc_version(tree) else {
-        return Err(refused(Fault::VersionBad));
-    };
-    if !ScenarioParts::has_shape(version, tree) {
-        return Err(refused(Fault::Shape));
-    }
-    match ScenarioParts::read(alloc, version, tree) {
-        Ok(parts) => judged(alloc, parts),
-        Err(ReadError::Range) => Err(refused(Fault::Range)),
-        Err(ReadError::Memory) => Err(DocError::Memory),
-    }
+    let mut reader = Reader::new(text, scratch)?;
+    let slots = take_object::<ScenarioSlots>(alloc, version, &mut reader, MAX_DEPTH)?;
+    let told = scenario_told(alloc, version, slots)?;
+    Ok(told)
+}
+
+// What is read of parts that were told: the parts, if they have no fault.
+fn parts_read(alloc: Global, told: Told<ScenarioParts>) -> Result<ScenarioParts, DocError>
+    ensures { Answers result (parts_read told) }
+{
+    judged(alloc, thing_told(told)?)
 }
 
 // The parts, if they have no fault.

@@ -1,20 +1,21 @@
-//! Steps, each written as a list of a word and what belongs to it.
-ghost use Rattle.std.specs.Prelude.{◌≡◌, Some};
-ghost use Rattle.bep_tree.specs.View.{view};
-ghost use Rattle.bep_json.specs.Reading.{Gives};
-ghost use Rattle.bep_scenario.specs.Items.{read_item};
-ghost use Rattle.bep_scenario.specs.Words.{read_word};
-ghost use Rattle.bep_scenario.specs.Steps.{has_form, has_resets, is_step, name_step, pair_step, read_by, read_index_id, read_step};
+//! Steps, each written as a list of a word and what belongs to it, which are read as a walk along a document's text comes to
+//! them.
+ghost use Rattle.std.specs.Prelude.{◌≡◌, ◌<◌, List, length, Err, OnOk};
+ghost use Rattle.json.specs.Token.{Token as SpecToken};
+ghost use Rattle.serde_json.specs.Data.{Items as ItemsOf, array};
+ghost use Rattle.bep_tree.specs.Walk.{StandItems, Reaches};
+ghost use Rattle.bep_json.specs.Taking.{judged};
+ghost use Rattle.bep_json.specs.declared.told.Misread.TheVariants.{Shape};
+ghost use Rattle.bep_scenario.specs.Steps.{has_resets, has_word, is_step, read_by, read_step, shapes_of};
+ghost use Rattle.bep_scenario.specs.inner.Steps.{known, TakesBehind};
 
 use crate::StepParts;
-use crate::items::{ends_at, has_item, has_items, item};
-use crate::words::{NameWord, PairWord, Word, word_of};
-use bep_document::IndexNumber;
-use bep_index::IndexId;
-use bep_json::{DocVersion, NamedParts, ReadError, Readable, Shaped};
-use bep_machine::Step;
-use bep_record::{DeviceId, FolderName, Name};
-use bep_tree::{Tree, at};
+use crate::behind::{
+    take_announce, take_ask, take_edit, take_of_name, take_of_pair, take_reset, take_restart,
+};
+use crate::words::{Word, take_word};
+use bep_json::{DocVersion, Misread, Shaped, Taken, Told, enter_list};
+use bep_tree::{Reader, WalkError, pass_items};
 use std::alloc::Global;
 
 impl Shaped for StepParts {
@@ -23,48 +24,75 @@ impl Shaped for StepParts {
     ghost reads = { read_step };
 }
 
-impl Readable for StepParts {
-    #[tactic(auto, unfolding(crate::specs::Steps::is_step))]
-    fn has_shape(version: DocVersion, value: &Tree<'_>) -> bool {
-        has_form(version, first_word(value), value)
-    }
-
-    #[tactic(auto, unfolding(crate::specs::Steps::read_step))]
-    fn read(alloc: Global, version: DocVersion, value: &Tree<'_>) -> Result<Self, ReadError> {
-        match first_word(value) {
-            Some(word) => read_by(alloc, version, word, value),
-            None => Err(ReadError::Range),
+impl Taken for StepParts {
+    fn take(
+        alloc: Global,
+        version: DocVersion,
+        reader: &mut Reader<'_>,
+        depth: usize,
+    ) -> Result<Told<Self>, WalkError> {
+        match enter_list(reader, depth)? {
+            Some(inside) => take_step(alloc, version, reader, inside),
+            None => Ok(Err(Misread::Shape)),
         }
     }
 }
 
-// The word with which the list begins, if it is a step's.
-fn first_word(value: &Tree<'_>) -> Option<Word>
-    ensures { result ≡ read_item 0 read_word (view value.now) }
+// Takes the items of a list, and tells which step they say.
+fn take_step(
+    alloc: Global,
+    version: DocVersion,
+    reader: &mut Reader<'_>,
+    depth: usize,
+) -> Result<Told<StepParts>, WalkError>
+    ensures value { (ds : ItemsOf) (rest : List SpecToken) → StandItems depth reader.old ds rest
+        → Reaches result (λ told. (told ≡ judged (is_step version (array ds)) (read_step version (array ds))) × (reader.new ≡ rest)) }
+    ensures shorter { OnOk result (length reader.new < length reader.old) }
 {
-    match at(value, 0) {
-        Some(first) => word_of(first),
-        None => None,
+    if reader.take_end_array() {
+        return Ok(Err(Misread::Shape));
+    }
+    let word = take_word(reader, depth)?;
+    match known(version, word) {
+        Some(word) => take_behind(alloc, version, word, reader, depth),
+        None => passed_items(reader, depth),
     }
 }
 
-// Whether documents of this version have the word, and what belongs to it comes after it.
-fn has_form(version: DocVersion, word: Option<Word>, value: &Tree<'_>) -> bool
-    ensures { result ≡ has_form version word (view value.now) }
+// Passes the items that are left of a list, which is no step.
+fn passed_items(reader: &mut Reader<'_>, depth: usize) -> Result<Told<StepParts>, WalkError>
+    ensures value { (ds : ItemsOf) (rest : List SpecToken) → StandItems depth reader.old ds rest
+        → Reaches result (λ told. (told ≡ Err Shape) × (reader.new ≡ rest)) }
+    ensures shorter { OnOk result (length reader.new < length reader.old) }
+{
+    pass_items(reader, depth)?;
+    Ok(Err(Misread::Shape))
+}
+
+// The word, if documents of this version have it.
+fn known(version: DocVersion, word: Option<Word>) -> Option<Word>
+    ensures { result ≡ known version word }
+{
+    let word = word?;
+    if has_word(version, word) {
+        Some(word)
+    } else {
+        None
+    }
+}
+
+// Whether documents of this version have the word.
+fn has_word(version: DocVersion, word: Word) -> bool
+    ensures { result ≡ has_word version word }
 {
     match word {
-        None => false,
-        Some(Word::Edit) =>
-            has_items!(version, value; 1: DeviceId, 2: FolderName, 3: NamedParts; 4),
-        Some(Word::OfName(_)) => has_items!(version, value; 1: DeviceId, 2: FolderName, 3: Name; 4),
-        Some(Word::OfPair(_)) => has_items!(version, value; 1: DeviceId, 2: DeviceId; 3),
-        Some(Word::Announce) =>
-            has_items!(version, value; 1: DeviceId, 2: DeviceId, 3: FolderName; 4),
-        Some(Word::Ask) =>
-            has_items!(version, value; 1: DeviceId, 2: DeviceId, 3: FolderName, 4: Name; 5),
-        Some(Word::Restart) => has_items!(version, value; 1: DeviceId; 2),
-        Some(Word::Reset) => has_resets(version)
-            && has_items!(version, value; 1: DeviceId, 2: IndexNumber; 3),
+        Word::Edit => true,
+        Word::OfName(_) => true,
+        Word::OfPair(_) => true,
+        Word::Announce => true,
+        Word::Ask => true,
+        Word::Restart => true,
+        Word::Reset => has_resets(version),
     }
 }
 
@@ -78,83 +106,24 @@ fn has_resets(version: DocVersion) -> bool
     }
 }
 
-// The step of this word. `Range` where there is none; `Memory` may come in place of any answer.
-#[tactic(auto, unfolding(crate::specs::Steps::read_edit, crate::specs::Steps::read_name_step, crate::specs::Steps::read_pair_step, crate::specs::Steps::read_announce, crate::specs::Steps::read_ask, crate::specs::Steps::read_restart, crate::specs::Steps::read_reset))]
-fn read_by(
+// Takes the items behind this word, and tells which step they say with it.
+fn take_behind(
     alloc: Global,
     version: DocVersion,
     word: Word,
-    value: &Tree<'_>,
-) -> Result<StepParts, ReadError>
-    ensures { Gives result (read_by version word (view value.now)) }
-{
-    let device = item(alloc, version, value, 1)?;
-    match word {
-        Word::Edit => {
-            let folder = item(alloc, version, value, 2)?;
-            Ok(StepParts::Edit(device, folder, item(alloc, version, value, 3)?))
-        }
-        Word::OfName(word) => {
-            let folder = item(alloc, version, value, 2)?;
-            let name = item(alloc, version, value, 3)?;
-            Ok(StepParts::Other(name_step(word, device, folder, name)))
-        }
-        Word::OfPair(word) => {
-            let other = item(alloc, version, value, 2)?;
-            Ok(StepParts::Other(pair_step(word, device, other)))
-        }
-        Word::Announce => {
-            let other = item(alloc, version, value, 2)?;
-            let folder = item(alloc, version, value, 3)?;
-            Ok(StepParts::Other(Step::Announce(device, other, folder)))
-        }
-        Word::Ask => {
-            let other = item(alloc, version, value, 2)?;
-            let folder = item(alloc, version, value, 3)?;
-            let name = item(alloc, version, value, 4)?;
-            Ok(StepParts::Other(Step::Ask(device, other, folder, name)))
-        }
-        Word::Restart => Ok(StepParts::Other(Step::Restart(device))),
-        Word::Reset => {
-            let id = index_id(alloc, version, value)?;
-            Ok(StepParts::Other(Step::Reset(device, id)))
-        }
-    }
-}
-
-// The id under which a reset begins indexes anew. `Range` where there is none; `Memory` may come in place of any answer.
-fn index_id(alloc: Global, version: DocVersion, value: &Tree<'_>) -> Result<IndexId, ReadError>
-    ensures { Gives result (read_item 2 read_index_id (view value.now)) }
-{
-    let number = item::<IndexNumber>(alloc, version, value, 2)?.number();
-    match IndexId::read(number) {
-        Some(id) => Ok(id),
-        None => Err(ReadError::Range),
-    }
-}
-
-// The step of a device at a name.
-fn name_step(word: NameWord, device: DeviceId, folder: FolderName, name: Name) -> Step
-    ensures { result ≡ name_step word device folder name }
+    reader: &mut Reader<'_>,
+    depth: usize,
+) -> Result<Told<StepParts>, WalkError>
+    ensures value { TakesBehind (shapes_of word) (read_by version word) depth reader.old result reader.new }
+    ensures shorter { OnOk result (length reader.new < length reader.old) }
 {
     match word {
-        NameWord::Remove => Step::Remove(device, folder, name),
-        NameWord::Scan => Step::Scan(device, folder, name),
-        NameWord::Override => Step::Override(device, folder, name),
-        NameWord::Revert => Step::Revert(device, folder, name),
-        NameWord::Pull => Step::StartPull(device, folder, name),
-        NameWord::Finish => Step::Finish(device, folder, name),
-    }
-}
-
-// The step of two devices.
-fn pair_step(word: PairWord, one: DeviceId, other: DeviceId) -> Step
-    ensures { result ≡ pair_step word one other }
-{
-    match word {
-        PairWord::Connect => Step::Connect(one, other),
-        PairWord::Lose => Step::Lose(one, other),
-        PairWord::Begin => Step::Begin(one, other),
-        PairWord::Deliver => Step::Deliver(one, other),
+        Word::Edit => take_edit(alloc, version, reader, depth),
+        Word::OfName(word) => take_of_name(alloc, version, word, reader, depth),
+        Word::OfPair(word) => take_of_pair(alloc, version, word, reader, depth),
+        Word::Announce => take_announce(alloc, version, reader, depth),
+        Word::Ask => take_ask(alloc, version, reader, depth),
+        Word::Restart => take_restart(alloc, version, reader, depth),
+        Word::Reset => take_reset(alloc, version, reader, depth),
     }
 }

@@ -1,9 +1,12 @@
 //! The words by which scenarios name steps.
-ghost use Rattle.std.specs.Prelude.{◌≡◌};
+ghost use Rattle.std.specs.Prelude.{◌≡◌, ◌<◌, List, length, OnOk};
+ghost use Rattle.json.specs.Token.{Token as SpecToken};
+ghost use Rattle.serde_json.specs.Data.{Data};
 ghost use Rattle.bep_tree.specs.View.{view};
+ghost use Rattle.bep_tree.specs.Walk.{Stands, Reaches};
 ghost use Rattle.bep_scenario.specs.Words.{word_named, read_word};
 
-use bep_tree::{Tree, as_str};
+use bep_tree::{Entered, Reader, Tree, WalkError, as_str, enter, pass_items, pass_members};
 
 /// A step of a device at a name of a folder.
 #[derive(Clone, Copy, Debug, PartialEq, Eq)]
@@ -37,9 +40,28 @@ pub(crate) enum Word {
     Reset,
 }
 
+// Takes the value that comes next, and tells which word it is, if it is one.
+pub(crate) fn take_word(reader: &mut Reader<'_>, depth: usize) -> Result<Option<Word>, WalkError>
+    ensures value { (d : Data) (rest : List SpecToken) → Stands depth reader.old d rest
+        → Reaches result (λ word. (word ≡ read_word d) × (reader.new ≡ rest)) }
+    ensures shorter { OnOk result (length reader.new < length reader.old) }
+{
+    match enter(reader, depth)? {
+        Entered::Leaf(tree) => Ok(word_of(&tree)),
+        Entered::List(inside) => {
+            pass_items(reader, inside)?;
+            Ok(None)
+        }
+        Entered::Object(inside) => {
+            pass_members(reader, inside)?;
+            Ok(None)
+        }
+    }
+}
+
 // The word that the tree is, if it is one.
 #[tactic(auto, unfolding(crate::specs::Words::read_word))]
-pub(crate) fn word_of(value: &Tree<'_>) -> Option<Word>
+fn word_of(value: &Tree<'_>) -> Option<Word>
     ensures { result ≡ read_word (view value.now) }
 {
     match as_str(value) {

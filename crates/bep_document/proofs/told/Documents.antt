@@ -1,41 +1,22 @@
 -- What is told of the members of a check document is what is told of it.
-use Rattle.std.proofs.Common.{◌≡◌, ◌∙◌, ◌&&◌, Bool, true, false, Option, Some, None, Err, refl, sym, ap, ap₂}
-use Rattle.std.specs.Prelude.{codes, if◌then◌else◌, option_map, unwrap_or}
+use Rattle.std.proofs.Common.{◌≡◌, ◌∙◌, ◌&&◌, Bool, true, Option, Some, None, Err, sym, ap, ap₂}
+use Rattle.std.specs.Prelude.{codes, if◌then◌else◌}
 use Rattle.serde_json.specs.Data.{Data}
 use Rattle.serde_json.specs.Find.{get}
 use Rattle.bep_json.specs.declared.told.Misread.TheVariants.{Shape}
 use Rattle.bep_json.specs.declared.version.DocVersion.{DocVersion}
 use Rattle.bep_json.specs.Lists.{is_list, read_list}
 use Rattle.bep_json.specs.Numbers.{is_whole, read_number}
-use Rattle.bep_json.specs.Reading.{◌>>=◌, read_member}
+use Rattle.bep_json.specs.Reading.{read_member}
 use Rattle.bep_json.specs.Tree.{has_member}
 use Rattle.bep_json.specs.Taking.{judged, Fills, slot, due, both, told_as}
-use Rattle.bep_json.proofs.TakingFacts.{due_is, both_is, told_as_is, pair, paired, read_2}
+use Rattle.bep_json.proofs.TakingFacts.{due_is, noted_is, stands, as_if_there, both_is, told_as_is, pair, read_2}
 use Rattle.bep_document.specs.declared.take.documents.CheckSlots.{CheckSlots}
 use Rattle.bep_document.specs.declared.take.documents.CutSlot.{CutSlot}
-use Rattle.bep_document.specs.inner.Documents.{document_names, check_slots, check_of, check_told, noted, cut_slot, cut_slot_told}
+use Rattle.bep_document.specs.inner.Documents.{document_names, check_slots, check_of, check_told, cut_slot, cut_slot_told}
 use Rattle.bep_document.specs.inner.Texts.{cut_in_told}
 use Rattle.bep_document.specs.read.Checks.{is_cut, read_cut, is_check, read_check_parts}
 use Rattle.bep_document.specs.read.Folders.{is_row, read_row}
-
--- that something stands at a name
-abbrev stands : Option Data → Option Bool
-stands found = found >>= λ _. Some true
-
-noted_judged : {T : Type 0} (shape : Bool) (read : Option T) → noted (Some (judged shape read)) ≡ judged shape (Some true)
-noted_judged false read = refl
-noted_judged true None = refl
-noted_judged true (Some thing) = refl
-
-noted_is : {T : Type 0} (shape : Data → Bool) (reads : Data → Option T) (found : Option Data) → noted (slot shape reads found) ≡ judged (unwrap_or (option_map shape found) false) (stands found)
-noted_is shape reads None = refl
-noted_is shape reads (Some d) = noted_judged (shape d) (reads d)
-
--- where the member doesn't stand, the shape is another
-as_if_there : {B P : Type 0} (shape : Data → Bool) (found : Option Data) (others : Bool) (make : Bool × B → P) (more : Option B)
-    → judged (unwrap_or (option_map shape found) false && others) (option_map make (pair (stands found) more)) ≡ judged (unwrap_or (option_map shape found) false && others) (option_map (λ t. make (true, t)) more)
-as_if_there shape None others make more = refl
-as_if_there shape (Some d) others make more = ap (judged (shape d && others)) (paired make true more)
 
 module _ (version : DocVersion) (d : Data) where
   abbrev others : Bool

@@ -1,9 +1,11 @@
 -- What is told of a document, as its reading.
-use Rattle.std.proofs.Common.{◌≡◌, ◌∙◌, ℕ, Bool, true, false, List, [], Option, Some, None, Err, refl, sym, ap}
-use Rattle.std.specs.Prelude.{codes, if◌then◌else◌, option_and_then}
-use Rattle.serde_json.specs.Data.{Data}
-use Rattle.serde_json.specs.Find.{get}
+use Rattle.std.proofs.Common.{◌≡◌, ◌∙◌, ℕ, Bool, true, false, List, [], Option, Some, None, Err, refl, sym, ap, arith}
+use Rattle.std.specs.Prelude.{codes, if◌then◌else◌, option_and_then, is_some}
+use Rattle.std.proofs.lemmas.Bool.Decides.{nat_tests}
+use Rattle.serde_json.specs.Data.{Data, Num, unsigned, negative, float}
+use Rattle.serde_json.specs.Find.{as_number, as_integer, as_u64, get}
 use Rattle.bep_json.specs.declared.version.DocVersion.{DocVersion}
+use Rattle.bep_json.specs.Numbers.{is_whole, read_number, within}
 use Rattle.bep_json.specs.Reading as json
 use Rattle.bep_json.specs.Taking.{judged, due, slot}
 use Rattle.bep_json.specs.Tree.{names_of}
@@ -14,14 +16,14 @@ use Rattle.bep_tree.specs.Read.{tree_of}
 use Rattle.bep_tree.specs.Walk.{Stands}
 use Rattle.bep_tree.proofs.OneValue.{value_of_document}
 use Rattle.json.specs.Lex.{tokens}
-use Rattle.bep_document.specs.Reading.{Reading, Read, Refused, IsRefusal, ◌>>=◌, given, passed, of_shape, first_fault, unless, without_rows, reading_of_tree, reading_of_cut, reading_of_cut_in}
+use Rattle.bep_document.specs.Reading.{Reading, Read, Refused, IsRefusal, ◌>>=◌, given, passed, of_told, of_shape, first_fault, unless, without_rows, reading_of_tree, reading_of_cut, reading_of_cut_in}
+use Rattle.bep_document.specs.declared.fault.DocFault.{DocFault}
 use Rattle.bep_document.specs.declared.fault.Fault.TheVariants.{VersionBad, Shape, Range}
 use Rattle.bep_document.specs.declared.parts.CheckParts.{CheckParts}
 use Rattle.bep_document.specs.declared.parts.FolderParts.{FolderParts}
 use Rattle.bep_document.specs.declared.parts.LinkParts.{LinkParts}
 use Rattle.bep_document.specs.Fault.{nowhere}
 use Rattle.bep_document.specs.declared.error.DocError.{DocError}
-use Rattle.bep_document.specs.declared.fault.DocFault.{DocFault}
 use Rattle.bep_document.specs.declared.error.DocError.TheVariants as errors
 use Rattle.bep_json.specs.declared.told.Misread.TheVariants as misread
 use Rattle.bep_document.specs.inner.Texts.{parts_read, cut_parts, cut_in_told}
@@ -40,34 +42,29 @@ found_number (Some d) = number_version (whole_number d)
 pub version_is : (d : Data) → option_and_then version_of (number_at (codes "version") d) ≡ doc_version d
 version_is d = found_number (get (codes "version") d)
 
--- ---- a refusal stays one, whatever comes next
-abbrev refused_with : {A B : Type 0} → DocFault → Reading A → Reading B
-refused_with fault (Read x) = Refused fault
-refused_with fault (Refused other) = Refused other
-
--- a document that is refused, or says no version, is refused
-pub refused_before : {A : Type 0} (error : DocError) (reading : Reading Data) (next : DocVersion → Data → Reading A) → IsRefusal error (reading >>= λ d. given VersionBad (doc_version d))
-    → IsRefusal error (reading >>= λ d. given VersionBad (doc_version d) >>= λ version. next version d)
-refused_before errors.Memory reading next is = tt
-refused_before (errors.Refused fault) (Refused other) next is = ap (refused_with fault) is
-refused_before (errors.Refused fault) (Read d) next is = ap (λ r. r >>= λ version. next version d) is
-
 -- ---- what a document says
 
-of_told : (shape : Bool) (read : Option CheckParts) (d : Data) (reads : Data → Option CheckParts) → reads d ≡ read → parts_read (judged shape read) ≡ of_shape (λ _. shape) reads first_fault d
-of_told false read d reads is = refl
-of_told true None d reads is = sym (ap (λ r. given Range r >>= λ found. unless (first_fault found) found) is)
-of_told true (Some parts) d reads is = sym (ap (λ r. given Range r >>= λ found. unless (first_fault found) found) is)
+-- what is told of a value is what is read of it
+pub shape_told : {T : Type 0} (shape : Bool) (read : Option T) (fault_of : T → Option DocFault) (d : Data) (reads : Data → Option T) → reads d ≡ read
+    → (of_told (judged shape read) >>= λ found. unless (fault_of found) found) ≡ of_shape (λ _. shape) reads fault_of d
+shape_told false read fault_of d reads is = refl
+shape_told true None fault_of d reads is = sym (ap (λ r. given Range r >>= λ found. unless (fault_of found) found) is)
+shape_told true (Some thing) fault_of d reads is = sym (ap (λ r. given Range r >>= λ found. unless (fault_of found) found) is)
 
 pub check_reading : (version : DocVersion) (d : Data) → doc_version d ≡ Some version → parts_read (judged (is_check version d) (read_check_parts version d)) ≡ reading_of_tree d
 unfolding reading_of_tree
 check_reading version d is =
-    of_told (is_check version d) (read_check_parts version d) d (read_check_parts version) refl
+    shape_told (is_check version d) (read_check_parts version d) first_fault d (read_check_parts version) refl
     ∙ sym (ap (λ v. given VersionBad v >>= λ known. of_shape (is_check known) (read_check_parts known) first_fault d) is)
 
-pub no_version : (d : Data) → doc_version d ≡ None → given VersionBad None ≡ reading_of_tree d
-unfolding reading_of_tree
-no_version d is = sym (ap (λ v. given VersionBad v >>= λ known. of_shape (is_check known) (read_check_parts known) first_fault d) is)
+-- ---- a document that says no version
+
+-- where the fault is that there is no version, that is what is read, whatever comes next
+pub no_version_stays : {T : Type 0} (error : DocError) (reading : Reading Data) (next : DocVersion → Data → Reading T)
+    → IsRefusal error (reading >>= λ d. given VersionBad (doc_version d)) → IsRefusal error (reading >>= λ d. given VersionBad (doc_version d) >>= λ version. next version d)
+no_version_stays errors.Memory reading next is = tt
+no_version_stays (errors.Refused fault) (Refused other) next is = cc
+no_version_stays (errors.Refused fault) (Read d) next is = ap (λ r. r >>= λ version. next version d) is
 
 -- ---- what a cut says
 
@@ -94,13 +91,6 @@ unfolding reading_of_cut_in
 cut_in_reading version d is =
     of_cut_member version (has_only (names_of (check_members version)) d) (get (codes "cut") d) d (get (codes "cut")) refl
     ∙ sym (ap (λ v. given VersionBad v >>= cut_listed) is)
-  where
-    cut_listed : DocVersion → Reading CheckParts
-    cut_listed known = passed Shape (has_only (names_of (check_members known))) d >>= λ listed. given Shape (get (codes "cut") listed) >>= reading_of_cut known
-
-pub no_version_of_cut : (d : Data) → doc_version d ≡ None → given VersionBad None ≡ reading_of_cut_in d
-unfolding reading_of_cut_in
-no_version_of_cut d is = sym (ap (λ v. given VersionBad v >>= cut_listed) is)
   where
     cut_listed : DocVersion → Reading CheckParts
     cut_listed known = passed Shape (has_only (names_of (check_members known))) d >>= λ listed. given Shape (get (codes "cut") listed) >>= reading_of_cut known

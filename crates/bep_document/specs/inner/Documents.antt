@@ -1,12 +1,12 @@
 -- What is told of the members of a check document.
-use Rattle.std.specs.Prelude.{ℕ, Bool, true, List, [], ◌∷◌, Option, None, Some, Result, Ok, Err, codes}
+use Rattle.std.specs.Prelude.{ℕ, Bool, List, [], ◌∷◌, Option, None, Some, Result, Err, codes}
 use Rattle.serde_json.specs.Data.{Data}
 use Rattle.bep_json.specs.declared.told.Misread.{Misread}
-use Rattle.bep_json.specs.declared.told.Misread.TheVariants.{Shape, Range}
+use Rattle.bep_json.specs.declared.told.Misread.TheVariants.{Shape}
 use Rattle.bep_json.specs.declared.version.DocVersion.{DocVersion}
 use Rattle.bep_json.specs.Lists.{is_list, read_list}
 use Rattle.bep_json.specs.Numbers.{is_whole, read_number}
-use Rattle.bep_json.specs.Taking.{slot, due, both, told_as}
+use Rattle.bep_json.specs.Taking.{slot, due, noted, both, told_as}
 use Rattle.bep_document.specs.declared.parts.CheckParts.{CheckParts}
 use Rattle.bep_document.specs.declared.parts.FolderParts.{FolderParts}
 use Rattle.bep_document.specs.declared.parts.LinkParts.{LinkParts}
@@ -31,13 +31,6 @@ check_slots version look = record {
 -- the same of the cut alone
 abbrev pub cut_slot : DocVersion → (List ℕ → Option Data) → CutSlot
 cut_slot version look = record { cut = slot (is_cut version) (read_cut version) (look (codes "cut")) }
-
--- a member that must be there, whatever it says
-abbrev pub noted : {T : Type 0} → Option (Result T Misread) → Result Bool Misread
-noted None = Err Shape
-noted (Some (Ok thing)) = Ok true
-noted (Some (Err Range)) = Ok true
-noted (Some (Err Shape)) = Err Shape
 
 -- the document with these things
 abbrev pub check_of : DocVersion → Bool × ((List FolderParts × List LinkParts) × List RowParts) → CheckParts

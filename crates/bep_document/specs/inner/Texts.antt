@@ -1,5 +1,5 @@
 -- What a walk along a document's text reads.
-use Rattle.std.specs.Prelude.{◌≡◌, ℕ, List, Option, Some, Result, Ok, Err, if◌then◌else◌, codes}
+use Rattle.std.specs.Prelude.{◌≡◌, ℕ, List, Option, None, Some, Result, Ok, Err, if◌then◌else◌, codes}
 use Rattle.std.specs.Borrow.{Bor}
 use Rattle.serde_json.specs.Data.{Data}
 use Rattle.serde_json.specs.Find.{get}
@@ -8,15 +8,16 @@ use Rattle.bep_json.specs.declared.told.Misread.TheVariants as misread
 use Rattle.bep_json.specs.declared.version.DocVersion.{DocVersion}
 use Rattle.bep_json.specs.Taking.{due, slot}
 use Rattle.bep_json.specs.Tree.{names_of}
+use Rattle.bep_json.specs.Version.{version_of}
 use Rattle.bep_tree.specs.Names.{has_only}
 use Rattle.bep_tree.specs.Read.{tree_of}
 use Rattle.bep_tree.specs.declared.walk.WalkError.{WalkError}
 use Rattle.bep_tree.specs.declared.walk.WalkError.TheVariants as walk
 use Rattle.bep_document.specs.Fault.{nowhere}
-use Rattle.bep_document.specs.Reading.{Reading, Read, Refused, IsRefusal, ◌>>=◌, given, first_fault, unless, without_rows}
+use Rattle.bep_document.specs.Reading.{Reading, Read, IsRefusal, ◌>>=◌, of_told, first_fault, unless, without_rows}
 use Rattle.bep_document.specs.declared.error.DocError.{DocError}
 use Rattle.bep_document.specs.declared.error.DocError.TheVariants as errors
-use Rattle.bep_document.specs.declared.fault.Fault.TheVariants.{NotJson, VersionBad, Shape, Range}
+use Rattle.bep_document.specs.declared.fault.Fault.TheVariants.{NotJson}
 use Rattle.bep_document.specs.declared.parts.CheckParts.{CheckParts}
 use Rattle.bep_document.specs.declared.parts.FolderParts.{FolderParts}
 use Rattle.bep_document.specs.declared.parts.LinkParts.{LinkParts}
@@ -32,16 +33,9 @@ abbrev pub AnswersText : Result (Bor (List ℕ) × Option DocVersion) DocError �
 AnswersText (Ok said) reading = (d : Data) × (reading ≡ Read d) × (tree_of said.0.now ≡ Some d) × (said.1 ≡ doc_version d)
 AnswersText (Err error) reading = IsRefusal error reading
 
--- the same of a document, which is refused where it says no version
-abbrev pub AnswersDocument : Result (Bor (List ℕ) × DocVersion) DocError → Reading Data → Type 0
-AnswersDocument (Ok said) reading = (d : Data) × (reading ≡ Read d) × (tree_of said.0.now ≡ Some d) × (doc_version d ≡ Some said.1)
-AnswersDocument (Err error) reading = IsRefusal error (reading >>= λ d. given VersionBad (doc_version d))
-
 -- what is read of parts that were told
 abbrev pub parts_read : Result CheckParts Misread → Reading CheckParts
-parts_read (Ok parts) = unless (first_fault parts) parts
-parts_read (Err misread.Shape) = Refused (nowhere Shape)
-parts_read (Err misread.Range) = Refused (nowhere Range)
+parts_read told = of_told told >>= λ parts. unless (first_fault parts) parts
 
 -- a cut that was told, with no rows
 abbrev pub cut_parts : DocVersion → Result (List FolderParts × List LinkParts) Misread → Result CheckParts Misread

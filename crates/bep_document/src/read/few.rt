@@ -1,13 +1,11 @@
 //! Short lists.
 ghost use Rattle.std.specs.Prelude.{◌≡◌, List, [], Ok};
 ghost use Rattle.bep_json.specs.Lists.{is_list};
-ghost use Rattle.bep_json.specs.Reading.{Gives};
 ghost use Rattle.bep_document.specs.inner.Few.{few_told};
 ghost use Rattle.bep_document.specs.read.Few.{read_few};
 
-use bep_json::{DocVersion, Misread, ReadError, Readable, Shaped, Told};
+use bep_json::{Misread, Shaped, Told};
 use bep_record::Items;
-use bep_tree::Tree;
 use std::alloc::Global;
 use std::marker::Model;
 
@@ -60,18 +58,4 @@ impl<T: Shaped, const MOST: usize> Shaped for Few<T, MOST> {
     ghost has_shape = { λ version. is_list (T.has_shape version) };
 
     ghost reads = { λ version. read_few MOST (T.reads version) };
-}
-
-impl<T: Readable, const MOST: usize> Readable for Few<T, MOST> {
-    fn has_shape(version: DocVersion, value: &Tree<'_>) -> bool {
-        <Items<T>>::has_shape(version, value)
-    }
-
-    fn read(alloc: Global, version: DocVersion, value: &Tree<'_>) -> Result<Self, ReadError> {
-        let items = <Items<T>>::read(alloc, version, value)?;
-        if items.as_slice().len() > MOST {
-            return Err(ReadError::Range);
-        }
-        Ok(Few { items })
-    }
 }

@@ -3,11 +3,11 @@ ghost use Rattle.std.specs.Prelude.{◌≡◌, ◌<◌, List, true, length, OnOk
 ghost use Rattle.json.specs.Token.{Token};
 ghost use Rattle.serde_json.specs.Data.{Data};
 ghost use Rattle.bep_tree.specs.Walk.{Stands, Reaches};
-ghost use Rattle.bep_document.specs.inner.Documents.{document_names, check_slots, cut_slot, noted, check_told, cut_slot_told};
+ghost use Rattle.bep_document.specs.inner.Documents.{document_names, check_slots, cut_slot, check_told, cut_slot_told};
 
 use crate::take::CutLists;
 use crate::{CheckParts, RowParts};
-use bep_json::{DocVersion, Misread, Slots, Told, Whole, both, due, fill, fill_leaf};
+use bep_json::{DocVersion, Misread, Slots, Told, Whole, both, due, fill, fill_leaf, noted};
 use bep_record::Items;
 use bep_tree::{Reader, WalkError, pass};
 use std::alloc::Global;
@@ -62,18 +62,6 @@ pub(crate) fn check_told(version: DocVersion, slots: Option<CheckSlots>) -> Told
         both(due(slots.cut), due(slots.certificate)),
     )?;
     Ok(cut.with_rows(version, certificate))
-}
-
-// What is told of a member that must be there, whatever it says.
-fn noted<T: Drop>(found: Option<Told<T>>) -> Told<bool>
-    ensures { result ≡ noted found }
-{
-    match found {
-        Some(Ok(_)) => Ok(true),
-        Some(Err(Misread::Range)) => Ok(true),
-        Some(Err(Misread::Shape)) => Err(Misread::Shape),
-        None => Err(Misread::Shape),
-    }
 }
 
 // What is told of the cut of a check document, whose other members aren't looked at.

@@ -3,41 +3,32 @@ ghost use Rattle.std.specs.Prelude.{None};
 
 use super::made::{CHECK, docs, name};
 use bep_document::{
-    DocFault, Fault, Found, Judge, document_tree, first_bad_link, first_fault, first_twice,
-    has_few_devices, index_id_of, read_cut_document, read_cut_text, read_parts, tree_of,
-    unless_found,
+    DocFault, Fault, Found, Judge, first_bad_link, first_fault, first_twice, has_few_devices,
+    read_cut_document, read_cut_text, read_parts, thing_told, unless_found, versioned_text,
 };
 use bep_json::DocVersion;
 use bep_record::DeviceId;
 use bep_tree::Scratch;
 use std::alloc::Global;
 
-fn faults(alloc: Global) -> Option<[bool; 2]> {
+fn faults(alloc: Global) -> Option<[bool; 3]> {
     let (device, folder, name) = (DeviceId::read(1)?, docs(alloc)?, name(alloc)?);
     Some([
         DocFault::at_name(alloc, Fault::Twice, &folder, device, &name).is_ok(),
         unless_found(None, ()).is_ok(),
+        thing_told(Ok(())).is_ok(),
     ])
 }
 
-fn index_id(alloc: Global) -> Option<bool> {
+// Whether the text of the document is found again, with its version.
+fn versioned(alloc: Global) -> Option<bool> {
     let mut scratch = Scratch::new(alloc);
-    let share = tree_of(alloc, br#"{"index_id":11}"#, &mut scratch).ok()?;
-    Some(index_id_of(alloc, DocVersion::One, &share).is_ok())
+    let (version, text) = versioned_text(CHECK.as_bytes(), &mut scratch).ok()?;
+    Some(version == DocVersion::One && text == CHECK)
 }
 
-fn tree(alloc: Global) -> bool {
-    let mut scratch = Scratch::new(alloc);
-    document_tree(alloc, CHECK.as_bytes(), &mut scratch).is_ok()
-}
-
-fn trees(alloc: Global) -> Option<[bool; 3]> {
-    let text = br#"{"folders":[]}"#;
-    Some([
-        tree(alloc),
-        index_id(alloc)?,
-        read_cut_text(alloc, DocVersion::One, text).is_ok(),
-    ])
+fn cut(alloc: Global) -> bool {
+    read_cut_text(alloc, DocVersion::One, br#"{"folders":[]}"#).is_ok()
 }
 
 // A judge who finds no fault.
@@ -72,8 +63,9 @@ fn lists(alloc: Global) -> Option<[bool; 4]> {
 #[test]
 fn documents_find_memory(rt: HostRuntime) {
     let alloc = rt.alloc();
-    assert!(rt; faults(alloc) == Some([true; 2]));
-    assert!(rt; trees(alloc) == Some([true; 3]));
+    assert!(rt; faults(alloc) == Some([true; 3]));
+    assert!(rt; versioned(alloc) == Some(true));
+    assert!(rt; cut(alloc));
     assert!(rt; judged(alloc) == [true; 2]);
     assert!(rt; lists(alloc) == Some([true; 4]));
 }

@@ -1,7 +1,6 @@
 //! `bep_json`.
 use super::made::{name, node, record};
-use bep_json::{DocVersion, Members, Readable, Whole, member, member_or, node_value, record_value};
-use bep_record::{DeviceId, Name};
+use bep_json::{DocVersion, Members, Readable, Whole, node_value, record_value};
 use bep_tree::{Scratch, Tree, get, json_text, read_tree};
 use serde_json::Value;
 use std::alloc::Global;
@@ -27,26 +26,14 @@ fn made(alloc: Global) -> Option<bool> {
     Some(text.as_str() == r#"{"deleted":false,"device":1,"modified_s":-1,"name":"a","size":5}"#)
 }
 
-fn named(alloc: Global, tree: &Tree<'_>) -> Option<Name> {
-    member(alloc, DocVersion::One, tree, "name").ok()
-}
-
-fn device(alloc: Global, tree: &Tree<'_>) -> Option<DeviceId> {
-    member_or(alloc, DocVersion::One, tree, "device", DeviceId::read(2)?).ok()
-}
-
 fn size(alloc: Global, tree: &Tree<'_>) -> Option<Whole<0, 9>> {
     Readable::read(alloc, DocVersion::One, get(tree, "size")?).ok()
 }
 
-fn read(alloc: Global) -> Option<[bool; 3]> {
+fn read(alloc: Global) -> Option<u64> {
     let mut scratch = Scratch::new(alloc);
-    let tree = read_tree(alloc, br#"{"device":1,"name":"a","size":5}"#, &mut scratch).ok()?;
-    Some([
-        named(alloc, &tree).is_some(),
-        device(alloc, &tree).is_some(),
-        size(alloc, &tree).is_some(),
-    ])
+    let tree = read_tree(alloc, br#"{"size":5}"#, &mut scratch).ok()?;
+    Some(size(alloc, &tree)?.number())
 }
 
 fn written(alloc: Global) -> Option<[bool; 2]> {
@@ -65,7 +52,7 @@ fn found(alloc: Global) -> Option<bool> {
 
 #[test]
 fn trees_find_memory(rt: HostRuntime) {
-    assert!(rt; read(rt.alloc()) == Some([true; 3]));
+    assert!(rt; read(rt.alloc()) == Some(5));
     assert!(rt; made(rt.alloc()) == Some(true));
     assert!(rt; found(rt.alloc()) == Some(true));
     assert!(rt; written(rt.alloc()) == Some([true; 2]));

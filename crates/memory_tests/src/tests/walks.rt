@@ -3,7 +3,10 @@ ghost use Rattle.std.specs.Prelude.{[], ◌∷◌, codes};
 ghost use Rattle.bep_json.specs.Numbers.{is_whole, read_number};
 ghost use Rattle.bep_json.specs.Taking.{slot};
 
-use bep_json::{DocVersion, Slots, Taken, Told, Whole, fill, fill_leaf, take_leaf, take_object};
+use bep_json::{
+    DocVersion, Slots, Taken, Told, Tuple, Whole, enter_list, fill, fill_leaf, take_leaf,
+    take_object,
+};
 use bep_record::Vector;
 use bep_tree::{
     Entered, MAX_DEPTH, Reader, Scratch, WalkError, enter, next_key, pass, pass_items, pass_members,
@@ -112,6 +115,21 @@ fn vector(alloc: Global) -> Option<bool> {
     Some(told.counters() == [(1, 2), (3, 4)].as_slice())
 }
 
+// The items of the list that the text is, each at its place.
+fn tuple(alloc: Global) -> Option<(u64, u64)> {
+    let mut scratch = Scratch::new(alloc);
+    let mut reader = Reader::new("[5,6]", &mut scratch).ok()?;
+    let inside = enter_list(&mut reader, MAX_DEPTH).ok()??;
+    let told: Told<(Digit, (Digit, ()))> = Tuple::take_items(
+        alloc,
+        DocVersion::One,
+        &mut reader,
+        inside,
+    ).ok()?;
+    let (first, (second, ())) = told.ok()?;
+    Some((first.number(), second.number()))
+}
+
 fn filled(alloc: Global) -> Option<bool> {
     let mut scratch = Scratch::new(alloc);
     let mut reader = Reader::new("[[1,2]]", &mut scratch).ok()?;
@@ -129,4 +147,5 @@ fn walks_find_memory(rt: HostRuntime) {
     assert!(rt; slots(alloc) == Some(5));
     assert!(rt; vector(alloc) == Some(true));
     assert!(rt; filled(alloc) == Some(true));
+    assert!(rt; tuple(alloc) == Some((5, 6)));
 }

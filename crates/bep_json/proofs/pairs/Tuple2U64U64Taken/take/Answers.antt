@@ -1,10 +1,8 @@
 use Rattle.std.proofs.Common.{◌≡◌, ◌∙◌, Err, ap, sym, subst, rules}
-use Rattle.serde_json.specs.Find.{as_array}
-use Rattle.bep_tree.specs.Walk.{Enters}
-use Rattle.bep_tree.proofs.Walking.{reaches_so}
 use Rattle.bep_json.specs.Lists.{is_pair, read_pair}
-use Rattle.bep_json.specs.Taking.{judged}
-use Rattle.bep_json.proofs.PairFacts.{others_are_no_pair}
+use Rattle.bep_json.specs.Taking.{judged, told_as}
+use Rattle.bep_json.specs.Tuples.{EntersList}
+use Rattle.bep_json.proofs.PairFacts.{others_are_no_pair, items_are_pair, pair_of}
 use Rattle.bep_json.proofs.pairs.Tuple2U64U64Taken.take.Goals as goal
 
 pub returns-in_err-inside-clause-value : goal.returns-in_err-inside-clause-value
@@ -13,17 +11,20 @@ returns-in_err-inside-clause-value c = λ d rest stood.
     let is : c.from_residual.result ≡ Err c.in_err-inside.field-0.0 = search rules in
     rw is fails
 
-pub returns-in-List-clause-value : goal.returns-in-List-clause-value
-returns-in-List-clause-value c = λ d rest stood.
-    let list = subst (λ entered. Enters entered d c.enter.new.reader rest) c.in-List.is (c.in_ok-inside.ensures.value d rest stood) in
-    reaches_so _ _ c.take_pair.result (λ told is. (is.0 ∙ ap (λ e. judged (is_pair e) (read_pair e)) (sym list.1), is.1)) (c.take_pair.ensures.value list.0 rest list.2)
+pub returns-in_default-clause-value : goal.returns-in_default-clause-value
+returns-in_default-clause-value c = λ d rest stood.
+    let other = subst (λ inside. EntersList inside d c.enter_list.new.reader rest) c.in_default.is (c.in_ok-inside.ensures.value d rest stood) in
+    (others_are_no_pair d other.0, other.1)
 
-pub returns-in-Object-clause-value : goal.returns-in-Object-clause-value
-returns-in-Object-clause-value c = λ d rest stood.
-    let object = subst (λ entered. Enters entered d c.enter.new.reader rest) c.in-Object.is (c.in_ok-inside.ensures.value d rest stood) in
-    reaches_so _ _ c.passed_object.result (λ told is. (is.0 ∙ others_are_no_pair d (ap as_array object.1), is.1)) (c.passed_object.ensures.value object.0 rest object.2)
+pub returns-in_err-numbers-clause-value : goal.returns-in_err-numbers-clause-value
+returns-in_err-numbers-clause-value c = λ d rest stood.
+    let list = subst (λ inside. EntersList inside d c.enter_list.new.reader rest) c.in-Some.is (c.in_ok-inside.ensures.value d rest stood) in
+    let fails = c.in_err-numbers.ensures.value list.0 rest list.2 in
+    let is : c.from_residual-in_err-numbers.result ≡ Err c.in_err-numbers.field-0.0 = search rules in
+    rw is fails
 
-pub returns-in-Leaf-clause-value : goal.returns-in-Leaf-clause-value
-returns-in-Leaf-clause-value c = λ d rest stood.
-    let leaf = subst (λ entered. Enters entered d c.enter.new.reader rest) c.in-Leaf.is (c.in_ok-inside.ensures.value d rest stood) in
-    (others_are_no_pair d leaf.1.0, leaf.2)
+pub returns-clause-value : goal.returns-clause-value
+returns-clause-value c = λ d rest stood.
+    let list = subst (λ inside. EntersList inside d c.enter_list.new.reader rest) c.in-Some.is (c.in_ok-inside.ensures.value d rest stood) in
+    let taken = c.in_ok-numbers.ensures.value list.0 rest list.2 in
+    (c.pair_of.ensures ∙ ap (told_as pair_of) taken.0 ∙ items_are_pair list.0 ∙ sym (ap (λ e. judged (is_pair e) (read_pair e)) list.1), taken.1)

@@ -1,0 +1,4 @@
+-- What only private contracts say: no public contract rests on it.
+pub mod Fresh
+pub mod Steps
+pub mod Members
