@@ -1,14 +1,12 @@
 -- Hexadecimal digits by the table of their values.
-use Rattle.std.proofs.Common.{◌≡◌, ◌∙◌, ℕ, zero, suc, ◌+◌, ◌*◌, ◌<◌, ◌≤◌, ◌==◌, ◌&&◌, nat_le, Bool, true, slice_index, Option, Some, None, if◌then◌else◌, Result, Ok, Err, refl, sym, ap, arith, inl, inr}
+use Rattle.std.proofs.Common.{◌≡◌, ◌∙◌, ℕ, zero, suc, ◌+◌, ◌*◌, ◌<◌, ◌≤◌, ◌==◌, ◌&&◌, ◌||◌, ◌⊎◌, nat_le, Bool, true, slice_index, Option, Some, None, Result, Ok, Err, refl, sym, ap, arith, inl, inr}
 use Rattle.std.specs.Result.{result_ok}
 use Rattle.std.proofs.lemmas.Bool.{and_parts, cases_lt, eqb-true}
+use Rattle.std.proofs.lemmas.Bool.Decides.{nat_tests}
 use Rattle.hex.specs.Hex.{digit_or_error, hex_digit_value, pair_value, ◌>>=◌}
 use Rattle.hex.specs.declared.error.FromHexError.{FromHexError}
 use Rattle.bep_json.specs.declared.digits.TheConstants.{VALUES}
-
--- a value of the table as a digit's
-abbrev pub digit_of : ℕ → Option ℕ
-digit_of value = if nat_le value 15 then Some value else None
+use Rattle.bep_json.specs.inner.Digits.{digit_of}
 
 -- ---- the table is right at each byte
 
@@ -54,6 +52,23 @@ table_right byte less =
     let right = eqb-true (number_of (digit_of (slice_index VALUES byte))) (number_of (hex_digit_value byte)) (below is_right 256 byte all_right less) in
     sym (told_back (digit_of (slice_index VALUES byte))) ∙ ap told_by right ∙ told_back (hex_digit_value byte)
 
+is_bounded : ℕ → Bool
+is_bounded byte = nat_le (slice_index VALUES byte) 15 || slice_index VALUES byte == 256
+
+all_bounded : all_below is_bounded 256 ≡ true
+unfolding all_below is_bounded
+all_bounded = refl
+
+abbrev pub IsBounded : ℕ → Type 0
+IsBounded value = (value ≤ 15) ⊎ (value ≡ 256)
+
+pub table_bounded : (byte : ℕ) → byte < 256 → IsBounded (slice_index VALUES byte)
+unfolding is_bounded
+table_bounded byte less = by_test (slice_index VALUES byte) (below is_bounded 256 byte all_bounded less)
+  where
+    by_test : (value : ℕ) → nat_le value 15 || value == 256 ≡ true → IsBounded value
+    by_test value holds = grind (arith, nat_tests)
+
 -- ---- pairs
 
 -- the byte of two digits, if both are
@@ -86,11 +101,15 @@ is_err (Err error) is = (error, refl)
 is_small : (value : ℕ) → value ≤ 15 → digit_of value ≡ Some value
 is_small value small = grind (arith)
 
-is_large : (value : ℕ) → 15 < value → digit_of value ≡ None
-is_large value large = grind (arith)
+both_small : (high low : ℕ) → high ≤ 15 → low ≤ 15 → both (digit_of high) (digit_of low) ≡ Some (high * 16 + low)
+both_small high low h l = ap (λ d. both d (digit_of low)) (is_small high h) ∙ ap (both (Some high)) (is_small low l)
 
-pub is_digit : (byte : ℕ) → byte < 256 → slice_index VALUES byte ≤ 15 → Some (slice_index VALUES byte) ≡ hex_digit_value byte
-is_digit byte less small = sym (is_small (slice_index VALUES byte) small) ∙ table_right byte less
+pub pair_some : (high low : ℕ) → IsBounded high → IsBounded low → high * 16 + low ≤ 255 → both (digit_of high) (digit_of low) ≡ Some (high * 16 + low)
+pair_some high low (inl h) (inl l) small = both_small high low h l
+pair_some high low (inl h) (inr l) small = absurd (omega (arith, h, l, small))
+pair_some high low (inr h) l small = absurd (omega (arith, h, small))
 
-pub is_none : (byte : ℕ) → byte < 256 → 15 < slice_index VALUES byte → None ≡ hex_digit_value byte
-is_none byte less large = sym (is_large (slice_index VALUES byte) large) ∙ table_right byte less
+pub pair_none : (high low : ℕ) → IsBounded high → IsBounded low → 255 < high * 16 + low → both (digit_of high) (digit_of low) ≡ None
+pair_none high low (inl h) (inl l) large = absurd (omega (arith, h, l, large))
+pair_none high low (inl h) (inr l) large = ap (λ d. both d (digit_of low)) (is_small high h) ∙ ap (λ v. both (Some high) (digit_of v)) l
+pair_none high low (inr h) l large = ap (λ v. both (digit_of v) (digit_of low)) h

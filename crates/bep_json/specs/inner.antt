@@ -1,4 +1,5 @@
 -- What only private contracts say: no public contract rests on it.
+pub mod Digits
 pub mod Joined
 pub mod Nodes
 pub mod Records
