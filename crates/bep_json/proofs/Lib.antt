@@ -9,3 +9,4 @@ pub mod PairFacts
 pub mod SaidFacts
 pub mod NodeTold
 pub mod RecordTold
+pub mod VectorTold

@@ -1,14 +1,13 @@
--- Which lists say a pair of numbers, and what is told of a version vector.
+-- Which lists say a pair of numbers.
 use Rattle.std.specs.Prelude.{option_map, unwrap_or}
-use Rattle.std.proofs.Common.{◌≡◌, ◌∙◌, ℕ, List, ◌&&◌, Bool, true, false, Option, Some, None, Ok, Err, refl, sym, ap}
+use Rattle.std.proofs.Common.{◌≡◌, ◌∙◌, ◌&&◌, false, None, Err, sym, ap}
 use Rattle.serde_json.specs.Data.{Data, array, Items, no_items, item}
 use Rattle.serde_json.specs.Find.{as_array}
 use Rattle.bep_json.specs.declared.told.Misread.TheVariants.{Shape}
 use Rattle.bep_json.specs.Reading.{◌>>=◌}
 use Rattle.bep_json.specs.Numbers.{is_whole, read_unsigned}
-use Rattle.bep_json.specs.Lists.{two_items, is_pair, read_pair, is_version, if_version, read_list, read_version}
+use Rattle.bep_json.specs.Lists.{two_items, is_pair, read_pair}
 use Rattle.bep_json.specs.Taking.{judged, both}
-use Rattle.bep_json.specs.inner.VectorTold.{vector_told}
 use Rattle.bep_json.proofs.TakingFacts.{both_is}
 
 -- what is told of the items of a list, if they are no pair
@@ -44,18 +43,3 @@ pub two_are_a_pair : (a b : Data) (ds others more : Items) → ds ≡ item a oth
     → both (judged (is_whole a) (read_unsigned a)) (judged (is_whole b) (read_unsigned b)) ≡ judged (is_pair (array ds)) (read_pair (array ds))
 two_are_a_pair a b ds others more is second no_more =
     two a b ∙ sym (ap (λ ds. judged (is_pair (array ds)) (read_pair (array ds))) (is ∙ ap (item a) (second ∙ ap (item b) no_more)))
-
--- ---- version vectors
-
-vector_by : (pairs : List (ℕ × ℕ)) (is_one : Bool) → is_version pairs ≡ is_one → vector_told (Ok pairs) ≡ judged true (if_version pairs)
-vector_by pairs true is = rw is
-vector_by pairs false is = rw is
-
-vector_of_read : (shape : Bool) (read : Option (List (ℕ × ℕ))) → vector_told (judged shape read) ≡ judged shape (read >>= if_version)
-vector_of_read false read = refl
-vector_of_read true None = refl
-vector_of_read true (Some pairs) = vector_by pairs (is_version pairs) refl
-
-pub vector_is : (shape : Bool) (d : Data) → vector_told (judged shape (read_list read_pair d)) ≡ judged shape (read_version d)
-unfolding read_version
-vector_is shape d = vector_of_read shape (read_list read_pair d)

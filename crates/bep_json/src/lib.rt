@@ -31,7 +31,6 @@ mod slots;
 mod taken;
 mod texts;
 mod told;
-mod vectors;
 mod version;
 mod writing;
 
@@ -42,6 +41,7 @@ pub use members::Members;
 pub use nodes::NamedParts;
 pub use numbers::{Nanoseconds, Sequence, Whole};
 pub use readable::{Readable, Shaped, has, may_have, member, member_or};
+pub(crate) use slots::fill_object;
 pub use slots::{Slots, fill, fill_leaf, take_member, take_object};
 pub use taken::{Leaf, Taken, take_leaf};
 pub use told::{Misread, Told, both, due, due_or};
