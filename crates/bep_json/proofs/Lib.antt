@@ -10,3 +10,4 @@ pub mod PairFacts
 pub mod SaidFacts
 pub mod NodeTold
 pub mod RecordTold
+pub mod VectorTold

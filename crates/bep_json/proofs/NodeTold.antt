@@ -4,6 +4,7 @@ use Rattle.std.proofs.Common.{◌≡◌, ◌∙◌, ◌&&◌, refl, sym, ap, ap�
 use Rattle.std.proofs.Math.Bool.{and_assoc, and_comm, and-true}
 use Rattle.serde_json.specs.Data.{Data}
 use Rattle.serde_json.specs.Find.{get}
+use Rattle.bep_tree.specs.Names.{has_only}
 use Rattle.bep_record.specs.declared.limits.TheConstants.{MAX_NANOSECONDS}
 use Rattle.bep_json.specs.declared.told.Misread.TheVariants.{Shape}
 use Rattle.bep_json.specs.declared.version.DocVersion.{DocVersion}
@@ -13,7 +14,8 @@ use Rattle.bep_json.specs.Tree.{has_member, may_have_member}
 use Rattle.bep_json.specs.Numbers.{is_whole, read_number, read_signed, read_kind}
 use Rattle.bep_json.specs.Texts.{is_text, read_name, read_target, read_text_bytes, read_hex_bytes}
 use Rattle.bep_json.specs.Nodes.{is_node, has_node_members, has_one_body, has_due_target, says_symlink, read_body, read_node}
-use Rattle.bep_json.specs.Taking.{judged, slot, both, told_as, Fills}
+use Rattle.bep_json.specs.Taking.{judged, slot, both, told_as}
+use Rattle.bep_json.specs.inner.Filled.{AreFilled}
 use Rattle.bep_json.specs.inner.Nodes.{node_names, node_slots, body_told, tells_due_target, node_things, node_of, node_told}
 use Rattle.bep_json.proofs.TakingFacts.{due_is, due_or_is, both_is, told_as_is, pair, read_6}
 use Rattle.bep_json.proofs.SaidFacts.{said_is, is_there, if_also, kinds_are_whole}
@@ -92,15 +94,19 @@ things_are version d =
 abbrev has_all : Data → Bool
 has_all d = ((has_member (codes "name") is_text d) && ((has_member (codes "type") is_whole d) && ((has_member (codes "modified_s") is_whole d) && ((may_have_member (codes "modified_ns") is_whole d) && ((may_have_member (codes "text") is_text d) && ((may_have_member (codes "hex") is_text d) && (may_have_member (codes "target") is_text d)))))))
 
-members_are : (version : DocVersion) (d : Data) → node_told (Some (node_slots version (λ name. get name d))) ≡ judged (has_all d && (has_one_body d && has_due_target d)) (read_node version d)
+members_are : (version : DocVersion) (d : Data) → node_told (node_slots version (λ name. get name d)) ≡ judged (has_all d && (has_one_body d && has_due_target d)) (read_node version d)
 members_are version d =
     ap₂ (λ also told. if also then told else Err Shape) (target_is version d) (things_are version d)
     ∙ if_also (has_due_target d) ((has_member (codes "name") is_text d) && ((has_member (codes "type") is_whole d) && ((has_member (codes "modified_s") is_whole d) && ((may_have_member (codes "modified_ns") is_whole d) && ((may_have_member (codes "text") is_text d && (may_have_member (codes "hex") is_text d && has_one_body d)) && (may_have_member (codes "target") is_text d)))))) (read_node version d)
     ∙ ap (λ shape. judged shape (read_node version d)) (all_asked (has_member (codes "name") is_text d) (has_member (codes "type") is_whole d) (has_member (codes "modified_s") is_whole d) (may_have_member (codes "modified_ns") is_whole d) (may_have_member (codes "text") is_text d) (may_have_member (codes "hex") is_text d) (has_one_body d) (may_have_member (codes "target") is_text d) (has_due_target d))
 
-pub node_is : (version : DocVersion) (slots : Option NodeSlots) (d : Data) → Fills node_names (node_slots version) slots d → node_told slots ≡ judged (is_node d) (read_node version d)
+-- what has other members, or is no object, is no node
+pub no_node : (version : DocVersion) (d : Data) → has_only node_names d ≡ false → Err Shape ≡ judged (is_node d) (read_node version d)
 unfolding is_node has_node_members
-node_is version None d strange = sym (ap (λ only. judged ((only && has_all d) && (has_one_body d && has_due_target d)) (read_node version d)) strange)
-node_is version (Some slots) d (only, known) =
-    ap (λ s. node_told (Some s)) known ∙ members_are version d
+no_node version d strange = sym (ap (λ only. judged ((only && has_all d) && (has_one_body d && has_due_target d)) (read_node version d)) strange)
+
+pub node_is : (version : DocVersion) (slots : NodeSlots) (d : Data) → AreFilled node_names (node_slots version) true slots d → node_told slots ≡ judged (is_node d) (read_node version d)
+unfolding is_node has_node_members
+node_is version slots d (only, known) =
+    ap node_told known ∙ members_are version d
     ∙ sym (ap (λ only. judged ((only && has_all d) && (has_one_body d && has_due_target d)) (read_node version d)) only)

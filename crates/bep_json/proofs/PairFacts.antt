@@ -1,16 +1,15 @@
--- Which lists say a pair of numbers, and what is told of a version vector.
+-- Which lists say a pair of numbers.
 use Rattle.std.specs.Prelude.{⊤, option_map, unwrap_or}
 use Rattle.std.proofs.Math.Bool.{and-true}
-use Rattle.std.proofs.Common.{◌≡◌, ◌∙◌, ℕ, List, ◌&&◌, Bool, true, false, Option, Some, None, Ok, Err, refl, sym, ap}
+use Rattle.std.proofs.Common.{◌≡◌, ◌∙◌, ℕ, ◌&&◌, Bool, true, false, Option, Some, None, Err, refl, sym, ap}
 use Rattle.serde_json.specs.Data.{Data, array, Items, no_items, item}
 use Rattle.serde_json.specs.Find.{as_array}
 use Rattle.bep_json.specs.declared.told.Misread.TheVariants.{Shape}
 use Rattle.bep_json.specs.Reading.{◌>>=◌}
 use Rattle.bep_json.specs.Numbers.{is_whole, read_unsigned}
-use Rattle.bep_json.specs.Lists.{two_items, is_pair, read_pair, is_version, if_version, read_list, read_version}
+use Rattle.bep_json.specs.Lists.{two_items, is_pair, read_pair}
 use Rattle.bep_json.specs.Taking.{judged, told_as}
 use Rattle.bep_json.specs.Tuples.{are_none, are_first, read_none, read_first}
-use Rattle.bep_json.specs.inner.VectorTold.{vector_told}
 use Rattle.bep_json.proofs.TakingFacts.{told_as_is, read_3}
 
 pub others_are_no_pair : (d : Data) → as_array d ≡ None → Err Shape ≡ judged (is_pair d) (read_pair d)
@@ -48,18 +47,3 @@ items_are_pair (item a (item b no_items)) =
     ∙ ap (judged (is_whole a && is_whole b)) (read_3 pair_of (read_unsigned a) (read_unsigned b) (Some tt))
 items_are_pair (item a (item b (item c more))) =
     told_as_is pair_of (is_whole a && (is_whole b && false)) (read_two (item a (item b (item c more)))) ∙ neither_shape (is_whole a) (is_whole b) (option_map pair_of (read_two (item a (item b (item c more))))) None
-
--- ---- version vectors
-
-vector_by : (pairs : List (ℕ × ℕ)) (is_one : Bool) → is_version pairs ≡ is_one → vector_told (Ok pairs) ≡ judged true (if_version pairs)
-vector_by pairs true is = rw is
-vector_by pairs false is = rw is
-
-vector_of_read : (shape : Bool) (read : Option (List (ℕ × ℕ))) → vector_told (judged shape read) ≡ judged shape (read >>= if_version)
-vector_of_read false read = refl
-vector_of_read true None = refl
-vector_of_read true (Some pairs) = vector_by pairs (is_version pairs) refl
-
-pub vector_is : (shape : Bool) (d : Data) → vector_told (judged shape (read_list read_pair d)) ≡ judged shape (read_version d)
-unfolding read_version
-vector_is shape d = vector_of_read shape (read_list read_pair d)

@@ -53,7 +53,7 @@ fn take_items<T: Taken>(
     let mut told = Ok(Vec::new(alloc));
     while !reader.take_end_array() {
         let item = T::take(alloc, version, reader, depth)?;
-        told = joined(told, item)?;
+        join(&mut told, item)?;
     }
     Ok(as_items(told))
 }
@@ -68,27 +68,21 @@ fn as_items<T: Drop>(told: Told<Vec<T>>) -> Told<Items<T>>
     }
 }
 
-// What is told of a list so far and of its next item, together.
-fn joined<T: Drop>(told: Told<Vec<T>>, next: Told<T>) -> Result<Told<Vec<T>>, AllocError>
-    ensures { IfOk result (λ all. seen all ≡ joined (seen told) next) }
+// Adds what is told of the next item to what is told of a list so far.
+fn join<T: Drop>(told: &mut Told<Vec<T>>, next: Told<T>) -> Result<(), AllocError>
+    ensures { OnOk result (seen told.new ≡ joined (seen told.old) next) }
 {
-    match told {
-        Ok(things) => match next {
-            Ok(thing) => pushed(things, thing),
-            Err(misread) => Ok(Err(misread)),
-        },
-        Err(Misread::Shape) => Ok(Err(Misread::Shape)),
-        Err(Misread::Range) => match next {
-            Ok(_) => Ok(Err(Misread::Range)),
-            Err(misread) => Ok(Err(misread)),
-        },
+    match next {
+        Ok(thing) => {
+            if let Ok(things) = told {
+                things.push(thing)?;
+            }
+        }
+        Err(misread) => {
+            if !matches!(told, Err(Misread::Shape)) {
+                *told = Err(misread);
+            }
+        }
     }
-}
-
-// These things and one more.
-fn pushed<T: Drop>(mut things: Vec<T>, thing: T) -> Result<Told<Vec<T>>, AllocError>
-    ensures { IfOk result (λ all. seen all ≡ Ok (things.items ++ thing ∷ [])) }
-{
-    things.push(thing)?;
-    Ok(Ok(things))
+    Ok(())
 }

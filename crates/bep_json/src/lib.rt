@@ -32,7 +32,6 @@ mod taken;
 mod texts;
 mod told;
 mod tuples;
-mod vectors;
 mod version;
 mod writing;
 
@@ -43,6 +42,7 @@ pub use members::Members;
 pub use nodes::NamedParts;
 pub use numbers::{Nanoseconds, Sequence, Whole};
 pub use readable::{Readable, Shaped};
+pub(crate) use slots::fill_object;
 pub use slots::{Slots, fill, fill_leaf, take_object};
 pub use taken::{Leaf, Taken, take_leaf};
 pub use told::{Misread, Told, both, due, due_or, noted};

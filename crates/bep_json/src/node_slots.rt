@@ -5,7 +5,7 @@ ghost use Rattle.bep_json.specs.inner.Nodes.{node_names, node_slots, body_told, 
 use crate::texts::{HexBytes, TextBytes};
 use crate::{
     DocVersion, Misread, NamedParts, Nanoseconds, Slots, Taken, Told, Whole, both, due, due_or,
-    fill_leaf, take_object,
+    fill_leaf, fill_object,
 };
 use bep_record::{Items, Kind, Name, NodeParts, Target};
 use bep_tree::{Reader, WalkError};
@@ -71,18 +71,18 @@ impl Taken for NamedParts {
         reader: &mut Reader<'_>,
         depth: usize,
     ) -> Result<Told<Self>, WalkError> {
-        let slots = take_object::<NodeSlots>(alloc, version, reader, depth)?;
+        let mut slots = NodeSlots::none();
+        if !fill_object(&mut slots, alloc, version, reader, depth)? {
+            return Ok(Err(Misread::Shape));
+        }
         Ok(node_told(alloc, slots))
     }
 }
 
 // What is told of a node, by what is told of its members.
-fn node_told(alloc: Global, slots: Option<NodeSlots>) -> Told<NamedParts>
+fn node_told(alloc: Global, slots: NodeSlots) -> Told<NamedParts>
     ensures { result ≡ node_told slots }
 {
-    let Some(slots) = slots else {
-        return Err(Misread::Shape);
-    };
     if !tells_due_target(&slots) {
         return Err(Misread::Shape);
     }

@@ -1,5 +1,6 @@
 //! Records, whose members are read as a walk along a document's text comes to them.
-ghost use Rattle.std.specs.Prelude.{◌≡◌, false, IfOk};
+ghost use Rattle.std.specs.Prelude.{◌≡◌, false};
+ghost use Rattle.bep_tree.specs.Walk.{Reaches};
 ghost use Rattle.bep_json.specs.Records.{says_file, says_present};
 ghost use Rattle.bep_json.specs.inner.Said.{said, said_or, optional};
 ghost use Rattle.bep_json.specs.inner.Records.{record_names, record_slots, tells_due_block_size, record_things, record_of, record_told};
@@ -7,11 +8,14 @@ ghost use Rattle.bep_json.specs.inner.Records.{record_names, record_slots, tells
 use crate::records::{AnyBlockSize, FileSize, Hashes, blocks_of, default_block_size};
 use crate::{
     DocVersion, Misread, Nanoseconds, Sequence, Slots, Taken, Told, Whole, both, due, due_or, fill,
-    fill_leaf, take_object,
+    fill_leaf, fill_object,
 };
 use bep_record::{DeviceId, Entry, Items, Kind, Name, Target, Vector};
 use bep_tree::{Reader, WalkError};
-use std::alloc::{AllocError, Global};
+use std::alloc::Global;
+
+// The pairs that a version vector is made of.
+type Counters = Items<(u64, u64)>;
 
 // The things that the members say.
 type RecordThings = (
@@ -23,7 +27,7 @@ type RecordThings = (
             (
                 DeviceId,
                 (
-                    Vector,
+                    Counters,
                     (
                         Sequence,
                         (
@@ -47,7 +51,7 @@ pub(crate) struct RecordSlots {
     kind: Option<Told<Kind>>,
     modified_s: Option<Told<i64>>,
     modified_by: Option<Told<DeviceId>>,
-    counters: Option<Told<Vector>>,
+    counters: Option<Told<Counters>>,
     sequence: Option<Told<Sequence>>,
     size: Option<Told<FileSize>>,
     modified_ns: Option<Told<Nanoseconds>>,
@@ -115,9 +119,11 @@ impl Taken for Entry {
         reader: &mut Reader<'_>,
         depth: usize,
     ) -> Result<Told<Self>, WalkError> {
-        let slots = take_object::<RecordSlots>(alloc, version, reader, depth)?;
-        let told = record_told(alloc, version, slots)?;
-        Ok(told)
+        let mut slots = RecordSlots::none();
+        if !fill_object(&mut slots, alloc, version, reader, depth)? {
+            return Ok(Err(Misread::Shape));
+        }
+        record_told(alloc, version, slots)
     }
 }
 
@@ -125,18 +131,15 @@ impl Taken for Entry {
 fn record_told(
     alloc: Global,
     version: DocVersion,
-    slots: Option<RecordSlots>,
-) -> Result<Told<Entry>, AllocError>
-    ensures { IfOk result (λ told. told ≡ record_told version slots) }
+    slots: RecordSlots,
+) -> Result<Told<Entry>, WalkError>
+    ensures { Reaches result (λ told. told ≡ record_told version slots) }
 {
-    let Some(slots) = slots else {
-        return Ok(Err(Misread::Shape));
-    };
     if !tells_due_block_size(version, &slots) {
         return Ok(Err(Misread::Shape));
     }
     match things_told(alloc, slots) {
-        Ok(things) => Ok(Ok(record_of(alloc, things)?)),
+        Ok(things) => record_of(alloc, things),
         Err(misread) => Ok(Err(misread)),
     }
 }
@@ -218,16 +221,20 @@ fn optional<T: Drop>(found: Option<Told<T>>) -> Told<Option<T>>
     }
 }
 
-// The record that has these things.
-fn record_of(alloc: Global, things: RecordThings) -> Result<Entry, AllocError>
-    ensures { IfOk result (λ entry. entry ≡ record_of things) }
+// The record that has these things, where its counters are a version vector.
+#[tactic(auto, using(crate::proofs::ListFacts::version_decides))]
+fn record_of(alloc: Global, things: RecordThings) -> Result<Told<Entry>, WalkError>
+    ensures { Reaches result (λ told. told ≡ record_of things) }
 {
     let (name, (kind, (modified_s, (modified_by, things)))) = things;
     let (counters, (sequence, (size, (modified_ns, things)))) = things;
     let (deleted, (invalid, (block_size, (hashes, target)))) = things;
     let blocks = blocks_of(alloc, size.bytes(), hashes.as_slice())?;
     let block_size = block_size.unwrap_or(default_block_size(kind, deleted));
-    Ok(Entry {
+    let Some(version) = Vector::read(counters.as_slice()) else {
+        return Ok(Err(Misread::Range));
+    };
+    Ok(Ok(Entry {
         name,
         kind,
         size: size.bytes(),
@@ -237,10 +244,10 @@ fn record_of(alloc: Global, things: RecordThings) -> Result<Entry, AllocError>
         deleted,
         invalid,
         no_permissions: true,
-        version: counters,
+        version,
         sequence: sequence.number(),
         block_size: block_size.number() as u32,
         blocks,
         target,
-    })
+    }))
 }

@@ -1,11 +1,12 @@
 //! Objects, whose members are read as a walk along a document's text comes to them.
-ghost use Rattle.std.specs.Prelude.{◌≡◌, ◌<◌, ◌≤◌, ℕ, List, Option, None, Some, true, length, OnOk, IfOk};
+ghost use Rattle.std.specs.Prelude.{◌≡◌, ◌<◌, ◌≤◌, ℕ, List, Option, None, Some, true, false, length, OnOk, IfOk};
 ghost use Rattle.std.specs.Bool.{OnTrue};
 ghost use Rattle.json.specs.Token.{Token as SpecToken};
 ghost use Rattle.serde_json.specs.Data.{Data, Items as ItemsOf, Members as MembersOf, no_members, object};
 ghost use Rattle.bep_tree.specs.Walk.{Stands, StandItems, StandMembers, Reaches};
 ghost use Rattle.bep_json.specs.declared.version.DocVersion.{DocVersion as VersionOf};
 ghost use Rattle.bep_json.specs.Taking.{judged, TakesMember, Fills};
+ghost use Rattle.bep_json.specs.inner.Filled.{AreFilled};
 
 use crate::{DocVersion, Leaf, Taken, Told, take_leaf};
 use bep_tree::{Entered, Reader, WalkError, enter, next_key, pass, pass_items, pass_members};
@@ -48,43 +49,64 @@ pub fn take_object<S: Slots>(
         → Reaches result (λ slots. Fills S.names (S.known version) slots d × (reader.new ≡ rest)) }
     ensures shorter { OnOk result (length reader.new < length reader.old) }
 {
-    match enter(reader, depth)? {
-        Entered::Object(inside) => take_members(alloc, version, reader, inside),
-        Entered::List(inside) => passed_list(reader, inside),
-        Entered::Leaf(_tree) => Ok(None),
+    let mut slots = S::none();
+    if fill_object(&mut slots, alloc, version, reader, depth)? {
+        Ok(Some(slots))
+    } else {
+        Ok(None)
     }
 }
 
-// Passes the items that are left of a list, which has no members.
-fn passed_list<S: Slots>(reader: &mut Reader<'_>, depth: usize) -> Result<Option<S>, WalkError>
-    ensures value { (ds : ItemsOf) (rest : List SpecToken) → StandItems depth reader.old ds rest
-        → Reaches result (λ slots. (slots ≡ None) × (reader.new ≡ rest)) }
-    ensures shorter { OnOk result (length reader.new < length reader.old) }
-{
-    pass_items(reader, depth)?;
-    Ok(None)
-}
-
-// Takes the members of an object that are still to come, and tells of all.
-fn take_members<S: Slots>(
+// Takes the value that comes next, and keeps in these slots what is told of its members. False where it is no object, or has
+// a member of another name.
+pub(crate) fn fill_object<S: Slots>(
+    slots: &mut S,
     alloc: Global,
     version: DocVersion,
     reader: &mut Reader<'_>,
     depth: usize,
-) -> Result<Option<S>, WalkError>
-    ensures value { (ms : MembersOf) (rest : List SpecToken) → StandMembers depth reader.old no_members ms rest
-        → Reaches result (λ slots. Fills S.names (S.known version) slots (object ms) × (reader.new ≡ rest)) }
+) -> Result<bool, WalkError>
+    ensures value { (d : Data) (rest : List SpecToken) → slots.old ≡ S.known version (λ _. None) → Stands depth reader.old d rest
+        → Reaches result (λ filled. AreFilled S.names (S.known version) filled slots.new d × (reader.new ≡ rest)) }
     ensures shorter { OnOk result (length reader.new < length reader.old) }
 {
-    let mut slots = S::none();
+    match enter(reader, depth)? {
+        Entered::Object(inside) => fill_members(slots, alloc, version, reader, inside),
+        Entered::List(inside) => passed_list(reader, inside),
+        Entered::Leaf(_tree) => Ok(false),
+    }
+}
+
+// Passes the items that are left of a list, which has no members.
+fn passed_list(reader: &mut Reader<'_>, depth: usize) -> Result<bool, WalkError>
+    ensures value { (ds : ItemsOf) (rest : List SpecToken) → StandItems depth reader.old ds rest
+        → Reaches result (λ filled. (filled ≡ false) × (reader.new ≡ rest)) }
+    ensures shorter { OnOk result (length reader.new < length reader.old) }
+{
+    pass_items(reader, depth)?;
+    Ok(false)
+}
+
+// Takes the members of an object that are still to come, and keeps in these slots what is told of each.
+fn fill_members<S: Slots>(
+    slots: &mut S,
+    alloc: Global,
+    version: DocVersion,
+    reader: &mut Reader<'_>,
+    depth: usize,
+) -> Result<bool, WalkError>
+    ensures value { (ms : MembersOf) (rest : List SpecToken) → slots.old ≡ S.known version (λ _. None) → StandMembers depth reader.old no_members ms rest
+        → Reaches result (λ filled. AreFilled S.names (S.known version) filled slots.new (object ms) × (reader.new ≡ rest)) }
+    ensures shorter { OnOk result (length reader.new < length reader.old) }
+{
     while let Some(key) = next_key(reader)? {
         if !slots.take(alloc, version, key, reader, depth)? {
             pass(reader, depth)?;
             pass_members(reader, depth)?;
-            return Ok(None);
+            return Ok(false);
         }
     }
-    Ok(Some(slots))
+    Ok(true)
 }
 
 /// Takes the value that comes next into this slot, where such a thing may stand. True, as `Slots::take` answers of a member

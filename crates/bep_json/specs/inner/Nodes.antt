@@ -56,6 +56,5 @@ node_of t = record {
 }
 
 -- what is told of the node
-abbrev pub node_told : Option NodeSlots → Result NamedParts Misread
-node_told None = Err Shape
-node_told (Some slots) = if tells_due_target slots then told_as node_of (node_things slots) else Err Shape
+abbrev pub node_told : NodeSlots → Result NamedParts Misread
+node_told slots = if tells_due_target slots then told_as node_of (node_things slots) else Err Shape

@@ -1,5 +1,5 @@
 -- What is told of the members of a record.
-use Rattle.std.specs.Prelude.{ℕ, ℤ, Bool, true, false, ◌&&◌, ◌||◌, not, List, [], ◌∷◌, Option, None, Some, Result, Err, is_some, unwrap_or, codes, if◌then◌else◌}
+use Rattle.std.specs.Prelude.{ℕ, ℤ, Bool, true, false, ◌&&◌, ◌||◌, not, List, [], ◌∷◌, Option, Result, Err, is_some, unwrap_or, codes, if◌then◌else◌}
 use Rattle.serde_json.specs.Data.{Data}
 use Rattle.bep_record.specs.declared.entry.Entry.{Entry}
 use Rattle.bep_record.specs.declared.kind.Kind.{Kind}
@@ -12,10 +12,10 @@ use Rattle.bep_json.specs.declared.record_slots.RecordSlots.{RecordSlots}
 use Rattle.bep_json.specs.Version.{most_file_bytes}
 use Rattle.bep_json.specs.Numbers.{is_whole, is_flag, read_number, read_signed, read_flag, read_kind, greatest_id}
 use Rattle.bep_json.specs.Texts.{is_text, read_name, read_target, read_hash}
-use Rattle.bep_json.specs.Lists.{is_list, read_list, is_pair, read_version}
+use Rattle.bep_json.specs.Lists.{is_list, read_list, is_pair, read_pair, is_version}
 use Rattle.bep_json.specs.Records.{says_file, says_present, default_block_size, blocks_from}
-use Rattle.bep_json.specs.Taking.{slot, due, due_or, both, told_as}
-use Rattle.bep_json.specs.inner.Said.{said, said_or, optional}
+use Rattle.bep_json.specs.Taking.{slot, due, due_or, both}
+use Rattle.bep_json.specs.inner.Said.{said, said_or, optional, if_so, told_by}
 
 -- the names of the members
 abbrev pub record_names : List (List ℕ)
@@ -29,7 +29,7 @@ record_slots version look = record {
   kind = slot is_whole read_kind (look (codes "type"));
   modified_s = slot is_whole read_signed (look (codes "modified_s"));
   modified_by = slot is_whole (read_number 1 greatest_id) (look (codes "modified_by"));
-  counters = slot (is_list is_pair) read_version (look (codes "version"));
+  counters = slot (is_list is_pair) (read_list read_pair) (look (codes "version"));
   sequence = slot is_whole (read_number 0 9223372036854775807) (look (codes "sequence"));
   size = slot is_whole (read_number 0 (most_file_bytes version)) (look (codes "size"));
   modified_ns = slot is_whole (read_number 0 MAX_NANOSECONDS) (look (codes "modified_ns"));
@@ -45,7 +45,7 @@ abbrev pub tells_due_block_size : DocVersion → RecordSlots → Bool
 tells_due_block_size One slots = true
 tells_due_block_size Two slots = not (says_file (said slots.kind) && says_present (said_or false slots.deleted)) || is_some slots.block_size
 
--- what is told of all members
+-- what is told of all members, whether the counters are a version vector or not
 abbrev pub record_things : RecordSlots → Result (List ℕ × (Kind × (ℤ × (ℕ × (List (ℕ × ℕ) × (ℕ × (ℕ × (ℕ × (Bool × (Bool × (Option ℕ × (List (List ℕ) × (List ℕ))))))))))))) Misread
 record_things slots =
     both (due slots.name) (both (due slots.kind) (both (due slots.modified_s) (both (due slots.modified_by)
@@ -54,8 +54,8 @@ record_things slots =
     (both (due_or [] slots.hashes) (due_or [] slots.target))))))))))))
 
 -- the record with these things
-abbrev pub record_of : List ℕ × (Kind × (ℤ × (ℕ × (List (ℕ × ℕ) × (ℕ × (ℕ × (ℕ × (Bool × (Bool × (Option ℕ × (List (List ℕ) × (List ℕ)))))))))))) → Entry
-record_of t = record {
+abbrev pub entry_of : List ℕ × (Kind × (ℤ × (ℕ × (List (ℕ × ℕ) × (ℕ × (ℕ × (ℕ × (Bool × (Bool × (Option ℕ × (List (List ℕ) × (List ℕ)))))))))))) → Entry
+entry_of t = record {
   name = t.0;
   kind = t.1.0;
   size = t.1.1.1.1.1.1.0;
@@ -72,7 +72,10 @@ record_of t = record {
   target = t.1.1.1.1.1.1.1.1.1.1.1.1;
 }
 
+-- the record with these things, if the counters are a version vector
+abbrev pub record_of : List ℕ × (Kind × (ℤ × (ℕ × (List (ℕ × ℕ) × (ℕ × (ℕ × (ℕ × (Bool × (Bool × (Option ℕ × (List (List ℕ) × (List ℕ)))))))))))) → Result Entry Misread
+record_of t = if_so (is_version t.1.1.1.1.0) (entry_of t)
+
 -- what is told of the record
-abbrev pub record_told : DocVersion → Option RecordSlots → Result Entry Misread
-record_told version None = Err Shape
-record_told version (Some slots) = if tells_due_block_size version slots then told_as record_of (record_things slots) else Err Shape
+abbrev pub record_told : DocVersion → RecordSlots → Result Entry Misread
+record_told version slots = if tells_due_block_size version slots then told_by record_of (record_things slots) else Err Shape

@@ -1,7 +1,8 @@
--- What is said by a member that may be left out.
-use Rattle.std.specs.Prelude.{Option, None, Some, Result, Ok, Err, option_map}
+-- What is said by a member that may be left out, and what is told of things in which something may be out of range.
+use Rattle.std.specs.Prelude.{Bool, true, false, Option, None, Some, Result, Ok, Err, option_map}
 use Rattle.serde_json.specs.Data.{Data}
 use Rattle.bep_json.specs.declared.told.Misread.{Misread}
+use Rattle.bep_json.specs.declared.told.Misread.TheVariants.{Range}
 
 -- the thing that is told
 abbrev pub thing_of : {T : Type 0} → Result T Misread → Option T
@@ -28,3 +29,13 @@ optional (Some (Err misread)) = Err misread
 abbrev pub read_optional : {T : Type 0} → (Data → Option T) → Option Data → Option (Option T)
 read_optional reads None = Some None
 read_optional reads (Some d) = option_map Some (reads d)
+
+-- the thing, or that something in it is out of range
+abbrev pub if_so : {T : Type 0} → Bool → T → Result T Misread
+if_so true thing = Ok thing
+if_so false thing = Err Range
+
+-- what is told of these things, where they are told
+abbrev pub told_by : {A B : Type 0} → (A → Result B Misread) → Result A Misread → Result B Misread
+told_by tells (Ok things) = tells things
+told_by tells (Err misread) = Err misread

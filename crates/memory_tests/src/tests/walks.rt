@@ -7,13 +7,15 @@ use bep_json::{
     DocVersion, Slots, Taken, Told, Tuple, Whole, enter_list, fill, fill_leaf, take_leaf,
     take_object,
 };
-use bep_record::Vector;
+use bep_record::Items;
 use bep_tree::{
     Entered, MAX_DEPTH, Reader, Scratch, WalkError, enter, next_key, pass, pass_items, pass_members,
 };
 use std::alloc::Global;
 
 type Digit = Whole<0, 9>;
+
+type Pairs = Items<(u64, u64)>;
 
 // What is told of an object that has a size alone.
 #[derive(Drop)]
@@ -106,13 +108,11 @@ fn slots(alloc: Global) -> Option<u64> {
     if taken { digit(slots.size) } else { None }
 }
 
-fn vector(alloc: Global) -> Option<bool> {
+fn pairs(alloc: Global) -> Option<bool> {
     let mut scratch = Scratch::new(alloc);
     let mut reader = Reader::new("[[1,2],[3,4]]", &mut scratch).ok()?;
-    let told = Vector::take(alloc, DocVersion::One, &mut reader, MAX_DEPTH)
-        .ok()?
-        .ok()?;
-    Some(told.counters() == [(1, 2), (3, 4)].as_slice())
+    let told: Told<Pairs> = Items::take(alloc, DocVersion::One, &mut reader, MAX_DEPTH).ok()?;
+    Some(told.ok()?.as_slice() == [(1, 2), (3, 4)].as_slice())
 }
 
 // The items of the list that the text is, each at its place.
@@ -134,8 +134,8 @@ fn filled(alloc: Global) -> Option<bool> {
     let mut scratch = Scratch::new(alloc);
     let mut reader = Reader::new("[[1,2]]", &mut scratch).ok()?;
     let mut slot = None;
-    fill::<Vector>(&mut slot, alloc, DocVersion::One, &mut reader, MAX_DEPTH).ok()?;
-    Some(slot?.ok()?.counters() == [(1, 2)].as_slice())
+    fill::<Pairs>(&mut slot, alloc, DocVersion::One, &mut reader, MAX_DEPTH).ok()?;
+    Some(slot?.ok()?.as_slice() == [(1, 2)].as_slice())
 }
 
 #[test]
@@ -145,7 +145,7 @@ fn walks_find_memory(rt: HostRuntime) {
     assert!(rt; object(alloc) == Some(5));
     assert!(rt; leaf(alloc) == Some(5));
     assert!(rt; slots(alloc) == Some(5));
-    assert!(rt; vector(alloc) == Some(true));
+    assert!(rt; pairs(alloc) == Some(true));
     assert!(rt; filled(alloc) == Some(true));
     assert!(rt; tuple(alloc) == Some((5, 6)));
 }

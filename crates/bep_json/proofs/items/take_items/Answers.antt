@@ -38,7 +38,7 @@ loop-alloc-preserved g c =
           let rest_of = judged (have_shape shape one.1) (read_items reads one.1) in (
             one.1,
             subst (λ ts. StandItems c.args.depth ts one.1 rest) (sym taken.1) one.5,
-            ap (λ told. followed told rest_of) (c.in_ok-told.ensures ∙ ap (joined (seen c.loop-alloc.told)) taken.0)
+            ap (λ told. followed told rest_of) (c.in_ok-join.ensures ∙ ap (joined (seen c.loop-alloc.told)) taken.0)
                 ∙ item_joined shape reads (seen c.loop-alloc.told) one.0 one.1
                 ∙ ap (λ ds. followed (seen c.loop-alloc.told) (judged (have_shape shape ds) (read_items reads ds))) (sym one.3)
                 ∙ there.2,

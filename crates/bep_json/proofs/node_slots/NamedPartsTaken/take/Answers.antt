@@ -1,14 +1,21 @@
-use Rattle.std.proofs.Common.{◌≡◌, ◌∙◌, Err, rules}
-use Rattle.bep_json.proofs.NodeTold.{node_is}
+use Rattle.std.proofs.Common.{◌≡◌, ◌∙◌, Err, subst, rules}
+use Rattle.bep_json.specs.inner.Filled.{AreFilled}
+use Rattle.bep_json.specs.inner.Nodes.{node_names, node_slots}
+use Rattle.bep_json.proofs.NodeTold.{no_node, node_is}
 use Rattle.bep_json.proofs.node_slots.NamedPartsTaken.take.Goals as goal
 
-pub returns-in_err-slots-clause-value : goal.returns-in_err-slots-clause-value
-returns-in_err-slots-clause-value c = λ d rest stood.
-    let fails = c.in_err-slots.ensures.value d rest stood in
-    let is : c.from_residual.result ≡ Err c.in_err-slots.field-0.0 = search rules in
+pub returns-in_err-fill_object-clause-value : goal.returns-in_err-fill_object-clause-value
+returns-in_err-fill_object-clause-value c = λ d rest stood.
+    let fails = c.in_err-fill_object.ensures.value d rest (c.none-slots.ensures c.args.version) stood in
+    let is : c.from_residual.result ≡ Err c.in_err-fill_object.field-0.0 = search rules in
     rw is fails
+
+pub returns-then-not-branch-clause-value : goal.returns-then-not-branch-clause-value
+returns-then-not-branch-clause-value c = λ d rest stood.
+    let filled = c.in_ok-fill_object.ensures.value d rest (c.none-slots.ensures c.args.version) stood in
+    (no_node c.args.version d (subst (λ f. AreFilled node_names (node_slots c.args.version) f c.fill_object.new.slots d) c.if-not-branch.true filled.0), filled.1)
 
 pub returns-clause-value : goal.returns-clause-value
 returns-clause-value c = λ d rest stood.
-    let filled = c.in_ok-slots.ensures.value d rest stood in
-    (c.node_told.ensures ∙ node_is c.args.version _ d filled.0, filled.1)
+    let filled = c.in_ok-fill_object.ensures.value d rest (c.none-slots.ensures c.args.version) stood in
+    (c.node_told.ensures ∙ node_is c.args.version _ d (subst (λ f. AreFilled node_names (node_slots c.args.version) f c.fill_object.new.slots d) c.if-not-branch.false filled.0), filled.1)

@@ -1,14 +1,23 @@
-use Rattle.std.proofs.Common.{◌≡◌, ◌∙◌, Err, rules}
-use Rattle.bep_json.proofs.RecordTold.{record_is}
+use Rattle.std.proofs.Common.{◌≡◌, ◌∙◌, Err, subst, rules}
+use Rattle.bep_tree.proofs.Walking.{reaches_so}
+use Rattle.bep_json.specs.inner.Filled.{AreFilled}
+use Rattle.bep_json.specs.inner.Records.{record_names, record_slots}
+use Rattle.bep_json.proofs.RecordTold.{no_record, record_is}
 use Rattle.bep_json.proofs.record_slots.EntryTaken.take.Goals as goal
 
-pub returns-in_err-slots-clause-value : goal.returns-in_err-slots-clause-value
-returns-in_err-slots-clause-value c = λ d rest stood.
-    let fails = c.in_err-slots.ensures.value d rest stood in
-    let is : c.from_residual.result ≡ Err c.in_err-slots.field-0.0 = search rules in
+pub returns-in_err-fill_object-clause-value : goal.returns-in_err-fill_object-clause-value
+returns-in_err-fill_object-clause-value c = λ d rest stood.
+    let fails = c.in_err-fill_object.ensures.value d rest (c.none-slots.ensures c.args.version) stood in
+    let is : c.from_residual.result ≡ Err c.in_err-fill_object.field-0.0 = search rules in
     rw is fails
+
+pub returns-then-not-branch-clause-value : goal.returns-then-not-branch-clause-value
+returns-then-not-branch-clause-value c = λ d rest stood.
+    let filled = c.in_ok-fill_object.ensures.value d rest (c.none-slots.ensures c.args.version) stood in
+    (no_record c.args.version d (subst (λ f. AreFilled record_names (record_slots c.args.version) f c.fill_object.new.slots d) c.if-not-branch.true filled.0), filled.1)
 
 pub returns-clause-value : goal.returns-clause-value
 returns-clause-value c = λ d rest stood.
-    let filled = c.in_ok-slots.ensures.value d rest stood in
-    (c.in_ok-told.ensures ∙ record_is c.args.version _ d filled.0, filled.1)
+    let filled = c.in_ok-fill_object.ensures.value d rest (c.none-slots.ensures c.args.version) stood in
+    let is = record_is c.args.version _ d (subst (λ f. AreFilled record_names (record_slots c.args.version) f c.fill_object.new.slots d) c.if-not-branch.false filled.0) in
+    reaches_so _ _ c.record_told.result (λ told so. (so ∙ is, filled.1)) c.record_told.ensures
