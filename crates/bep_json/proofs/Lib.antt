@@ -9,3 +9,5 @@ pub mod PairFacts
 pub mod SaidFacts
 pub mod NodeTold
 pub mod RecordTold
+pub mod AddedFacts
+pub mod AddedText
