@@ -23,8 +23,8 @@ mod sound;
 mod views;
 
 pub use bep_cut_document::{
-    CutValue, DocError, DocFault, DocVersion, Fault, MAX_BYTES, check_document, check_value,
-    cut_is_as_written, read_check, read_cut, winners_are_in_range,
+    CutValue, DocError, DocFault, DocVersion, Fault, MAX_BYTES, check_document, cut_is_as_written,
+    read_check, read_cut, winners_are_in_range,
 };
 pub use bep_scenario::{Scenario, read_scenario};
 pub use bep_tables::{

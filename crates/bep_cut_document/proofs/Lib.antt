@@ -11,7 +11,6 @@ mod ToldFacts
 pub mod RangeTold
 mod ReadAgain
 mod Shallow
-mod WholeNumbers
 mod WinnersInRange
 mod ShortFacts
 mod ShortWritten

@@ -13,9 +13,9 @@ mod laws;
 mod reading;
 mod records;
 mod sorting;
-mod trees;
 mod value;
 mod whole;
+mod writing;
 mod written;
 
 pub use bep_document::{DocError, DocFault, Fault, MAX_BYTES};
@@ -23,4 +23,4 @@ pub use bep_json::DocVersion;
 pub use laws::{cut_is_as_written, cuts_of_documents_have_room, winners_are_in_range};
 pub use reading::{read_check, read_cut};
 pub use value::CutValue;
-pub use whole::{check_document, check_value};
+pub use whole::check_document;

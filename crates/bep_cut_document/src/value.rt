@@ -1,7 +1,7 @@
 //! A cut as a JSON tree: the calls that a cut has beside its own.
-ghost use Rattle.std.specs.Prelude.{◌≡◌, ◌≤◌, IfOk, OnOk};
+ghost use Rattle.std.specs.Prelude.{◌≡◌, ◌≤◌, Some, IfOk, OnOk};
 ghost use Rattle.serde_json.specs.Data.{Data, depth};
-ghost use Rattle.serde_json.specs.Read.{max_depth};
+ghost use Rattle.serde_json.specs.Read.{read, max_depth};
 ghost use Rattle.serde_json.specs.View.{view};
 ghost use Rattle.bep_json.specs.declared.version.DocVersion.{DocVersion as VersionOf};
 ghost use Rattle.bep_document.specs.Faultless.{IsFaultless};
@@ -11,12 +11,13 @@ ghost use Rattle.bep_cut_document.specs.Room.{HasRoom};
 ghost use Rattle.bep_cut_document.specs.Written.{cut_of_tree};
 
 use crate::reading::check_from;
-use crate::whole::cut_tree;
+use crate::whole::write_cut;
 use bep_document::{
     CheckParts, DocError, faultless_parts_are_read, read_cut_text, readings_are_faultless,
 };
-use bep_json::DocVersion;
+use bep_json::{DocVersion, text_of};
 use bep_tables::Cut;
+use json::Writer;
 use serde_json::Value;
 use std::alloc::{AllocError, Global};
 
@@ -63,8 +64,21 @@ impl CutValue for Cut {
 
     fn to_value(&self, alloc: Global) -> Result<Value, AllocError> {
         faultless_parts_are_read();
-        let tree = cut_tree(alloc, self)?;
+        let mut out = Writer::new(Vec::new(alloc));
+        write_cut(alloc, &mut out, self)?;
+        let text = text_of(out);
+        let tree = tree_of_text(alloc, text.as_str())?;
         Ok(tree)
+    }
+}
+
+// The tree that this text reads as, where it reads as one: only memory can be wanting then.
+fn tree_of_text(alloc: Global, text: &str) -> Result<Value, AllocError>
+    ensures { IfOk result (λ v. read text.now ≡ Some (view v)) }
+{
+    match Value::from_str(alloc, text) {
+        Ok(tree) => Ok(tree),
+        Err(_) => Err(AllocError),
     }
 }
 

@@ -13,6 +13,5 @@ pub mod NameSays
 pub mod RowLists
 pub mod GroupFound
 mod UnwonFacts
-mod PartFacts
 mod JsonFacts
 mod LinesFacts

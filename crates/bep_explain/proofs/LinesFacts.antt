@@ -1,8 +1,10 @@
 -- An explanation's lines are written a failure at a time.
-use Rattle.std.proofs.Common.{◌≡◌, ◌&&◌, ℕ, true, false, List, [], ◌∷◌, ◌++◌, refl, sym, ap, ◌∙◌, append_assoc, append-nil, Result, Ok, Err, IfOk}
+use Rattle.std.proofs.Common.{◌≡◌, ◌<◌, ◌≤◌, ◌+◌, ◌&&◌, ℕ, true, false, List, [], ◌∷◌, ◌++◌, map, drop, length, refl, sym, ap, ◌∙◌, append_assoc, append-nil, Result, Ok, Err, IfOk}
+use lib.ListN.{get_or}
 use Rattle.std.specs.List.{flat_map}
-use Rattle.std.proofs.lemmas.List.{map-append}
+use Rattle.std.proofs.lemmas.List.{drop_all, map-append}
 use Rattle.std.proofs.lemmas.Grind.{flat_map-append}
+use Rattle.bep_facts.specs.Places.{rest_at}
 use Rattle.bep_model.specs.FirmVerdict.{Firm}
 use Rattle.bep_model.specs.Verdict.{Settled}
 use Rattle.bep_audit.specs.Loose.{Loosening}
@@ -14,7 +16,16 @@ use Rattle.bep_explain.specs.Told.{Told, explanation_text, failures_of, told_tex
 use Rattle.bep_explain.specs.document.Explained.{IsWritten}
 use Rattle.bep_explain.specs.document.FirmExplained.{IsFirmWritten}
 use Rattle.bep_explain.specs.inner.Lines.{AddsLines, AddsLooseLines, AreLines}
-use Rattle.bep_explain.specs.inner.Parts.{no_failure, no_loose}
+use Rattle.bep_explain.specs.inner.Added.{no_failure, no_loose}
+
+-- ---- a walk over what was found
+pub one_further : {A B : Type 0} (shown : A → B) (all : List A) (place : ℕ) (y : A) (done : List B) → place < length all → y ≡ get_or all place y →
+    done ++ map shown (drop place all) ≡ map shown all → (done ++ shown y ∷ []) ++ map shown (drop (place + 1) all) ≡ map shown all
+one_further shown all place y done below is left =
+    append_assoc done (shown y ∷ []) (map shown (drop (place + 1) all)) ∙ ap (λ l. done ++ map shown l) (sym (rest_at all place y below is)) ∙ left
+
+pub all_found : {A B : Type 0} (shown : A → B) (all : List A) (place : ℕ) (done : List B) → length all ≤ place → done ++ map shown (drop place all) ≡ map shown all → done ≡ map shown all
+all_found shown all place done beyond left = sym (append-nil done) ∙ ap (λ l. done ++ map shown l) (sym (drop_all place all beyond)) ∙ left
 
 one_more_text : {A : Type 0} (text_of : A → List ℕ) (told : List A) (one : A) (old mid new : List ℕ) → mid ≡ old ++ flat_map text_of told → new ≡ mid ++ text_of one → new ≡ old ++ flat_map text_of (told ++ one ∷ [])
 one_more_text text_of told one old mid new before here =

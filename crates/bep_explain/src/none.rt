@@ -2,7 +2,7 @@
 ghost use Rattle.std.specs.Prelude.{◌≡◌, ◌&&◌, map};
 ghost use Rattle.bep_audit.specs.Loose.{loose_shown};
 ghost use Rattle.bep_audit.specs.Walk.{failure_shown};
-ghost use Rattle.bep_explain.specs.inner.Parts.{no_failure, no_loose};
+ghost use Rattle.bep_explain.specs.inner.Added.{no_failure, no_loose};
 
 use bep_audit::{Failure, Looseness};
 

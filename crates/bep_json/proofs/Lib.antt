@@ -11,3 +11,5 @@ pub mod SaidFacts
 pub mod NodeTold
 pub mod RecordTold
 pub mod VectorTold
+pub mod AddedFacts
+pub mod AddedText

@@ -7,7 +7,7 @@ pub mod Records
 pub mod Nodes
 pub mod Version
 pub mod Written
-pub mod Members
+pub mod Added
 pub mod Says
 pub mod Back
 pub mod Laws

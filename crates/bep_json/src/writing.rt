@@ -1,8 +1,7 @@
-//! Records and nodes as JSON trees: every member, so that they are read again as they were.
-ghost use Rattle.std.specs.Prelude.{◌≡◌, ◌≤◌, map, IfOk, OnOk};
+//! Records and nodes as JSON: every member, so that they are read again as they were.
+ghost use Rattle.std.specs.Prelude.{◌≡◌, ◌≤◌, map, OnOk};
 ghost use Rattle.std.specs.List.{AllByRecursion};
 ghost use Rattle.hex.specs.Hex.{IsBytes};
-ghost use Rattle.serde_json.specs.View.{view};
 ghost use Rattle.bep_record.specs.Name.{IsName};
 ghost use Rattle.bep_record.specs.Target.{IsTarget};
 ghost use Rattle.bep_json.specs.Numbers.{is_whole, read_number, read_signed, greatest_id};
@@ -10,54 +9,66 @@ ghost use Rattle.bep_json.specs.Texts.{is_text, read_hash};
 ghost use Rattle.bep_json.specs.Lists.{is_list, is_pair, read_version};
 ghost use Rattle.bep_json.specs.Says.{Says};
 ghost use Rattle.bep_json.specs.Back.{IsRecordBack, IsNodeBack};
+ghost use Rattle.bep_json.specs.Added.{Adds};
 ghost use Rattle.bep_json.specs.Written.{whole, signed, number_of, counter_written, version_written, hex_written, hashes_written, record_written, node_written};
 
-use crate::Members;
+use crate::added::{add_flag, add_number, add_signed, add_text, write_number, write_text};
 use bep_record::{Block, DeviceId, Entry, Kind, Name, Node, NodeParts, Record, Target, Vector};
-use serde_json::{Value, json};
+use json::Writer;
 use std::alloc::{AllocError, Global};
 
-/// The record as a tree, or want of memory. It is read again from that tree in each version whose files may be so long, if
-/// its sequence is at most 9223372036854775807.
-pub fn record_value(alloc: Global, written: &Record) -> Result<Value, AllocError>
-    ensures value { IfOk result (λ v. view v ≡ record_written written.now) }
+/// Writes the record. It is read again from what was written in each version whose files may be so long, if its sequence is
+/// at most 9223372036854775807.
+pub fn write_record(alloc: Global, out: &mut Writer, written: &Record) -> Result<(), AllocError>
+    ensures value { OnOk result (Adds (record_written written.now) out.old out.new) }
     ensures back { OnOk result (IsRecordBack written.now (record_written written.now)) }
 {
     let entry = written.entry();
-    let blocks = hashes_value(alloc, entry.blocks.as_slice())?;
-    let version = version_value(alloc, &entry.version)?;
     fields_are_told(entry);
-    let tree = record_tree(alloc, entry, blocks, version)?;
-    Ok(tree)
+    out.begin_object()?;
+    add_number(out, "block_size", u64::from(entry.block_size))?;
+    out.key("blocks")?;
+    write_hashes(alloc, out, entry.blocks.as_slice())?;
+    add_flag(out, "deleted", entry.deleted)?;
+    add_flag(out, "invalid", entry.invalid)?;
+    add_number(out, "modified_by", entry.modified_by.number())?;
+    add_number(out, "modified_ns", u64::from(entry.modified_ns))?;
+    add_signed(out, "modified_s", entry.modified_s)?;
+    add_text(out, "name", entry.name.as_str())?;
+    add_number(out, "sequence", entry.sequence)?;
+    add_number(out, "size", entry.size)?;
+    add_text(out, "target", entry.target.as_str())?;
+    add_number(out, "type", u64::from(number_of(entry.kind)))?;
+    out.key("version")?;
+    write_version(out, &entry.version)?;
+    out.end_object()?;
+    Ok(())
 }
 
-// The members of a record.
-#[tactic(auto, unfolding(crate::specs::Written::record_written))]
-fn record_tree(
+/// Writes what a store holds at the name. It is read again from what was written in each version whose files may be so long.
+pub fn write_node(
     alloc: Global,
-    entry: &Entry,
-    blocks: Value,
-    version: Value,
-) -> Result<Value, AllocError>
-    requires blocks { view blocks ≡ hashes_written (map (λ b. b.hash) entry.now.blocks) }
-    requires version { view version ≡ version_written entry.now.version }
-    ensures { IfOk result (λ v. view v ≡ record_written entry.now) }
+    out: &mut Writer,
+    name: &Name,
+    node: &Node,
+) -> Result<(), AllocError>
+    ensures value { OnOk result (Adds (node_written name.now node.now) out.old out.new) }
+    ensures back { OnOk result (IsNodeBack (record { name = name.now; parts = node.now }) (node_written name.now node.now)) }
 {
-    let members = Members::new(alloc)
-        .with("blocks", blocks)?
-        .with("version", version)?
-        .with_number("block_size", u64::from(entry.block_size))?
-        .with_flag("deleted", entry.deleted)?
-        .with_flag("invalid", entry.invalid)?
-        .with_number("modified_by", entry.modified_by.number())?
-        .with_number("modified_ns", u64::from(entry.modified_ns))?
-        .with_signed("modified_s", entry.modified_s)?
-        .with_text("name", entry.name.as_str())?
-        .with_number("sequence", entry.sequence)?
-        .with_number("size", entry.size)?
-        .with_text("target", entry.target.as_str())?
-        .with_number("type", u64::from(number_of(entry.kind)))?;
-    Ok(members.into_value())
+    let parts = node.parts();
+    name_is_kept(name);
+    target_is_kept(&parts.target);
+    time_is_told(parts);
+    out.begin_object()?;
+    out.key("hex")?;
+    write_hex(alloc, out, parts.bytes.as_slice())?;
+    add_number(out, "modified_ns", u64::from(parts.modified_ns))?;
+    add_signed(out, "modified_s", parts.modified_s)?;
+    add_text(out, "name", name.as_str())?;
+    add_text(out, "target", parts.target.as_str())?;
+    add_number(out, "type", u64::from(number_of(parts.kind)))?;
+    out.end_object()?;
+    Ok(())
 }
 
 // What is written of a record's fields is read again: a law, which does nothing when it runs.
@@ -75,47 +86,11 @@ fn fields_are_told(entry: &Entry)
     version_is_told(&entry.version);
 }
 
-/// What a store holds at the name as a tree, or want of memory. It is read again from that tree in each version whose files
-/// may be so long.
-pub fn node_value(alloc: Global, name: &Name, node: &Node) -> Result<Value, AllocError>
-    ensures value { IfOk result (λ v. view v ≡ node_written name.now node.now) }
-    ensures back { OnOk result (IsNodeBack (record { name = name.now; parts = node.now }) (node_written name.now node.now)) }
-{
-    let parts = node.parts();
-    let bytes = hex_value(alloc, parts.bytes.as_slice())?;
-    name_is_kept(name);
-    target_is_kept(&parts.target);
-    time_is_told(parts);
-    let tree = node_tree(alloc, name, parts, bytes)?;
-    Ok(tree)
-}
-
 // That the time of a node is read again.
 fn time_is_told(parts: &NodeParts)
     ensures { Says is_whole read_signed parts.now.modified_s (signed parts.now.modified_s) }
 {
     signed_is_told(parts.modified_s);
-}
-
-// The members of a node.
-#[tactic(auto, unfolding(crate::specs::Written::node_written))]
-fn node_tree(
-    alloc: Global,
-    name: &Name,
-    parts: &NodeParts,
-    bytes: Value,
-) -> Result<Value, AllocError>
-    requires { view bytes ≡ hex_written parts.now.bytes }
-    ensures { IfOk result (λ v. view v ≡ node_written name.now parts.now) }
-{
-    let members = Members::new(alloc)
-        .with("hex", bytes)?
-        .with_number("modified_ns", u64::from(parts.modified_ns))?
-        .with_signed("modified_s", parts.modified_s)?
-        .with_text("name", name.as_str())?
-        .with_text("target", parts.target.as_str())?
-        .with_number("type", u64::from(number_of(parts.kind)))?;
-    Ok(members.into_value())
 }
 
 // What the type of a name keeps.
@@ -167,51 +142,57 @@ fn id_is_told(number: u64)
     ensures { Says is_whole (read_number 1 greatest_id) number (whole number) }
 {}
 
-// The bytes in hexadecimal digits.
-fn hex_value(alloc: Global, bytes: &[u8]) -> Result<Value, AllocError>
-    ensures value { IfOk result (λ v. view v ≡ hex_written bytes.now) }
+// Writes the bytes in hexadecimal digits.
+fn write_hex(alloc: Global, out: &mut Writer, bytes: &[u8]) -> Result<(), AllocError>
+    ensures value { OnOk result (Adds (hex_written bytes.now) out.old out.new) }
     ensures bytes { IsBytes bytes.now }
 {
-    Ok(Value::String(hex::encode(alloc, bytes)?))
+    let digits = hex::encode(alloc, bytes)?;
+    write_text(out, digits.as_str())?;
+    Ok(())
 }
 
-// A hash in hexadecimal digits.
-fn hash_value(alloc: Global, hash: &[u8; 32]) -> Result<Value, AllocError>
-    ensures value { IfOk result (λ v. view v ≡ hex_written hash.now) }
+// Writes a hash in hexadecimal digits.
+fn write_hash(alloc: Global, out: &mut Writer, hash: &[u8; 32]) -> Result<(), AllocError>
+    ensures value { OnOk result (Adds (hex_written hash.now) out.old out.new) }
     ensures back { OnOk result (Says is_text read_hash hash.now (hex_written hash.now)) }
 {
-    let digits = hex_value(alloc, hash.as_slice())?;
-    Ok(digits)
+    write_hex(alloc, out, hash.as_slice())?;
+    Ok(())
 }
 
-// The hashes of these blocks.
-fn hashes_value(alloc: Global, blocks: &[Block]) -> Result<Value, AllocError>
-    ensures value { IfOk result (λ v. view v ≡ hashes_written (map (λ b. b.hash) blocks.now)) }
+/// Writes the hashes of these blocks, as a list.
+pub fn write_hashes(alloc: Global, out: &mut Writer, blocks: &[Block]) -> Result<(), AllocError>
+    ensures value { OnOk result (Adds (hashes_written (map (λ b. b.hash) blocks.now)) out.old out.new) }
     ensures back { OnOk result (AllByRecursion (λ b. Says is_text read_hash b.hash (hex_written b.hash)) blocks.now) }
 {
-    let mut hashes = Vec::with_capacity(alloc, blocks.len())?;
+    out.begin_array()?;
     for block in blocks {
-        let hash = hash_value(alloc, &block.hash)?;
-        hashes.push(hash)?;
+        write_hash(alloc, out, &block.hash)?;
     }
-    Ok(Value::Array(hashes))
+    out.end_array()?;
+    Ok(())
 }
 
-// The counters, each a list of an id and its value.
-fn version_value(alloc: Global, version: &Vector) -> Result<Value, AllocError>
-    ensures { IfOk result (λ v. view v ≡ version_written version.now) }
+// Writes the counters, each a list of an id and its value.
+fn write_version(out: &mut Writer, version: &Vector) -> Result<(), AllocError>
+    ensures { OnOk result (Adds (version_written version.now) out.old out.new) }
 {
-    let mut counters = Vec::new(alloc);
+    out.begin_array()?;
     for counter in version.counters() {
-        let counter = counter_value(alloc, *counter)?;
-        counters.push(counter)?;
+        write_counter(out, *counter)?;
     }
-    Ok(Value::Array(counters))
+    out.end_array()?;
+    Ok(())
 }
 
-// An id with its value.
-fn counter_value(alloc: Global, counter: (u64, u64)) -> Result<Value, AllocError>
-    ensures { IfOk result (λ v. view v ≡ counter_written counter) }
+// Writes an id with its value.
+fn write_counter(out: &mut Writer, counter: (u64, u64)) -> Result<(), AllocError>
+    ensures { OnOk result (Adds (counter_written counter) out.old out.new) }
 {
-    json!(in alloc; [counter.0, counter.1])
+    out.begin_array()?;
+    write_number(out, counter.0)?;
+    write_number(out, counter.1)?;
+    out.end_array()?;
+    Ok(())
 }

@@ -1,7 +1,7 @@
 //! `bep_model`, `bep_tables`, `bep_cut_document` and `bep_audit`.
 use super::made::{CHECK, docs, record};
 use bep_audit::winners;
-use bep_cut_document::{DocVersion, check_document, check_value, read_check, read_cut};
+use bep_cut_document::{CutValue, DocVersion, check_document, read_check, read_cut};
 use bep_model::Row;
 use bep_record::DeviceId;
 use bep_tables::{Cut, Table};
@@ -16,7 +16,7 @@ fn rows(alloc: Global) -> Option<bool> {
 fn documents(alloc: Global) -> Option<[bool; 2]> {
     let (cut, rows) = read_check(alloc, CHECK.as_bytes()).ok()?;
     Some([
-        check_value(alloc, DocVersion::One, &cut, rows.as_slice()).is_ok(),
+        cut.to_value(alloc).is_ok(),
         check_document(alloc, DocVersion::One, &cut, rows.as_slice()).is_ok(),
     ])
 }

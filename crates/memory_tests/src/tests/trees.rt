@@ -1,29 +1,45 @@
 //! `bep_json`.
 use super::made::{name, node, record};
-use bep_json::{DocVersion, Members, Readable, Whole, node_value, record_value};
+use bep_json::{
+    DocVersion, Readable, Whole, add_flag, add_number, add_signed, add_text, text_of, write_hashes,
+    write_node, write_null, write_number, write_record, write_text,
+};
 use bep_tree::{Scratch, Tree, get, json_text, read_tree};
-use serde_json::Value;
-use std::alloc::Global;
+use json::Writer;
+use std::alloc::{AllocError, Global};
 
-fn numbers(alloc: Global) -> Option<Members> {
-    let members = Members::with_number(Members::new(alloc), "device", 1).ok()?;
-    Members::with_signed(members, "modified_s", -1).ok()
+fn members(out: &mut Writer) -> Result<(), AllocError> {
+    out.begin_object()?;
+    add_flag(out, "deleted", false)?;
+    add_number(out, "device", 1)?;
+    add_signed(out, "modified_s", -1)?;
+    add_text(out, "name", "a")?;
+    out.end_object()
 }
 
-fn texts(members: Members) -> Option<Members> {
-    let members = Members::with_flag(members, "deleted", false).ok()?;
-    Members::with_text(members, "name", "a").ok()
-}
-
-fn members(alloc: Global) -> Option<Value> {
-    let members = texts(numbers(alloc)?)?;
-    let members = Members::with(members, "size", Value::from(5u64)).ok()?;
-    Some(Members::into_value(members))
+fn list(out: &mut Writer) -> Result<(), AllocError> {
+    out.begin_array()?;
+    write_null(out)?;
+    write_number(out, 5)?;
+    write_text(out, "b")?;
+    members(out)?;
+    out.end_array()
 }
 
 fn made(alloc: Global) -> Option<bool> {
-    let text = members(alloc)?.to_string(alloc).ok()?;
-    Some(text.as_str() == r#"{"deleted":false,"device":1,"modified_s":-1,"name":"a","size":5}"#)
+    let mut out = Writer::new(Vec::new(alloc));
+    list(&mut out).ok()?;
+    let bytes = out.into_inner();
+    Some(
+        bytes.as_slice()
+            == br#"[null,5,"b",{"deleted":false,"device":1,"modified_s":-1,"name":"a"}]"#,
+    )
+}
+
+fn told(alloc: Global) -> Option<bool> {
+    let mut out = Writer::new(Vec::new(alloc));
+    write_text(&mut out, "b").ok()?;
+    Some(text_of(out).as_str() == r#""b""#)
 }
 
 fn size(alloc: Global, tree: &Tree<'_>) -> Option<Whole<0, 9>> {
@@ -36,11 +52,13 @@ fn read(alloc: Global) -> Option<u64> {
     Some(size(alloc, &tree)?.number())
 }
 
-fn written(alloc: Global) -> Option<[bool; 2]> {
+fn written(alloc: Global) -> Option<[bool; 3]> {
     let (record, name, node) = (record(alloc, 1)?, name(alloc)?, node(alloc)?);
+    let mut out = Writer::new(Vec::new(alloc));
     Some([
-        record_value(alloc, &record).is_ok(),
-        node_value(alloc, &name, &node).is_ok(),
+        write_record(alloc, &mut out, &record).is_ok(),
+        write_node(alloc, &mut out, &name, &node).is_ok(),
+        write_hashes(alloc, &mut out, record.entry().blocks.as_slice()).is_ok(),
     ])
 }
 
@@ -54,6 +72,7 @@ fn found(alloc: Global) -> Option<bool> {
 fn trees_find_memory(rt: HostRuntime) {
     assert!(rt; read(rt.alloc()) == Some(5));
     assert!(rt; made(rt.alloc()) == Some(true));
+    assert!(rt; told(rt.alloc()) == Some(true));
     assert!(rt; found(rt.alloc()) == Some(true));
-    assert!(rt; written(rt.alloc()) == Some([true; 2]));
+    assert!(rt; written(rt.alloc()) == Some([true; 3]));
 }

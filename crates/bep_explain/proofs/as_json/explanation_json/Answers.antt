@@ -1,5 +1,10 @@
-use Rattle.bep_explain.proofs.JsonFacts.{whole_explanation}
+use Rattle.bep_explain.specs.Annotated.{explanation_tree}
 use Rattle.bep_explain.proofs.as_json.explanation_json.Goals as goal
 
 pub returns : goal.returns
-returns c = whole_explanation _ _ _ _ _ _ _ c.in_ok-begun.ensures c.in_ok-list.ensures c.in_ok-push_failures.ensures c.in_ok-text.ensures c.is_none.ensures c.in_ok-push_settled_flag.ensures
+returns c =
+    let adds = c.in_ok-write_explanation.ensures in
+    (adds.0, adds.1, c.in_ok-text.ensures (explanation_tree adds.0) _ c.new-out.ensures.tokens adds.2)
+
+pub line_of-requires : goal.line_of-requires
+line_of-requires c = let kept = c.in_ok-write_explanation.ensures.2.follow.before in cc

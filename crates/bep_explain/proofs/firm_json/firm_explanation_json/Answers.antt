@@ -1,7 +1,10 @@
-use Rattle.bep_explain.proofs.JsonFacts.{whole_firm_explanation}
+use Rattle.bep_explain.specs.FirmTold.{firm_explanation_tree}
 use Rattle.bep_explain.proofs.firm_json.firm_explanation_json.Goals as goal
 
 pub returns : goal.returns
 returns c =
-    whole_firm_explanation _ _ _ _ _ _ _ _ _ _ _ c.in_ok-begun.ensures c.in_ok-list.ensures c.in_ok-push_failures.ensures c.in_ok-push_loose.ensures c.in_ok-text.ensures
-    c.is_firm.ensures c.in_ok-push_firm_flag.ensures c.is_none.ensures c.in_ok-push_settled_flag.ensures
+    let adds = c.in_ok-write_firm_explanation.ensures in
+    (adds.0, adds.1, adds.2, adds.3, c.in_ok-text.ensures (firm_explanation_tree adds.0 adds.1) _ c.new-out.ensures.tokens adds.4)
+
+pub line_of-requires : goal.line_of-requires
+line_of-requires c = let kept = c.in_ok-write_firm_explanation.ensures.4.follow.before in cc

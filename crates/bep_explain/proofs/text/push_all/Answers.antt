@@ -2,8 +2,7 @@ use Rattle.std.proofs.Common.{◌++◌, ◌∷◌, [], map, subst}
 use Rattle.bep_audit.specs.Walk.{failure_shown}
 use Rattle.bep_explain.specs.Told.{Told}
 use Rattle.bep_explain.specs.inner.Lines.{AddsLines}
-use Rattle.bep_explain.proofs.JsonFacts.{all_found, one_further}
-use Rattle.bep_explain.proofs.LinesFacts.{lines_one}
+use Rattle.bep_explain.proofs.LinesFacts.{all_found, lines_one, one_further}
 use Rattle.bep_explain.proofs.text.push_all.Goals as goal
 
 pub loop-one-preserved : goal.loop-one-preserved

@@ -2,8 +2,7 @@ use Rattle.std.proofs.Common.{◌++◌, ◌∷◌, [], map, subst}
 use Rattle.bep_audit.specs.Loose.{loose_shown}
 use Rattle.bep_explain.specs.FirmTold.{LooseTold}
 use Rattle.bep_explain.specs.inner.Lines.{AddsLooseLines}
-use Rattle.bep_explain.proofs.JsonFacts.{all_found, one_further}
-use Rattle.bep_explain.proofs.LinesFacts.{lines_one_loose}
+use Rattle.bep_explain.proofs.LinesFacts.{all_found, lines_one_loose, one_further}
 use Rattle.bep_explain.proofs.text.push_all_loose.Goals as goal
 
 pub loop-one-preserved : goal.loop-one-preserved

@@ -1,0 +1,16 @@
+use Rattle.std.proofs.Common.{refl}
+use Rattle.bep_json.proofs.AddedFacts.{keyed, member_more, no_more_members, object_added}
+use Rattle.bep_explain.proofs.details_json.write_content.Goals as goal
+
+pub returns : goal.returns
+returns c = (
+  _,
+  object_added refl c.in_ok-begin_object.ensures
+      (member_more (keyed c.in_ok-key.ensures c.in_ok-write_blocks.ensures.1)
+      (member_more c.in_ok-add_number.ensures
+      (member_more c.in_ok-add_signed.ensures
+      (member_more c.in_ok-add_number-2.ensures
+      (member_more c.in_ok-add_text.ensures
+      (member_more c.in_ok-add_number-3.ensures
+      (no_more_members c.in_ok-end_object.ensures))))))),
+)
