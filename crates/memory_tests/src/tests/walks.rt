@@ -120,6 +120,20 @@ fn pairs(alloc: Global) -> Option<bool> {
     Some(told.ok()?.as_slice() == [(1, 2), (3, 4)].as_slice())
 }
 
+fn onto(alloc: Global) -> Option<bool> {
+    let mut scratch = Scratch::new(alloc);
+    let mut reader = Reader::new("[[1,2]]", &mut scratch).ok()?;
+    let mut lists: Vec<Pairs> = Vec::new(alloc);
+    let misread = Items::take_onto(
+        &mut lists,
+        alloc,
+        DocVersion::One,
+        &mut reader,
+        MAX_DEPTH,
+    ).ok()?;
+    Some(misread.is_none() && lists.len() == 1)
+}
+
 fn filled(alloc: Global) -> Option<bool> {
     let mut scratch = Scratch::new(alloc);
     let mut reader = Reader::new("[[1,2]]", &mut scratch).ok()?;
@@ -137,5 +151,6 @@ fn walks_find_memory(rt: HostRuntime) {
     assert!(rt; leaf(alloc) == Some(5));
     assert!(rt; slots(alloc) == Some(5));
     assert!(rt; pairs(alloc) == Some(true));
+    assert!(rt; onto(alloc) == Some(true));
     assert!(rt; filled(alloc) == Some(true));
 }
