@@ -1,5 +1,5 @@
 -- What is told of members, of lists and of both of two things.
-use Rattle.std.proofs.Common.{◌≡◌, ◌∙◌, ℕ, List, [], ◌∷◌, ◌++◌, ◌&&◌, ◌||◌, Bool, true, false, Option, Some, None, Result, Ok, Err, refl, sym, ap, subst}
+use Rattle.std.proofs.Common.{◌≡◌, ◌∙◌, ◌<◌, ℕ, length, arith, List, [], ◌∷◌, ◌++◌, ◌&&◌, ◌||◌, Bool, true, false, Option, Some, None, Result, Ok, Err, refl, sym, ap, subst}
 use Rattle.std.specs.Prelude.{if◌then◌else◌, option_map, unwrap_or}
 use Rattle.std.specs.Bool.{MatchBool}
 use Rattle.std.specs.Str.{bytes_eq}
@@ -15,8 +15,8 @@ use Rattle.bep_tree.specs.Names.{is_among}
 use Rattle.bep_json.specs.Reading.{◌>>=◌, read_member, read_or, read_member_or}
 use Rattle.bep_json.specs.Tree.{has_member, may_have_member}
 use Rattle.bep_json.specs.Lists.{have_shape, read_items}
-use Rattle.bep_json.specs.Taking.{judged, Known, with_member, slot, due, due_or, noted, both, told_as}
-use Rattle.bep_json.specs.inner.Joined.{joined, followed}
+use Rattle.bep_json.specs.Taking.{judged, misread_of, with_told, Known, with_member, slot, due, due_or, noted, both, told_as}
+use Rattle.bep_json.specs.inner.Joined.{so_far, worse, joined, followed}
 
 -- ---- members by their names
 
@@ -76,6 +76,27 @@ one_more (Err Range) false more_shape first others = refl
 pub item_joined : {T : Type 0} (shape : Data → Bool) (reads : Data → Option T) (told : Result (List T) Misread) (d : Data) (more : Items)
     → followed (joined told (judged (shape d) (reads d))) (judged (have_shape shape more) (read_items reads more)) ≡ followed told (judged (have_shape shape (item d more)) (read_items reads (item d more)))
 item_joined shape reads told d more = one_more told (shape d) (have_shape shape more) (reads d) (read_items reads more)
+
+-- a thing that was put behind the others was joined to what is told of them
+pub onto_joined : {T : Type 0} (misread : Option Misread) (things : List T) (told : Result T Misread) → so_far (worse misread (misread_of told)) (with_told things told) ≡ joined (so_far misread things) told
+onto_joined None things (Ok thing) = refl
+onto_joined None things (Err misread) = refl
+onto_joined (Some Shape) things told = refl
+onto_joined (Some Range) things (Ok thing) = refl
+onto_joined (Some Range) things (Err misread) = refl
+
+-- the one thing that was put is the one that is told
+pub one_told : {T : Type 0} (told : Result T Misread) (left : List T) (thing : T) → with_told [] told ≡ left ++ thing ∷ [] → Ok thing ≡ told
+one_told (Ok other) [] thing is = cc
+one_told (Ok other) (first ∷ []) thing is = cc
+one_told (Ok other) (first ∷ second ∷ left) thing is = cc
+one_told (Err misread) [] thing is = cc
+one_told (Err misread) (first ∷ left) thing is = cc
+
+-- where none was put, none is told
+pub none_told : {T : Type 0} (told : Result T Misread) (misread : Option Misread) → misread ≡ misread_of told → (0 < length (with_told [] told) → ⊥) → Err (unwrap_or misread Shape) ≡ told
+none_told (Ok thing) misread is none = let one : 0 < length (thing ∷ []) = omega arith in absurd (none one)
+none_told (Err misread) found is none = ap (λ m. Err (unwrap_or m Shape)) is
 
 -- ---- members
 

@@ -1,5 +1,5 @@
 -- What is told of a value that a walk along a document's tokens comes to, and of the members of an object.
-use Rattle.std.specs.Prelude.{◌≡◌, ℕ, Bool, true, false, List, Option, None, Some, Result, Ok, Err, if◌then◌else◌, option_map}
+use Rattle.std.specs.Prelude.{◌≡◌, ℕ, Bool, true, false, List, [], ◌∷◌, ◌++◌, Option, None, Some, Result, Ok, Err, if◌then◌else◌, option_map}
 use Rattle.std.specs.Bool.{MatchBool}
 use Rattle.std.specs.Str.{bytes_eq}
 use Rattle.json.specs.Token.{Token}
@@ -20,6 +20,22 @@ judged true (Some thing) = Ok thing
 -- the value that comes next was judged, and was passed
 abbrev pub Takes : {T : Type 0} → (Data → Bool) → (Data → Option T) → ℕ → List Token → Result (Result T Misread) WalkError → List Token → Type 0
 Takes shape reads depth old result new = (d : Data) (rest : List Token) → Stands depth old d rest → Reaches result (λ told. (told ≡ judged (shape d) (reads d)) × (new ≡ rest))
+
+-- why a value says no thing, if it says none
+abbrev pub misread_of : {T : Type 0} → Result T Misread → Option Misread
+misread_of (Ok thing) = None
+misread_of (Err misread) = Some misread
+
+-- these things, and the one that is told, if one is
+abbrev pub with_told : {T : Type 0} → List T → Result T Misread → List T
+with_told things (Ok thing) = things ++ thing ∷ []
+with_told things (Err misread) = things
+
+-- the value that comes next was judged, and was passed; the thing that it says was put behind these
+abbrev pub TakesOnto : {T : Type 0} → (Data → Bool) → (Data → Option T) → ℕ → List T → List Token → Result (Option Misread) WalkError → List T → List Token → Type 0
+TakesOnto shape reads depth things old result all new =
+    (d : Data) (rest : List Token) → Stands depth old d rest
+    → Reaches result (λ misread. (misread ≡ misread_of (judged (shape d) (reads d))) × (all ≡ with_told things (judged (shape d) (reads d))) × (new ≡ rest))
 
 -- what stands at a name, once this value stands at that one
 abbrev pub with_member : List ℕ → Data → (List ℕ → Option Data) → List ℕ → Option Data

@@ -5,12 +5,12 @@ ghost use Rattle.serde_json.specs.Data.{Items as ItemsOf};
 ghost use Rattle.bep_tree.specs.Walk.{StandItems, Reaches};
 ghost use Rattle.bep_json.specs.Lists.{have_shape, is_list, read_items, read_list};
 ghost use Rattle.bep_json.specs.Taking.{judged, Takes};
-ghost use Rattle.bep_json.specs.inner.Joined.{joined, seen};
+ghost use Rattle.bep_json.specs.inner.Joined.{so_far, worse};
 
 use crate::{DocVersion, Misread, Taken, Told, enter_list};
 use bep_record::Items;
 use bep_tree::{Reader, WalkError};
-use std::alloc::{AllocError, Global};
+use std::alloc::Global;
 
 impl<T: Taken> Taken for Items<T> {
     fn take(
@@ -50,39 +50,35 @@ fn take_items<T: Taken>(
         → Reaches result (λ told. (told ≡ judged (have_shape (T.has_shape version) ds) (read_items (T.reads version) ds)) × (reader.new ≡ rest)) }
     ensures shorter { OnOk result (length reader.new < length reader.old) }
 {
-    let mut told = Ok(Vec::new(alloc));
+    let mut things = Vec::new(alloc);
+    let mut misread = None;
     while !reader.take_end_array() {
-        let item = T::take(alloc, version, reader, depth)?;
-        join(&mut told, item)?;
+        let next = T::take_onto(&mut things, alloc, version, reader, depth)?;
+        misread = worse(misread, next);
     }
-    Ok(as_items(told))
+    Ok(told_of(misread, things))
 }
 
-// These things as items.
-fn as_items<T: Drop>(told: Told<Vec<T>>) -> Told<Items<T>>
-    ensures { result ≡ seen told }
+// What is told of these things.
+fn told_of<T: Drop>(misread: Option<Misread>, things: Vec<T>) -> Told<Items<T>>
+    ensures { result ≡ so_far misread things.items }
 {
-    match told {
-        Ok(things) => Ok(Items::new(things)),
-        Err(misread) => Err(misread),
+    match misread {
+        None => Ok(Items::new(things)),
+        Some(misread) => Err(misread),
     }
 }
 
-// Adds what is told of the next item to what is told of a list so far.
-fn join<T: Drop>(told: &mut Told<Vec<T>>, next: Told<T>) -> Result<(), AllocError>
-    ensures { OnOk result (seen told.new ≡ joined (seen told.old) next) }
+// Why a thing or the next one was misread, if one was. Another shape is told before a range.
+fn worse(misread: Option<Misread>, next: Option<Misread>) -> Option<Misread>
+    ensures { result ≡ worse misread next }
 {
-    match next {
-        Ok(thing) => {
-            if let Ok(things) = told {
-                things.push(thing)?;
-            }
-        }
-        Err(misread) => {
-            if !matches!(told, Err(Misread::Shape)) {
-                *told = Err(misread);
-            }
-        }
+    match misread {
+        None => next,
+        Some(Misread::Shape) => Some(Misread::Shape),
+        Some(Misread::Range) => match next {
+            None => Some(Misread::Range),
+            Some(next) => Some(next),
+        },
     }
-    Ok(())
 }

@@ -1,7 +1,8 @@
 //! Records, whose members are read as a walk along a document's text comes to them.
-ghost use Rattle.std.specs.Prelude.{◌≡◌, false};
+ghost use Rattle.std.specs.Prelude.{◌≡◌, ◌<◌, false, length, OnOk};
 ghost use Rattle.bep_tree.specs.Walk.{Reaches};
-ghost use Rattle.bep_json.specs.Records.{says_file, says_present};
+ghost use Rattle.bep_json.specs.Records.{is_record, read_record, says_file, says_present};
+ghost use Rattle.bep_json.specs.Taking.{misread_of, with_told, TakesOnto};
 ghost use Rattle.bep_json.specs.inner.Said.{said, said_or, optional};
 ghost use Rattle.bep_json.specs.inner.Records.{record_names, record_slots, tells_due_block_size, record_things, record_of, record_told};
 
@@ -112,6 +113,7 @@ impl Slots for RecordSlots {
     }
 }
 
+// A record is made behind others, where it is to stand: it is large, and each result that it is part of would be a copy.
 impl Taken for Entry {
     fn take(
         alloc: Global,
@@ -119,28 +121,58 @@ impl Taken for Entry {
         reader: &mut Reader<'_>,
         depth: usize,
     ) -> Result<Told<Self>, WalkError> {
-        let mut slots = RecordSlots::none();
-        if !fill_object(&mut slots, alloc, version, reader, depth)? {
-            return Ok(Err(Misread::Shape));
+        let mut alone = Vec::with_capacity(alloc, 1)?;
+        let misread = take_record(&mut alone, alloc, version, reader, depth)?;
+        match alone.pop() {
+            Some(record) => Ok(Ok(record)),
+            None => Ok(Err(misread.unwrap_or(Misread::Shape))),
         }
-        record_told(alloc, version, slots)
+    }
+
+    fn take_onto(
+        things: &mut Vec<Self>,
+        alloc: Global,
+        version: DocVersion,
+        reader: &mut Reader<'_>,
+        depth: usize,
+    ) -> Result<Option<Misread>, WalkError> {
+        take_record(things, alloc, version, reader, depth)
     }
 }
 
-// What is told of a record, by what is told of its members.
-fn record_told(
+// Takes the value that comes next, and puts the record that it says behind these.
+fn take_record(
+    records: &mut Vec<Entry>,
+    alloc: Global,
+    version: DocVersion,
+    reader: &mut Reader<'_>,
+    depth: usize,
+) -> Result<Option<Misread>, WalkError>
+    ensures value { TakesOnto (is_record version) (read_record version) depth records.old.items reader.old result records.new.items reader.new }
+    ensures shorter { OnOk result (length reader.new < length reader.old) }
+{
+    let mut slots = RecordSlots::none();
+    if !fill_object(&mut slots, alloc, version, reader, depth)? {
+        return Ok(Some(Misread::Shape));
+    }
+    put_record(records, alloc, version, slots)
+}
+
+// Puts the record behind these, if its members say one; or tells why they say none.
+fn put_record(
+    records: &mut Vec<Entry>,
     alloc: Global,
     version: DocVersion,
     slots: RecordSlots,
-) -> Result<Told<Entry>, WalkError>
-    ensures { Reaches result (λ told. told ≡ record_told version slots) }
+) -> Result<Option<Misread>, WalkError>
+    ensures { Reaches result (λ misread. (misread ≡ misread_of (record_told version slots)) × (records.new.items ≡ with_told records.old.items (record_told version slots))) }
 {
     if !tells_due_block_size(version, &slots) {
-        return Ok(Err(Misread::Shape));
+        return Ok(Some(Misread::Shape));
     }
     match things_told(alloc, slots) {
-        Ok(things) => record_of(alloc, things),
-        Err(misread) => Ok(Err(misread)),
+        Ok(things) => put_record_of(records, alloc, things),
+        Err(misread) => Ok(Some(misread)),
     }
 }
 
@@ -221,10 +253,14 @@ fn optional<T: Drop>(found: Option<Told<T>>) -> Told<Option<T>>
     }
 }
 
-// The record that has these things, where its counters are a version vector.
+// Puts the record that has these things behind these, where its counters are a version vector.
 #[tactic(auto, using(crate::proofs::ListFacts::version_decides))]
-fn record_of(alloc: Global, things: RecordThings) -> Result<Told<Entry>, WalkError>
-    ensures { Reaches result (λ told. told ≡ record_of things) }
+fn put_record_of(
+    records: &mut Vec<Entry>,
+    alloc: Global,
+    things: RecordThings,
+) -> Result<Option<Misread>, WalkError>
+    ensures { Reaches result (λ misread. (misread ≡ misread_of (record_of things)) × (records.new.items ≡ with_told records.old.items (record_of things))) }
 {
     let (name, (kind, (modified_s, (modified_by, things)))) = things;
     let (counters, (sequence, (size, (modified_ns, things)))) = things;
@@ -232,9 +268,9 @@ fn record_of(alloc: Global, things: RecordThings) -> Result<Told<Entry>, WalkErr
     let blocks = blocks_of(alloc, size.bytes(), hashes.as_slice())?;
     let block_size = block_size.unwrap_or(default_block_size(kind, deleted));
     let Some(version) = Vector::read(counters.as_slice()) else {
-        return Ok(Err(Misread::Range));
+        return Ok(Some(Misread::Range));
     };
-    Ok(Ok(Entry {
+    records.push(Entry {
         name,
         kind,
         size: size.bytes(),
@@ -249,5 +285,6 @@ fn record_of(alloc: Global, things: RecordThings) -> Result<Told<Entry>, WalkErr
         block_size: block_size.number() as u32,
         blocks,
         target,
-    }))
+    })?;
+    Ok(None)
 }

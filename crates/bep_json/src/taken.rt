@@ -4,7 +4,7 @@ ghost use Rattle.serde_json.specs.Data.{Items as ItemsOf, Members as MembersOf, 
 ghost use Rattle.bep_tree.specs.View.{view};
 ghost use Rattle.bep_tree.specs.Walk.{Reaches};
 ghost use Rattle.bep_json.specs.declared.version.DocVersion.{DocVersion as VersionOf};
-ghost use Rattle.bep_json.specs.Taking.{judged, Takes};
+ghost use Rattle.bep_json.specs.Taking.{judged, Takes, TakesOnto};
 
 use crate::{DocVersion, Misread, ReadError, Readable, Shaped, Told};
 use bep_tree::{Entered, Reader, Tree, WalkError, enter, pass_items, pass_members};
@@ -21,6 +21,27 @@ pub trait Taken: Shaped + Drop + Sized {
     ) -> Result<Told<Self>, WalkError>
         ensures value { Takes (Self.has_shape version) (Self.reads version) depth reader.old result reader.new }
         ensures shorter { OnOk result (length reader.new < length reader.old) };
+
+    /// Takes the value that comes next, and puts the thing that it says behind these things; or tells why it says none. A
+    /// large thing is best made where it is to stand.
+    fn take_onto(
+        things: &mut Vec<Self>,
+        alloc: Global,
+        version: DocVersion,
+        reader: &mut Reader<'_>,
+        depth: usize,
+    ) -> Result<Option<Misread>, WalkError>
+        ensures value { TakesOnto (Self.has_shape version) (Self.reads version) depth things.old.items reader.old result things.new.items reader.new }
+        ensures shorter { OnOk result (length reader.new < length reader.old) }
+    {
+        match Self::take(alloc, version, reader, depth)? {
+            Ok(thing) => {
+                things.push(thing)?;
+                Ok(None)
+            }
+            Err(misread) => Ok(Some(misread)),
+        }
+    }
 }
 
 /// A thing that no list and no object says.

@@ -130,6 +130,20 @@ fn tuple(alloc: Global) -> Option<(u64, u64)> {
     Some((first.number(), second.number()))
 }
 
+fn onto(alloc: Global) -> Option<bool> {
+    let mut scratch = Scratch::new(alloc);
+    let mut reader = Reader::new("[[1,2]]", &mut scratch).ok()?;
+    let mut lists: Vec<Pairs> = Vec::new(alloc);
+    let misread = Items::take_onto(
+        &mut lists,
+        alloc,
+        DocVersion::One,
+        &mut reader,
+        MAX_DEPTH,
+    ).ok()?;
+    Some(misread.is_none() && lists.len() == 1)
+}
+
 fn filled(alloc: Global) -> Option<bool> {
     let mut scratch = Scratch::new(alloc);
     let mut reader = Reader::new("[[1,2]]", &mut scratch).ok()?;
@@ -146,6 +160,7 @@ fn walks_find_memory(rt: HostRuntime) {
     assert!(rt; leaf(alloc) == Some(5));
     assert!(rt; slots(alloc) == Some(5));
     assert!(rt; pairs(alloc) == Some(true));
+    assert!(rt; onto(alloc) == Some(true));
     assert!(rt; filled(alloc) == Some(true));
     assert!(rt; tuple(alloc) == Some((5, 6)));
 }
