@@ -29,11 +29,9 @@ fn list(out: &mut Writer) -> Result<(), AllocError> {
 fn made(alloc: Global) -> Option<bool> {
     let mut out = Writer::new(Vec::new(alloc));
     list(&mut out).ok()?;
-    let bytes = out.into_inner();
-    Some(
-        bytes.as_slice()
-            == br#"[null,5,"b",{"deleted":false,"device":1,"modified_s":-1,"name":"a"}]"#,
-    )
+    let text = out.into_inner();
+    let wanted = r#"[null,5,"b",{"deleted":false,"device":1,"modified_s":-1,"name":"a"}]"#;
+    Some(text.as_slice() == wanted.as_bytes())
 }
 
 fn told(alloc: Global) -> Option<bool> {
