@@ -1,6 +1,6 @@
 //! The reading of a document: from its bytes to what it says, or to its fault.
 //!
-//! A document is walked through twice: once to see that it is JSON, and for its version, and once for what it says.
+//! A document is walked through twice: once to see that it is JSON and to find its version, and once for what it says.
 ghost use Rattle.std.specs.Prelude.{◌≡◌, Some, option_and_then};
 ghost use Rattle.serde_json.specs.Data.{Data};
 ghost use Rattle.bep_json.specs.Taking.{judged};
@@ -44,8 +44,8 @@ pub fn refused(fault: Fault) -> DocError
     DocError::Refused(DocFault::nowhere(fault))
 }
 
-/// The version that a document's bytes say, and their text. Refuses `Range` where they are too many, `NotJson` where they aren't
-/// JSON, and `VersionBad` where they say no version; `Memory` may come in place of any answer.
+/// The version that a document's bytes say, and their text. Refuses `Range` where they are too many, `NotJson` where they
+/// aren't JSON, and `VersionBad` where they say no version; `Memory` may come in place of any answer.
 pub fn versioned_text<'a>(
     bytes: &'a [u8],
     scratch: &mut Scratch,

@@ -70,7 +70,7 @@ abbrev pub due_or : {T : Type 0} → T → Option (Result T Misread) → Result 
 due_or default None = Ok default
 due_or default (Some told) = told
 
--- a member that must be there, whatever it says
+-- a member that must be there in its shape; what it says isn't kept, and may be out of range
 abbrev pub noted : {T : Type 0} → Option (Result T Misread) → Result Bool Misread
 noted None = Err Shape
 noted (Some (Ok thing)) = Ok true

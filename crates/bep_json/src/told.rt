@@ -34,7 +34,7 @@ pub fn due_or<T: Drop>(found: Option<Told<T>>, default: T) -> Told<T>
     }
 }
 
-/// What is told of a member that must be there, whatever it says.
+/// What is told of a member that must be there in its shape. What it says isn't kept, and may be out of range.
 pub fn noted<T: Drop>(found: Option<Told<T>>) -> Told<bool>
     ensures { result ≡ noted found }
 {

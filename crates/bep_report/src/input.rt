@@ -13,9 +13,9 @@ const MOST_READ: usize = 67108865;
 // The most bytes that are asked of the reader at once.
 const PIECE: usize = 65536;
 
-// The room of the buffer to read into, most of which is never touched. The allocator of the system's C library gives memory
-// of this size back to the system when it is let go of, and keeps smaller memory from then on. The lists of a document are
-// smaller. So what held one list holds another one later, and the system needn't clear each page anew.
+// The room of the buffer that is read into; most of it is never touched. The system's C library gives memory of this size
+// back to the system once it is freed. From then on it keeps smaller memory that is freed, and hands it out again. Most lists
+// of a document are smaller. So the memory of one list serves another, and the system needn't clear each page anew.
 const ROOM: usize = 4_194_304;
 
 // So many bytes to read into.

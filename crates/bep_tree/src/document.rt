@@ -10,7 +10,8 @@ use json::Reader;
 use std::alloc::AllocError;
 
 /// The text of these bytes, if `serde_json` reads a value in them: if `read_tree` makes a tree of them. This makes none.
-/// With it comes the whole number at the value's member of this name, the last of them, if there is one.
+/// With the text comes the whole number from 0 at the value's last member of this name; none where there is no such member, or
+/// no such number stands there.
 pub fn json_text<'a>(
     bytes: &'a [u8],
     name: &str,

@@ -23,7 +23,7 @@ pub(crate) fn number_in(reader: &mut Reader<'_>, name: &str) -> Option<Option<u6
     }
 }
 
-// Passes the value that begins with this token. It is no object, so it has no members.
+// Passes the value that begins with this token. It is no object, so no number stands at a member.
 fn no_number_in(reader: &mut Reader<'_>, token: Token<'_>) -> Option<Option<u64>>
     ensures { MatchOption result (after_value max_depth (token_of token.entry ∷ reader.old) ≡ None) (λ number. (number ≡ None) × (after_value max_depth (token_of token.entry ∷ reader.old) ≡ Some reader.new)) }
 {
@@ -34,7 +34,7 @@ fn no_number_in(reader: &mut Reader<'_>, token: Token<'_>) -> Option<Option<u64>
     }
 }
 
-// The same of the rest of an object.
+// Passes the rest of an object, and tells the whole number at its last member of this name, as `number_in` does.
 fn number_among(reader: &mut Reader<'_>, depth: usize, name: &str) -> Option<Option<u64>>
     ensures { MatchOption result (found_among name.now None (members (value depth) (length reader.old) reader.old) ≡ None) (λ number. found_among name.now None (members (value depth) (length reader.old) reader.old) ≡ Some (number, reader.new)) }
 {
@@ -53,7 +53,7 @@ fn number_among(reader: &mut Reader<'_>, depth: usize, name: &str) -> Option<Opt
     }
 }
 
-// Passes the next value, as above, and tells the whole number that it is, if it is one.
+// Passes the next value, and tells the whole number that it is, if it is one. None as of `number_in`.
 fn pass_number(reader: &mut Reader<'_>, depth: usize) -> Option<Option<u64>>
     ensures value { MatchOption result (numbered (value depth reader.old) ≡ None) (λ number. numbered (value depth reader.old) ≡ Some (number, reader.new)) }
     ensures shorter { IfSome result (λ _. length reader.new < length reader.old) }
