@@ -1,20 +1,13 @@
--- The names of a tree's members are those of its value.
-use Rattle.std.proofs.Common.{◌≡◌, ◌∙◌, ℕ, List, [], ◌∷◌, map, Bool, true, false, ◌&&◌, ◌||◌, Bor, Ordering, Less, Equal, Greater, nat_cmp, is_eq, refl, sym, ap}
-use Rattle.std.specs.List.{list_any, list_all}
+-- Whether the members of an object have names among several, as they are put in one after another.
+use Rattle.std.proofs.Common.{◌≡◌, ◌∙◌, ℕ, List, Bool, true, false, ◌&&◌, Ordering, Less, Equal, Greater, nat_cmp, is_eq, refl, sym, ap}
 use Rattle.std.specs.Ordering.{match_ordering}
 use Rattle.std.specs.Cmp.Lexicographic.{slice_cmp}
 use Rattle.std.proofs.lemmas.Slice.Eq.{bytes_eq-Decides}
 use Rattle.std.proofs.lemmas.Map.Text.{is_eq-slice_cmp}
-use Rattle.json.specs.Value.{members_view}
 use Rattle.json.specs.Json as json
-use Rattle.json.specs.declared.value.Value.{Value}
 use Rattle.serde_json.specs.Data.{Data, Members, no_members, member, put}
 use Rattle.bep_tree.specs.Names.{is_among, are_among}
 use Rattle.bep_tree.specs.View.{data_of, members_data}
-
-pub list_any-map : {A B : Type 0} (f : A → B) (test : B → Bool) (xs : List A) → list_any (λ x. test (f x)) xs ≡ list_any test (map f xs)
-list_any-map f test [] = refl
-list_any-map f test (x ∷ xs) = ap (λ b. test (f x) || b) (list_any-map f test xs)
 
 -- ---- what is asked of each, in another order
 
@@ -33,10 +26,6 @@ grouped true true c = refl
 grouped true false c = refl
 grouped false true c = refl
 grouped false false c = refl
-
-pub and_true : (a : Bool) → a && true ≡ a
-and_true true = refl
-and_true false = refl
 
 and_false : (a : Bool) → a && false ≡ false
 and_false true = refl
@@ -68,13 +57,6 @@ all_put names (json.member k j ms) found =
     all_put names ms (put k (data_of j) found)
     ∙ ap (λ b. keys_among names ms && b) (put_among names k (data_of j) found)
     ∙ grouped (keys_among names ms) (is_among k names) (are_among names found)
-
-listed : {A : Type 0} (names : List (List ℕ)) (ms : List (Bor (List ℕ) × Value A)) → list_all (λ m. is_among m.0.now names) ms ≡ keys_among names (members_view ms)
-listed names [] = refl
-listed names (m ∷ ms) = ap (λ b. is_among m.0.now names && b) (listed names ms)
-
-pub members_named : {A : Type 0} (names : List (List ℕ)) (ms : List (Bor (List ℕ) × Value A)) → list_all (λ m. is_among m.0.now names) ms ≡ are_among names (members_data (members_view ms) no_members)
-members_named names ms = listed names ms ∙ sym (all_put names (members_view ms) no_members ∙ and_true (keys_among names (members_view ms)))
 
 -- a member of another name stays among those that are put to it
 pub stays_strange : (names : List (List ℕ)) (js : json.Members) (found : Members) → are_among names found ≡ false → are_among names (members_data js found) ≡ false

@@ -26,7 +26,7 @@ mod walk;
 pub use document::json_text;
 pub use error::TreeError;
 pub use json::{Reader, Scratch};
-pub use look::{as_array, as_bool, as_str, at, get, has_only};
+pub use look::{as_array, as_bool, as_str, at, get};
 pub use number::{as_i64, as_u64};
 pub use read::{MAX_DEPTH, read_tree};
 pub use walk::{Entered, WalkError, enter, next_key, pass, pass_items, pass_members};

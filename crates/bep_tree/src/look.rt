@@ -1,10 +1,7 @@
 //! Looking into a tree.
-ghost use Rattle.std.specs.Prelude.{◌≡◌, map, option_map};
-ghost use Rattle.json.specs.Value.{members_view};
-ghost use Rattle.serde_json.specs.Data.{no_members};
+ghost use Rattle.std.specs.Prelude.{◌≡◌, option_map};
 ghost use Rattle.serde_json.specs.Find.{as_array, as_bool, as_str, at, get};
-ghost use Rattle.bep_tree.specs.Names.{is_among, are_among, has_only};
-ghost use Rattle.bep_tree.specs.View.{view, items_view, members_data};
+ghost use Rattle.bep_tree.specs.View.{view, items_view};
 
 use crate::Tree;
 
@@ -44,28 +41,4 @@ pub fn get<'t, 'a>(tree: &'t Tree<'a>, name: &str) -> Option<&'t Tree<'a>>
     ensures { option_map (λ found. view found.now) result ≡ get name.now (view tree.now) }
 {
     tree.get(name)
-}
-
-/// Whether the tree is an object, each member of which has one of these names.
-pub fn has_only(tree: &Tree<'_>, names: &[&str]) -> bool
-    ensures { result ≡ has_only (map (λ n. n.now) names.now) (view tree.now) }
-{
-    match tree {
-        Tree::Object(members) => are_among(members.as_slice(), names),
-        _ => false,
-    }
-}
-
-// Whether each member has one of these names.
-fn are_among(members: &[(&str, Tree<'_>)], names: &[&str]) -> bool
-    ensures { result ≡ are_among (map (λ n. n.now) names.now) (members_data (members_view members.now) no_members) }
-{
-    members.iter().all(|member| is_among(member.0, names))
-}
-
-// Whether the name is one of these.
-fn is_among(name: &str, names: &[&str]) -> bool
-    ensures { result ≡ is_among name.now (map (λ n. n.now) names.now) }
-{
-    names.contains(&name)
 }
