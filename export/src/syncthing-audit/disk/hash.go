@@ -129,6 +129,7 @@ func (p *Pool) hash(job *Job, offset int64) error {
 		return err
 	}
 	defer file.Close()
+	letGo(file, offset, length)
 	cuts := make([]*cutter, len(job.file.BlockSizes))
 	for place, size := range job.file.BlockSizes {
 		cuts[place] = &cutter{sum: p.sums.new(length), size: size, hashes: job.hashes[place][offset/size:]}
