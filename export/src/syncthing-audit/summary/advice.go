@@ -75,8 +75,15 @@ func source(file *File, named labels) string {
 	return "copy it from " + named.of(file.Have[0]) + " to "
 }
 
-// withTime says how a file is copied so that Syncthing doesn't take it for a change.
-const withTime = " with its time (cp -p, or rsync --times --ignore-times) while Syncthing is stopped there"
+const (
+	// withTime says how a file is copied over a file so that Syncthing doesn't take it for a change.
+	withTime = " with its time (cp -p, or rsync --times --ignore-times) while Syncthing is stopped there"
+	// asItIs says how that is copied to where nothing stands, whether it is a file, a directory or a symlink.
+	asItIs = " as it is (cp -a, or rsync -a) while Syncthing is stopped there"
+	// asAnother says how it is copied to where something else stands. Over a symlink, cp would write into the file to which
+	// that leads.
+	asAnother = " as it is (cp -a, or rsync -a), once what stands there is moved away, while Syncthing is stopped there"
+)
 
 // adviceOfFault says what to do about one fault.
 func adviceOfFault(one *Fault, file *File, named labels) string {
@@ -143,11 +150,21 @@ func otherBytesAdvice(one *Fault, file *File, at string, named labels) string {
 }
 
 func changedAdvice(one *Fault, file *File, at string, named labels) string {
-	undo := "if the change isn't wanted, first " + source(file, named) + at + withTime
+	how := asAnother
+	if one.isFileForFile() {
+		how = withTime
+	}
+	undo := "if the change isn't wanted, first " + source(file, named) + at + how
 	if one.Kind == receiveOnly {
 		return "start Syncthing on " + at + " and 'Rescan': the change stays there as a local one, which 'Revert Local Changes' takes back"
 	}
 	return "start Syncthing on " + at + " and 'Rescan': the change then goes to all. " + strings.ToUpper(undo[:1]) + undo[1:]
+}
+
+// isFileForFile says whether a file stands where a file is recorded.
+func (f *Fault) isFileForFile() bool {
+	const file = "file"
+	return f.Recorded != nil && f.Recorded.Type == file && f.Found != nil && f.Found.Type == file
 }
 
 func missingAdvice(one *Fault, file *File, at string, named labels) string {
@@ -156,7 +173,7 @@ func missingAdvice(one *Fault, file *File, at string, named labels) string {
 			"deletes files that were added there"
 	}
 	return "see that the folder's disk is mounted on " + at + ", before Syncthing starts there: a scan takes it for deleted, and then all devices " +
-		"delete it. To keep it, first " + source(file, named) + at + withTime
+		"delete it. To keep it, first " + source(file, named) + at + asItIs
 }
 
 func behindAdvice(one *Fault, at string) string {

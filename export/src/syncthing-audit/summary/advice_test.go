@@ -46,6 +46,30 @@ func TestAdvice(t *testing.T) {
 	}
 }
 
+// Nobody is told to copy a symlink or over one as a file is copied: that would write into the file to which it leads.
+func TestAdviceOnOtherTypes(t *testing.T) {
+	cases := []struct {
+		cause           Cause
+		recorded, found string
+		has             string
+	}{
+		{Changed, "file", "file", "cp -p"}, {Changed, "symlink", "symlink", "moved away"}, {Changed, "file", "symlink", "moved away"},
+		{Changed, "symlink", "file", "moved away"}, {Changed, "directory", "file", "moved away"}, {Changed, "file", "directory", "moved away"},
+		{Missing, "symlink", "", "cp -a"}, {Missing, "directory", "", "cp -a"}, {Missing, "file", "", "cp -a"},
+	}
+	for _, one := range cases {
+		faults := faultsOf("send-receive", one.cause)
+		faults[0].Recorded = &State{Type: one.recorded}
+		if one.found != "" {
+			faults[0].Found = &State{Type: one.found}
+		}
+		told := strings.Join(adviceOf(&File{Faults: faults, Have: []string{laptop}}, labels{laptop: "laptop", server: "server"}), ". ")
+		if !strings.Contains(told, one.has) || strings.Contains(told, "cp -p") != (one.has == "cp -p") {
+			t.Errorf("%s, a %s recorded, a %s found: %s", one.cause, one.recorded, one.found, told)
+		}
+	}
+}
+
 // Whether the next scan sees other bytes, and whether an audited device has the recorded ones, is told.
 func TestAdviceOnOtherBytes(t *testing.T) {
 	for kind, has := range map[string]string{"send-receive": "which sends these bytes to all", receiveOnly: "takes these bytes for a local change"} {

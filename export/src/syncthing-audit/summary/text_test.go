@@ -144,8 +144,7 @@ a  (in docs, 300.0 kB)
   as recorded on: laptop
   to do: see that the folder's disk is mounted on server, before Syncthing starts there: a scan
          takes it for deleted, and then all devices delete it. To keep it, first copy it from laptop
-         to server with its time (cp -p, or rsync --times --ignore-times) while Syncthing is stopped
-         there.
+         to server as it is (cp -a, or rsync -a) while Syncthing is stopped there.
 ` + lastLine},
 	{"a device that is behind, and what others still see of it", 3, func(folder *finding.Folder) {
 		old := with(file(1, 2), func(one *part.Name) { one.Own.ModifiedS = started - 60; one.Disk.ModifiedS = started - 60 })
