@@ -120,7 +120,7 @@ func (i *Index) View(of part.View, prefix string, take func(Entry) bool) error {
 // viewedEntry reads another device's entry. Of what that device ignores it tells neither size nor blocks.
 func viewedEntry(entry protocol.FileInfo) Entry {
 	if entry.IsInvalid() && !entry.Deleted && entry.Type == protocol.FileInfoTypeFile && len(entry.Blocks) == 0 {
-		return leftOut(entry, part.Ignored, "the device whose index it is ignores it")
+		return leftOut(entry, part.Ignored, "it knows that another device ignores it")
 	}
 	return entryOf(entry)
 }

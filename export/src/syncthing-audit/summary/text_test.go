@@ -279,6 +279,22 @@ left out of docs: 1,235 names, 3.0 MB
   and 1,234 names more, 3.0 MB
 not compared: owners, extended attributes, old versions
 `},
+	{"a directory that a device ignores, and a file that can't be read", 2, func(folder *finding.Folder) {
+		ignored := []finding.Reason{{Member: 0, Kind: part.Ignored, Why: "it knows that another device ignores it"},
+			{Member: 1, Kind: part.Ignored, Why: "it is ignored there by .stignore"}}
+		for next := 0; next < mostLeft+40; next++ {
+			folder.LeftOut = append(folder.LeftOut, &finding.LeftOut{Name: "a", Names: 1, Bytes: 1000, Why: ignored})
+		}
+		folder.LeftOut = append(folder.LeftOut, &finding.LeftOut{Name: "z", Names: 1, Bytes: 5, Why: []finding.Reason{
+			{Member: 0, Kind: part.Unreadable, Why: "it can't be read"}, {Member: 1, Kind: part.Unreadable, Why: "it can't be read"}}})
+	}, `docs (Documents): in step and firm as far as audited; 1,204 names (4 deleted), 335.2 MB hashed on laptop, server
+
+left out of docs: 46 names, 45.0 kB
+` + strings.Repeat("  a, 1.0 kB: laptop: it knows that another device ignores it; server: it is ignored there by .stignore\n", mostLeft) +
+		`  z, 5 bytes: laptop, server: it can't be read
+  and 40 names more, 40.0 kB: ignored on laptop, server (--lines has them)
+not compared: owners, extended attributes, old versions
+`},
 	{"one device alone", 1, func(*finding.Folder) {},
 		`docs (Documents): in step and firm as far as audited; 1,204 names (4 deleted), 335.2 MB hashed on laptop
 
