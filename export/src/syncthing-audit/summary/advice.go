@@ -98,7 +98,7 @@ func adviceOfFault(one *Fault, file *File, named labels) string {
 	case Back:
 		return "to have it gone, delete it on " + at + " before Syncthing scans there: a scan takes it for a new file" + spreads(one)
 	case Behind, Conflicting:
-		return behindAdvice(one, at)
+		return behindAdvice(one, file, at, named)
 	case LocalChange:
 		return "'Revert Local Changes' on " + at + " takes back what was changed there, for all such files of the folder: added files are " +
 			"deleted, so copy elsewhere what is to stay. To have the change everywhere, make the folder 'Send & Receive' there"
@@ -176,7 +176,7 @@ func missingAdvice(one *Fault, file *File, at string, named labels) string {
 		"delete it. To keep it, first " + source(file, named) + at + asItIs
 }
 
-func behindAdvice(one *Fault, at string) string {
+func behindAdvice(one *Fault, file *File, at string, named labels) string {
 	switch {
 	case one.Kind == sendOnly:
 		return at + " only sends: it doesn't take what others change. 'Override Changes' there undoes their changes on all devices, and deletes " +
@@ -184,6 +184,21 @@ func behindAdvice(one *Fault, at string) string {
 	case one.Cause == Conflicting:
 		return "start Syncthing on all of these devices: it keeps one version, and the other one as a conflict copy"
 	}
-	return "start Syncthing on " + at + " and on a device that has it, and let them finish. If it stays among the 'Out of Sync Items', see " +
-		"whether the device is paused, connected, or out of space"
+	told := "let Syncthing run on " + at + " and on " + holders(file, named) + ", and let them finish. If it stays so, see whether a device " +
+		"or the folder is paused, whether they are connected, and whether a disk is full"
+	if one.Deletion {
+		told += "; or 'Ignore Delete' is set for the folder on " + at
+	}
+	return told
+}
+
+// holders says on which devices that can be had which is due.
+func holders(file *File, named labels) string {
+	switch len(file.Have) {
+	case 0:
+		return "a device that has it"
+	case 1:
+		return named.of(file.Have[0])
+	}
+	return "one of " + named.all(file.Have)
 }

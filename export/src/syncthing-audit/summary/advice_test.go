@@ -23,6 +23,8 @@ var advised = []struct {
 	{"other bytes", faultsOf("send-receive", OtherBytes), "sends them to all", "Revert"},
 	{"other bytes on a device that only receives", faultsOf(receiveOnly, OtherBytes), "copy it from laptop to server", "sends them"},
 	{"other bytes of an older version", faultsOf("send-receive", Behind, OtherBytes), "let them finish", "won't repair"},
+	{"behind", faultsOf("send-receive", Behind), "run on server and on laptop, and let them finish", "Ignore Delete"},
+	{"a deletion that wasn't taken", []Fault{{Device: server, Kind: "send-receive", Cause: Behind, Deletion: true}}, "'Ignore Delete' is set", "Revert"},
 	{"missing", faultsOf("send-receive", Missing), "all devices delete it", "Revert"},
 	{"missing on a device that only receives", faultsOf(receiveOnly, Missing), "it also deletes files that were added there", "all devices delete"},
 	{"changed on a device that only receives", faultsOf(receiveOnly, Changed), "stays there as a local one", "goes to all"},

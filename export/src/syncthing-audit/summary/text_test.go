@@ -155,9 +155,9 @@ a  (in docs, 300.0 kB)
   server: behind: hasn't taken what is newest (modified 2020-09-13 12:26:40 UTC)
   as recorded on: laptop, phone
   so phone can still take another version of it, until that is mended
-  to do: start Syncthing on server and on a device that has it, and let them finish. If it stays
-         among the 'Out of Sync Items', see whether the device is paused, connected, or out of
-         space.
+  to do: let Syncthing run on server and on one of laptop, phone, and let them finish. If it stays
+         so, see whether a device or the folder is paused, whether they are connected, and whether a
+         disk is full.
 ` + lastLine},
 	{"a device that is behind as a whole", 2, func(folder *finding.Folder) {
 		for next := 0; next < 7; next++ {
@@ -173,9 +173,8 @@ a  (in docs, 300.0 kB)
   server: behind: hasn't taken what is newest
   the first: 'photo 0' 'photo 1' 'photo 2', and 4 more (--lines has all)
   as recorded on: laptop
-  to do: start Syncthing on server and on a device that has it, and let them finish. If it stays
-         among the 'Out of Sync Items', see whether the device is paused, connected, or out of
-         space.
+  to do: let Syncthing run on server and on laptop, and let them finish. If it stays so, see whether
+         a device or the folder is paused, whether they are connected, and whether a disk is full.
 ` + lastLine},
 	{"a file that was added on a receive-only device", 2, func(folder *finding.Folder) {
 		folder.Members[1].About.Kind = "receive-only"
