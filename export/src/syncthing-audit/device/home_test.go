@@ -5,6 +5,9 @@ import (
 	"path/filepath"
 	"strings"
 	"testing"
+
+	"github.com/syncthing/syncthing/lib/config"
+	"github.com/syncthing/syncthing/lib/fs"
 )
 
 // Where the index can't be copied, the variable is told that names another place.
@@ -22,5 +25,20 @@ func TestACopyWithoutAPlace(t *testing.T) {
 	home.Close()
 	if err == nil || !strings.Contains(err.Error(), "can't be copied to /nowhere (TMPDIR may name another directory)") {
 		t.Error(err)
+	}
+}
+
+// A folder whose disk isn't mounted is refused with what to look at, and with the way to the other folders.
+func TestAFolderThatIsNotThere(t *testing.T) {
+	empty := t.TempDir()
+	for path, told := range map[string]string{
+		empty:                           empty + " has no .stfolder, by which Syncthing knows the folder: is its disk mounted?",
+		filepath.Join(empty, "nowhere"): "there is no " + empty + "/nowhere: is its disk mounted? --folder chooses other folders",
+	} {
+		folder := config.FolderConfiguration{ID: "docs", Path: path, FilesystemType: fs.FilesystemTypeBasic, MarkerName: ".stfolder"}
+		_, err := (&Home{}).Index(folder)
+		if err == nil || !strings.HasPrefix(err.Error(), "folder docs: ") || !strings.Contains(err.Error(), told) {
+			t.Errorf("%s: %v", path, err)
+		}
 	}
 }

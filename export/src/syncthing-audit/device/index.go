@@ -1,6 +1,7 @@
 package device
 
 import (
+	"errors"
 	"fmt"
 	"strings"
 
@@ -25,7 +26,7 @@ func (h *Home) Index(folder config.FolderConfiguration) (made *Index, err error)
 	defer recovered(folder.ID, &err)
 	folder.CaseSensitiveFS = true // names come from the directory itself
 	if err := folder.CheckPath(); err != nil {
-		return nil, fmt.Errorf("folder %s: %s: %w", folder.ID, folder.Path, err)
+		return nil, pathFault(folder, err)
 	}
 	directory, err := directoryOf(folder.Filesystem().URI())
 	if err != nil {
@@ -40,6 +41,18 @@ func (h *Home) Index(folder config.FolderConfiguration) (made *Index, err error)
 		return nil, err
 	}
 	return &Index{folder, h, directory, files, snapshot}, nil
+}
+
+// pathFault says what is to be seen to where a folder's directory isn't as Syncthing wants it.
+func pathFault(folder config.FolderConfiguration, err error) error {
+	switch {
+	case errors.Is(err, config.ErrMarkerMissing):
+		return fmt.Errorf("folder %s: %s has no %s, by which Syncthing knows the folder: is its disk mounted? Without it Syncthing stops "+
+			"the folder, too. --folder chooses other folders", folder.ID, folder.Path, folder.MarkerName)
+	case errors.Is(err, config.ErrPathMissing):
+		return fmt.Errorf("folder %s: there is no %s: is its disk mounted? --folder chooses other folders", folder.ID, folder.Path)
+	}
+	return fmt.Errorf("folder %s: %s: %w", folder.ID, folder.Path, err)
 }
 
 // recovered makes an error of what Syncthing's packages panic with, such as a list of blocks that the index lacks.
