@@ -88,7 +88,7 @@ func TestTextOfRunningDevices(t *testing.T) {
 		var written strings.Builder
 		live := one.live
 		answer := answerOf(2, func(folder *finding.Folder) { folder.Live = &live })
-		Of(answer).Print(&written, time.UTC)
+		Of(answer).Print(&written, time.UTC, time.Time{})
 		if written.String() != one.text {
 			t.Errorf("%s:\n%s\nnot\n%s", one.why, written.String(), one.text)
 		}

@@ -2,6 +2,7 @@ package summary
 
 import (
 	"strings"
+	"time"
 
 	"syncthing-audit/finding"
 	"syncthing-audit/shell"
@@ -32,7 +33,25 @@ func (p *printer) rest(s *Summary) {
 	if s.Firm == finding.NotAsked {
 		p.line("not asked: whether what is in step is firm, too: this syncaudit is too old to say so")
 	}
+	p.ages(s)
 	p.line("not compared: %s", strings.Join(s.NotCompared, ", "))
+}
+
+// mostAge is how long ago a device may have been read without that being told.
+const mostAge = 24 * time.Hour
+
+// ages tells which devices were read long ago. Parts can be of one moment by all indexes while bytes on a disk have changed
+// since by themselves.
+func (p *printer) ages(s *Summary) {
+	old := []string{}
+	for _, one := range s.Devices {
+		if !one.Read.IsZero() && p.now.Sub(one.Read) > mostAge {
+			old = append(old, p.named.of(one.ID)+" "+p.when(one.Read))
+		}
+	}
+	if len(old) > 0 {
+		p.line("read more than a day ago: %s; what changed on a disk since isn't seen", strings.Join(old, ", "))
+	}
 }
 
 // mostCopies is how many conflict copies are told by their names.

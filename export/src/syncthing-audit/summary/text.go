@@ -16,11 +16,12 @@ type printer struct {
 	to    io.Writer
 	named labels
 	zone  *time.Location
+	now   time.Time
 }
 
 // Print prints a summary for a person, with times of this zone.
-func (s *Summary) Print(to io.Writer, zone *time.Location) {
-	p := &printer{to, s.labels(), zone}
+func (s *Summary) Print(to io.Writer, zone *time.Location, now time.Time) {
+	p := &printer{to, s.labels(), zone, now}
 	for _, one := range s.Folders {
 		p.folder(one)
 	}

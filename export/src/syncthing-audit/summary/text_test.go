@@ -305,9 +305,32 @@ not compared: owners, extended attributes, old versions
 func TestWhatAPersonReads(t *testing.T) {
 	for _, one := range textsForAPerson {
 		var written strings.Builder
-		Of(answerOf(one.devices, one.fill)).Print(&written, time.UTC)
+		Of(answerOf(one.devices, one.fill)).Print(&written, time.UTC, time.Time{})
 		if written.String() != one.text {
 			t.Errorf("%s:\n%s\nnot\n%s", one.why, written.String(), one.text)
+		}
+	}
+}
+
+// A part that was made long ago may be of one moment with the others by all indexes. When it was made is told then.
+func TestOldParts(t *testing.T) {
+	now := time.Unix(later, 0)
+	for _, one := range []struct {
+		ages []time.Duration
+		told string
+	}{
+		{[]time.Duration{time.Hour, mostAge}, lastLine},
+		{[]time.Duration{time.Hour, mostAge + time.Minute},
+			"\nread more than a day ago: server 2020-09-12 12:26:40 UTC; what changed on a disk since isn't seen" + lastLine},
+	} {
+		answer := answerOf(2, func(*finding.Folder) {})
+		for place := range answer.Devices {
+			answer.Devices[place].Made = now.Add(-one.ages[place])
+		}
+		var written strings.Builder
+		Of(answer).Print(&written, time.UTC, now)
+		if !strings.HasSuffix(written.String(), "on laptop, server\n"+one.told) {
+			t.Errorf("%s\nnot\n%s", written.String(), one.told)
 		}
 	}
 }
