@@ -7,6 +7,8 @@ import (
 	"testing"
 
 	"github.com/syncthing/syncthing/lib/config"
+	"github.com/syncthing/syncthing/lib/db"
+	"github.com/syncthing/syncthing/lib/db/backend"
 	"github.com/syncthing/syncthing/lib/fs"
 )
 
@@ -40,5 +42,28 @@ func TestAFolderThatIsNotThere(t *testing.T) {
 		if err == nil || !strings.HasPrefix(err.Error(), "folder docs: ") || !strings.Contains(err.Error(), told) {
 			t.Errorf("%s: %v", path, err)
 		}
+	}
+}
+
+// An index of a later Syncthing, whose form isn't known here, is refused with the home and with what it is of.
+func TestAnIndexOfALaterSyncthing(t *testing.T) {
+	directory := t.TempDir()
+	index, err := backend.OpenLevelDB(directory, backend.TuningAuto)
+	if err != nil {
+		t.Fatal(err)
+	}
+	about := db.NewMiscDataNamespace(index)
+	if err := about.PutInt64("dbVersion", 1000); err != nil {
+		t.Fatal(err)
+	}
+	if err := about.PutString("dbMinSyncthingVersion", "v1.99.0"); err != nil {
+		t.Fatal(err)
+	}
+	index.Close()
+	home := &Home{Dir: "laptop-home", copied: directory}
+	err = home.openCopy()
+	home.backend.Close()
+	if err == nil || !strings.HasPrefix(err.Error(), "refused: laptop-home: ") || !strings.Contains(err.Error(), "v1.99.0") {
+		t.Error(err)
 	}
 }
