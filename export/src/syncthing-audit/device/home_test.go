@@ -33,8 +33,10 @@ func TestACopyWithoutAPlace(t *testing.T) {
 // A folder whose disk isn't mounted is refused with what to look at, and with the way to the other folders.
 func TestAFolderThatIsNotThere(t *testing.T) {
 	empty := t.TempDir()
+	t.Setenv("HOME", empty)
 	for path, told := range map[string]string{
 		empty:                           empty + " has no .stfolder, by which Syncthing knows the folder: is its disk mounted?",
+		"~/nowhere":                     "there is no " + empty + "/nowhere (~/nowhere in config.xml, and ~ is that of the user who runs this): is its",
 		filepath.Join(empty, "nowhere"): "there is no " + empty + "/nowhere: is its disk mounted? --folder chooses other folders",
 	} {
 		folder := config.FolderConfiguration{ID: "docs", Path: path, FilesystemType: fs.FilesystemTypeBasic, MarkerName: ".stfolder"}

@@ -45,14 +45,18 @@ func (h *Home) Index(folder config.FolderConfiguration) (made *Index, err error)
 
 // pathFault says what is to be seen to where a folder's directory isn't as Syncthing wants it.
 func pathFault(folder config.FolderConfiguration, err error) error {
+	path := folder.Filesystem().URI()
+	if strings.HasPrefix(folder.Path, "~") {
+		path += " (" + folder.Path + " in config.xml, and ~ is that of the user who runs this)"
+	}
 	switch {
 	case errors.Is(err, config.ErrMarkerMissing):
 		return fmt.Errorf("folder %s: %s has no %s, by which Syncthing knows the folder: is its disk mounted? Without it Syncthing stops "+
-			"the folder, too. --folder chooses other folders", folder.ID, folder.Path, folder.MarkerName)
+			"the folder, too. --folder chooses other folders", folder.ID, path, folder.MarkerName)
 	case errors.Is(err, config.ErrPathMissing):
-		return fmt.Errorf("folder %s: there is no %s: is its disk mounted? --folder chooses other folders", folder.ID, folder.Path)
+		return fmt.Errorf("folder %s: there is no %s: is its disk mounted? --folder chooses other folders", folder.ID, path)
 	}
-	return fmt.Errorf("folder %s: %s: %w", folder.ID, folder.Path, err)
+	return fmt.Errorf("folder %s: %s: %w", folder.ID, path, err)
 }
 
 // recovered makes an error of what Syncthing's packages panic with, such as a list of blocks that the index lacks.
