@@ -155,7 +155,7 @@ var wordsOf = map[Cause]string{
 	Missing:       "missing on the disk",
 	Back:          "on the disk, though it is deleted",
 	Behind:        "behind: hasn't taken what is newest",
-	Conflicting:   "changed there and elsewhere",
+	Conflicting:   "in conflict: has one change of it, and lacks another",
 	OtherBlocks:   "the same bytes, recorded in blocks of another size",
 	LocalChange:   "changed on this receive-only device",
 	LocalAddition: "added on this receive-only device; no other has it",

@@ -146,6 +146,16 @@ a  (in docs, 300.0 kB)
          takes it for deleted, and then all devices delete it. To keep it, first copy it from laptop
          to server as it is (cp -a, or rsync -a) while Syncthing is stopped there.
 ` + lastLine},
+	{"a device that took one of two changes, and lacks the other one", 2, func(folder *finding.Folder) {
+		fails(folder, "a", []*part.Name{file(1, 1), with(file(1, 2), func(one *part.Name) { one.Own.Version = [][2]uint64{{2, 1}} })}, "RecordDiffers 2",
+			"StoreDiffers 2")
+	}, lineOfFolder + `
+a  (in docs, 300.0 kB)
+  server: in conflict: has one change of it, and lacks another
+  as recorded on: laptop
+  to do: start Syncthing on all of these devices: it keeps one version, and the other one as a
+         conflict copy.
+` + lastLine},
 	{"a device that is behind, and what others still see of it", 3, func(folder *finding.Folder) {
 		old := with(file(1, 2), func(one *part.Name) { one.Own.ModifiedS = started - 60; one.Disk.ModifiedS = started - 60 })
 		fails(folder, "a", []*part.Name{file(2, 1), old, file(2, 1)}, "RecordDiffers 2", "StoreDiffers 2", "ViewAhead 2", "ViewAhead 3")
