@@ -36,7 +36,7 @@ func tell(output, log io.Writer, asked options, answer *finding.Answer) (int, er
 	case asked.json:
 		err = summary.Of(answer).WriteJSON(to)
 	default:
-		summary.Of(answer).Print(to, time.Local)
+		summary.Of(answer).Print(to, time.Local, time.Now())
 	}
 	if err == nil {
 		err = answer.Err()

@@ -144,13 +144,18 @@ func (o *options) takeDefaultHome() error {
 		return err
 	}
 	found := []string{}
-	for _, one := range []string{".config/syncthing", ".local/state/syncthing"} {
-		if path := filepath.Join(user, one); device.IsHome(path) {
+	usual := []string{filepath.Join(user, ".config/syncthing"), filepath.Join(user, ".local/state/syncthing")}
+	for _, path := range usual {
+		if device.IsHome(path) {
 			found = append(found, path)
 		}
 	}
-	if len(found) != 1 {
-		return &wrongUsage{fmt.Sprintf("%d homes are where Syncthing has them by itself: --home says which one", len(found))}
+	switch len(found) {
+	case 0:
+		return &wrongUsage{fmt.Sprintf("no Syncthing home is at %s: --home names it, for 'run' MACHINE:DIR; 'syncthing --paths' says where it is",
+			strings.Join(usual, " or "))}
+	case 2:
+		return &wrongUsage{fmt.Sprintf("homes are at %s: --home says which one, for 'run' MACHINE:DIR", strings.Join(found, " and "))}
 	}
 	o.homes = found
 	return nil
@@ -181,7 +186,11 @@ func lookOf(home *device.Home) (*part.Look, error) {
 
 // tellCopied tells what the copy of an index took.
 func tellCopied(log io.Writer, home *device.Home) {
-	fmt.Fprintf(log, "syncthing-audit: %d bytes of the index of %s copied in %d rounds\n", home.Copied.Bytes, home.Dir, home.Copied.Rounds)
+	rounds := ""
+	if home.Copied.Rounds > 1 {
+		rounds = fmt.Sprintf(" in %d rounds, since it changed meanwhile", home.Copied.Rounds)
+	}
+	fmt.Fprintf(log, "syncthing-audit: the index of %s is copied%s: %d bytes\n", home.Dir, rounds, home.Copied.Bytes)
 }
 
 // writeWhole writes into a file of its own first, so that nobody reads the beginning of what isn't at its end.

@@ -30,6 +30,9 @@ func (i *lookInputs) openPart(path string) error {
 	}
 	i.closers = append(i.closers, func() { file.Close() })
 	if about, err := file.Stat(); err == nil {
+		if about.IsDir() {
+			return fmt.Errorf("%w but a directory: a device's home stands behind --home", part.ErrNone)
+		}
 		i.work.toRead += about.Size()
 	}
 	read, err := part.NewReader(counted{file, &i.work.read})

@@ -163,12 +163,21 @@ func (p *place) run(words []string, input io.Reader, path string) (string, error
 	return told.String(), nil
 }
 
-// whereIs says what to do where a shell on another machine didn't find a command.
+// statusOfSSH is ssh's own, where it didn't come to the machine or lost it.
+const statusOfSSH = 255
+
+// whereIs says what to do where ssh doesn't come to a machine, or a shell there didn't find a command.
 func (p *place) whereIs(ended *exec.ExitError) string {
-	if p.host == "" || ended.ExitCode() != ask.StatusCannotRun {
+	switch {
+	case p.host == "":
 		return ""
+	case ended.ExitCode() == ask.StatusCannotRun:
+		return ". Is syncthing-audit installed there? --remote-program says how it is called"
+	case ended.ExitCode() == statusOfSSH:
+		return ". See that the machine is on and that " + quotedWords([]string{"ssh", p.host, "true"}) + " needs no answer; or audit the other " +
+			"devices without it, with --leave-out " + part.Absent
 	}
-	return ". Is syncthing-audit installed there? --remote-program says how it is called"
+	return ""
 }
 
 // hint adds to an error what may be its cause: what a shell prints as it starts goes before the part.

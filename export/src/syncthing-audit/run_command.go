@@ -99,7 +99,11 @@ func (r *running) file(at int, look string) string {
 
 // look makes the first look at all devices, and the second one once all of these are over.
 func (r *running) look() error {
-	fmt.Fprintf(r.log, "syncthing-audit: first look at %d devices, and hashing their files\n", len(r.places))
+	devices := "1 device"
+	if len(r.places) > 1 {
+		devices = fmt.Sprintf("%d devices", len(r.places))
+	}
+	fmt.Fprintf(r.log, "syncthing-audit: first look at %s, hashing all files\n", devices)
 	if err := r.all("first look", r.begin); err != nil {
 		return err
 	}
@@ -133,7 +137,7 @@ func (r *running) all(what string, do func(at int) error) error {
 			ended <- at
 		}(at)
 	}
-	r.await(what, ended)
+	r.await(what, ended, errs)
 	for _, err := range errs {
 		if err != nil {
 			return err
@@ -142,8 +146,8 @@ func (r *running) all(what string, do func(at int) error) error {
 	return nil
 }
 
-// await waits until all places have ended.
-func (r *running) await(what string, ended <-chan int) {
+// await waits until all places have ended. A place that failed is told at once: there will be no answer.
+func (r *running) await(what string, ended <-chan int, errs []error) {
 	began, next := time.Now(), r.patience
 	isOver := make([]bool, len(r.places))
 	told := time.NewTimer(next)
@@ -153,12 +157,22 @@ func (r *running) await(what string, ended <-chan int) {
 		case at := <-ended:
 			isOver[at] = true
 			left--
+			if errs[at] != nil && left > 0 {
+				r.tellFailed(what, errs[at])
+			}
 		case <-told.C:
 			next *= 2
 			told.Reset(next)
 			r.tellAwaited(what, time.Since(began), isOver)
 		}
 	}
+}
+
+// tellFailed tells that there will be no answer, while other places are awaited.
+func (r *running) tellFailed(what string, err error) {
+	r.mutex.Lock()
+	defer r.mutex.Unlock()
+	fmt.Fprintf(r.log, "syncthing-audit: %s: %v. There will be no answer; the other looks are awaited, Ctrl-C ends them\n", what, err)
 }
 
 // tellAwaited tells which places haven't ended.

@@ -1,6 +1,7 @@
 package main
 
 import (
+	"errors"
 	"os"
 	"path/filepath"
 	"strings"
@@ -58,5 +59,29 @@ func TestWhoIsAwaited(t *testing.T) {
 	log.Reset()
 	if err := run.all("first look", func(int) error { return nil }); err != nil || log.Len() > 0 {
 		t.Errorf("%v, %q", err, log.String())
+	}
+}
+
+// A place that fails is told while the others are awaited, which may take hours; the last one is told by the error alone.
+func TestWhoFails(t *testing.T) {
+	for last, expected := range map[int]string{
+		0: "",
+		1: "syncthing-audit: first look: off. There will be no answer; the other looks are awaited, Ctrl-C ends them\n",
+	} {
+		var log strings.Builder
+		isOver := make(chan bool)
+		run := &running{places: []*place{{given: "off:"}, {given: "on:"}}, log: &log, patience: time.Hour}
+		err := run.all("first look", func(at int) error {
+			if at != last {
+				defer close(isOver)
+			} else {
+				<-isOver
+				time.Sleep(50 * time.Millisecond) // until the other one is heard of
+			}
+			return []error{errors.New("off"), nil}[at]
+		})
+		if err == nil || log.String() != expected {
+			t.Errorf("%v, %q", err, log.String())
+		}
 	}
 }

@@ -67,6 +67,16 @@ func TestOneStatusForAFolderThatIsNotThere(t *testing.T) {
 	}
 }
 
+// Whoever gives a home as a part is told how a home is given.
+func TestAHomeInPlaceOfAPart(t *testing.T) {
+	t.Setenv("SYNCAUDIT", "/bin/true")
+	var log strings.Builder
+	home := t.TempDir()
+	if status := run([]string{"check", home}, io.Discard, &log); status != statusRefused || !strings.Contains(log.String(), "stands behind --home") {
+		t.Errorf("%d, %s", status, log.String())
+	}
+}
+
 // full is a writer without room.
 type full struct{}
 

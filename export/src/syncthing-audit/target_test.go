@@ -8,6 +8,9 @@ import (
 	"strings"
 	"syscall"
 	"testing"
+
+	"github.com/syncthing/syncthing/lib/config"
+	"github.com/syncthing/syncthing/lib/fs"
 )
 
 // writeTo writes "new" to a path, as a part is written.
@@ -91,5 +94,25 @@ func TestWhatCameMeanwhileStays(t *testing.T) {
 	err = to.write(func(io.Writer) error { return os.Symlink("elsewhere", path) })
 	if _, gone := os.Readlink(path); err == nil || gone != nil {
 		t.Errorf("%v, %v", err, gone)
+	}
+}
+
+// A part isn't written into a folder of the device, by whatever way that is named.
+func TestAPartStaysOutsideTheFolders(t *testing.T) {
+	dir := t.TempDir()
+	at := func(name string) string { return filepath.Join(dir, name) }
+	for _, one := range []string{"docs", "docs/below", "docs-parts"} {
+		os.Mkdir(at(one), 0o755)
+	}
+	os.Symlink("docs", at("link"))
+	os.WriteFile(at("docs/old"), nil, 0o644)
+	os.Symlink("docs/old", at("pointing"))
+	folders := []config.FolderConfiguration{{ID: "none"}, {ID: "docs", Path: at("link"), FilesystemType: fs.FilesystemTypeBasic}}
+	for name, isIn := range map[string]bool{"docs/new": true, "docs/old": true, "docs/below/new": true, "link/new": true, "pointing": true,
+		"docs-parts/new": false, "new": false} {
+		err := checkOutside(at(name), folders)
+		if (err != nil) != isIn || isIn && !strings.Contains(err.Error(), "would be in folder docs") {
+			t.Errorf("%s: %v", name, err)
+		}
 	}
 }

@@ -3,6 +3,7 @@ package audit
 import (
 	"strings"
 
+	"golang.org/x/exp/slices"
 	"syncthing-audit/document"
 	"syncthing-audit/finding"
 	"syncthing-audit/join"
@@ -144,12 +145,15 @@ func outsOf(one *part.Name) []part.LeftOut {
 // hasOut says whether a member has something of the name that no document says.
 func hasOut(row *join.Row) bool { return len(reasonsOf(row)) > 0 }
 
-// reasonsOf gives why a name can't be audited, at each member.
+// reasonsOf gives why a name can't be audited, at each member, each reason once: a member's record and its disk may have
+// the same one.
 func reasonsOf(row *join.Row) []finding.Reason {
 	var reasons []finding.Reason
 	for member, one := range row.At {
 		for _, out := range outsOf(one) {
-			reasons = append(reasons, finding.Reason{Member: member, Kind: out.Kind, Why: out.Why})
+			if next := (finding.Reason{Member: member, Kind: out.Kind, Why: out.Why}); !slices.Contains(reasons, next) {
+				reasons = append(reasons, next)
+			}
 		}
 	}
 	return reasons

@@ -65,6 +65,15 @@ func TestOutside(t *testing.T) {
 	}
 }
 
+// What a device's record and its disk both say is one reason.
+func TestReasonsOnce(t *testing.T) {
+	ignored, odd := part.LeftOut{Kind: part.Ignored, Why: "ignored"}, part.LeftOut{Kind: part.Special, Why: "a pipe"}
+	twice := &part.Name{Out: []part.LeftOut{ignored, odd, ignored}}
+	if reasons := reasonsOf(rowOf(twice, twice)); len(reasons) != 4 {
+		t.Errorf("%v", reasons)
+	}
+}
+
 func TestPermissions(t *testing.T) {
 	with := func(bits uint32, kind int) *part.Record { return &part.Record{Type: kind, Permissions: &bits} }
 	cases := []struct {

@@ -172,7 +172,11 @@ func (h *Home) openCopy(options ...db.Option) error {
 	if h.index, err = db.NewLowlevel(h.backend, events.NoopLogger, options...); err != nil {
 		return err
 	}
-	return db.UpdateSchema(h.index)
+	if err := db.UpdateSchema(h.index); err != nil {
+		return fmt.Errorf("refused: %s: its index is of another Syncthing than those that this program reads, which has the packages of "+
+			"Syncthing 1.19: %w", h.Dir, err)
+	}
+	return nil
 }
 
 // notCopied says what can be done where the temporary directory has no room, or isn't there.

@@ -5,6 +5,11 @@ import (
 	"path/filepath"
 	"strings"
 	"testing"
+
+	"github.com/syncthing/syncthing/lib/config"
+	"github.com/syncthing/syncthing/lib/db"
+	"github.com/syncthing/syncthing/lib/db/backend"
+	"github.com/syncthing/syncthing/lib/fs"
 )
 
 // Where the index can't be copied, the variable is told that names another place.
@@ -21,6 +26,46 @@ func TestACopyWithoutAPlace(t *testing.T) {
 	err := home.openIndex()
 	home.Close()
 	if err == nil || !strings.Contains(err.Error(), "can't be copied to /nowhere (TMPDIR may name another directory)") {
+		t.Error(err)
+	}
+}
+
+// A folder whose disk isn't mounted is refused with what to look at, and with the way to the other folders.
+func TestAFolderThatIsNotThere(t *testing.T) {
+	empty := t.TempDir()
+	t.Setenv("HOME", empty)
+	for path, told := range map[string]string{
+		empty:                           empty + " has no .stfolder, by which Syncthing knows the folder: is its disk mounted?",
+		"~/nowhere":                     "there is no " + empty + "/nowhere (~/nowhere in config.xml, and ~ is that of the user who runs this): is its",
+		filepath.Join(empty, "nowhere"): "there is no " + empty + "/nowhere: is its disk mounted? --folder chooses other folders",
+	} {
+		folder := config.FolderConfiguration{ID: "docs", Path: path, FilesystemType: fs.FilesystemTypeBasic, MarkerName: ".stfolder"}
+		_, err := (&Home{}).Index(folder)
+		if err == nil || !strings.HasPrefix(err.Error(), "folder docs: ") || !strings.Contains(err.Error(), told) {
+			t.Errorf("%s: %v", path, err)
+		}
+	}
+}
+
+// An index of a later Syncthing, whose form isn't known here, is refused with the home and with what it is of.
+func TestAnIndexOfALaterSyncthing(t *testing.T) {
+	directory := t.TempDir()
+	index, err := backend.OpenLevelDB(directory, backend.TuningAuto)
+	if err != nil {
+		t.Fatal(err)
+	}
+	about := db.NewMiscDataNamespace(index)
+	if err := about.PutInt64("dbVersion", 1000); err != nil {
+		t.Fatal(err)
+	}
+	if err := about.PutString("dbMinSyncthingVersion", "v1.99.0"); err != nil {
+		t.Fatal(err)
+	}
+	index.Close()
+	home := &Home{Dir: "laptop-home", copied: directory}
+	err = home.openCopy()
+	home.backend.Close()
+	if err == nil || !strings.HasPrefix(err.Error(), "refused: laptop-home: ") || !strings.Contains(err.Error(), "v1.99.0") {
 		t.Error(err)
 	}
 }

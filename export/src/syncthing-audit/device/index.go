@@ -1,6 +1,7 @@
 package device
 
 import (
+	"errors"
 	"fmt"
 	"strings"
 
@@ -25,7 +26,7 @@ func (h *Home) Index(folder config.FolderConfiguration) (made *Index, err error)
 	defer recovered(folder.ID, &err)
 	folder.CaseSensitiveFS = true // names come from the directory itself
 	if err := folder.CheckPath(); err != nil {
-		return nil, fmt.Errorf("folder %s: %s: %w", folder.ID, folder.Path, err)
+		return nil, pathFault(folder, err)
 	}
 	directory, err := directoryOf(folder.Filesystem().URI())
 	if err != nil {
@@ -40,6 +41,22 @@ func (h *Home) Index(folder config.FolderConfiguration) (made *Index, err error)
 		return nil, err
 	}
 	return &Index{folder, h, directory, files, snapshot}, nil
+}
+
+// pathFault says what is to be seen to where a folder's directory isn't as Syncthing wants it.
+func pathFault(folder config.FolderConfiguration, err error) error {
+	path := folder.Filesystem().URI()
+	if strings.HasPrefix(folder.Path, "~") {
+		path += " (" + folder.Path + " in config.xml, and ~ is that of the user who runs this)"
+	}
+	switch {
+	case errors.Is(err, config.ErrMarkerMissing):
+		return fmt.Errorf("folder %s: %s has no %s, by which Syncthing knows the folder: is its disk mounted? Without it Syncthing stops "+
+			"the folder, too. --folder chooses other folders", folder.ID, path, folder.MarkerName)
+	case errors.Is(err, config.ErrPathMissing):
+		return fmt.Errorf("folder %s: there is no %s: is its disk mounted? --folder chooses other folders", folder.ID, path)
+	}
+	return fmt.Errorf("folder %s: %s: %w", folder.ID, path, err)
 }
 
 // recovered makes an error of what Syncthing's packages panic with, such as a list of blocks that the index lacks.
@@ -120,7 +137,7 @@ func (i *Index) View(of part.View, prefix string, take func(Entry) bool) error {
 // viewedEntry reads another device's entry. Of what that device ignores it tells neither size nor blocks.
 func viewedEntry(entry protocol.FileInfo) Entry {
 	if entry.IsInvalid() && !entry.Deleted && entry.Type == protocol.FileInfoTypeFile && len(entry.Blocks) == 0 {
-		return leftOut(entry, part.Ignored, "the device whose index it is ignores it")
+		return leftOut(entry, part.Ignored, "it knows that another device ignores it")
 	}
 	return entryOf(entry)
 }

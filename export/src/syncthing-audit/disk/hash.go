@@ -129,6 +129,7 @@ func (p *Pool) hash(job *Job, offset int64) error {
 		return err
 	}
 	defer file.Close()
+	letGo(file, offset, length)
 	cuts := make([]*cutter, len(job.file.BlockSizes))
 	for place, size := range job.file.BlockSizes {
 		cuts[place] = &cutter{sum: p.sums.new(length), size: size, hashes: job.hashes[place][offset/size:]}
@@ -159,7 +160,7 @@ func (f *File) open() (*os.File, error) {
 	case errors.Is(err, os.ErrNotExist) || errors.Is(err, syscall.ENOTDIR) || errors.Is(err, syscall.ELOOP):
 		return nil, ErrChanged
 	case err != nil:
-		return nil, fmt.Errorf("it can't be read: %w", err)
+		return nil, unread(err)
 	}
 	if err := f.checkOpened(file); err != nil {
 		file.Close()
@@ -168,11 +169,20 @@ func (f *File) open() (*os.File, error) {
 	return file, nil
 }
 
+// unread says why a file can't be read. Where the disk itself fails, its bytes may be lost, which is more than a want of
+// permission.
+func unread(err error) error {
+	if errors.Is(err, syscall.EIO) {
+		return fmt.Errorf("the disk fails to give its bytes, which may be lost there: %w", err)
+	}
+	return fmt.Errorf("it can't be read: %w", err)
+}
+
 // checkOpened says whether an opened file is the one that was found, as it was then.
 func (f *File) checkOpened(file *os.File) error {
 	about, err := file.Stat()
 	if err != nil {
-		return fmt.Errorf("it can't be read: %w", err)
+		return unread(err)
 	}
 	if stampOf(about) != f.Stamp || !about.Mode().IsRegular() {
 		return ErrChanged
@@ -192,7 +202,7 @@ func (p *Pool) read(file io.ReaderAt, job *Job, offset, length int64, cuts []*cu
 		if _, err := file.ReadAt(next, offset+done); errors.Is(err, io.EOF) {
 			return ErrChanged
 		} else if err != nil {
-			return fmt.Errorf("it can't be read: %w", err)
+			return unread(err)
 		}
 		p.hashing <- struct{}{}
 		for _, cut := range cuts {

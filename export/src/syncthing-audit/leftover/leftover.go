@@ -8,6 +8,8 @@ import (
 	"os/signal"
 	"sync"
 	"syscall"
+
+	"golang.org/x/sys/unix"
 )
 
 var (
@@ -68,17 +70,29 @@ func Remove(path string) {
 }
 
 // WatchSignals has a signal that ends the program take away all that was made first. A signal that is ignored, as
-// under nohup, stays so.
+// under nohup, stays so. That of a pipe that nobody reads any more ends it where the pipe is standard error: whoever writes
+// into another one is told by an error.
 func WatchSignals() {
 	told := make(chan os.Signal, 1)
-	for _, one := range []os.Signal{syscall.SIGINT, syscall.SIGTERM, syscall.SIGHUP} {
+	for _, one := range []os.Signal{syscall.SIGINT, syscall.SIGTERM, syscall.SIGHUP, syscall.SIGPIPE} {
 		if !signal.Ignored(one) {
 			signal.Notify(told, one)
 		}
 	}
 	go func() {
-		End((<-told).(syscall.Signal))
+		for one := range told {
+			if one != syscall.SIGPIPE || isUnread(syscall.Stderr) {
+				End(one.(syscall.Signal))
+			}
+		}
 	}()
+}
+
+// isUnread says whether nobody reads any more what is written into a pipe.
+func isUnread(number int) bool {
+	asked := []unix.PollFd{{Fd: int32(number)}}
+	count, err := unix.Poll(asked, 0)
+	return err == nil && count == 1 && asked[0].Revents&(unix.POLLERR|unix.POLLHUP) != 0
 }
 
 // End ends the program as a signal does: all that was made is taken away first.

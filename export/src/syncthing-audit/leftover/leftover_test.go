@@ -2,6 +2,7 @@ package leftover
 
 import (
 	"bufio"
+	"errors"
 	"fmt"
 	"os"
 	"os/exec"
@@ -25,11 +26,58 @@ func TestMain(tests *testing.M) {
 	WatchSignals()
 	directory, _ := Directory("made-")
 	os.WriteFile(filepath.Join(directory, "inside"), nil, 0o600)
+	if os.Getenv(pipesOfChild) != "" {
+		writeIntoPipes()
+	}
 	File(room, ".made-")
 	program := exec.Command("sh", "-c", "echo "+directory+"; exec sleep 60")
 	program.Stdout = os.Stdout
 	fmt.Println(Run(program))
 	time.Sleep(time.Minute)
+}
+
+// pipesOfChild is the variable that has the child write into pipes that nobody reads.
+const pipesOfChild = "LEFTOVER_TEST_PIPES"
+
+// writeIntoPipes writes into a pipe that isn't standard error, which ends nothing, and once the child is told to go on into
+// standard error.
+func writeIntoPipes() {
+	reader, writer, _ := os.Pipe()
+	reader.Close()
+	_, err := writer.WriteString("lost")
+	time.Sleep(100 * time.Millisecond)
+	fmt.Println(errors.Is(err, syscall.EPIPE))
+	bufio.NewReader(os.Stdin).ReadString('\n')
+	fmt.Fprintln(os.Stderr, "lost")
+	time.Sleep(time.Minute)
+}
+
+// Where nobody reads standard error any more, as behind '2>&1 | head', the program ends and leaves nothing behind.
+func TestPipesThatNobodyReads(t *testing.T) {
+	room := t.TempDir()
+	child := exec.Command(os.Args[0])
+	child.Env = append(os.Environ(), roomOfChild+"="+room, pipesOfChild+"=1", "TMPDIR="+room)
+	reader, writer, err := os.Pipe()
+	if err != nil {
+		t.Fatal(err)
+	}
+	child.Stderr = writer
+	output, _ := child.StdoutPipe()
+	input, _ := child.StdinPipe()
+	if err := child.Start(); err != nil {
+		t.Fatal(err)
+	}
+	writer.Close()
+	if told, _ := bufio.NewReader(output).ReadString('\n'); told != "true\n" {
+		t.Errorf("another pipe: %q", told)
+	}
+	reader.Close()
+	input.Write([]byte("\n"))
+	child.Wait()
+	left, err := os.ReadDir(room)
+	if err != nil || len(left) != 0 || child.ProcessState.ExitCode() != statusOfSignal+int(syscall.SIGPIPE) {
+		t.Errorf("left are %v, the status is %d", left, child.ProcessState.ExitCode())
+	}
 }
 
 // A signal leaves nothing behind, and the status tells it.

@@ -134,6 +134,31 @@ func placeOf(one finding.Refusal) string {
 	return place
 }
 
+// mostAlike is how many names are told that are refused for reasons of one kind at one device; the others are counted.
+const mostAlike = 5
+
+// tellRefusals prints refusals. Of many names of one kind at one device of a folder it tells the first ones.
+func tellRefusals(to io.Writer, all []finding.Refusal) {
+	type alike struct{ folder, device, kind string }
+	told, more := map[alike]int{}, []alike{}
+	for _, one := range all {
+		same := alike{one.Folder, one.Device, one.Kind}
+		if one.Name != "" && one.Kind != "" {
+			told[same]++
+		}
+		switch {
+		case told[same] <= mostAlike || one.Name == "":
+			fmt.Fprintf(to, "syncthing-audit: refused: folder %s%s: %s\n", shell.Quoted(one.Folder), placeOf(one), one.Why)
+		case told[same] == mostAlike+1:
+			more = append(more, same)
+		}
+	}
+	for _, one := range more {
+		fmt.Fprintf(to, "syncthing-audit: refused: folder %s%s: %d more of the kind %s\n", shell.Quoted(one.folder),
+			placeOf(finding.Refusal{Device: one.device}), told[one]-mostAlike, one.kind)
+	}
+}
+
 // Refusals prints what has no answer, and how to leave it out.
 func Refusals(to io.Writer, answer *finding.Answer) {
 	kinds := ""
@@ -145,8 +170,8 @@ func Refusals(to io.Writer, answer *finding.Answer) {
 			kinds += "," + kind
 		}
 	}
+	tellRefusals(to, answer.Refusals)
 	for _, one := range answer.Refusals {
-		fmt.Fprintf(to, "syncthing-audit: refused: folder %s%s: %s\n", shell.Quoted(one.Folder), placeOf(one), one.Why)
 		add(one.Kind)
 	}
 	for _, kind := range part.Kinds {

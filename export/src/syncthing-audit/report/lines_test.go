@@ -1,6 +1,7 @@
 package report
 
 import (
+	"fmt"
 	"strings"
 	"testing"
 
@@ -64,6 +65,26 @@ syncthing-audit: 12 refused; --leave-out absent,special,ignored leaves them out
 `
 	if written.String() != expected {
 		t.Errorf("%s\nnot\n%s", written.String(), expected)
+	}
+}
+
+// A directory that one device ignores doesn't push everything else off the screen: of what is alike, the first names are
+// told, and the others counted. Another kind, another device and what is refused of no name is told all the same.
+func TestManyRefusalsAlike(t *testing.T) {
+	all := []finding.Refusal{}
+	for number := 0; number < 40; number++ {
+		all = append(all, finding.Refusal{Kind: "ignored", Folder: "docs", Device: "nas", Name: fmt.Sprintf("tax/%02d", number), Why: "it is ignored"})
+		all = append(all, finding.Refusal{Folder: "docs", Device: "nas", Why: "too many"})
+	}
+	all = append(all, finding.Refusal{Kind: "unreadable", Folder: "docs", Device: "nas", Name: "z", Why: "it can't be read"},
+		finding.Refusal{Kind: "ignored", Folder: "docs", Device: "laptop", Name: "z", Why: "it is ignored"})
+	var written strings.Builder
+	Refusals(&written, &finding.Answer{Refusals: all})
+	for text, count := range map[string]int{"name tax/": mostAlike, ": too many\n": 40, "nas, name z: it can't": 1, "laptop, name z": 1,
+		"refused: folder docs, device nas: 35 more of the kind ignored\n": 1, "82 refused; --leave-out ignored,unreadable": 1, "\n": mostAlike + 44} {
+		if found := strings.Count(written.String(), text); found != count {
+			t.Errorf("%q: %d, not %d:\n%s", text, found, count, written.String())
+		}
 	}
 }
 

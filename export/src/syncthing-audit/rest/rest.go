@@ -37,6 +37,10 @@ func Scan(home string, about config.GUIConfiguration, folder string) error {
 		return fmt.Errorf("folder %s isn't scanned: does Syncthing run there? %w", folder, err)
 	}
 	defer answer.Body.Close()
+	if answer.StatusCode == http.StatusForbidden || answer.StatusCode == http.StatusUnauthorized {
+		return fmt.Errorf("folder %s isn't scanned: Syncthing doesn't take the API key of %s (%s): restart it if that file was changed, "+
+			"and see that no other Syncthing listens at %s", folder, filepath.Join(home, "config.xml"), answer.Status, about.Address())
+	}
 	if answer.StatusCode != http.StatusOK {
 		text, _ := io.ReadAll(io.LimitReader(answer.Body, 1000))
 		return fmt.Errorf("folder %s isn't scanned: %s: %s", folder, answer.Status, strings.TrimSpace(string(text)))

@@ -48,7 +48,7 @@ func TestScan(t *testing.T) {
 			about.RawAddress = strings.Replace(about.RawAddress, "127.0.0.1", "0.0.0.0", 1)
 		}, ""},
 		{"another folder", false, "pics", func(string, *config.GUIConfiguration) {}, "no such folder"},
-		{"another key", false, "a b", func(_ string, about *config.GUIConfiguration) { about.APIKey = "x" }, "403 Forbidden"},
+		{"another key", false, "a b", func(_ string, about *config.GUIConfiguration) { about.APIKey = "x" }, "doesn't take the API key"},
 		{"nobody there", false, "a b", func(_ string, about *config.GUIConfiguration) { about.RawAddress = "127.0.0.1:1" }, "does Syncthing run there?"},
 		{"another certificate", true, "a b", func(home string, _ *config.GUIConfiguration) {
 			os.WriteFile(filepath.Join(home, "https-cert.pem"), pem.EncodeToMemory(&pem.Block{Type: "CERTIFICATE", Bytes: []byte("x")}), 0o600)

@@ -75,8 +75,15 @@ func source(file *File, named labels) string {
 	return "copy it from " + named.of(file.Have[0]) + " to "
 }
 
-// withTime says how a file is copied so that Syncthing doesn't take it for a change.
-const withTime = " with its time (cp -p, or rsync --times --ignore-times) while Syncthing is stopped there"
+const (
+	// withTime says how a file is copied over a file so that Syncthing doesn't take it for a change.
+	withTime = " with its time (cp -p, or rsync --times --ignore-times) while Syncthing is stopped there"
+	// asItIs says how that is copied to where nothing stands, whether it is a file, a directory or a symlink.
+	asItIs = " as it is (cp -a, or rsync -a) while Syncthing is stopped there"
+	// asAnother says how it is copied to where something else stands. Over a symlink, cp would write into the file to which
+	// that leads.
+	asAnother = " as it is (cp -a, or rsync -a), once what stands there is moved away, while Syncthing is stopped there"
+)
 
 // adviceOfFault says what to do about one fault.
 func adviceOfFault(one *Fault, file *File, named labels) string {
@@ -91,7 +98,7 @@ func adviceOfFault(one *Fault, file *File, named labels) string {
 	case Back:
 		return "to have it gone, delete it on " + at + " before Syncthing scans there: a scan takes it for a new file" + spreads(one)
 	case Behind, Conflicting:
-		return behindAdvice(one, at)
+		return behindAdvice(one, file, at, named)
 	case LocalChange:
 		return "'Revert Local Changes' on " + at + " takes back what was changed there, for all such files of the folder: added files are " +
 			"deleted, so copy elsewhere what is to stay. To have the change everywhere, make the folder 'Send & Receive' there"
@@ -143,11 +150,21 @@ func otherBytesAdvice(one *Fault, file *File, at string, named labels) string {
 }
 
 func changedAdvice(one *Fault, file *File, at string, named labels) string {
-	undo := "if the change isn't wanted, first " + source(file, named) + at + withTime
+	how := asAnother
+	if one.isFileForFile() {
+		how = withTime
+	}
+	undo := "if the change isn't wanted, first " + source(file, named) + at + how
 	if one.Kind == receiveOnly {
 		return "start Syncthing on " + at + " and 'Rescan': the change stays there as a local one, which 'Revert Local Changes' takes back"
 	}
 	return "start Syncthing on " + at + " and 'Rescan': the change then goes to all. " + strings.ToUpper(undo[:1]) + undo[1:]
+}
+
+// isFileForFile says whether a file stands where a file is recorded.
+func (f *Fault) isFileForFile() bool {
+	const file = "file"
+	return f.Recorded != nil && f.Recorded.Type == file && f.Found != nil && f.Found.Type == file
 }
 
 func missingAdvice(one *Fault, file *File, at string, named labels) string {
@@ -156,10 +173,10 @@ func missingAdvice(one *Fault, file *File, at string, named labels) string {
 			"deletes files that were added there"
 	}
 	return "see that the folder's disk is mounted on " + at + ", before Syncthing starts there: a scan takes it for deleted, and then all devices " +
-		"delete it. To keep it, first " + source(file, named) + at + withTime
+		"delete it. To keep it, first " + source(file, named) + at + asItIs
 }
 
-func behindAdvice(one *Fault, at string) string {
+func behindAdvice(one *Fault, file *File, at string, named labels) string {
 	switch {
 	case one.Kind == sendOnly:
 		return at + " only sends: it doesn't take what others change. 'Override Changes' there undoes their changes on all devices, and deletes " +
@@ -167,6 +184,21 @@ func behindAdvice(one *Fault, at string) string {
 	case one.Cause == Conflicting:
 		return "start Syncthing on all of these devices: it keeps one version, and the other one as a conflict copy"
 	}
-	return "start Syncthing on " + at + " and on a device that has it, and let them finish. If it stays among the 'Out of Sync Items', see " +
-		"whether the device is paused, connected, or out of space"
+	told := "let Syncthing run on " + at + " and on " + holders(file, named) + ", and let them finish. If it stays so, see whether a device " +
+		"or the folder is paused, whether they are connected, and whether a disk is full"
+	if one.Deletion {
+		told += "; or 'Ignore Delete' is set for the folder on " + at
+	}
+	return told
+}
+
+// holders says on which devices that can be had which is due.
+func holders(file *File, named labels) string {
+	switch len(file.Have) {
+	case 0:
+		return "a device that has it"
+	case 1:
+		return named.of(file.Have[0])
+	}
+	return "one of " + named.all(file.Have)
 }

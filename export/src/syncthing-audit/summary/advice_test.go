@@ -23,6 +23,8 @@ var advised = []struct {
 	{"other bytes", faultsOf("send-receive", OtherBytes), "sends them to all", "Revert"},
 	{"other bytes on a device that only receives", faultsOf(receiveOnly, OtherBytes), "copy it from laptop to server", "sends them"},
 	{"other bytes of an older version", faultsOf("send-receive", Behind, OtherBytes), "let them finish", "won't repair"},
+	{"behind", faultsOf("send-receive", Behind), "run on server and on laptop, and let them finish", "Ignore Delete"},
+	{"a deletion that wasn't taken", []Fault{{Device: server, Kind: "send-receive", Cause: Behind, Deletion: true}}, "'Ignore Delete' is set", "Revert"},
 	{"missing", faultsOf("send-receive", Missing), "all devices delete it", "Revert"},
 	{"missing on a device that only receives", faultsOf(receiveOnly, Missing), "it also deletes files that were added there", "all devices delete"},
 	{"changed on a device that only receives", faultsOf(receiveOnly, Changed), "stays there as a local one", "goes to all"},
@@ -42,6 +44,30 @@ func TestAdvice(t *testing.T) {
 		told := strings.Join(adviceOf(&File{Faults: one.faults, Have: []string{laptop}}, labels{laptop: "laptop", server: "server"}), ". ")
 		if !strings.Contains(told, one.has) || strings.Contains(told, one.not) {
 			t.Errorf("%s: %s", one.why, told)
+		}
+	}
+}
+
+// Nobody is told to copy a symlink or over one as a file is copied: that would write into the file to which it leads.
+func TestAdviceOnOtherTypes(t *testing.T) {
+	cases := []struct {
+		cause           Cause
+		recorded, found string
+		has             string
+	}{
+		{Changed, "file", "file", "cp -p"}, {Changed, "symlink", "symlink", "moved away"}, {Changed, "file", "symlink", "moved away"},
+		{Changed, "symlink", "file", "moved away"}, {Changed, "directory", "file", "moved away"}, {Changed, "file", "directory", "moved away"},
+		{Missing, "symlink", "", "cp -a"}, {Missing, "directory", "", "cp -a"}, {Missing, "file", "", "cp -a"},
+	}
+	for _, one := range cases {
+		faults := faultsOf("send-receive", one.cause)
+		faults[0].Recorded = &State{Type: one.recorded}
+		if one.found != "" {
+			faults[0].Found = &State{Type: one.found}
+		}
+		told := strings.Join(adviceOf(&File{Faults: faults, Have: []string{laptop}}, labels{laptop: "laptop", server: "server"}), ". ")
+		if !strings.Contains(told, one.has) || strings.Contains(told, "cp -p") != (one.has == "cp -p") {
+			t.Errorf("%s, a %s recorded, a %s found: %s", one.cause, one.recorded, one.found, told)
 		}
 	}
 }

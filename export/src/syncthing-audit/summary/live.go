@@ -82,18 +82,27 @@ var wordsOfMoved = map[string]string{
 	part.MovedUnscanned: "the disk isn't as recorded: it waits for a scan by Syncthing",
 }
 
-// advice says what brings names in motion to rest. What waits for a scan waits on where none comes, however often one audits.
-func (l *Live) advice() string {
-	waiting := 0
+// waiting counts the names that wait for a scan, of those that are kept.
+func (l *Live) waiting() int64 {
+	count := int64(0)
 	for _, one := range l.Names {
 		if slices.IndexFunc(one.Devices, func(at Moved) bool { return slices.Contains(at.Why, part.MovedUnscanned) }) >= 0 {
-			waiting++
+			count++
 		}
 	}
-	switch {
-	case waiting == 0:
+	return count
+}
+
+// beforeScan is what whoever has a scan made is to know first.
+const beforeScan = "it takes what differs on the disk for changed, and what is missing there for deleted, and sends that to all devices, unless the " +
+	"folder is receive-only there. See that its disk is mounted, and copy back first what is to stay."
+
+// advice says what brings names in motion to rest. What waits for a scan waits on where none comes, however often one audits.
+func (l *Live) advice() string {
+	switch l.waiting() {
+	case 0:
 		return "audit again"
-	case int64(waiting) == l.Moving:
+	case l.Moving:
 		return "audit again after a scan by Syncthing, as with --rescan"
 	}
 	return "audit again, and for what waits for a scan after one by Syncthing, as with --rescan"
@@ -125,6 +134,9 @@ func (p *printer) moving(folder *Folder) {
 			words = append(words, p.named.of(at.Device)+": "+strings.Join(why, ", "))
 		}
 		p.line("  %s: %s", shell.Path(string(one.Name)), strings.Join(words, "; "))
+	}
+	if live.waiting() > 0 {
+		p.running("  before a scan:", beforeScan)
 	}
 	for _, one := range live.Unheard {
 		p.line("not heard of in %s: what %s recorded last of %s hasn't reached %s: it is on its way, or the two aren't connected", folder.ID,

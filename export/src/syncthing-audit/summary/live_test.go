@@ -66,6 +66,9 @@ in motion in docs: 2 names, not audited: audit again
 
 in motion in docs: 1 name, not audited: audit again after a scan by Syncthing, as with --rescan
   c: server: the disk isn't as recorded: it waits for a scan by Syncthing
+  before a scan: it takes what differs on the disk for changed, and what is missing there for
+         deleted, and sends that to all devices, unless the folder is receive-only there. See that
+         its disk is mounted, and copy back first what is to stay.
 ` + strings.TrimPrefix(lastLine, "\n")},
 	{"more than are told", finding.Live{Timed: true, Moving: 12, Names: inMotion(11)},
 		`docs (Documents): in step and firm as far as audited; still for 0 s: 1,204 names (4 deleted), 335.2 MB hashed on laptop, server; in motion: 12
@@ -88,7 +91,7 @@ func TestTextOfRunningDevices(t *testing.T) {
 		var written strings.Builder
 		live := one.live
 		answer := answerOf(2, func(folder *finding.Folder) { folder.Live = &live })
-		Of(answer).Print(&written, time.UTC)
+		Of(answer).Print(&written, time.UTC, time.Time{})
 		if written.String() != one.text {
 			t.Errorf("%s:\n%s\nnot\n%s", one.why, written.String(), one.text)
 		}

@@ -49,7 +49,7 @@ func TestWhatAPersonReadsOfFirmness(t *testing.T) {
 	}
 	for _, one := range cases {
 		var written strings.Builder
-		Of(answerOf(3, one.fill)).Print(&written, time.UTC)
+		Of(answerOf(3, one.fill)).Print(&written, time.UTC, time.Time{})
 		if !strings.HasPrefix(written.String(), one.text) {
 			t.Errorf("%s:\n%s\nnot\n%s", one.why, written.String(), one.text)
 		}

@@ -76,7 +76,7 @@ func TestMemory(t *testing.T) {
 		t.Errorf("%d names take %d bytes", names, grown)
 	}
 	var written strings.Builder
-	made.Print(&written, time.UTC)
+	made.Print(&written, time.UTC, time.Time{})
 	if made.Folders[0].Wrong != 2*names || !strings.Contains(written.String(), "100,000 names are wrong") || answer.Err() != nil {
 		t.Errorf("%d names are wrong, %v", made.Folders[0].Wrong, answer.Err())
 	}

@@ -2,6 +2,7 @@ package summary
 
 import (
 	"strings"
+	"time"
 
 	"syncthing-audit/finding"
 	"syncthing-audit/shell"
@@ -32,7 +33,25 @@ func (p *printer) rest(s *Summary) {
 	if s.Firm == finding.NotAsked {
 		p.line("not asked: whether what is in step is firm, too: this syncaudit is too old to say so")
 	}
+	p.ages(s)
 	p.line("not compared: %s", strings.Join(s.NotCompared, ", "))
+}
+
+// mostAge is how long ago a device may have been read without that being told.
+const mostAge = 24 * time.Hour
+
+// ages tells which devices were read long ago. Parts can be of one moment by all indexes while bytes on a disk have changed
+// since by themselves.
+func (p *printer) ages(s *Summary) {
+	old := []string{}
+	for _, one := range s.Devices {
+		if !one.Read.IsZero() && p.now.Sub(one.Read) > mostAge {
+			old = append(old, p.named.of(one.ID)+" "+p.when(one.Read))
+		}
+	}
+	if len(old) > 0 {
+		p.line("read more than a day ago: %s; what changed on a disk since isn't seen", strings.Join(old, ", "))
+	}
 }
 
 // mostCopies is how many conflict copies are told by their names.
@@ -70,9 +89,7 @@ func (p *printer) leftOut(folder *Folder) {
 			bytes += one.Bytes
 		}
 		p.line("left out of %s: %s, %s", folder.ID, counted(names, "name", "names"), size(bytes))
-		for _, one := range folder.LeftOut {
-			p.left(one)
-		}
+		p.leftByReasons(folder.LeftOut)
 		if folder.MoreOut.Names > 0 {
 			p.line("  and %s more, %s", counted(folder.MoreOut.Names, "name", "names"), size(folder.MoreOut.Bytes))
 		}
@@ -83,19 +100,69 @@ func (p *printer) leftOut(folder *Folder) {
 	}
 }
 
+// mostLeft is how many names that were left out for the same on the same devices are told one by one.
+const mostLeft = 5
+
+// leftByReasons prints names that were left out: of those for the same on the same devices the first ones.
+func (p *printer) leftByReasons(all []Names) {
+	told, more, keys := map[string]int{}, map[string]finding.Count{}, []string{}
+	for _, one := range all {
+		key := p.kindsOf(one)
+		if told[key]++; told[key] <= mostLeft {
+			p.left(one)
+			continue
+		}
+		if told[key] == mostLeft+1 {
+			keys = append(keys, key)
+		}
+		count := more[key]
+		count.Add(one.Names, one.Bytes)
+		more[key] = count
+	}
+	for _, key := range keys {
+		p.line("  and %s more, %s: %s (--lines has them)", counted(more[key].Names, "name", "names"), size(more[key].Bytes), key)
+	}
+}
+
+// kindsOf says for what a name was left out, on which devices.
+func (p *printer) kindsOf(one Names) string {
+	return p.byDevices(one.Why, func(why WhyLeft) string { return why.Kind }, func(kind, devices string) string {
+		if devices != "" {
+			kind += " on " + devices
+		}
+		return kind
+	})
+}
+
+// byDevices gives reasons as texts, each once with the devices at which it is.
+func (p *printer) byDevices(all []WhyLeft, text func(WhyLeft) string, say func(text, devices string) string) string {
+	devices, texts := map[string][]string{}, []string{}
+	for _, one := range all {
+		next := text(one)
+		texts = addOnce(texts, next)
+		if one.Device != "" {
+			devices[next] = addOnce(devices[next], one.Device)
+		}
+	}
+	words := []string{}
+	for _, next := range texts {
+		words = append(words, say(next, p.named.all(devices[next])))
+	}
+	return strings.Join(words, "; ")
+}
+
 // left prints a name that was left out.
 func (p *printer) left(one Names) {
 	name := shell.Path(string(one.Name))
 	if one.Below {
 		name += " and all below it (" + counted(one.Names, "name", "names") + ")"
 	}
-	for _, why := range one.Why {
-		at := ""
-		if why.Device != "" {
-			at = p.named.of(why.Device) + ": "
+	p.line("  %s, %s: %s", name, size(one.Bytes), p.byDevices(one.Why, func(why WhyLeft) string { return why.Why }, func(why, devices string) string {
+		if devices != "" {
+			why = devices + ": " + why
 		}
-		p.line("  %s, %s: %s%s", name, size(one.Bytes), at, why.Why)
-	}
+		return why
+	}))
 }
 
 // notAsked gives the folders that weren't asked for, each with its devices.

@@ -16,11 +16,12 @@ type printer struct {
 	to    io.Writer
 	named labels
 	zone  *time.Location
+	now   time.Time
 }
 
 // Print prints a summary for a person, with times of this zone.
-func (s *Summary) Print(to io.Writer, zone *time.Location) {
-	p := &printer{to, s.labels(), zone}
+func (s *Summary) Print(to io.Writer, zone *time.Location, now time.Time) {
+	p := &printer{to, s.labels(), zone, now}
 	for _, one := range s.Folders {
 		p.folder(one)
 	}
@@ -154,7 +155,7 @@ var wordsOf = map[Cause]string{
 	Missing:       "missing on the disk",
 	Back:          "on the disk, though it is deleted",
 	Behind:        "behind: hasn't taken what is newest",
-	Conflicting:   "changed there and elsewhere",
+	Conflicting:   "in conflict: has one change of it, and lacks another",
 	OtherBlocks:   "the same bytes, recorded in blocks of another size",
 	LocalChange:   "changed on this receive-only device",
 	LocalAddition: "added on this receive-only device; no other has it",

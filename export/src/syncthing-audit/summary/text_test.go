@@ -144,8 +144,17 @@ a  (in docs, 300.0 kB)
   as recorded on: laptop
   to do: see that the folder's disk is mounted on server, before Syncthing starts there: a scan
          takes it for deleted, and then all devices delete it. To keep it, first copy it from laptop
-         to server with its time (cp -p, or rsync --times --ignore-times) while Syncthing is stopped
-         there.
+         to server as it is (cp -a, or rsync -a) while Syncthing is stopped there.
+` + lastLine},
+	{"a device that took one of two changes, and lacks the other one", 2, func(folder *finding.Folder) {
+		fails(folder, "a", []*part.Name{file(1, 1), with(file(1, 2), func(one *part.Name) { one.Own.Version = [][2]uint64{{2, 1}} })}, "RecordDiffers 2",
+			"StoreDiffers 2")
+	}, lineOfFolder + `
+a  (in docs, 300.0 kB)
+  server: in conflict: has one change of it, and lacks another
+  as recorded on: laptop
+  to do: start Syncthing on all of these devices: it keeps one version, and the other one as a
+         conflict copy.
 ` + lastLine},
 	{"a device that is behind, and what others still see of it", 3, func(folder *finding.Folder) {
 		old := with(file(1, 2), func(one *part.Name) { one.Own.ModifiedS = started - 60; one.Disk.ModifiedS = started - 60 })
@@ -156,9 +165,9 @@ a  (in docs, 300.0 kB)
   server: behind: hasn't taken what is newest (modified 2020-09-13 12:26:40 UTC)
   as recorded on: laptop, phone
   so phone can still take another version of it, until that is mended
-  to do: start Syncthing on server and on a device that has it, and let them finish. If it stays
-         among the 'Out of Sync Items', see whether the device is paused, connected, or out of
-         space.
+  to do: let Syncthing run on server and on one of laptop, phone, and let them finish. If it stays
+         so, see whether a device or the folder is paused, whether they are connected, and whether a
+         disk is full.
 ` + lastLine},
 	{"a device that is behind as a whole", 2, func(folder *finding.Folder) {
 		for next := 0; next < 7; next++ {
@@ -174,9 +183,8 @@ a  (in docs, 300.0 kB)
   server: behind: hasn't taken what is newest
   the first: 'photo 0' 'photo 1' 'photo 2', and 4 more (--lines has all)
   as recorded on: laptop
-  to do: start Syncthing on server and on a device that has it, and let them finish. If it stays
-         among the 'Out of Sync Items', see whether the device is paused, connected, or out of
-         space.
+  to do: let Syncthing run on server and on laptop, and let them finish. If it stays so, see whether
+         a device or the folder is paused, whether they are connected, and whether a disk is full.
 ` + lastLine},
 	{"a file that was added on a receive-only device", 2, func(folder *finding.Folder) {
 		folder.Members[1].About.Kind = "receive-only"
@@ -280,6 +288,22 @@ left out of docs: 1,235 names, 3.0 MB
   and 1,234 names more, 3.0 MB
 not compared: owners, extended attributes, old versions
 `},
+	{"a directory that a device ignores, and a file that can't be read", 2, func(folder *finding.Folder) {
+		ignored := []finding.Reason{{Member: 0, Kind: part.Ignored, Why: "it knows that another device ignores it"},
+			{Member: 1, Kind: part.Ignored, Why: "it is ignored there by .stignore"}}
+		for next := 0; next < mostLeft+40; next++ {
+			folder.LeftOut = append(folder.LeftOut, &finding.LeftOut{Name: "a", Names: 1, Bytes: 1000, Why: ignored})
+		}
+		folder.LeftOut = append(folder.LeftOut, &finding.LeftOut{Name: "z", Names: 1, Bytes: 5, Why: []finding.Reason{
+			{Member: 0, Kind: part.Unreadable, Why: "it can't be read"}, {Member: 1, Kind: part.Unreadable, Why: "it can't be read"}}})
+	}, `docs (Documents): in step and firm as far as audited; 1,204 names (4 deleted), 335.2 MB hashed on laptop, server
+
+left out of docs: 46 names, 45.0 kB
+` + strings.Repeat("  a, 1.0 kB: laptop: it knows that another device ignores it; server: it is ignored there by .stignore\n", mostLeft) +
+		`  z, 5 bytes: laptop, server: it can't be read
+  and 40 names more, 40.0 kB: ignored on laptop, server (--lines has them)
+not compared: owners, extended attributes, old versions
+`},
 	{"one device alone", 1, func(*finding.Folder) {},
 		`docs (Documents): in step and firm as far as audited; 1,204 names (4 deleted), 335.2 MB hashed on laptop
 
@@ -291,9 +315,32 @@ not compared: owners, extended attributes, old versions
 func TestWhatAPersonReads(t *testing.T) {
 	for _, one := range textsForAPerson {
 		var written strings.Builder
-		Of(answerOf(one.devices, one.fill)).Print(&written, time.UTC)
+		Of(answerOf(one.devices, one.fill)).Print(&written, time.UTC, time.Time{})
 		if written.String() != one.text {
 			t.Errorf("%s:\n%s\nnot\n%s", one.why, written.String(), one.text)
+		}
+	}
+}
+
+// A part that was made long ago may be of one moment with the others by all indexes. When it was made is told then.
+func TestOldParts(t *testing.T) {
+	now := time.Unix(later, 0)
+	for _, one := range []struct {
+		ages []time.Duration
+		told string
+	}{
+		{[]time.Duration{time.Hour, mostAge}, lastLine},
+		{[]time.Duration{time.Hour, mostAge + time.Minute},
+			"\nread more than a day ago: server 2020-09-12 12:26:40 UTC; what changed on a disk since isn't seen" + lastLine},
+	} {
+		answer := answerOf(2, func(*finding.Folder) {})
+		for place := range answer.Devices {
+			answer.Devices[place].Made = now.Add(-one.ages[place])
+		}
+		var written strings.Builder
+		Of(answer).Print(&written, time.UTC, now)
+		if !strings.HasSuffix(written.String(), "on laptop, server\n"+one.told) {
+			t.Errorf("%s\nnot\n%s", written.String(), one.told)
 		}
 	}
 }
