@@ -1,7 +1,8 @@
 #!/usr/bin/env bash
 # Measures 'syncaudit check' on settled documents near the limits, beside a Rust program that parses the same bytes with
-# Rust's own serde_json (Debian's package librust-serde-json-dev) and does nothing else: seconds of the whole process
-# (the best of RUNS runs each) and peak memory. The kinds of documents are those of make_document.py.
+# Rust's own serde_json (Debian's package librust-serde-json-dev) and does nothing else: processor seconds (the best of RUNS
+# runs each) and peak memory. 'check --certify' is measured beside 'check'. The kinds of documents are those of
+# make_document.py.
 set -euo pipefail
 runs=${1:-3}
 top=$(cd "$(dirname "$0")/.." && pwd)
@@ -48,8 +49,10 @@ for kind in settled flights devices names bytes; do
   make_document "$kind"
   measure serde_json "$work/serde/target/release/parse"
   measure check "$program" check
+  measure certified "$program" check --certify
   grep -qx true "$work/serde_json.out"
   grep -qx settled "$work/check.out"
   echo "== $kind"
   compare serde_json check
+  compare check certified
 done

@@ -5,13 +5,15 @@ make_document() {
   python3 "$top/bench/make_document.py" "$1" > "$work/document"
 }
 
-# measure NAME COMMAND..: runs the command RUNS times on the document, and keeps its seconds and its peak memory in KiB.
+# measure NAME COMMAND..: runs the command RUNS times on the document, and keeps its processor seconds and its peak memory in
+# KiB.
 measure() {
   local name=$1
   shift
   rm -f "$work/$name.times"
   for _ in $(seq "$runs"); do
-    /usr/bin/time -a -o "$work/$name.times" -f '%e %M' "$@" < "$work/document" > "$work/$name.out"
+    /usr/bin/time -q -o "$work/$name.time" -f '%U %S %M' "$@" < "$work/document" > "$work/$name.out"
+    awk '{ print $1 + $2, $3 }' "$work/$name.time" >> "$work/$name.times"
   done
 }
 
