@@ -16,6 +16,14 @@ from syncthing import FOLDER, wait_until
 KILO = 1 << 10
 
 
+def text_of(path):
+    """The text of a file; none while Syncthing puts another one in its place."""
+    try:
+        return path.read_text()
+    except FileNotFoundError:
+        return None
+
+
 class Rotten(Exporting):
     """Two devices, the second of which has rotten files; and the answers in each form."""
 
@@ -96,7 +104,7 @@ class RotWithAnotherMode(Rotten):
         """Real Syncthing does what the answer says of it: the scan finds the file, and its bytes go to the other device."""
         self.start()
         self.two.scan()
-        wait_until("the rotten bytes are on the other device", lambda: (self.one.files / "text").read_text() == "hallo")
+        wait_until("the rotten bytes are on the other device", lambda: text_of(self.one.files / "text") == "hallo")
         self.stop()
 
 
