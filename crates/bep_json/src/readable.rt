@@ -1,4 +1,4 @@
-//! What can be read from a JSON tree.
+//! What a JSON value may say, and what can be read from a JSON tree.
 ghost use Rattle.std.specs.Prelude.{◌≡◌, Bool, Option};
 ghost use Rattle.serde_json.specs.Data.{Data};
 ghost use Rattle.bep_tree.specs.View.{view};

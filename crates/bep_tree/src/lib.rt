@@ -1,11 +1,12 @@
-//! Documents' bytes as JSON trees: what they hold is what `serde_json` reads in the same bytes.
+//! Documents' bytes as JSON trees, or as a text to walk along: what they hold is what `serde_json` reads in the same bytes.
 //!
 //! A tree is a value of `json`: texts are lent from the document, numbers stay texts, and members stay a list. So it takes less
 //! time and memory than a tree of `serde_json`, but where the same member comes very often. `json` and `serde_json` differ in
 //! four points, which are settled here as `serde_json` settles them. `read_tree` refuses what nests too deep, and a number
 //! that is too large for a float. The calls on a tree take the last of members that come twice, and `-0` for no whole number.
 //!
-//! Who reads a document's tokens one after another needs no tree: `json_text` says whether `read_tree` would make one.
+//! A walk along a document's text needs no tree: `json_text` says whether `read_tree` would make one, and which whole number
+//! stands at one member. `enter`, `next_key`, `pass`, `pass_items` and `pass_members` then go from value to value.
 //!
 //! ```rust
 //! let mut scratch = Scratch::new(alloc);
