@@ -64,7 +64,7 @@ impl Taken for Fresh<ShareParts> {
         reader: &mut Reader<'_>,
         depth: usize,
     ) -> Result<Told<Self>, WalkError> {
-        // a `?` here is more than rattle's borrow checker can follow, as `Whole` is in the slots
+        // A `match`, not `?`: the slots hold a `Whole`, and rattle's borrow checker can't follow `?` then.
         match take_object::<ShareSlots>(alloc, version, reader, depth) {
             Ok(slots) => Ok(share_told(alloc, slots)),
             Err(error) => Err(error),
