@@ -108,7 +108,7 @@ pub fn pass(reader: &mut Reader<'_>, depth: usize) -> Result<(), WalkError>
 pub fn pass_items(reader: &mut Reader<'_>, depth: usize) -> Result<(), WalkError>
     ensures value { (ds : Items) (rest : List SpecToken) → StandItems depth reader.old ds rest
         → Reaches result (λ _. reader.new ≡ rest) }
-    ensures no_longer { OnOk result (length reader.new < length reader.old) }
+    ensures shorter { OnOk result (length reader.new < length reader.old) }
     ensures takes_no_memory { IfErr result (λ error. error ≡ Broken) }
 {
     while !reader.take_end_array() {
@@ -134,7 +134,7 @@ pub fn next_key<'a>(reader: &mut Reader<'a>) -> Result<Option<&'a str>, WalkErro
 pub fn pass_members(reader: &mut Reader<'_>, depth: usize) -> Result<(), WalkError>
     ensures value { (found : Members) (ms : Members) (rest : List SpecToken) → StandMembers depth reader.old found ms rest
         → Reaches result (λ _. reader.new ≡ rest) }
-    ensures no_longer { OnOk result (length reader.new < length reader.old) }
+    ensures shorter { OnOk result (length reader.new < length reader.old) }
     ensures takes_no_memory { IfErr result (λ error. error ≡ Broken) }
 {
     while let Some(_) = next_key(reader)? {
