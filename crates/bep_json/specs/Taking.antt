@@ -1,12 +1,14 @@
 -- What is told of a value that a walk along a document's tokens comes to, and of the members of an object.
-use Rattle.std.specs.Prelude.{◌≡◌, ℕ, Bool, true, false, List, [], ◌∷◌, ◌++◌, Option, None, Some, Result, Ok, Err, if◌then◌else◌, option_map}
+use Rattle.std.specs.Prelude.{◌≡◌, ◌⊎◌, ℕ, Bool, true, false, List, [], ◌∷◌, ◌++◌, Option, None, Some, Result, Ok, Err, if◌then◌else◌, option_map}
 use Rattle.std.specs.Bool.{MatchBool}
 use Rattle.std.specs.Str.{bytes_eq}
 use Rattle.json.specs.Token.{Token}
-use Rattle.serde_json.specs.Data.{Data}
+use Rattle.json.specs.declared.value.Value.{Value}
+use Rattle.serde_json.specs.Data.{Data, array, object, Items, Members}
 use Rattle.serde_json.specs.Find.{get}
 use Rattle.bep_tree.specs.Names.{is_among, has_only}
-use Rattle.bep_tree.specs.Walk.{Stands, Reaches}
+use Rattle.bep_tree.specs.View.{view}
+use Rattle.bep_tree.specs.Walk.{Stands, Reaches, IsLeaf}
 use Rattle.bep_tree.specs.declared.walk.WalkError.{WalkError}
 use Rattle.bep_json.specs.declared.told.Misread.{Misread}
 use Rattle.bep_json.specs.declared.told.Misread.TheVariants.{Shape, Range}
@@ -16,6 +18,15 @@ abbrev pub judged : {T : Type 0} → Bool → Option T → Result T Misread
 judged false read = Err Shape
 judged true None = Err Range
 judged true (Some thing) = Ok thing
+
+-- the value is a list or an object
+abbrev pub HasParts : Data → Type 0
+HasParts d = ((ds : Items) × (d ≡ array ds)) ⊎ ((ms : Members) × (d ≡ object ms))
+
+-- the value is this leaf; or it is no leaf, but a list or an object
+abbrev pub EntersLeaf : {A : Type 0} → Option (Value A) → Data → Type 0
+EntersLeaf (Some leaf) d = (view leaf ≡ d) × IsLeaf d
+EntersLeaf None d = HasParts d
 
 -- the value that comes next was judged, and was passed
 abbrev pub Takes : {T : Type 0} → (Data → Bool) → (Data → Option T) → ℕ → List Token → Result (Result T Misread) WalkError → List Token → Type 0

@@ -52,7 +52,7 @@ pub use numbers::{Nanoseconds, Sequence, Whole};
 pub use readable::{Readable, Shaped};
 pub(crate) use slots::fill_object;
 pub use slots::{Slots, fill, fill_leaf, take_object};
-pub use taken::{Leaf, Taken, take_leaf};
+pub use taken::{Leaf, Taken, enter_leaf, take_leaf};
 pub use told::{Misread, Told, both, due, due_or, noted};
 pub use tuples::Tuple;
 pub use version::DocVersion;

@@ -1,7 +1,8 @@
 //! Lists: which values are such, and how a walk along a document's text enters one.
-ghost use Rattle.std.specs.Prelude.{◌≡◌, ◌<◌, List, length, None, OnOk};
+ghost use Rattle.std.specs.Prelude.{◌≡◌, ◌<◌, List, length, None, OnOk, IfErr};
 ghost use Rattle.json.specs.Token.{Token as SpecToken};
 ghost use Rattle.serde_json.specs.Data.{Data, Members as MembersOf, no_members};
+ghost use Rattle.bep_tree.specs.declared.walk.WalkError.TheVariants.{Broken};
 ghost use Rattle.bep_tree.specs.Walk.{Stands, StandMembers, Reaches};
 ghost use Rattle.bep_json.specs.Lists.{is_list, read_list};
 ghost use Rattle.bep_json.specs.Tuples.{EntersList};
@@ -22,6 +23,7 @@ pub fn enter_list(reader: &mut Reader<'_>, depth: usize) -> Result<Option<usize>
     ensures value { (d : Data) (rest : List SpecToken) → Stands depth reader.old d rest
         → Reaches result (λ inside. EntersList inside d reader.new rest) }
     ensures shorter { OnOk result (length reader.new < length reader.old) }
+    ensures takes_no_memory { IfErr result (λ error. error ≡ Broken) }
 {
     match enter(reader, depth)? {
         Entered::List(inside) => Ok(Some(inside)),
@@ -35,6 +37,7 @@ fn passed_object(reader: &mut Reader<'_>, depth: usize) -> Result<Option<usize>,
     ensures value { (ms : MembersOf) (rest : List SpecToken) → StandMembers depth reader.old no_members ms rest
         → Reaches result (λ inside. (inside ≡ None) × (reader.new ≡ rest)) }
     ensures shorter { OnOk result (length reader.new < length reader.old) }
+    ensures takes_no_memory { IfErr result (λ error. error ≡ Broken) }
 {
     pass_members(reader, depth)?;
     Ok(None)

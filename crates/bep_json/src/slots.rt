@@ -1,8 +1,9 @@
 //! Objects, whose members are read as a walk along a document's text comes to them.
-ghost use Rattle.std.specs.Prelude.{◌≡◌, ◌<◌, ◌≤◌, ℕ, List, Option, None, Some, true, false, length, OnOk, IfOk};
+ghost use Rattle.std.specs.Prelude.{◌≡◌, ◌<◌, ◌≤◌, ℕ, List, Option, None, Some, true, false, length, OnOk, IfErr, IfOk};
 ghost use Rattle.std.specs.Bool.{OnTrue};
 ghost use Rattle.json.specs.Token.{Token as SpecToken};
 ghost use Rattle.serde_json.specs.Data.{Data, Items as ItemsOf, Members as MembersOf, no_members, object};
+ghost use Rattle.bep_tree.specs.declared.walk.WalkError.TheVariants.{Broken};
 ghost use Rattle.bep_tree.specs.Walk.{Stands, StandItems, StandMembers, Reaches};
 ghost use Rattle.bep_json.specs.declared.version.DocVersion.{DocVersion as VersionOf};
 ghost use Rattle.bep_json.specs.Taking.{judged, TakesMember, Fills};
@@ -82,6 +83,7 @@ fn passed_list(reader: &mut Reader<'_>, depth: usize) -> Result<bool, WalkError>
     ensures value { (ds : ItemsOf) (rest : List SpecToken) → StandItems depth reader.old ds rest
         → Reaches result (λ filled. (filled ≡ false) × (reader.new ≡ rest)) }
     ensures shorter { OnOk result (length reader.new < length reader.old) }
+    ensures takes_no_memory { IfErr result (λ error. error ≡ Broken) }
 {
     pass_items(reader, depth)?;
     Ok(false)

@@ -1,6 +1,10 @@
 -- What is said by a member that may be left out, and what is told of things in which something may be out of range.
 use Rattle.std.specs.Prelude.{Bool, true, false, Option, None, Some, Result, Ok, Err, option_map}
 use Rattle.serde_json.specs.Data.{Data}
+use Rattle.bep_tree.specs.declared.walk.WalkError.{WalkError}
+use Rattle.bep_tree.specs.declared.walk.WalkError.TheVariants as walk
+use Rattle.bep_json.specs.declared.error.ReadError.{ReadError}
+use Rattle.bep_json.specs.declared.error.ReadError.TheVariants as errors
 use Rattle.bep_json.specs.declared.told.Misread.{Misread}
 use Rattle.bep_json.specs.declared.told.Misread.TheVariants.{Range}
 
@@ -39,3 +43,9 @@ if_so false thing = Err Range
 abbrev pub told_by : {A B : Type 0} → (A → Result B Misread) → Result A Misread → Result B Misread
 told_by tells (Ok things) = tells things
 told_by tells (Err misread) = Err misread
+
+-- what is told of a value that has a thing's shape, by what was read of it
+abbrev pub told_as_read : {T : Type 0} → Result T ReadError → Result (Result T Misread) WalkError
+told_as_read (Ok thing) = Ok (Ok thing)
+told_as_read (Err errors.Range) = Ok (Err Range)
+told_as_read (Err errors.Memory) = Err walk.Memory

@@ -4,12 +4,13 @@ ghost use Rattle.bep_json.specs.Numbers.{is_whole, read_number};
 ghost use Rattle.bep_json.specs.Taking.{slot};
 
 use bep_json::{
-    DocVersion, Slots, Taken, Told, Tuple, Whole, enter_list, fill, fill_leaf, take_leaf,
-    take_object,
+    DocVersion, Slots, Taken, Told, Tuple, Whole, enter_leaf, enter_list, fill, fill_leaf,
+    take_leaf, take_object,
 };
 use bep_record::Items;
 use bep_tree::{
-    Entered, MAX_DEPTH, Reader, Scratch, WalkError, enter, next_key, pass, pass_items, pass_members,
+    Entered, MAX_DEPTH, Reader, Scratch, WalkError, as_u64, enter, next_key, pass, pass_items,
+    pass_members,
 };
 use std::alloc::Global;
 
@@ -88,6 +89,13 @@ fn object(alloc: Global) -> Option<u64> {
     )
 }
 
+// The number that the text is, as a leaf of a tree.
+fn entered(alloc: Global) -> Option<u64> {
+    let mut scratch = Scratch::new(alloc);
+    let mut reader = Reader::new("5", &mut scratch).ok()?;
+    as_u64(&enter_leaf(&mut reader, MAX_DEPTH).ok()??)
+}
+
 fn leaf(alloc: Global) -> Option<u64> {
     let mut scratch = Scratch::new(alloc);
     let mut reader = Reader::new("5", &mut scratch).ok()?;
@@ -157,6 +165,7 @@ fn walks_find_memory(rt: HostRuntime) {
     let alloc = rt.alloc();
     assert!(rt; passed(alloc) == Some([true; 4]));
     assert!(rt; object(alloc) == Some(5));
+    assert!(rt; entered(alloc) == Some(5));
     assert!(rt; leaf(alloc) == Some(5));
     assert!(rt; slots(alloc) == Some(5));
     assert!(rt; pairs(alloc) == Some(true));
