@@ -1,8 +1,9 @@
 //! Steps, each written as a list of a word and what belongs to it, which are read as a walk along a document's text comes to
 //! them.
-ghost use Rattle.std.specs.Prelude.{◌≡◌, ◌<◌, List, length, Err, OnOk};
+ghost use Rattle.std.specs.Prelude.{◌≡◌, ◌<◌, List, length, Err, OnOk, IfErr};
 ghost use Rattle.json.specs.Token.{Token as SpecToken};
 ghost use Rattle.serde_json.specs.Data.{Items as ItemsOf, array};
+ghost use Rattle.bep_tree.specs.declared.walk.WalkError.TheVariants.{Broken};
 ghost use Rattle.bep_tree.specs.Walk.{StandItems, Reaches};
 ghost use Rattle.bep_json.specs.Taking.{judged};
 ghost use Rattle.bep_json.specs.declared.told.Misread.TheVariants.{Shape};
@@ -64,6 +65,7 @@ fn passed_items(reader: &mut Reader<'_>, depth: usize) -> Result<Told<StepParts>
     ensures value { (ds : ItemsOf) (rest : List SpecToken) → StandItems depth reader.old ds rest
         → Reaches result (λ told. (told ≡ Err Shape) × (reader.new ≡ rest)) }
     ensures shorter { OnOk result (length reader.new < length reader.old) }
+    ensures takes_no_memory { IfErr result (λ error. error ≡ Broken) }
 {
     pass_items(reader, depth)?;
     Ok(Err(Misread::Shape))

@@ -1,12 +1,14 @@
 //! The words by which scenarios name steps.
-ghost use Rattle.std.specs.Prelude.{◌≡◌, ◌<◌, List, length, OnOk};
+ghost use Rattle.std.specs.Prelude.{◌≡◌, ◌<◌, List, length, OnOk, IfErr};
 ghost use Rattle.json.specs.Token.{Token as SpecToken};
 ghost use Rattle.serde_json.specs.Data.{Data};
 ghost use Rattle.bep_tree.specs.View.{view};
+ghost use Rattle.bep_tree.specs.declared.walk.WalkError.TheVariants.{Broken};
 ghost use Rattle.bep_tree.specs.Walk.{Stands, Reaches};
 ghost use Rattle.bep_scenario.specs.Words.{word_named, read_word};
 
-use bep_tree::{Entered, Reader, Tree, WalkError, as_str, enter, pass_items, pass_members};
+use bep_json::enter_leaf;
+use bep_tree::{Reader, Tree, WalkError, as_str};
 
 /// A step of a device at a name of a folder.
 #[derive(Clone, Copy, Debug, PartialEq, Eq)]
@@ -45,17 +47,11 @@ pub(crate) fn take_word(reader: &mut Reader<'_>, depth: usize) -> Result<Option<
     ensures value { (d : Data) (rest : List SpecToken) → Stands depth reader.old d rest
         → Reaches result (λ word. (word ≡ read_word d) × (reader.new ≡ rest)) }
     ensures shorter { OnOk result (length reader.new < length reader.old) }
+    ensures takes_no_memory { IfErr result (λ error. error ≡ Broken) }
 {
-    match enter(reader, depth)? {
-        Entered::Leaf(tree) => Ok(word_of(&tree)),
-        Entered::List(inside) => {
-            pass_items(reader, inside)?;
-            Ok(None)
-        }
-        Entered::Object(inside) => {
-            pass_members(reader, inside)?;
-            Ok(None)
-        }
+    match enter_leaf(reader, depth)? {
+        Some(tree) => Ok(word_of(&tree)),
+        None => Ok(None),
     }
 }
 

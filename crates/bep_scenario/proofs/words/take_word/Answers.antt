@@ -1,6 +1,5 @@
-use Rattle.std.proofs.Common.{◌≡◌, ◌∙◌, Err, ap, sym, subst, rules}
-use Rattle.serde_json.specs.Data.{no_members}
-use Rattle.bep_tree.specs.Walk.{Enters}
+use Rattle.std.proofs.Common.{◌≡◌, ◌∙◌, None, Err, ⊎_elim, ap, sym, subst, rules}
+use Rattle.bep_json.specs.Taking.{EntersLeaf}
 use Rattle.bep_scenario.specs.Words.{read_word}
 use Rattle.bep_scenario.proofs.words.take_word.Goals as goal
 
@@ -10,33 +9,14 @@ returns-in_err-tree-clause-value c = λ d rest stood.
     let is : c.from_residual.result ≡ Err c.in_err-tree.field-0.0 = search rules in
     rw is fails
 
-pub returns-in-Leaf-clause-value : goal.returns-in-Leaf-clause-value
-returns-in-Leaf-clause-value c = λ d rest stood.
-    let leaf = subst (λ entered. Enters entered d c.enter.new.reader rest) c.in-Leaf.is (c.in_ok-tree.ensures.value d rest stood) in
-    (c.word_of.ensures ∙ ap read_word leaf.0, leaf.2)
+pub returns-in-Some-clause-value : goal.returns-in-Some-clause-value
+returns-in-Some-clause-value c = λ d rest stood.
+    let entered = c.in_ok-tree.ensures.value d rest stood in
+    (c.word_of.ensures ∙ ap read_word (subst (λ leaf. EntersLeaf leaf d) c.in-Some.is entered.0).0, entered.1)
 
-pub returns-in_err-pass_items-in-List-clause-value : goal.returns-in_err-pass_items-in-List-clause-value
-returns-in_err-pass_items-in-List-clause-value c = λ d rest stood.
-    let list = subst (λ entered. Enters entered d c.enter.new.reader rest) c.in-List.is (c.in_ok-tree.ensures.value d rest stood) in
-    let fails = c.in_err-pass_items-in-List.ensures.value list.0 rest list.2 in
-    let is : c.from_residual-in_err-pass_items-in-List.result ≡ Err c.in_err-pass_items-in-List.field-0.0 = search rules in
-    rw is fails
-
-pub returns-in_ok-pass_items-in-List-clause-value : goal.returns-in_ok-pass_items-in-List-clause-value
+pub returns-in-None-clause-value : goal.returns-in-None-clause-value
 unfolding read_word
-returns-in_ok-pass_items-in-List-clause-value c = λ d rest stood.
-    let list = subst (λ entered. Enters entered d c.enter.new.reader rest) c.in-List.is (c.in_ok-tree.ensures.value d rest stood) in
-    (sym (ap read_word list.1), c.in_ok-pass_items-in-List.ensures.value list.0 rest list.2)
-
-pub returns-in_err-pass_members-in-Object-clause-value : goal.returns-in_err-pass_members-in-Object-clause-value
-returns-in_err-pass_members-in-Object-clause-value c = λ d rest stood.
-    let object = subst (λ entered. Enters entered d c.enter.new.reader rest) c.in-Object.is (c.in_ok-tree.ensures.value d rest stood) in
-    let fails = c.in_err-pass_members-in-Object.ensures.value no_members object.0 rest object.2 in
-    let is : c.from_residual-in_err-pass_members-in-Object.result ≡ Err c.in_err-pass_members-in-Object.field-0.0 = search rules in
-    rw is fails
-
-pub returns-in_ok-pass_members-in-Object-clause-value : goal.returns-in_ok-pass_members-in-Object-clause-value
-unfolding read_word
-returns-in_ok-pass_members-in-Object-clause-value c = λ d rest stood.
-    let object = subst (λ entered. Enters entered d c.enter.new.reader rest) c.in-Object.is (c.in_ok-tree.ensures.value d rest stood) in
-    (sym (ap read_word object.1), c.in_ok-pass_members-in-Object.ensures.value no_members object.0 rest object.2)
+returns-in-None-clause-value c = λ d rest stood.
+    let entered = c.in_ok-tree.ensures.value d rest stood in
+    let no_word : read_word d ≡ None = ⊎_elim (λ list. ap read_word list.1) (λ object. ap read_word object.1) (subst (λ leaf. EntersLeaf leaf d) c.in-None.is entered.0) in
+    (sym no_word, entered.1)
