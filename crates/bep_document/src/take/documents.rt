@@ -1,7 +1,8 @@
 //! Whole check documents.
-ghost use Rattle.std.specs.Prelude.{◌≡◌, ◌<◌, List, true, length, OnOk};
+ghost use Rattle.std.specs.Prelude.{◌≡◌, ◌<◌, List, true, length, OnOk, IfErr};
 ghost use Rattle.json.specs.Token.{Token};
 ghost use Rattle.serde_json.specs.Data.{Data};
+ghost use Rattle.bep_tree.specs.declared.walk.WalkError.TheVariants.{Broken};
 ghost use Rattle.bep_tree.specs.Walk.{Stands, Reaches};
 ghost use Rattle.bep_document.specs.inner.Documents.{document_names, check_slots, cut_slot, check_told, cut_slot_told};
 
@@ -101,6 +102,7 @@ fn passed(reader: &mut Reader<'_>, depth: usize) -> Result<bool, WalkError>
     ensures value { (d : Data) (rest : List Token) → Stands depth reader.old d rest
         → Reaches result (λ passed. (passed ≡ true) × (reader.new ≡ rest)) }
     ensures shorter { OnOk result (length reader.new < length reader.old) }
+    ensures takes_no_memory { IfErr result (λ error. error ≡ Broken) }
 {
     match pass(reader, depth) {
         Ok(_) => Ok(true),
