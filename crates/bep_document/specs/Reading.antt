@@ -46,6 +46,11 @@ AnswersBy view (Err error) reading = IsRefusal error reading
 abbrev pub Answers : {T : Type 0} → Result T DocError → Reading T → Type 0
 Answers answer reading = AnswersBy (λ x. x) answer reading
 
+-- the answer is what was read or the fault, and nothing else: no memory is asked for
+abbrev pub Tells : {T : Type 0} → Result T DocFault → Reading T → Type 0
+Tells (Ok x) reading = reading ≡ Read x
+Tells (Err fault) reading = reading ≡ Refused fault
+
 -- what is read of a thing that was told along a document's text
 abbrev pub of_told : {T : Type 0} → Result T Misread → Reading T
 of_told (Ok thing) = Read thing

@@ -1,6 +1,6 @@
 //! Why a document can't be read.
 ghost use Rattle.std.specs.Prelude.{◌≡◌};
-ghost use Rattle.bep_document.specs.declared.error.DocError.TheVariants.{Memory};
+ghost use Rattle.bep_document.specs.declared.error.DocError.TheVariants.{Memory, Refused};
 ghost use Rattle.bep_document.specs.inner.Texts.{error_of};
 
 use crate::{DocFault, Fault};
@@ -17,6 +17,14 @@ pub enum DocError {
     /// Memory ran out.
     #[error("out of memory")]
     Memory,
+}
+
+impl From<DocFault> for DocError {
+    ghost from_gives = { λ fault error. error ≡ Refused fault };
+
+    fn from(fault: DocFault) -> DocError {
+        DocError::Refused(fault)
+    }
 }
 
 impl From<WalkError> for DocError {

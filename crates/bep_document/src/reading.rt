@@ -7,7 +7,7 @@ ghost use Rattle.bep_json.specs.Taking.{judged};
 ghost use Rattle.bep_json.specs.Version.{version_of};
 ghost use Rattle.bep_tree.specs.Read.{tree_of};
 ghost use Rattle.bep_tree.specs.Walk.{Reaches};
-ghost use Rattle.bep_document.specs.Reading.{Answers, AnswersVersioned, given, document_tree, of_told, unless, first_fault, reading_of, reading_of_cut_text, reading_of_cut_document};
+ghost use Rattle.bep_document.specs.Reading.{Answers, AnswersVersioned, Tells, given, document_tree, of_told, unless, first_fault, reading_of, reading_of_cut_text, reading_of_cut_document};
 ghost use Rattle.bep_document.specs.Fault.{nowhere};
 ghost use Rattle.bep_document.specs.declared.fault.Fault.TheVariants.{NotJson};
 ghost use Rattle.bep_document.specs.inner.Texts.{AnswersText, parts_read, cut_parts, cut_in_told};
@@ -108,14 +108,14 @@ fn parts_read(alloc: Global, told: Told<CheckParts>) -> Result<CheckParts, DocEr
     judged(alloc, thing_told(told)?)
 }
 
-/// The thing that was told. Refuses `Shape` or `Range` where none was.
-pub fn thing_told<T: Drop>(told: Told<T>) -> Result<T, DocError>
-    ensures { Answers result (of_told told) }
+/// The thing that was told; or the fault `Shape` or `Range` where none was. Memory isn't asked for.
+pub fn thing_told<T: Drop>(told: Told<T>) -> Result<T, DocFault>
+    ensures { Tells result (of_told told) }
 {
     match told {
         Ok(thing) => Ok(thing),
-        Err(Misread::Shape) => Err(refused(Fault::Shape)),
-        Err(Misread::Range) => Err(refused(Fault::Range)),
+        Err(Misread::Shape) => Err(DocFault::nowhere(Fault::Shape)),
+        Err(Misread::Range) => Err(DocFault::nowhere(Fault::Range)),
     }
 }
 
@@ -124,15 +124,15 @@ fn judged(alloc: Global, parts: CheckParts) -> Result<CheckParts, DocError>
     ensures { Answers result (unless (first_fault parts) parts) }
 {
     let found = fault_of(alloc, &parts)?;
-    unless_found(found, parts)
+    Ok(unless_found(found, parts)?)
 }
 
-/// The thing, unless a fault was found.
-pub fn unless_found<T: Drop>(found: Option<DocFault>, thing: T) -> Result<T, DocError>
-    ensures { Answers result (unless found thing) }
+/// The thing, unless a fault was found. Memory isn't asked for.
+pub fn unless_found<T: Drop>(found: Option<DocFault>, thing: T) -> Result<T, DocFault>
+    ensures { Tells result (unless found thing) }
 {
     match found {
-        Some(fault) => Err(DocError::Refused(fault)),
+        Some(fault) => Err(fault),
         None => Ok(thing),
     }
 }

@@ -57,5 +57,5 @@ fn judged(alloc: Global, parts: ScenarioParts) -> Result<ScenarioParts, DocError
     ensures { Answers result (unless (first_fault parts) parts) }
 {
     let found = fault_of(alloc, &parts)?;
-    unless_found(found, parts)
+    Ok(unless_found(found, parts)?)
 }

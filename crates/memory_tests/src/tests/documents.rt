@@ -4,20 +4,16 @@ ghost use Rattle.std.specs.Prelude.{None};
 use super::made::{CHECK, docs, name};
 use bep_document::{
     DocFault, Fault, Found, Judge, first_bad_link, first_fault, first_twice, has_few_devices,
-    read_cut_document, read_cut_text, read_parts, thing_told, unless_found, versioned_text,
+    read_cut_document, read_cut_text, read_parts, versioned_text,
 };
 use bep_json::DocVersion;
 use bep_record::DeviceId;
 use bep_tree::Scratch;
 use std::alloc::Global;
 
-fn faults(alloc: Global) -> Option<[bool; 3]> {
+fn fault(alloc: Global) -> Option<bool> {
     let (device, folder, name) = (DeviceId::read(1)?, docs(alloc)?, name(alloc)?);
-    Some([
-        DocFault::at_name(alloc, Fault::Twice, &folder, device, &name).is_ok(),
-        unless_found(None, ()).is_ok(),
-        thing_told(Ok(())).is_ok(),
-    ])
+    Some(DocFault::at_name(alloc, Fault::Twice, &folder, device, &name).is_ok())
 }
 
 // Whether the text of the document is found again, with its version.
@@ -63,7 +59,7 @@ fn lists(alloc: Global) -> Option<[bool; 4]> {
 #[test]
 fn documents_find_memory(rt: HostRuntime) {
     let alloc = rt.alloc();
-    assert!(rt; faults(alloc) == Some([true; 3]));
+    assert!(rt; fault(alloc) == Some(true));
     assert!(rt; versioned(alloc) == Some(true));
     assert!(rt; cut(alloc));
     assert!(rt; judged(alloc) == [true; 2]);
