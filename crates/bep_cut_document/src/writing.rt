@@ -1,5 +1,5 @@
 //! Folders, links and rows as JSON, which are read again.
-ghost use Rattle.std.specs.Prelude.{◌≡◌, ◌≤◌, map, OnOk};
+ghost use Rattle.std.specs.Prelude.{◌≡◌, map, OnOk};
 ghost use Rattle.std.specs.FinMap.{entries, values};
 ghost use Rattle.std.specs.List.{AllByRecursion};
 ghost use Rattle.serde_json.specs.Data.{Data, string};
@@ -14,10 +14,12 @@ ghost use Rattle.bep_cut_document.specs.inner.Sound.{AreRecords, AreNodes, IsVie
 ghost use Rattle.bep_cut_document.specs.inner.Told.{IsRecordTold, IsNodeTold, IsViewTold, IsShareTold, IsFolderTold, IsFlightTold, IsLinkTold, IsRowTold};
 
 use bep_index::IndexId;
-use bep_json::{add_flag, add_number, add_text, texts_are_told, write_node, write_record};
+use bep_json::{
+    add_flag, add_number, add_text, device_is_told, texts_are_told, write_node, write_record,
+};
 use bep_map::NameMap;
 use bep_model::{Flight, Row};
-use bep_record::{DeviceId, FolderKind, FolderName, Items, Node, Record};
+use bep_record::{FolderKind, FolderName, Items, Node, Record};
 use bep_tables::{LinkState, PeerView, Share, SharedFolder};
 use json::Writer;
 use std::alloc::{AllocError, Global};
@@ -125,26 +127,15 @@ fn name_of_kind(kind: FolderKind) -> &'static str
     }
 }
 
-// Numbers, devices, index ids and folder names are read again: a law, which does nothing when it runs.
+// Numbers, index ids and folder names are read again: a law, which does nothing when it runs.
 fn number_is_told(number: u64)
     ensures { Says is_whole (read_number 0 greatest_id) number (whole number) }
 {}
 
-fn id_is_told(number: u64)
-    requires { 1 ≤ number }
-    ensures { Says is_whole (read_number 1 greatest_id) number (whole number) }
-{}
-
-fn device_is_told(device: DeviceId)
-    ensures { Says is_whole (read_number 1 greatest_id) device (whole device) }
-{
-    id_is_told(device.number());
-}
-
 fn index_is_told(index: IndexId)
     ensures { Says is_whole (read_number 1 greatest_id) index (whole index) }
 {
-    id_is_told(index.number());
+    index.number();
 }
 
 fn folder_is_told(folder: &FolderName)

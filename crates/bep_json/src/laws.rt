@@ -1,5 +1,10 @@
-//! What the tests and the blocks of what is read tell, as laws.
+//! What the tests and the blocks of what is read tell, and that devices are read again, as laws.
 ghost use Rattle.bep_json.specs.Laws.{NamesAreTold, TargetsAreTold, FolderNamesAreTold, VersionsAreTold, BlocksCutWhole, BlocksHaveHashes};
+ghost use Rattle.bep_json.specs.Numbers.{is_whole, read_number, greatest_id};
+ghost use Rattle.bep_json.specs.Says.{Says};
+ghost use Rattle.bep_json.specs.Written.{whole};
+
+use bep_record::DeviceId;
 
 /// The tests by which a document is read tell which bytes are names, targets and folder names, and which pairs are a
 /// version vector: a law, which does nothing when it runs.
@@ -16,3 +21,10 @@ pub fn hashes_make_blocks()
     ensures hashes { BlocksHaveHashes }
     ensures cut { BlocksCutWhole }
 {}
+
+/// A device is read again from what is written of it: a law, which does nothing when it runs.
+pub fn device_is_told(device: DeviceId)
+    ensures { Says is_whole (read_number 1 greatest_id) device (whole device) }
+{
+    device.number();
+}

@@ -45,7 +45,7 @@ pub use added::{
     add_flag, add_number, add_signed, add_text, text_of, write_null, write_number, write_text,
 };
 pub use error::ReadError;
-pub use laws::{hashes_make_blocks, texts_are_told};
+pub use laws::{device_is_told, hashes_make_blocks, texts_are_told};
 pub use lists::enter_list;
 pub use nodes::NamedParts;
 pub use numbers::{Nanoseconds, Sequence, Whole};

@@ -1,5 +1,5 @@
 //! Records and nodes as JSON: every member, so that they are read again as they were.
-ghost use Rattle.std.specs.Prelude.{◌≡◌, ◌≤◌, map, OnOk};
+ghost use Rattle.std.specs.Prelude.{◌≡◌, map, OnOk};
 ghost use Rattle.std.specs.List.{AllByRecursion};
 ghost use Rattle.hex.specs.Hex.{IsBytes};
 ghost use Rattle.bep_record.specs.Name.{IsName};
@@ -13,7 +13,8 @@ ghost use Rattle.bep_json.specs.Added.{Adds};
 ghost use Rattle.bep_json.specs.Written.{whole, signed, number_of, counter_written, version_written, hex_written, hashes_written, record_written, node_written};
 
 use crate::added::{add_flag, add_number, add_signed, add_text, write_number, write_text};
-use bep_record::{Block, DeviceId, Entry, Kind, Name, Node, NodeParts, Record, Target, Vector};
+use crate::device_is_told;
+use bep_record::{Block, Entry, Kind, Name, Node, NodeParts, Record, Target, Vector};
 use json::Writer;
 use std::alloc::{AllocError, Global};
 
@@ -128,18 +129,6 @@ fn number_of(kind: Kind) -> u32
 // That a signed number is read again.
 fn signed_is_told(number: i64)
     ensures { Says is_whole read_signed number (signed number) }
-{}
-
-// That a device is read again.
-fn device_is_told(device: DeviceId)
-    ensures { Says is_whole (read_number 1 greatest_id) device (whole device) }
-{
-    id_is_told(device.number());
-}
-
-fn id_is_told(number: u64)
-    requires { 1 ≤ number }
-    ensures { Says is_whole (read_number 1 greatest_id) number (whole number) }
 {}
 
 // Writes the bytes in hexadecimal digits.
