@@ -1,14 +1,17 @@
 -- Where a row's name is known, the row is its winner's, and each device meets all that is asked, no reason fails there.
-use Rattle.std.proofs.Common.{◌≡◌, true, List, [], ◌∷◌, Contains, Option, None, refl, arith}
+use Rattle.std.proofs.Common.{◌≡◌, true, List, [], ◌∷◌, Contains, Option, Some, None, IfSome, refl, sym, subst, arith}
+use Rattle.std.specs.Borrow.{Bor}
 use Rattle.std.specs.FinMap.{get}
+use Rattle.std.specs.Option.{option_copied}
 use Rattle.bep_record.specs.declared.entry.Entry.{Entry}
 use Rattle.bep_record.specs.declared.node.NodeParts.{NodeParts}
+use Rattle.bep_record.specs.Content.{Content}
 use Rattle.bep_model.specs.declared.row.Row.{Row}
 use Rattle.bep_model.specs.declared.reason.Reason.{Reason}
 use Rattle.bep_model.specs.declared.reason.Reason.TheVariants.{CertificateOrder, NameMissing, NameUnknown, NotWinner, RecordMissing, RecordDiffers, LocalOnly, StoreDiffers, StoreUnclean, ViewAhead, FlightAhead, PullAhead}
 use Rattle.bep_model.specs.Tables.{Device}
 use Rattle.bep_model.specs.Foreign.{IsKnown}
-use Rattle.bep_model.specs.Settled.{key_of}
+use Rattle.bep_model.specs.Settled.{content_of_node, key_of}
 use Rattle.bep_model.specs.Winner.{IsWinner}
 use Rattle.bep_tables.specs.declared.share.Share.{Share}
 use Rattle.bep_tables.specs.declared.cut.CutParts.{CutParts}
@@ -24,6 +27,11 @@ use Rattle.bep_tables.specs.Laws.{CutSays}
 use Rattle.bep_audit.proofs.FailingDevice.{finds_by_group}
 use Rattle.bep_audit.proofs.FailingRow.{finds_unknown, finds_loser}
 use Rattle.bep_audit.proofs.GroupRow.{finds_here, order_holds, missing_holds}
+
+-- a node that is lent has the content that is held
+pub holds_as_lent : (lent : Option (Bor NodeParts)) (stored : Option NodeParts) (content : Content) → option_copied lent ≡ stored → content_of_node stored ≡ content → IfSome lent (λ one. content_of_node (Some one.now) ≡ content)
+holds_as_lent None stored content same holds = tt
+holds_as_lent (Some one) stored content same holds = subst (λ found. content_of_node found ≡ content) (sym same) holds
 
 each_here : (own : Option Entry) (stored : Option NodeParts) (winner : Entry) → AsksAllHere own stored winner → (reason : Reason) → AsksHere reason own stored winner
 unfolding AsksAllHere

@@ -1,9 +1,10 @@
 -- What a test tells of the elements of a list: whether one of them passes, or each does.
-use Rattle.std.proofs.Common.{◌↔◌, ℕ, ◌<◌, Bool, true, false, true≢false, List, [], ◌∷◌, Contains, IsTrue, length, get_or, refl, sym, arith}
+use Rattle.std.proofs.Common.{◌≡◌, ◌↔◌, ℕ, ◌-◌, ◌<◌, ◌≤◌, Bool, true, false, true≢false, List, [], ◌∷◌, Contains, IsTrue, length, take, drop, get_or, refl, sym, subst, ⊎_elim, arith}
 use Rattle.std.specs.Prelude.{MatchBool}
 use Rattle.std.specs.List.{AllWithin, HoldsAt}
-use Rattle.std.proofs.lemmas.List.{get_or_default}
+use Rattle.std.proofs.lemmas.List.{get_or_default, take_all}
 use Rattle.std.proofs.lemmas.List.Elements.{All-contains, All-from_all_within, Contains-from_at}
+use Rattle.bep_facts.specs.Members.{Contains-cons_cases, Contains-more}
 
 -- one of the elements is such
 abbrev pub SomeSuch : {X : Type 0} → (X → Type 0) → List X → Type 0
@@ -32,3 +33,12 @@ module _ {X : Type 0} (P : X → Type 0) where
     λ e. absurd (true≢false (sym e)),
     λ each. let fails = some_at (λ x. ¬ P x) xs found.0 found.1 found.2 in absurd (fails.2 (each fails.0 fails.1)),
   )
+
+  -- where the first element is such, each is exactly where each of those behind it is
+  pub each_from_first : (R : Type 0) (xs : List X) (first : X) → 1 ≤ length xs → first ≡ get_or xs 0 first → P first → R ↔ EachSuch P (take (length xs - 1) (drop 1 xs)) → R ↔ EachSuch P xs
+  each_from_first R [] first long is holds others = absurd (omega (arith, long))
+  each_from_first R (one ∷ more) first long is holds others =
+      let behind = subst (λ l. R ↔ EachSuch P l) (take_all (length (one ∷ more) - 1) more (omega arith)) others in (
+        λ r x member. ⊎_elim (λ same. subst P same (subst P is holds)) (λ later. behind.0 r x later) (Contains-cons_cases one more x member),
+        λ each. behind.1 (λ x later. each x (Contains-more one more x later)),
+      )

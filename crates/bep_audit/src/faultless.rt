@@ -1,7 +1,8 @@
 //! Whether nothing fails at a name that has a row, found by one look at each device.
-ghost use Rattle.std.specs.Prelude.{◌≡◌, ◌↔◌, ◌∷◌, [], IsTrue, None, Contains, map};
+ghost use Rattle.std.specs.Prelude.{◌≡◌, ◌↔◌, ◌∷◌, [], IsTrue, IfSome, None, Some, Contains, map};
 ghost use Rattle.std.specs.Option.{option_copied};
-ghost use Rattle.bep_model.specs.Settled.{key_of};
+ghost use Rattle.bep_record.specs.Content.{content_of};
+ghost use Rattle.bep_model.specs.Settled.{content_of_node, key_of};
 ghost use Rattle.bep_tables.specs.declared.share.Share.{Share};
 ghost use Rattle.bep_tables.specs.Cut.{tables_of};
 ghost use Rattle.bep_tables.specs.Listed.{listed};
@@ -13,7 +14,7 @@ use crate::group::has_known;
 use crate::winner::is_winner_in;
 use crate::{is_harmless, is_there, is_valid, says_as_winner, share_is_asked, store_holds};
 use bep_model::Row;
-use bep_record::{DeviceId, Node, Record, is_clean};
+use bep_record::{DeviceId, Node, Record, Same, is_clean};
 use bep_tables::{Cut, Held, Share, Source, TableEntry, cut_says, entries_are_held};
 
 /// Whether no reason fails at the row's name, as if there were no other row. It looks each device's own record and node
@@ -38,30 +39,68 @@ pub(crate) fn is_faultless<'a>(cut: &'a Cut, group: &[TableEntry<'a>], row: &Row
 fn are_met(shares: &[Share], group: &[TableEntry<'_>], row: &Row) -> bool
     ensures { IsTrue result ↔ ((share : Share) → Contains shares.now share → AsksAll row.now (map listed group.now) share) }
 {
-    shares.iter().all(|share| is_met(share, group, row))
+    match shares {
+        [] => true,
+        [first, others @ ..] => {
+            is_met(first, None, group, row)
+                && are_met_beside(first.store.get(&row.entry.entry().name), others, group, row)
+        }
+    }
 }
 
-// Whether the device does.
+// Whether each of the other devices does. The holder is the first device's node, which has the winner's content.
+fn are_met_beside(
+    holder: Option<&Node>,
+    shares: &[Share],
+    group: &[TableEntry<'_>],
+    row: &Row,
+) -> bool
+    requires { IfSome holder (λ one. content_of_node (Some one.now) ≡ content_of row.now.entry) }
+    ensures { IsTrue result ↔ ((share : Share) → Contains shares.now share → AsksAll row.now (map listed group.now) share) }
+{
+    shares.iter().all(|share| is_met(share, holder, group, row))
+}
+
+// Whether the device does. The holder is another device's node with the winner's content.
 #[tactic(auto, unfolding(crate::specs::inner::Faultless::AsksAll))]
-fn is_met(share: &Share, group: &[TableEntry<'_>], row: &Row) -> bool
+fn is_met(share: &Share, holder: Option<&Node>, group: &[TableEntry<'_>], row: &Row) -> bool
+    requires { IfSome holder (λ one. content_of_node (Some one.now) ≡ content_of row.now.entry) }
     ensures { IsTrue result ↔ AsksAll row.now (map listed group.now) share.now }
 {
     let winner = &row.entry;
     let name = &winner.entry().name;
     let own = share.own.get(name);
-    meets_here(own, share.store.get(name), winner) && meets_elsewhere(group, row, share.device, own)
+    meets_here(own, share.store.get(name), holder, winner)
+        && meets_elsewhere(group, row, share.device, own)
 }
 
 // Whether the device meets it by its own record and its node.
 #[tactic(auto, unfolding(crate::specs::inner::Faultless::AsksAllHere))]
-fn meets_here(own: Option<&Record>, node: Option<&Node>, winner: &Record) -> bool
+fn meets_here(
+    own: Option<&Record>,
+    node: Option<&Node>,
+    holder: Option<&Node>,
+    winner: &Record,
+) -> bool
+    requires { IfSome holder (λ one. content_of_node (Some one.now) ≡ content_of winner.now) }
     ensures { IsTrue result ↔ AsksAllHere (option_copied own.entry) (option_copied node.entry) winner.now }
 {
     is_there(own, winner)
         && says_as_winner(own, winner)
         && is_valid(own)
-        && store_holds(node, winner)
+        && store_holds_as(node, holder, winner)
         && is_clean(node, own)
+}
+
+// Whether the store holds the winner's content. The bytes of a node that is the same as the holder aren't hashed again.
+fn store_holds_as(node: Option<&Node>, holder: Option<&Node>, winner: &Record) -> bool
+    requires { IfSome holder (λ one. content_of_node (Some one.now) ≡ content_of winner.now) }
+    ensures { IsTrue result ↔ (content_of_node (option_copied node.entry) ≡ content_of winner.now) }
+{
+    match (node, holder) {
+        (Some(node), Some(holder)) if node.same(holder) => true,
+        _ => store_holds(node, winner),
+    }
 }
 
 // Whether it does by its foreign records.
