@@ -2,7 +2,7 @@
 ghost use Rattle.std.specs.Prelude.{IfErr, IfOk};
 ghost use Rattle.bep_answer.specs.Beside.{IsTelling};
 ghost use Rattle.bep_answer.specs.Exchange.{IsEndedEarly, IsWhole};
-ghost use Rattle.bep_scenario.specs.Scenario.{said};
+ghost use Rattle.bep_scenario.specs.Scenario.{said_lazily};
 ghost use Rattle.bep_live.specs.inner.Beside.{TellsOfLiveEnd, TellsRun};
 ghost use Rattle.bep_answer.specs.Certified.{IsCertificate};
 ghost use Rattle.bep_live.specs.Lived.{IsLiveEndOfBytes, IsLivedTo, cut_in};
@@ -16,7 +16,7 @@ use bep_json::DocVersion;
 use bep_play::lines_of;
 use bep_report::{ReportError, read_document, write_all};
 use bep_run_cut::RunCut;
-use bep_scenario::{Scenario, read_scenario};
+use bep_scenario::{LazyScenario, read_lazy_scenario};
 use std::alloc::{AllocError, Global};
 use std::io::{Read, Write};
 use std::sync::Wait;
@@ -52,7 +52,7 @@ fn answer<R: Threads + Wait + Sync>(
     ensures says { IfOk result (λ told. IsLiveEndOfBytes bytes.now told.0.0 told.0.1.items) }
     ensures tells { IfOk result (λ told. TellsOfLiveEnd bytes.now told.1) }
 {
-    match read_scenario(alloc, bytes) {
+    match read_lazy_scenario(alloc, bytes) {
         Ok(scenario) => live_document(rt, alloc, scenario, turns),
         Err(DocError::Refused(fault)) => {
             let refused = (Certified::Refused, fault_line(alloc, &fault)?);
@@ -66,11 +66,11 @@ fn answer<R: Threads + Wait + Sync>(
 fn live_document<R: Threads + Wait + Sync>(
     rt: &R,
     alloc: Global,
-    scenario: Scenario,
+    scenario: LazyScenario,
     turns: u32,
 ) -> Result<Answer<Certified>, AllocError>
-    ensures lived { IfOk result (λ told. IsLivedTo (said scenario) told.0.0 told.0.1.items) }
-    ensures tells { IfOk result (λ told. TellsRun (said scenario) told.1) }
+    ensures lived { IfOk result (λ told. IsLivedTo (said_lazily scenario) told.0.0 told.0.1.items) }
+    ensures tells { IfOk result (λ told. TellsRun (said_lazily scenario) told.1) }
 {
     let version = scenario.version;
     let (run, mut told) = lived(rt, alloc, scenario, turns)?;

@@ -1,6 +1,6 @@
 //! From a scenario to a cut of its cluster, once threads have run it.
 ghost use Rattle.std.specs.Prelude.{IfOk, IsUtf8};
-ghost use Rattle.bep_scenario.specs.Scenario.{said};
+ghost use Rattle.bep_scenario.specs.Scenario.{said_lazily};
 ghost use Rattle.bep_live.specs.Lived.{IsJudged, LeadsOn};
 
 use bep_blocks::OpenGate;
@@ -10,7 +10,7 @@ use bep_log::LogError;
 use bep_play::played;
 use bep_run::{Shared, run_workers};
 use bep_run_cut::{RunCut, check_run};
-use bep_scenario::Scenario;
+use bep_scenario::LazyScenario;
 use bep_store::MemStore;
 use std::alloc::{AllocError, Global};
 use std::sync::Wait;
@@ -21,10 +21,10 @@ use std::thread::Threads;
 pub(crate) fn lived<R: Threads + Wait + Sync>(
     rt: &R,
     alloc: Global,
-    scenario: Scenario,
+    scenario: LazyScenario,
     turns: u32,
 ) -> Result<(RunCut, Vec<u8>), AllocError>
-    ensures leads { IfOk result (λ end. LeadsOn (said scenario) end.1.items) }
+    ensures leads { IfOk result (λ end. LeadsOn (said_lazily scenario) end.1.items) }
     ensures text { IfOk result (λ end. IsUtf8 end.1.items) }
 {
     let (cluster, told) = played(alloc, scenario)?;

@@ -2,7 +2,7 @@
 ghost use Rattle.std.specs.Prelude.{IfErr, IfOk};
 ghost use Rattle.bep_answer.specs.Beside.{IsTelling};
 ghost use Rattle.bep_answer.specs.Exchange.{IsEndedEarly, IsWhole};
-ghost use Rattle.bep_scenario.specs.Scenario.{said};
+ghost use Rattle.bep_scenario.specs.Scenario.{said_lazily};
 ghost use Rattle.bep_live.specs.inner.Beside.{TellsOfLive};
 ghost use Rattle.bep_live.specs.Lived.{IsLiveOfBytes, IsLived, cut_in};
 ghost use Rattle.bep_play.specs.Played.{IsEnd};
@@ -16,7 +16,7 @@ use bep_json::DocVersion;
 use bep_play::report_on_cut;
 use bep_report::{ReportError, read_document, write_all};
 use bep_run_cut::RunCut;
-use bep_scenario::{Scenario, read_scenario};
+use bep_scenario::{LazyScenario, read_lazy_scenario};
 use std::alloc::{AllocError, Global};
 use std::io::{Read, Write};
 use std::sync::Wait;
@@ -55,7 +55,7 @@ fn answer<R: Threads + Wait + Sync>(
     ensures says { IfOk result (λ told. IsLiveOfBytes bytes.now told.0.0 told.0.1.items) }
     ensures tells { IfOk result (λ told. TellsOfLive bytes.now told.1) }
 {
-    match read_scenario(alloc, bytes) {
+    match read_lazy_scenario(alloc, bytes) {
         Ok(scenario) => Ok((live_report(rt, alloc, scenario, turns)?, None)),
         Err(DocError::Refused(fault)) => {
             let refused = refusal(alloc, &fault)?;
@@ -69,10 +69,10 @@ fn answer<R: Threads + Wait + Sync>(
 fn live_report<R: Threads + Wait + Sync>(
     rt: &R,
     alloc: Global,
-    scenario: Scenario,
+    scenario: LazyScenario,
     turns: u32,
 ) -> Result<(Outcome, Vec<u8>), AllocError>
-    ensures { IfOk result (λ answer. IsLived (said scenario) answer.0 answer.1.items) }
+    ensures { IfOk result (λ answer. IsLived (said_lazily scenario) answer.0 answer.1.items) }
 {
     let version = scenario.version;
     let (run, told) = lived(rt, alloc, scenario, turns)?;

@@ -1,5 +1,5 @@
 -- Steps that are made one after another, and what is told of them.
-use Rattle.std.proofs.Common.{IsUtf8, suc, ◌≡◌, ◌≢◌, ◌+◌, ◌++◌, ℕ, List, [], ◌∷◌, map, length, Option, None, Result, Ok, Err, refl, sym, ap, subst, ◌∙◌, arith}
+use Rattle.std.proofs.Common.{IsUtf8, suc, ◌≡◌, ◌≢◌, ◌≤◌, ◌+◌, ◌++◌, ℕ, List, [], ◌∷◌, map, length, Option, None, Result, Ok, Err, refl, sym, ap, subst, ◌∙◌, arith}
 use Rattle.std.proofs.lemmas.List.{append_assoc, append-nil}
 use Rattle.bep_machine.specs.declared.moved.Moved.{Moved}
 use Rattle.bep_machine.specs.declared.step.Step.{Step}
@@ -63,6 +63,23 @@ pub record LeadsSoFar (old : Cluster) (steps : List Step) (now : Cluster) (left 
   pub tells : told ≡ refused_lines 1 events
   pub text : IsUtf8 told
   pub place_is : place ≡ length events
+
+counted : (events : List Event) (left : List Step) → length events + length left ≡ length (map (λ (event : Event). event.step) events ++ left)
+counted [] left = none (length left)
+  where
+    none : (n : ℕ) → 0 + n ≡ n
+    none n = omega arith
+counted (first ∷ more) left = one_more (length more) (length left) ∙ ap suc (counted more left)
+  where
+    one_more : (a b : ℕ) → suc a + b ≡ suc (a + b)
+    one_more a b = omega arith
+
+-- a step that is still to be made has a place among all of them
+pub place_among : (old : Cluster) (steps : List Step) (now : Cluster) (step : Step) (left : List Step) (told : List ℕ) (place : ℕ) → LeadsSoFar old steps now (step ∷ left) told place → place + 1 ≤ length steps
+place_among old steps now step left told place so_far = within (length so_far.events) (length left) (length steps) so_far.place_is (counted so_far.events (step ∷ left) ∙ ap length so_far.all)
+  where
+    within : (made more all : ℕ) → place ≡ made → made + suc more ≡ all → place + 1 ≤ all
+    within made more all is whole = omega (arith, is, whole)
 
 module _ (old : Cluster) (steps : List Step) (now : Cluster) (step : Step) (left : List Step) (told : List ℕ) (place : ℕ) (so_far : LeadsSoFar old steps now (step ∷ left) told place) (failed : Option ℕ) (sure : failed ≡ None) (node : IsSoundStep step) (new : Cluster) where
   one_more : (answer : Answer) (later : List ℕ) → answer ≢ OutOfMemory → IsUtf8 later → IsStep step failed now new answer → later ≡ told ++ answer_line (suc place) answer → LeadsSoFar old steps new left later (suc place)

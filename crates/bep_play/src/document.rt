@@ -1,7 +1,7 @@
 //! The check document of a scenario's end.
 ghost use Rattle.std.specs.Prelude.{IfOk, IsUtf8};
 ghost use Rattle.bep_answer.specs.Beside.{AreLines};
-ghost use Rattle.bep_scenario.specs.Scenario.{said};
+ghost use Rattle.bep_scenario.specs.Scenario.{said_lazily};
 ghost use Rattle.bep_play.specs.inner.Beside.{TellsOfEnd, TellsSteps};
 ghost use Rattle.bep_play.specs.Played.{IsEndOfBytes, IsPlayedTo};
 
@@ -10,7 +10,7 @@ use crate::play::played;
 use bep_answer::{Answer, Beside, Certified, Question, fault_line, hint_for};
 use bep_document::DocError;
 use bep_hints::Expected;
-use bep_scenario::{Scenario, read_scenario};
+use bep_scenario::{LazyScenario, read_lazy_scenario};
 use std::alloc::{AllocError, Global};
 
 /// The check document of where the scenario leads, with the lines of refused steps beside it, and where the scenario is
@@ -24,7 +24,7 @@ impl Question<Certified> for DocumentOfEnd {
     ghost tells = { λ _. TellsOfEnd };
 
     fn answer(self, alloc: Global, bytes: Vec<u8>) -> Result<Answer<Certified>, AllocError> {
-        match read_scenario(alloc, bytes.as_slice()) {
+        match read_lazy_scenario(alloc, bytes.as_slice()) {
             Ok(scenario) => {
                 drop(bytes);
                 run(alloc, scenario)
@@ -42,9 +42,9 @@ impl Question<Certified> for DocumentOfEnd {
 }
 
 // The document of where the scenario's run leads, and the lines of refused steps.
-fn run(alloc: Global, scenario: Scenario) -> Result<Answer<Certified>, AllocError>
-    ensures played { IfOk result (λ told. IsPlayedTo (said scenario) told.0.0 told.0.1.items) }
-    ensures tells { IfOk result (λ told. TellsSteps (said scenario) told.1) }
+fn run(alloc: Global, scenario: LazyScenario) -> Result<Answer<Certified>, AllocError>
+    ensures played { IfOk result (λ told. IsPlayedTo (said_lazily scenario) told.0.0 told.0.1.items) }
+    ensures tells { IfOk result (λ told. TellsSteps (said_lazily scenario) told.1) }
 {
     let version = scenario.version;
     let (cluster, told) = played(alloc, scenario)?;

@@ -2,21 +2,24 @@
 ghost use Rattle.std.specs.Prelude.{◌≡◌, ◌++◌, IfOk, IsUtf8, OnOk};
 ghost use Rattle.bep_lines.specs.Lines.{step_line};
 ghost use Rattle.bep_peer.specs.network.Network.{cluster_of};
-ghost use Rattle.bep_scenario.specs.Scenario.{said};
+ghost use Rattle.bep_scenario.specs.Scenario.{said_lazily};
 ghost use Rattle.bep_play.specs.Played.{EndsAt, IsTold, Leads};
 
 use bep_core::{Cluster, Why};
 use bep_cut::cut_says_cluster;
 use bep_lines::push_step;
-use bep_machine::{Moved, Step};
-use bep_scenario::Scenario;
+use bep_machine::Moved;
+use bep_scenario::{LazyScenario, Steps};
 use bep_store::MemStore;
 use std::alloc::{AllocError, Global};
 
 /// Makes the scenario's steps from where it begins, and answers the cluster to which they lead, whose cut says what it does,
 /// and the lines of those that are refused.
-pub fn played(alloc: Global, scenario: Scenario) -> Result<(Cluster<MemStore>, Vec<u8>), AllocError>
-    ensures ends { IfOk result (λ end. EndsAt (said scenario) end.0 end.1.items) }
+pub fn played(
+    alloc: Global,
+    scenario: LazyScenario,
+) -> Result<(Cluster<MemStore>, Vec<u8>), AllocError>
+    ensures ends { IfOk result (λ end. EndsAt (said_lazily scenario) end.0 end.1.items) }
     ensures text { IfOk result (λ end. IsUtf8 end.1.items) }
 {
     let mut cluster = Cluster::new(alloc, scenario.config)?;
@@ -31,16 +34,14 @@ pub fn played(alloc: Global, scenario: Scenario) -> Result<(Cluster<MemStore>, V
 
 // Makes the steps, and answers the lines of those that are refused. Where memory is wanting the cluster is left
 // somewhere among them.
-fn play(
-    alloc: Global,
-    cluster: &mut Cluster<MemStore>,
-    steps: Vec<Step>,
-) -> Result<Vec<u8>, AllocError>
-    ensures leads { IfOk result (λ told. Leads (cluster_of cluster.old) steps.items (cluster_of cluster.new) told.items) }
+fn play(alloc: Global, cluster: &mut Cluster<MemStore>, steps: Steps) -> Result<Vec<u8>, AllocError>
+    ensures leads { IfOk result (λ told. Leads (cluster_of cluster.old) steps (cluster_of cluster.new) told.items) }
     ensures text { IfOk result (λ told. IsUtf8 told.items) }
 {
     let mut told = Vec::new(alloc);
     let mut place: u64 = 0;
+    // `len` is called for its clause: there are no more steps than it can count, so each place is a number
+    let _count = steps.len();
     for step in steps {
         place += 1;
         let answer = cluster.apply(step);

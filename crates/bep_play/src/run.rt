@@ -1,6 +1,6 @@
 //! A scenario's run.
 ghost use Rattle.std.specs.Prelude.{IfOk};
-ghost use Rattle.bep_scenario.specs.Scenario.{said};
+ghost use Rattle.bep_scenario.specs.Scenario.{said_lazily};
 ghost use Rattle.bep_play.specs.inner.Beside.{TellsOfRun};
 ghost use Rattle.bep_play.specs.Played.{IsPlayed, IsRunOfBytes};
 
@@ -9,7 +9,7 @@ use crate::play::played;
 use bep_answer::{Answer, Outcome, Question, hint_for, refusal};
 use bep_document::DocError;
 use bep_hints::Expected;
-use bep_scenario::{Scenario, read_scenario};
+use bep_scenario::{LazyScenario, read_lazy_scenario};
 use std::alloc::{AllocError, Global};
 
 /// The report on where the scenario leads, and where the scenario is refused, a hint on where it is at fault.
@@ -22,7 +22,7 @@ impl Question<Outcome> for ReportOnEnd {
     ghost tells = { λ _. TellsOfRun };
 
     fn answer(self, alloc: Global, bytes: Vec<u8>) -> Result<Answer<Outcome>, AllocError> {
-        match read_scenario(alloc, bytes.as_slice()) {
+        match read_lazy_scenario(alloc, bytes.as_slice()) {
             Ok(scenario) => {
                 drop(bytes);
                 Ok((run(alloc, scenario)?, None))
@@ -40,8 +40,8 @@ impl Question<Outcome> for ReportOnEnd {
 }
 
 // The outcome of the scenario's run, and the text.
-fn run(alloc: Global, scenario: Scenario) -> Result<(Outcome, Vec<u8>), AllocError>
-    ensures { IfOk result (λ answer. IsPlayed (said scenario) answer.0 answer.1.items) }
+fn run(alloc: Global, scenario: LazyScenario) -> Result<(Outcome, Vec<u8>), AllocError>
+    ensures { IfOk result (λ answer. IsPlayed (said_lazily scenario) answer.0 answer.1.items) }
 {
     let version = scenario.version;
     let (cluster, told) = played(alloc, scenario)?;

@@ -7,6 +7,7 @@ use Rattle.bep_json.specs.declared.version.DocVersion.{DocVersion}
 use Rattle.bep_document.specs.Reading.{Reading, Read, ◌>>=◌}
 use Rattle.bep_scenario.specs.declared.parts.ScenarioParts.{ScenarioParts}
 use Rattle.bep_scenario.specs.declared.scenario.Scenario.{Scenario}
+use Rattle.bep_scenario.specs.declared.lazy.LazyScenario.{LazyScenario}
 use Rattle.bep_scenario.specs.Configured.{Start, start_of}
 use Rattle.bep_scenario.specs.Faultless.{step_of}
 use Rattle.bep_scenario.specs.Reading.{reading_of}
@@ -19,6 +20,10 @@ pub record Said : Type 0 where
 
 abbrev pub said : Scenario → Said
 said scenario = record { version = scenario.version; config = scenario.config; steps = scenario.steps.items }
+
+-- the same, where the steps are made one at a time: those that come out, in this order
+abbrev pub said_lazily : LazyScenario → Said
+said_lazily scenario = record { version = scenario.version; config = scenario.config; steps = scenario.steps }
 
 -- the document's version, the cluster's configuration, its stores empty, and its steps
 abbrev pub made_of : ScenarioParts → Said

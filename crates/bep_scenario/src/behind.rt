@@ -162,7 +162,7 @@ pub(crate) fn take_announce(
     reader: &mut Reader<'_>,
     depth: usize,
 ) -> Result<Told<StepParts>, WalkError>
-    ensures value { TakesBehind (shapes_of words.Announce) (read_announce) depth reader.old result reader.new }
+    ensures value { TakesBehind (shapes_of words.Announce) read_announce depth reader.old result reader.new }
     ensures shorter { OnOk result (length reader.new < length reader.old) }
 {
     let items = AnnounceItems::take_items(alloc, version, reader, depth)?;
@@ -175,7 +175,7 @@ pub(crate) fn take_ask(
     reader: &mut Reader<'_>,
     depth: usize,
 ) -> Result<Told<StepParts>, WalkError>
-    ensures value { TakesBehind (shapes_of words.Ask) (read_ask) depth reader.old result reader.new }
+    ensures value { TakesBehind (shapes_of words.Ask) read_ask depth reader.old result reader.new }
     ensures shorter { OnOk result (length reader.new < length reader.old) }
 {
     let items = AskItems::take_items(alloc, version, reader, depth)?;
@@ -188,7 +188,7 @@ pub(crate) fn take_restart(
     reader: &mut Reader<'_>,
     depth: usize,
 ) -> Result<Told<StepParts>, WalkError>
-    ensures value { TakesBehind (shapes_of words.Restart) (read_restart) depth reader.old result reader.new }
+    ensures value { TakesBehind (shapes_of words.Restart) read_restart depth reader.old result reader.new }
     ensures shorter { OnOk result (length reader.new < length reader.old) }
 {
     let items = RestartItems::take_items(alloc, version, reader, depth)?;
@@ -201,7 +201,7 @@ pub(crate) fn take_reset(
     reader: &mut Reader<'_>,
     depth: usize,
 ) -> Result<Told<StepParts>, WalkError>
-    ensures value { TakesBehind (shapes_of words.Reset) (read_reset) depth reader.old result reader.new }
+    ensures value { TakesBehind (shapes_of words.Reset) read_reset depth reader.old result reader.new }
     ensures shorter { OnOk result (length reader.new < length reader.old) }
 {
     let items = ResetItems::take_items(alloc, version, reader, depth)?;

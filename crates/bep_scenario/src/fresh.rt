@@ -6,6 +6,7 @@ mod links;
 mod shares;
 
 use bep_record::Items;
+pub(crate) use links::{FreshLink, links_of};
 use std::alloc::{AllocError, Global};
 use std::marker::Model;
 

@@ -7,12 +7,16 @@
 //!         Err(DocError::Refused(fault)) => tell(fault.fault.number(), fault.fault.name()),
 //!         Err(DocError::Memory) => give_up(),
 //!     }
+//!
+//! `read_lazy_scenario` reads the same, and makes each step when the caller asks for it, so it takes less memory where there
+//! are very many.
 #![tactic(auto)]
 
 mod behind;
 mod faults;
 mod fresh;
 mod laws;
+mod lazy;
 mod making;
 mod members;
 mod parts;
@@ -23,7 +27,8 @@ mod step;
 mod words;
 
 pub use laws::{faultless_scenarios_start, scenarios_are_faultless, scenarios_begin_empty};
-pub use making::steps_of;
+pub use lazy::{LazyScenario, read_lazy_scenario};
+pub use making::{Steps, steps_of};
 pub use parts::{ScenarioParts, StepParts};
 pub use reading::read_scenario_parts;
 pub use scenario::{Scenario, read_scenario};

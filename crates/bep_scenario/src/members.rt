@@ -2,9 +2,9 @@
 ghost use Rattle.std.specs.Prelude.{◌≡◌, IfOk};
 ghost use Rattle.bep_scenario.specs.inner.Members.{scenario_names, scenario_slots, scenario_things, scenario_of, scenario_told};
 
-use crate::fresh::{Fresh, into_parts};
+use crate::fresh::{Fresh, FreshLink, into_parts, links_of};
 use crate::{ScenarioParts, StepParts};
-use bep_document::{CheckParts, Few, FolderParts, LinkParts, has_few_devices};
+use bep_document::{CheckParts, Few, FolderParts, has_few_devices};
 use bep_json::{DocVersion, Misread, Slots, Told, Whole, both, due, fill, fill_leaf, noted};
 use bep_record::{Items, MAX_FOLDERS};
 use bep_tree::{Reader, WalkError};
@@ -12,17 +12,15 @@ use std::alloc::{AllocError, Global};
 
 type FreshFolders = Few<Fresh<FolderParts>, MAX_FOLDERS>;
 
-type FreshLinks = Items<Fresh<LinkParts>>;
-
 // Whether the version is there, and the things that the other members say.
-type ScenarioThings = (bool, (FreshFolders, (FreshLinks, Items<StepParts>)));
+type ScenarioThings = (bool, (FreshFolders, (Items<FreshLink>, Items<StepParts>)));
 
 // What is told of the members of a scenario document.
 #[derive(Drop)]
 pub(crate) struct ScenarioSlots {
     version: Option<Told<Whole<1, 2>>>,
     folders: Option<Told<FreshFolders>>,
-    links: Option<Told<FreshLinks>>,
+    links: Option<Told<Items<FreshLink>>>,
     steps: Option<Told<Items<StepParts>>>,
 }
 
@@ -98,7 +96,7 @@ fn scenario_of(
     if !has_few_devices(alloc, folders.as_slice())? {
         return Ok(Err(Misread::Range));
     }
-    let links = into_parts(alloc, links)?;
+    let links = links_of(alloc, links)?;
     let certificate = Items::new(Vec::new(alloc));
     let cluster = CheckParts {
         version,

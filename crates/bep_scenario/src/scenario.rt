@@ -2,8 +2,8 @@
 ghost use Rattle.bep_document.specs.Reading.{AnswersBy};
 ghost use Rattle.bep_scenario.specs.Scenario.{said, scenario_of};
 
-use crate::{config_of, read_scenario_parts, steps_of};
-use bep_config::{Config, ConfigError};
+use crate::{LazyScenario, read_lazy_scenario};
+use bep_config::Config;
 use bep_document::DocError;
 use bep_json::DocVersion;
 use bep_machine::Step;
@@ -28,14 +28,12 @@ pub struct Scenario {
 pub fn read_scenario(alloc: Global, bytes: &[u8]) -> Result<Scenario, DocError>
     ensures { AnswersBy said result (scenario_of bytes.now) }
 {
-    let parts = read_scenario_parts(alloc, bytes)?;
-    let version = parts.cluster.version;
-    let config = match config_of(alloc, &parts.cluster) {
-        Ok(config) => config,
-        Err(ConfigError::Memory) => return Err(DocError::Memory),
-        Err(ConfigError::ConfigBad) => unreachable!(),
-    };
-    let steps = steps_of(alloc, parts.steps)?;
+    let LazyScenario {
+        version,
+        config,
+        steps,
+    } = read_lazy_scenario(alloc, bytes)?;
+    let steps = steps.collect(alloc)?;
     Ok(Scenario {
         version,
         config,

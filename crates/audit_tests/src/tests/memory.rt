@@ -10,7 +10,7 @@ use bep_explain::{
 };
 use bep_play::{played, report_on_cut};
 use bep_report::push_certificate_2;
-use bep_scenario::read_scenario;
+use bep_scenario::read_lazy_scenario;
 use bep_tables::Cut;
 use std::alloc::Global;
 
@@ -66,7 +66,7 @@ fn under_winners(alloc: Global, cut: &Cut) -> [bool; 3] {
 }
 
 fn stepped(alloc: Global) -> Option<bool> {
-    let scenario = read_scenario(alloc, SCENARIO.as_bytes()).ok()?;
+    let scenario = read_lazy_scenario(alloc, SCENARIO.as_bytes()).ok()?;
     Some(played(alloc, scenario).is_ok())
 }
 

@@ -4,4 +4,4 @@ use Rattle.bep_play.proofs.play.play.Given as goal
 
 -- the steps so far, with those that are left, are all of them
 abbrev pub invariant-loop-step : goal.invariant-loop-step
-invariant-loop-step l = LeadsSoFar (cluster_of l.fn.cluster) l.fn.steps.items (cluster_of l.cluster) l.step-iterator.rest.items l.told.items l.place
+invariant-loop-step l = LeadsSoFar (cluster_of l.fn.cluster) l.fn.steps (cluster_of l.cluster) l.step-iterator l.told.items l.place

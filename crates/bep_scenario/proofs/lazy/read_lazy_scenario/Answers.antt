@@ -1,7 +1,7 @@
 use Rattle.std.proofs.Common.{Err, ap}
 use Rattle.bep_scenario.proofs.FaultlessFacts.{scenario_faultless}
 use Rattle.bep_scenario.proofs.StartFacts.{may_start}
-use Rattle.bep_scenario.proofs.scenario.read_scenario.Goals as goal
+use Rattle.bep_scenario.proofs.lazy.read_lazy_scenario.Goals as goal
 
 -- what was read may start
 pub unreachable-requires : goal.unreachable-requires

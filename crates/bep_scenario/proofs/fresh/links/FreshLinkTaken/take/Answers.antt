@@ -1,7 +1,7 @@
 use Rattle.std.proofs.Common.{◌≡◌, ◌∙◌, Err, ap, rules}
 use Rattle.bep_scenario.specs.inner.Fresh.{link_told}
 use Rattle.bep_scenario.proofs.told.Fresh.{link_is}
-use Rattle.bep_scenario.proofs.fresh.links.FreshLinkPartsTaken.take.Goals as goal
+use Rattle.bep_scenario.proofs.fresh.links.FreshLinkTaken.take.Goals as goal
 
 pub returns-in_err-ends-clause-value : goal.returns-in_err-ends-clause-value
 returns-in_err-ends-clause-value c = λ d rest stood.
