@@ -5,6 +5,8 @@ import (
 	"io"
 	"sort"
 
+	"github.com/syncthing/syncthing/lib/config"
+	"github.com/syncthing/syncthing/lib/protocol"
 	"golang.org/x/exp/slices"
 	"syncthing-audit/audit"
 	"syncthing-audit/device"
@@ -12,6 +14,7 @@ import (
 	"syncthing-audit/finding"
 	"syncthing-audit/gather"
 	"syncthing-audit/join"
+	"syncthing-audit/part"
 	"syncthing-audit/report"
 )
 
@@ -140,6 +143,7 @@ func (i *inputs) deviceOf(home *device.Home, asked options) (*gather.Device, err
 	sort.Slice(folders, func(a, b int) bool { return folders[a].ID < folders[b].ID })
 	for _, one := range folders {
 		if len(asked.folders) > 0 && !slices.Contains(asked.folders, one.ID) {
+			made.Others = append(made.Others, otherOf(one, home.ID))
 			continue
 		}
 		index, err := home.Index(one)
@@ -151,6 +155,17 @@ func (i *inputs) deviceOf(home *device.Home, asked options) (*gather.Device, err
 		made.Folders = append(made.Folders, index)
 	}
 	return made, nil
+}
+
+// otherOf gives what a part says of a folder that it hasn't, at a device of this id.
+func otherOf(one config.FolderConfiguration, device protocol.DeviceID) part.Other {
+	made := part.Other{ID: one.ID, Label: one.Label, Devices: []string{}}
+	for _, other := range one.Devices {
+		if other.DeviceID != device {
+			made.Devices = append(made.Devices, other.DeviceID.String())
+		}
+	}
+	return made
 }
 
 // tellDevices tells whose homes and parts these are.

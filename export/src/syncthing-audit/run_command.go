@@ -16,6 +16,7 @@ import (
 	"syncthing-audit/finding"
 	"syncthing-audit/leftover"
 	"syncthing-audit/looks"
+	"syncthing-audit/part"
 )
 
 // secondsOfStillness is how long second looks wait once all first ones are over, if --still doesn't say it. Mostly, what is
@@ -255,6 +256,9 @@ func (r *running) answer(program ask.Program, output io.Writer) (int, error) {
 	defer opened.close()
 	for _, one := range opened.devices {
 		one.From = names[one.From]
+		if len(r.asked.folders) == 0 && one.Head.Others == nil {
+			one.Head.Others = []part.Other{} // an older program made it, of all folders
+		}
 	}
 	if read.lines {
 		tellDevices(r.log, opened.devices)

@@ -26,13 +26,13 @@ type Options struct {
 
 // Collect goes through the folders of a plan. Each document is given to take, as long as nothing was refused.
 func Collect(plan *join.Plan, options Options, take func(*document.Document) error) (*finding.Answer, error) {
-	made := &collector{plan: plan, options: options, take: take, answer: &finding.Answer{}}
-	for _, one := range plan.Devices {
-		made.answer.Devices = append(made.answer.Devices, finding.Device{ID: one.Head.Device, Number: one.Number, Name: one.Head.Name,
-			Made: one.Head.Made, From: one.From})
-	}
+	made := &collector{plan: plan, options: options, take: take, answer: &finding.Answer{IsByName: plan.IsByName}}
 	for _, one := range plan.Refusals {
 		made.refuse(finding.Refusal{Kind: one.Kind, Folder: one.Folder, Device: label(one), Why: one.Why})
+	}
+	for _, one := range plan.Devices {
+		made.answer.Devices = append(made.answer.Devices, finding.Device{ID: one.Head.Device, Number: one.Number, Name: one.Head.Name,
+			Made: one.Head.Made, From: one.From, Unasked: unaskedOf(plan, one), IsSilent: one.Head.Others == nil})
 	}
 	for _, one := range plan.Folders {
 		if err := made.folder(one); err != nil {

@@ -16,6 +16,7 @@ type Answer struct {
 	Refusals []Refusal        // what isn't audited and wasn't asked to be left out: with any of these there is no verdict; the first MostListed
 	Unlisted map[string]int64 // how many more refusals there are of each kind than are listed
 	LeftOut  []Refusal        // devices and folders that were left out on request
+	IsByName bool             // whether the folders were asked for by their ids
 }
 
 // Device is a device that was audited.
@@ -25,6 +26,15 @@ type Device struct {
 	Name   string
 	Made   time.Time // when its part was made
 	From   string    // the home or file that it was read from
+
+	Unasked  []Unasked // folders of it that weren't asked for
+	IsSilent bool      // whether its part doesn't say which folders it hasn't
+}
+
+// Unasked is a folder that a device has and that wasn't audited, since nobody asked for it.
+type Unasked struct {
+	ID, Label string
+	InPart    bool // whether the device's part has it
 }
 
 // Folder is what was found in a folder. As JSON it lacks the long lists, which WriteLists writes.
@@ -173,7 +183,18 @@ func (a *Answer) IsPartial() bool {
 			return true
 		}
 	}
-	return len(a.LeftOut) > 0
+	return len(a.LeftOut) > 0 || a.lacksFolders()
+}
+
+// lacksFolders says whether the devices have folders that weren't audited, or may have some, and nobody chose the others by
+// their ids.
+func (a *Answer) lacksFolders() bool {
+	for _, one := range a.Devices {
+		if !a.IsByName && (one.IsSilent || len(one.Unasked) > 0) {
+			return true
+		}
+	}
+	return false
 }
 
 // First gives the failure that one document of all would have told, with its folder; nothing where all is settled.

@@ -31,12 +31,13 @@ type Device struct {
 	Bytes    bool     // the bytes of files, too, in memory alone
 	Pool     *disk.Pool
 	Look     *part.Look // of a device that may run
+	Others   []part.Other
 }
 
 // Head gives the head of the device's part.
 func (d *Device) Head() *part.Head {
 	made := &part.Head{Version: part.Version, Device: d.ID, Name: d.Name, Made: time.Now().UTC().Truncate(time.Second),
-		Prefix: d.Prefix, Folders: []part.Folder{}, Look: d.Look}
+		Prefix: d.Prefix, Folders: []part.Folder{}, Look: d.Look, Others: append([]part.Other{}, d.Others...)}
 	if d.Look != nil {
 		made.Version = part.VersionOfLooks
 	}

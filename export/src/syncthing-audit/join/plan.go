@@ -24,6 +24,7 @@ type Plan struct {
 	Devices  []*Device // their numbers rising
 	Folders  []*Folder
 	Refusals []Refusal
+	IsByName bool // whether the folders were asked for by their ids
 }
 
 // NewPlan says what is to be audited of these devices: the folders that are wanted, or all. Of what the refusals name the
@@ -40,7 +41,7 @@ func NewPlan(devices []*Device, wanted []string) (*Plan, error) {
 	if err != nil {
 		return nil, err
 	}
-	made := &Plan{Devices: devices}
+	made := &Plan{Devices: devices, IsByName: len(wanted) > 0}
 	for _, id := range ids {
 		if folder := made.folder(id); folder != nil {
 			made.Folders = append(made.Folders, folder)

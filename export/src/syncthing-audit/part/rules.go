@@ -32,6 +32,21 @@ func checkHead(head *Head) error {
 			return fmt.Errorf("the part's folder %q: %w", one.ID, err)
 		}
 	}
+	return checkOthers(head)
+}
+
+// checkOthers says why the folders that a part hasn't are none.
+func checkOthers(head *Head) error {
+	for place, one := range head.Others {
+		if head.Folder(one.ID) != nil || place > 0 && head.Others[place-1].ID >= one.ID {
+			return fmt.Errorf("the part says that it hasn't the folder %q, which isn't in its place", one.ID)
+		}
+		for _, device := range one.Devices {
+			if Number(device) == 0 {
+				return fmt.Errorf("the part says that folder %q is shared with %q, which is no device id", one.ID, device)
+			}
+		}
+	}
 	return nil
 }
 

@@ -43,6 +43,14 @@ type Head struct {
 	Prefix  string    `json:"prefix,omitempty"` // only names that begin so were read
 	Folders []Folder  `json:"folders"`          // rising by id
 	Look    *Look     `json:"look,omitempty"`   // of a device that may run
+	Others  []Other   `json:"other_folders"`    // rising by id; nothing where an older program made the part, which doesn't say
+}
+
+// Other is a folder that the device has by its configuration, and that its part hasn't, since it wasn't asked for.
+type Other struct {
+	ID      string   `json:"id"`
+	Label   string   `json:"label,omitempty"`
+	Devices []string `json:"devices"` // others that it is shared with
 }
 
 // Folder is a folder at the device.

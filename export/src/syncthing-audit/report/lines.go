@@ -67,6 +67,19 @@ func Rest(to io.Writer, answer *finding.Answer) {
 	for _, one := range answer.LeftOut {
 		fmt.Fprintf(to, "left out: folder %s, device %s: %s\n", one.Folder, one.Device, one.Why)
 	}
+	unasked(to, answer)
+}
+
+// unasked prints which folders of the devices weren't audited, since nobody asked for them, or that this isn't known.
+func unasked(to io.Writer, answer *finding.Answer) {
+	for _, device := range answer.Devices {
+		for _, one := range device.Unasked {
+			fmt.Fprintf(to, "not asked for: folder %s on %d\n", one.ID, device.Number)
+		}
+		if device.IsSilent {
+			fmt.Fprintf(to, "not told: other folders of %d\n", device.Number)
+		}
+	}
 }
 
 // unwon prints what each device has of each name without a winner.

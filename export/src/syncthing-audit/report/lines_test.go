@@ -138,6 +138,20 @@ firm wasn't asked: pics
 	}
 }
 
+// Which folders of the devices weren't audited is told; without --folder that isn't settled.
+func TestLinesOfOtherFolders(t *testing.T) {
+	answer := &finding.Answer{Folders: []*finding.Folder{folderOf("docs", 2)}, Devices: []finding.Device{{Number: 1, IsSilent: true},
+		{Number: 2, Unasked: []finding.Unasked{{ID: "music", Label: "My music"}}}}}
+	for _, verdict := range []string{"settled as far as audited", "settled"} {
+		var written strings.Builder
+		Lines(&written, answer)
+		if written.String() != verdict+"\nfolder docs: 2 names, 0 deleted, 2 devices\nfirm: docs\nnot told: other folders of 1\nnot asked for: folder music on 2\n" {
+			t.Errorf("%s", written.String())
+		}
+		answer.IsByName = true
+	}
+}
+
 // What was in motion while running devices were looked at isn't called settled.
 func TestLinesOfRunningDevices(t *testing.T) {
 	folder := folderOf("docs", 2)

@@ -29,7 +29,9 @@ type Summary struct {
 	Folders     []*Folder  `json:"folders"`
 	LeftOut     []LeftOut  `json:"left_out"`  // devices, and folders as a whole
 	NotAsked    []NotAsked `json:"not_asked"` // folders of these devices
+	NotTold     []string   `json:"not_told"`  // devices whose parts don't say which folders they haven't
 	NotCompared []string   `json:"not_compared"`
+	isByName    bool       // whether the folders were asked for by their ids
 }
 
 // Device is a device that was audited.
@@ -116,19 +118,13 @@ type LeftOut struct {
 	Why    string `json:"why"`
 }
 
-// NotAsked is a folder that a device has and that wasn't audited.
-type NotAsked struct {
-	Folder string `json:"folder"`
-	Device string `json:"device"`
-}
-
 // notCompared is what no audit compares.
 var notCompared = []string{"owners", "extended attributes", "old versions"}
 
 // Of gives the summary of an answer.
 func Of(answer *finding.Answer) *Summary {
 	made := &Summary{Version: Version, Verdict: verdictOf(answer), Firm: answer.HowFirm(), Devices: []Device{}, Folders: []*Folder{}, LeftOut: []LeftOut{},
-		NotAsked: notAsked(answer), NotCompared: notCompared}
+		NotAsked: notAsked(answer), NotTold: notTold(answer), NotCompared: notCompared, isByName: answer.IsByName}
 	prefixes := prefixesOf(answer)
 	for _, one := range answer.Devices {
 		made.Devices = append(made.Devices, Device{one.ID, one.Name, one.Made, one.From, prefixes[one.ID]})
@@ -227,31 +223,6 @@ func prefixesOf(answer *finding.Answer) map[string]Text {
 	for _, folder := range answer.Folders {
 		for _, one := range folder.Members {
 			made[one.Head.Device] = Text(one.Head.Prefix)
-		}
-	}
-	return made
-}
-
-// notAsked gives the folders of these devices that weren't asked for.
-func notAsked(answer *finding.Answer) []NotAsked {
-	asked := map[string]bool{}
-	for _, one := range answer.Folders {
-		asked[one.ID] = true
-	}
-	for _, one := range answer.LeftOut {
-		asked[one.Folder] = true
-	}
-	made := []NotAsked{}
-	seen := map[NotAsked]bool{}
-	for _, folder := range answer.Folders {
-		for _, member := range folder.Members {
-			for _, has := range member.Head.Folders {
-				one := NotAsked{has.ID, member.Head.Device}
-				if !asked[has.ID] && !seen[one] {
-					seen[one] = true
-					made = append(made, one)
-				}
-			}
 		}
 	}
 	return made
