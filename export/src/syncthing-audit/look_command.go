@@ -23,13 +23,15 @@ import (
 // checkLooks says what is wrong with the words that ask for one of two looks.
 func (o *options) checkLooks() error {
 	switch {
+	case o.about && (o.begin || o.end):
+		return &wrongUsage{"--about looks at nothing: --begin and --end do"}
 	case o.begin && o.end:
 		return &wrongUsage{"--begin and --end are two looks: the second one comes after the first looks at all devices"}
 	case o.end && len(o.tokens) == 0:
 		return &wrongUsage{"--end needs --tokens FILE with the tokens that '--begin' wrote on all devices"}
 	case !o.end && len(o.tokens) > 0:
 		return &wrongUsage{"--tokens is for --end"}
-	case !o.begin && o.rescan:
+	case !o.begin && !o.about && o.rescan:
 		return &wrongUsage{"--rescan is for --begin: a stopped Syncthing scans nothing"}
 	case !o.begin && o.heeds:
 		return &wrongUsage{"--heed-input is for --begin"}

@@ -24,6 +24,7 @@ type options struct {
 	json     bool
 	into     string
 	output   string
+	about    bool
 	begin    bool
 	end      bool
 	tokens   []string // files with tokens
@@ -41,6 +42,7 @@ var usage = fmt.Sprintf(`usage: syncthing-audit part [--home DIR] [--folder ID .
        syncthing-audit check [--home DIR ..] [PART ..] [--folder ID ..]
        syncthing-audit run [MACHINE:[DIR] | DIR ..] [--folder ID ..]
        syncthing-audit part (--begin [--rescan] | --end --tokens FILE ..) [--home DIR] [--folder ID ..] -o FILE
+       syncthing-audit part --about [--rescan] [--home DIR] [--folder ID ..]
        syncthing-audit export [--home DIR ..] [PART ..] --into DIR
        syncthing-audit sum DIR
        syncthing-audit --version
@@ -58,11 +60,13 @@ Says whether Syncthing devices are in step, and where not which device is wrong.
   --home DIR           a device's home on this machine: config.xml, cert.pem and index-v0.14.0.db
   --folder ID          only this folder (may be given more than once; all folders if it isn't)
   --names PREFIX       only names that begin with these bytes
+  --about              of part: what the device is configured to share, as JSON; 'run' asks that of all before it looks.
+                       With --rescan it refuses what can't be scanned
   --begin              first look at a device that may run; writes a token to standard output, or error where the part is there
   --end                second look; needs the tokens of all
   --tokens FILE        tokens, one on a line; - is standard input
   --heed-input         of --begin: end without a part once standard input ends; 'run' has it so on other machines
-  --rescan             ask Syncthing for a scan before the first look, by its REST API, and wait for it
+  --rescan             of run, and of part --begin: ask Syncthing for a scan before the first look, by its REST API, and wait for it
   --still SECONDS      of run: how long second looks wait at least, once first ones are over (10)
   --remote-program P   of run: how this program is called on the other machines (syncthing-audit, on PATH or in ~/.local/bin)
   --dry-run            of run: tell the commands

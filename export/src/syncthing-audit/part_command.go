@@ -19,27 +19,8 @@ import (
 
 // runPart writes a device's part.
 func runPart(words []string, output, log io.Writer) (int, error) {
-	asked, err := readOptions("part", words, func(flags *flag.FlagSet, read *options) {
-		flags.StringVar(&read.output, "o", "", "")
-		flags.BoolVar(&read.begin, "begin", false, "")
-		flags.BoolVar(&read.end, "end", false, "")
-		flags.BoolVar(&read.rescan, "rescan", false, "")
-		flags.BoolVar(&read.heeds, "heed-input", false, "")
-		flags.Var((*list)(&read.tokens), "tokens", "")
-		flags.Var(kinds(read.leaveOut), "leave-out", "")
-	})
+	asked, err := readPartOptions(words)
 	if err != nil {
-		return 0, err
-	}
-	if len(asked.homes) == 0 && (asked.begin || asked.end) {
-		if err := asked.takeDefaultHome(); err != nil {
-			return 0, err
-		}
-	}
-	if len(asked.homes) != 1 || len(asked.parts) > 0 {
-		return 0, &wrongUsage{"a part is made of one --home"}
-	}
-	if err := asked.checkLooks(); err != nil {
 		return 0, err
 	}
 	write, err := whereTo(asked.output, output)
@@ -47,12 +28,38 @@ func runPart(words []string, output, log io.Writer) (int, error) {
 		return 0, err
 	}
 	switch {
+	case asked.about:
+		return statusDone, tellAbout(asked, write)
 	case asked.begin:
 		return statusDone, beginPart(asked, write, output, log)
 	case asked.end:
 		return statusDone, endPart(asked, write, log)
 	}
 	return statusDone, onePart(asked, write, log)
+}
+
+// readPartOptions reads the words behind 'part'.
+func readPartOptions(words []string) (options, error) {
+	asked, err := readOptions("part", words, func(flags *flag.FlagSet, read *options) {
+		flags.StringVar(&read.output, "o", "", "")
+		flags.BoolVar(&read.about, "about", false, "")
+		flags.BoolVar(&read.begin, "begin", false, "")
+		flags.BoolVar(&read.end, "end", false, "")
+		flags.BoolVar(&read.rescan, "rescan", false, "")
+		flags.BoolVar(&read.heeds, "heed-input", false, "")
+		flags.Var((*list)(&read.tokens), "tokens", "")
+		flags.Var(kinds(read.leaveOut), "leave-out", "")
+	})
+	if err == nil && len(asked.homes) == 0 && (asked.about || asked.begin || asked.end) {
+		err = asked.takeDefaultHome()
+	}
+	if err == nil && (len(asked.homes) != 1 || len(asked.parts) > 0) {
+		err = &wrongUsage{"a part is made of one --home"}
+	}
+	if err == nil {
+		err = asked.checkLooks()
+	}
+	return asked, err
 }
 
 // writing writes a part to where it is to go.

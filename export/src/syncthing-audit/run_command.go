@@ -61,6 +61,9 @@ func runRun(words []string, output, log io.Writer) (int, error) {
 	}
 	defer leftover.Remove(room)
 	run := &running{asked: asked, places: places, room: room, log: log, patience: secondsOfPatience * time.Second}
+	if err := run.ask(); err != nil {
+		return 0, err
+	}
 	if err := run.look(); err != nil {
 		return 0, err
 	}
@@ -100,11 +103,7 @@ func (r *running) file(at int, look string) string {
 
 // look makes the first look at all devices, and the second one once all of these are over.
 func (r *running) look() error {
-	devices := "1 device"
-	if len(r.places) > 1 {
-		devices = fmt.Sprintf("%d devices", len(r.places))
-	}
-	fmt.Fprintf(r.log, "syncthing-audit: first look at %s, hashing all files\n", devices)
+	fmt.Fprintf(r.log, "syncthing-audit: first look at %s, hashing all files\n", countOf(len(r.places), "device"))
 	if err := r.all("first look", r.begin); err != nil {
 		return err
 	}

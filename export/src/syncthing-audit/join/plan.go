@@ -142,7 +142,7 @@ func (p *Plan) checkWhole(folder *Folder) {
 		p.refuse("", folder, "", "", fmt.Sprintf("%d devices, at most %d go into a document", len(folder.Members), limits.MostDevices))
 	}
 	for _, one := range folder.Members {
-		if one.About.Kind == "encrypted" {
+		if one.About.Kind == part.KindEncrypted {
 			p.refuse(part.Encrypted, folder, one.Head.Device, one.Head.Name, "the folder is encrypted there")
 		}
 		for _, other := range one.About.Sharing {

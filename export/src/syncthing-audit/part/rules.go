@@ -53,7 +53,7 @@ func checkOthers(head *Head) error {
 // checkFolder says why a folder of a head is none.
 func checkFolder(one *Folder) error {
 	switch one.Kind {
-	case "send-receive", "send-only", "receive-only", "encrypted":
+	case "send-receive", "send-only", "receive-only", KindEncrypted:
 	default:
 		return fmt.Errorf("its kind is %q", one.Kind)
 	}

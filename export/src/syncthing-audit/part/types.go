@@ -34,6 +34,9 @@ const (
 // Kinds are all of them.
 var Kinds = []string{Ignored, Unreadable, Changing, Special, OddName, OddTarget, OddRecord, Rescan, Large, Absent, Encrypted, Unshared}
 
+// KindEncrypted is the kind of a folder whose device has it encrypted, of which no document is made.
+const KindEncrypted = "encrypted"
+
 // Head says whose part it is and what it holds.
 type Head struct {
 	Version int       `json:"version"`
