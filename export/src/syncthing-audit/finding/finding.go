@@ -48,6 +48,7 @@ type Folder struct {
 	Failures    Failures                `json:"-"` // what documents tell
 	Unwon       spill.List[Unwon]       `json:"-"` // names without a winner, rising; each is a failure, too
 	Permissions spill.List[Permissions] `json:"-"` // rising
+	Damaged     spill.List[Damaged]     `json:"-"` // rising: what a disk itself fails to give; each is a failure, too
 	Firmness    Firmness                `json:"-"` // what documents tell, where none tells a failure
 	Loose       spill.List[Loose]       `json:"-"` // rising: what keeps a settled folder from being firm
 	Conflicts   []Conflict              // copies that a device still has, whether they are in step or not: the first MostListed

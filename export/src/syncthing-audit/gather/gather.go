@@ -87,7 +87,7 @@ func (d *Device) names(folder Folder, about *part.Folder, end *part.End, sink pa
 		}
 		line := next.finish()
 		end.Names++
-		if line.Disk != nil && line.Disk.Contents != nil {
+		if line.Disk != nil && line.Disk.Contents != nil && line.Disk.Lost == "" {
 			end.Bytes += line.Disk.Size
 		}
 		if err := sink(part.Line{Name: line}); err != nil {

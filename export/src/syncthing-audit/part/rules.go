@@ -168,7 +168,7 @@ func checkName(one *Name, in *Folder, hasBytes bool) error {
 		}
 	}
 	for _, out := range one.Out {
-		if !IsKind(out.Kind) || out.Why == "" || out.Bytes < 0 {
+		if !IsKind(out.Kind) && out.Kind != Damaged || out.Why == "" || out.Bytes < 0 {
 			return fmt.Errorf("%s is left out as %q", shell.Path(string(one.Name)), out.Kind)
 		}
 	}

@@ -31,7 +31,10 @@ const (
 	Unshared   = "unshared"   // a folder that one device shares and the other doesn't
 )
 
-// Kinds are all of them.
+// Damaged is the kind of what the disk itself fails to give. That is a fault of the device, and never left out on request.
+const Damaged = "damaged"
+
+// Kinds are all that may be left out.
 var Kinds = []string{Ignored, Unreadable, Changing, Special, OddName, OddTarget, OddRecord, Rescan, Large, Absent, Encrypted, Unshared}
 
 // KindEncrypted is the kind of a folder whose device has it encrypted, of which no document is made.
@@ -153,6 +156,7 @@ type Node struct {
 	Target      string    `json:"target,omitempty"`
 	Permissions uint32    `json:"permissions"`
 	Differ      *Differ   `json:"differ,omitempty"`
+	Lost        string    `json:"lost,omitempty"`  // why the disk fails to give the file's bytes; its contents are those of no file then
 	Stamp       string    `json:"stamp,omitempty"` // of a look: another one for each file and directory, and for each write to a file
 
 	Data []byte `json:"-"` // in memory alone, for documents with bytes

@@ -62,6 +62,7 @@ func Rest(to io.Writer, answer *finding.Answer) {
 		live(to, folder)
 		unwon(to, folder)
 		permissions(to, folder)
+		damaged(to, folder)
 		leftOut(to, folder)
 	}
 	for _, one := range answer.LeftOut {
@@ -104,6 +105,15 @@ func permissions(to io.Writer, folder *finding.Folder) {
 			}
 		}
 		fmt.Fprintln(to)
+	})
+}
+
+// damaged prints of which names a disk itself fails to give what it has.
+func damaged(to io.Writer, folder *finding.Folder) {
+	folder.Damaged.Each(func(one *finding.Damaged) {
+		for _, at := range one.At {
+			fmt.Fprintf(to, "damaged: %s %s on %d: %s\n", folder.ID, printed(string(one.Name)), folder.Members[at.Member].Number, at.Why)
+		}
 	})
 }
 

@@ -46,6 +46,9 @@ func fileOf(folder *finding.Folder, told *finding.Told) *File {
 		read := &reader{folder: folder, row: row, file: made, reasons: map[int][]string{}}
 		read.read(told.Failures)
 	}
+	if told.Damaged != nil {
+		made.addDamage(folder, told.Damaged)
+	}
 	if told.Permissions != nil {
 		made.Permissions = modesOf(folder, told.Permissions)
 	}

@@ -20,6 +20,8 @@ func full(folder *finding.Folder) {
 	fails(folder, "alike", []*part.Name{with(file(1, 1), rotten), with(file(1, 1), rotten)}, "StoreDiffers 1", "StoreDiffers 2")
 	fails(folder, "behind", []*part.Name{file(2, 1), file(1, 2)}, "RecordDiffers 2", "StoreDiffers 2", "ViewAhead 2", "ViewAhead 3")
 	fails(folder, "odd", nil, "NameUnknown 0")
+	fails(folder, "lost", []*part.Name{file(1, 1), with(file(1, 1), lost)}, "StoreDiffers 2")
+	folder.Damaged.Add(finding.Damaged{Name: "lost", IsFile: true, At: []finding.DamagedAt{{Member: 1, Why: "read lost: input/output error"}}})
 	fails(folder, "kept", nil, "StoreDiffers 1")
 	for _, name := range []string{"1", "2", "3", "4", "5", "6"} {
 		fails(folder, name, []*part.Name{file(1, 1), nil}, "RecordMissing 2")

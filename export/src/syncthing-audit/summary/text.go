@@ -163,6 +163,7 @@ var wordsOf = map[Cause]string{
 	OnlySeen:      "known from another device, which doesn't have it",
 	OtherTime:     "the recorded bytes with another time than recorded",
 	NewerKnown:    "knows of another version that it could still take",
+	Damaged:       "the disk fails to give what it has; it may be lost there",
 	Differs:       "differs; details weren't kept",
 }
 
@@ -198,6 +199,8 @@ func (p *printer) wordsOf(one *Fault) string {
 // since says when a file was modified, as far as that is known. For a deletion it says of when the deletion is.
 func (p *printer) since(one *Fault) string {
 	switch {
+	case one.Cause == Damaged && one.Why != "":
+		return " (" + one.Why + ")"
 	case one.Cause == OtherBytes && one.Recorded != nil:
 		return " (modified " + p.when(one.Recorded.Modified) + ")"
 	case one.Cause == LocalChange && one.Recorded != nil && one.Deletion:
