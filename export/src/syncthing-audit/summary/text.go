@@ -29,9 +29,7 @@ func (s *Summary) Print(to io.Writer, zone *time.Location, now time.Time) {
 		for _, one := range folder.Groups {
 			p.group(folder, one)
 		}
-		for _, one := range folder.Files {
-			p.file(folder, one)
-		}
+		p.files(folder)
 		p.loose(folder)
 	}
 	p.rest(s)
@@ -118,16 +116,21 @@ func (p *printer) file(folder *Folder, one *File) {
 	}
 	p.modes(one.Permissions)
 	if len(one.Faults) > 0 && !isOfNobody(one) {
-		have := "no audited device"
-		if len(one.Have) > 0 {
-			have = p.named.all(one.Have)
-		}
-		p.line("  as recorded on: %s", have)
+		p.have(one)
 	}
 	if len(one.Follows) > 0 {
 		p.line("  so %s can still take another version of it, until that is mended", p.named.all(devicesOf(one.Follows)))
 	}
 	p.advice(one.Advice)
+}
+
+// have prints which devices have what is due.
+func (p *printer) have(one *File) {
+	have := "no audited device"
+	if len(one.Have) > 0 {
+		have = p.named.all(one.Have)
+	}
+	p.line("  as recorded on: %s", have)
 }
 
 // isOfNobody says whether a name has no winner, so that there is nothing that devices should have.
