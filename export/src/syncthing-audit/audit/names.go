@@ -49,6 +49,9 @@ func (n *names) audit(row *join.Row) error {
 	n.addPermissions(row)
 	n.addConflict(row)
 	n.addDamaged(row)
+	if isDeleting(row) {
+		n.found.Deleting++
+	}
 	if !hasWinner(row) && isKnown(row) {
 		n.addUnwon(row)
 		return nil

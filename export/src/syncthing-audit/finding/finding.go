@@ -43,6 +43,7 @@ type Folder struct {
 	Members     []join.Member // their numbers rising; the rows' places are theirs
 	Names       int64         // known ones, those without a winner included
 	Deleted     int64         // of these what no device holds
+	Deleting    int64         // of these what is deleted, and a device hasn't taken that yet
 	Bytes       int64         // that were hashed on all devices together
 	Documents   int
 	Failures    Failures                `json:"-"` // what documents tell

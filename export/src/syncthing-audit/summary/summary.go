@@ -51,6 +51,7 @@ type Folder struct {
 	Verdict string   `json:"verdict"`
 	Names   int64    `json:"names"`
 	Deleted int64    `json:"deleted"`
+	Going   int64    `json:"being_deleted"`
 	Bytes   int64    `json:"bytes_hashed"`
 	Devices []Member `json:"devices"`
 	Wrong   int64    `json:"names_wrong"` // files, directories and symlinks that keep the folder from being in step
@@ -177,7 +178,7 @@ func verdictOf(answer *finding.Answer) string {
 
 // folderOf gives the summary of a folder.
 func folderOf(answer *finding.Answer, from *finding.Folder, named labels) *Folder {
-	made := &Folder{ID: from.ID, Label: from.Label, Verdict: InStep, Names: from.Names, Deleted: from.Deleted, Bytes: from.Bytes,
+	made := &Folder{ID: from.ID, Label: from.Label, Verdict: InStep, Names: from.Names, Deleted: from.Deleted, Going: from.Deleting, Bytes: from.Bytes,
 		Devices: []Member{}, Files: []*File{}, Groups: []*Group{}, Copies: []Copy{}, LeftOut: []Names{}, Ignored: Count(from.Outside), MoreOut: Count(from.Unlisted.LeftOut), More: Count(from.Unlisted.Conflicts)}
 	switch {
 	case from.HasFailures():

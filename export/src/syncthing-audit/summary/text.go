@@ -70,8 +70,11 @@ func (p *printer) folder(one *Folder) {
 	if one.Live != nil {
 		names, moving = still(one)+names, "; in motion: "+thousands(one.Live.Moving)
 	}
-	p.line("%s%s: %s; %s (%s deleted), %s hashed on %s%s", one.ID, label, verdict, names, thousands(one.Deleted), size(one.Bytes),
-		p.named.all(devices), moving)
+	deleted := thousands(one.Deleted) + " deleted"
+	if one.Going > 0 {
+		deleted += ", " + thousands(one.Going) + " being deleted"
+	}
+	p.line("%s%s: %s; %s (%s), %s hashed on %s%s", one.ID, label, verdict, names, deleted, size(one.Bytes), p.named.all(devices), moving)
 }
 
 // group prints names with the same fault as one entry.

@@ -136,6 +136,19 @@ var textsForAPerson = []struct {
   to do: if instead the bytes on phone, server are the right ones, which are the same, 'touch' the
          file on phone alone and let Syncthing scan: it sends them to all.
 ` + lastLine},
+	{"a deletion on its way", 2, func(folder *finding.Folder) {
+		folder.Deleting = 1
+		gone := &part.Name{Own: &part.Record{ModifiedS: later, ModifiedBy: 1, Version: [][2]uint64{{1, 2}}, Sequence: 2, Deleted: true}}
+		fails(folder, "a", []*part.Name{gone, file(1, 1)}, "RecordDiffers 2", "StoreDiffers 2", "ViewAhead 2")
+	}, `docs (Documents): NOT in step, 1 name is wrong; 1,204 names (4 deleted, 1 being deleted), 335.2 MB hashed on laptop, server
+
+a  (in docs, 300.0 kB)
+  server: behind: hasn't deleted it yet (since 2020-09-13 12:27:40 UTC)
+  as recorded on: laptop
+  to do: let Syncthing run on server and on laptop, and let them finish. If it stays so, see whether
+         a device or the folder is paused, whether they are connected, and whether a disk is full;
+         or 'Ignore Delete' is set for the folder on server.
+` + lastLine},
 	{"a missing file", 2, func(folder *finding.Folder) {
 		fails(folder, "a", []*part.Name{file(1, 1), with(file(1, 1), func(one *part.Name) { one.Disk = nil })}, "StoreDiffers 2")
 	}, lineOfFolder + `
