@@ -75,6 +75,25 @@ class OtherFolders(Exporting):
         self.assertEqual((status, told[1]), (6, f"not told: which other folders {self.one.id[:7]} may share; an older syncthing-audit "
                                                 "made the part there: make it anew"))
 
+    def assert_named(self, words, why):
+        """What is refused names the folder by its id and its label, as an answer does."""
+        ran = run([self.program, *words])
+        self.assertEqual((ran.returncode, ran.stdout), (2, ""))
+        self.assertRegex(ran.stderr, f"folder {OTHER} \\({LABEL}\\){why}")
+
+    def test_refusals_name_the_label(self):
+        part = ("part", "--home", self.one.home, "--folder", OTHER, "-o")
+        files = self.one.home.parent / OTHER
+        self.assert_named(["check", "--home", self.one.home, "--syncaudit", self.auditor], ", device .*: it shares the folder")
+        self.assert_named([*part, files / "one.part"], ", whose devices would all get it")
+        (files / ".stignore").write_text("#include nowhere\n")
+        for look in ((), ("--begin",)):
+            self.assert_named([*part, self.room / "one.part", *look], ": .*/.stignore can't be read")
+        (files / ".stignore").unlink()
+        (files / ".stfolder").rename(files / "away")
+        self.assert_named([*part, self.room / "one.part"], ": .* is its disk mounted")
+        (files / "away").rename(files / ".stfolder")
+
     def test_two_looks_at_one_folder(self):
         """The devices are stopped, which 'run' doesn't mind."""
         for words, told in (((), []), (("--folder", FOLDER), [f"not asked for: 1 folder: {self.on_both()}"])):

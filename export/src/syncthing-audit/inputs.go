@@ -16,6 +16,7 @@ import (
 	"syncthing-audit/join"
 	"syncthing-audit/part"
 	"syncthing-audit/report"
+	"syncthing-audit/shell"
 )
 
 // inputs are the homes and parts that are read, to be closed.
@@ -148,7 +149,7 @@ func (i *inputs) deviceOf(home *device.Home, asked options) (*gather.Device, err
 		}
 		index, err := home.Index(one)
 		if err != nil {
-			return nil, fmt.Errorf("%s: %w", home.Dir, err)
+			return nil, fmt.Errorf("%s: %w", home.Dir, shell.Labelled(err, one.ID, one.Label))
 		}
 		i.closers = append(i.closers, index.Close)
 		i.work.toHash += index.Bytes()

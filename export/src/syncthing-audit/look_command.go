@@ -173,7 +173,7 @@ func rescan(asked options) error {
 		if len(asked.folders) > 0 && !slices.Contains(asked.folders, one.ID) {
 			continue
 		}
-		if err := rest.Scan(asked.homes[0], about.GUI, one.ID); err != nil {
+		if err := rest.Scan(asked.homes[0], about.GUI, one.ID, one.Label); err != nil {
 			return fmt.Errorf("refused: %s: %w", asked.homes[0], err)
 		}
 	}

@@ -119,7 +119,7 @@ func checkOutside(path string, folders []config.FolderConfiguration) error {
 	for _, one := range folders {
 		root, err := filepath.EvalSymlinks(one.Filesystem().URI())
 		if err == nil && one.Path != "" && strings.HasPrefix(real, strings.TrimSuffix(root, "/")+"/") {
-			return fmt.Errorf("refused: %s would be in folder %s, whose devices would all get it: name a file elsewhere", shell.Quoted(path), one.ID)
+			return fmt.Errorf("refused: %s would be in folder %s, whose devices would all get it: name a file elsewhere", shell.Quoted(path), shell.Folder(one.ID, one.Label))
 		}
 	}
 	return nil

@@ -55,7 +55,7 @@ func Refused(plan *join.Plan, leaveOut map[string]bool) *finding.Answer {
 // refusePlan notes what of the plan isn't audited.
 func (c *collector) refusePlan() {
 	for _, one := range c.plan.Refusals {
-		c.refuse(finding.Refusal{Kind: one.Kind, Folder: one.Folder, Device: label(one), Why: one.Why})
+		c.refuse(finding.Refusal{Kind: one.Kind, Folder: one.Folder, Label: one.Label, Device: label(one), Why: one.Why})
 	}
 }
 

@@ -119,7 +119,7 @@ func (n *names) leaveOut(row *join.Row, reasons []finding.Reason) {
 	for _, why := range reasons {
 		if why.Kind != part.Damaged && !n.options.LeaveOut[why.Kind] {
 			refused = true
-			n.refuse(finding.Refusal{Kind: why.Kind, Folder: n.found.ID, Device: n.labelOf(why.Member), Name: row.Name, Why: why.Why})
+			n.refuse(finding.Refusal{Kind: why.Kind, Folder: n.found.ID, Label: n.found.Label, Device: n.labelOf(why.Member), Name: row.Name, Why: why.Why})
 		}
 	}
 	switch {

@@ -139,6 +139,7 @@ type Reason struct {
 type Refusal struct {
 	Kind   string // that --leave-out names; none where it can't be left out
 	Folder string
+	Label  string // of the folder
 	Device string // as a person knows it
 	Name   string
 	Why    string

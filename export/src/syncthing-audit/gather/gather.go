@@ -10,6 +10,7 @@ import (
 	"syncthing-audit/device"
 	"syncthing-audit/disk"
 	"syncthing-audit/part"
+	"syncthing-audit/shell"
 )
 
 // Folder is where a folder at a device is read from.
@@ -56,7 +57,7 @@ func (d *Device) Run(head *part.Head, sink part.Sink) error {
 		}
 		end := &part.End{Folder: about.ID, Last: place == len(d.Folders)-1}
 		if err := d.names(one, about, end, sink); err != nil {
-			return err
+			return shell.Labelled(err, about.ID, about.Label)
 		}
 		if err := one.Check(); err != nil {
 			return err

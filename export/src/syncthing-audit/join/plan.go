@@ -14,6 +14,7 @@ import (
 type Refusal struct {
 	Kind   string
 	Folder string
+	Label  string // of the folder
 	Device string // its id, or nothing
 	Name   string // what the device is called by those who know it
 	Why    string
@@ -130,7 +131,7 @@ func (p *Plan) folder(id string) *Folder {
 
 // refuse adds a refusal.
 func (p *Plan) refuse(kind string, folder *Folder, device, name, why string) {
-	p.Refusals = append(p.Refusals, Refusal{kind, folder.ID, device, name, why})
+	p.Refusals = append(p.Refusals, Refusal{kind, folder.ID, folder.Label, device, name, why})
 }
 
 // checkWhole refuses a folder that no document has.
@@ -241,9 +242,9 @@ func checkDirectories(folders []*Folder) error {
 			other, taken := seen[one.About.Directory]
 			if taken && other.Device != one.Device {
 				return fmt.Errorf("refused: folder %s, %s: its directory %s is that of %s for folder %s, too. A copied home's "+
-					"config.xml is to name the directory of the copied folder", folder.ID, one.Label(), one.About.Path, other.Label(), other.folder)
+					"config.xml is to name the directory of the copied folder", folder.Called(), one.Label(), one.About.Path, other.Label(), other.folder)
 			}
-			seen[one.About.Directory] = owner{one, folder.ID}
+			seen[one.About.Directory] = owner{one, folder.Called()}
 		}
 	}
 	return nil

@@ -162,22 +162,22 @@ const mostAlike = 5
 
 // tellRefusals prints refusals. Of many names of one kind at one device of a folder it tells the first ones.
 func tellRefusals(to io.Writer, all []finding.Refusal) {
-	type alike struct{ folder, device, kind string }
+	type alike struct{ folder, label, device, kind string }
 	told, more := map[alike]int{}, []alike{}
 	for _, one := range all {
-		same := alike{one.Folder, one.Device, one.Kind}
+		same := alike{one.Folder, one.Label, one.Device, one.Kind}
 		if one.Name != "" && one.Kind != "" {
 			told[same]++
 		}
 		switch {
 		case told[same] <= mostAlike || one.Name == "":
-			fmt.Fprintf(to, "syncthing-audit: refused: folder %s%s: %s\n", shell.Quoted(one.Folder), placeOf(one), one.Why)
+			fmt.Fprintf(to, "syncthing-audit: refused: folder %s%s: %s\n", shell.Folder(one.Folder, one.Label), placeOf(one), one.Why)
 		case told[same] == mostAlike+1:
 			more = append(more, same)
 		}
 	}
 	for _, one := range more {
-		fmt.Fprintf(to, "syncthing-audit: refused: folder %s%s: %d more of the kind %s\n", shell.Quoted(one.folder),
+		fmt.Fprintf(to, "syncthing-audit: refused: folder %s%s: %d more of the kind %s\n", shell.Folder(one.folder, one.label),
 			placeOf(finding.Refusal{Device: one.device}), told[one]-mostAlike, one.kind)
 	}
 }

@@ -52,11 +52,11 @@ func TestVerdicts(t *testing.T) {
 func TestRefusals(t *testing.T) {
 	var written strings.Builder
 	Refusals(&written, &finding.Answer{Refusals: []finding.Refusal{
-		{Kind: "absent", Folder: "docs", Device: "phone", Why: "no part of it is given"},
+		{Kind: "absent", Folder: "docs", Label: "My Documents", Device: "phone", Why: "no part of it is given"},
 		{Kind: "special", Folder: "docs", Device: "laptop (ABCDEFG)", Name: "-a `b` $c", Why: "it is a fifo"},
 		{Folder: "docs", Why: "too many"},
 	}, Unlisted: map[string]int64{"special": 4, "ignored": 5}})
-	const expected = `syncthing-audit: refused: folder docs, device phone: no part of it is given
+	const expected = `syncthing-audit: refused: folder docs (My Documents), device phone: no part of it is given
 syncthing-audit: refused: folder docs, device laptop (ABCDEFG), name './-a ` + "`b`" + ` $c': it is a fifo
 syncthing-audit: refused: folder docs: too many
 syncthing-audit: refused: 5 more of the kind ignored

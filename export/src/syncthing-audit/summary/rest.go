@@ -20,7 +20,7 @@ func (p *printer) rest(s *Summary) {
 		}
 	}
 	for _, one := range s.LeftOut {
-		p.line("left out: %s of %s: %s", one.Folder, one.Device, one.Why)
+		p.line("left out: %s of %s: %s", shell.Folder(one.Folder, one.label), one.Device, one.Why)
 	}
 	p.notAsked(s)
 	for _, one := range s.Devices {

@@ -117,6 +117,7 @@ type LeftOut struct {
 	Device string `json:"device"`
 	Kind   string `json:"kind"`
 	Why    string `json:"why"`
+	label  string // of the folder
 }
 
 // notCompared is what no audit compares.
@@ -135,7 +136,7 @@ func Of(answer *finding.Answer) *Summary {
 		made.Folders = append(made.Folders, folderOf(answer, one, named))
 	}
 	for _, one := range answer.LeftOut {
-		made.LeftOut = append(made.LeftOut, LeftOut{one.Folder, one.Device, one.Kind, one.Why})
+		made.LeftOut = append(made.LeftOut, LeftOut{one.Folder, one.Device, one.Kind, one.Why, one.Label})
 	}
 	return made
 }

@@ -58,10 +58,6 @@ func (p *printer) verdict(one *Folder) string {
 // folder prints the one line of a folder.
 func (p *printer) folder(one *Folder) {
 	verdict := p.verdict(one)
-	label := ""
-	if one.Label != "" && one.Label != one.ID {
-		label = " (" + shell.Printable(one.Label) + ")"
-	}
 	devices := []string{}
 	for _, member := range one.Devices {
 		devices = append(devices, member.Device)
@@ -74,7 +70,7 @@ func (p *printer) folder(one *Folder) {
 	if one.Going > 0 {
 		deleted += ", " + thousands(one.Going) + " being deleted"
 	}
-	p.line("%s%s: %s; %s (%s), %s hashed on %s%s", one.ID, label, verdict, names, deleted, size(one.Bytes), p.named.all(devices), moving)
+	p.line("%s: %s; %s (%s), %s hashed on %s%s", shell.Folder(one.ID, one.Label), verdict, names, deleted, size(one.Bytes), p.named.all(devices), moving)
 }
 
 // group prints names with the same fault as one entry.

@@ -41,10 +41,7 @@ func notTold(answer *finding.Answer) []string {
 func (p *printer) notAsked(s *Summary) {
 	folders, devices := []string{}, map[string][]string{}
 	for _, one := range s.NotAsked {
-		name := one.Folder
-		if one.Label != "" && one.Label != one.Folder {
-			name += " (" + shell.Printable(one.Label) + ")"
-		}
+		name := shell.Folder(one.Folder, one.Label)
 		folders = addOnce(folders, name)
 		devices[name] = addOnce(devices[name], one.Device)
 	}
