@@ -91,6 +91,21 @@ cd "{room}/$machine/user" && HOME=$PWD PATH={programs}:$PATH exec sh -c "$*"
         self.assertEqual((ran.returncode, ran.stdout), (2, ""))
         self.assertIn("does Syncthing run there?", ran.stderr)
 
+    def test_a_scan_of_a_paused_folder_is_refused(self):
+        """It is told what to do, before any device scans or hashes."""
+        self.two.api("PATCH", f"config/folders/{FOLDER}", {"paused": True})
+        try:
+            wait_until("it is paused", lambda: "<paused>true" in (self.two.home / "config.xml").read_text())
+            ran = self.run_on("--rescan")
+            alone = run([self.program, "part", "--begin", "--rescan", "--home", self.two.home, "-o", self.room / "paused.begin"])
+        finally:
+            self.two.api("PATCH", f"config/folders/{FOLDER}", {"paused": False})
+            wait_until_in_step(*self.devices)
+        for one in (ran, alone):
+            self.assertEqual((one.returncode, one.stdout), (2, ""))
+            self.assertIn(f"folder {FOLDER} is paused there, and Syncthing doesn't scan it: resume it", one.stderr)
+        self.assertNotIn("hashing", ran.stderr)
+
     def test_a_program_reads_the_same(self):
         ran = self.run_on("--json")
         read = json.loads(ran.stdout)

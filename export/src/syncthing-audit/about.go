@@ -7,7 +7,6 @@ import (
 
 	"github.com/syncthing/syncthing/lib/config"
 	"github.com/syncthing/syncthing/lib/protocol"
-	"golang.org/x/exp/slices"
 	"syncthing-audit/device"
 	"syncthing-audit/join"
 	"syncthing-audit/part"
@@ -23,6 +22,11 @@ func tellAbout(asked options, write writing) error {
 	if err := checkFolders(&device.Home{ID: id, Config: about}, asked.folders); err != nil {
 		return err
 	}
+	if asked.rescan {
+		if err := checkScannable(about, asked); err != nil {
+			return err
+		}
+	}
 	return write(func(to io.Writer) error { return json.NewEncoder(to).Encode(aboutOf(id, about, asked.folders)) })
 }
 
@@ -33,10 +37,7 @@ func aboutOf(id protocol.DeviceID, about config.Configuration, wanted []string) 
 		names[one.DeviceID] = one.Name
 	}
 	made := &part.Head{Version: part.Version, Device: id.String(), Name: names[id], Folders: []part.Folder{}}
-	for _, one := range about.Folders {
-		if len(wanted) > 0 && !slices.Contains(wanted, one.ID) {
-			continue
-		}
+	for _, one := range chosenOf(about, wanted) {
 		folder := part.Folder{ID: one.ID, Label: one.Label, Directory: id.String() + one.ID, Sharing: []part.Sharing{}}
 		if one.Type == config.FolderTypeReceiveEncrypted {
 			folder.Kind = part.KindEncrypted

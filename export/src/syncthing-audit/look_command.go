@@ -11,13 +11,11 @@ import (
 	"syscall"
 	"time"
 
-	"golang.org/x/exp/slices"
 	"syncthing-audit/device"
 	"syncthing-audit/gather"
 	"syncthing-audit/leftover"
 	"syncthing-audit/looks"
 	"syncthing-audit/part"
-	"syncthing-audit/rest"
 )
 
 // checkLooks says what is wrong with the words that ask for one of two looks.
@@ -160,23 +158,6 @@ func (o *options) takeDefaultHome() error {
 		return &wrongUsage{fmt.Sprintf("homes are at %s: --home says which one, for 'run' MACHINE:DIR", strings.Join(found, " and "))}
 	}
 	o.homes = found
-	return nil
-}
-
-// rescan has the folders of a home that are asked for scanned, or all.
-func rescan(asked options) error {
-	about, err := device.ReadConfig(asked.homes[0])
-	if err != nil {
-		return err
-	}
-	for _, one := range about.Folders {
-		if len(asked.folders) > 0 && !slices.Contains(asked.folders, one.ID) {
-			continue
-		}
-		if err := rest.Scan(asked.homes[0], about.GUI, one.ID, one.Label); err != nil {
-			return fmt.Errorf("refused: %s: %w", asked.homes[0], err)
-		}
-	}
 	return nil
 }
 

@@ -45,7 +45,8 @@ func Scan(home string, about config.GUIConfiguration, folder, label string) erro
 	}
 	if answer.StatusCode != http.StatusOK {
 		text, _ := io.ReadAll(io.LimitReader(answer.Body, 1000))
-		return fmt.Errorf("folder %s isn't scanned: %s: %s", called, answer.Status, strings.TrimSpace(string(text)))
+		return fmt.Errorf("folder %s isn't scanned (%s), and Syncthing says: %s. See to that on its page, or audit without --rescan", called, answer.Status,
+			strings.TrimSpace(string(text)))
 	}
 	return nil
 }
