@@ -61,7 +61,7 @@ func beginPart(asked options, write writing, output, log io.Writer) error {
 	}
 	defer glance.Close()
 	endProgress := from.startProgress(log, asked)
-	err = writeWhole(write, func(to io.Writer) error { return writeLines(to, from.read, glance.Compare) })
+	err = writeWhole(write, func(to io.Writer) error { return writeLines(to, log, from.read, glance.Compare) })
 	endProgress()
 	if err != nil {
 		return err
@@ -126,7 +126,7 @@ func endPart(asked options, write writing, log io.Writer) error {
 	}
 	tellCopied(log, from.home)
 	return write(func(to io.Writer) error {
-		return writeLines(to, from.read, func(sink part.Sink) part.Sink {
+		return writeLines(to, log, from.read, func(sink part.Sink) part.Sink {
 			return func(line part.Line) error {
 				if line.Name != nil {
 					line.Name = gather.WithoutChanging(line.Name)

@@ -73,7 +73,7 @@ func onePart(asked options, write writing, log io.Writer) error {
 	}
 	defer from.close()
 	defer from.startProgress(log, asked)()
-	return write(func(to io.Writer) error { return writePart(to, from.read) })
+	return write(func(to io.Writer) error { return writeLines(to, log, from.read, asTheyAre) })
 }
 
 // source is the home of which a part is made.
@@ -151,20 +151,28 @@ func whereTo(path string, output io.Writer) (writing, error) {
 	return func(write func(io.Writer) error) error { return write(faulty{output}) }, nil
 }
 
-// writePart writes a part.
-func writePart(to io.Writer, read *gather.Device) error {
-	return writeLines(to, read, func(sink part.Sink) part.Sink { return sink })
-}
-
-// writeLines writes a part whose lines go through something else first.
-func writeLines(to io.Writer, read *gather.Device, through func(part.Sink) part.Sink) error {
+// writeLines writes a part whose lines go through something else first, and says of one without names that it has none.
+func writeLines(to, log io.Writer, read *gather.Device, through func(part.Sink) part.Sink) error {
 	head := read.Head()
 	writer, err := part.NewWriter(to, head)
 	if err != nil {
 		return err
 	}
-	if err := read.Run(head, through(writer.Take)); err != nil {
+	names := 0
+	err = read.Run(head, through(func(line part.Line) error {
+		if line.Name != nil {
+			names++
+		}
+		return writer.Take(line)
+	}))
+	if err != nil {
 		return err
+	}
+	if names == 0 && read.Prefix != "" {
+		fmt.Fprintf(log, "syncthing-audit: no name here begins with %s, on the disk or in the index: the part has none\n", shell.Quoted(read.Prefix))
 	}
 	return writer.Close()
 }
+
+// asTheyAre gives a sink as it is.
+func asTheyAre(sink part.Sink) part.Sink { return sink }
