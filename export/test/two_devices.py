@@ -70,6 +70,23 @@ class TwoDevices(Answers, Exporting):
         ran = run([self.program, "part", "--home", self.one.home, "--names", "text", "-o", parts[0]])
         self.assertEqual((ran.returncode, ran.stderr), (0, ""))
 
+    def test_a_part_that_a_shell_writes_into_a_folder_is_refused(self):
+        """It would be found there. That is so by another path of the folder, too, and not of a file beside the folder."""
+        beside, link = self.one.home.parent / "beside.part", self.one.home.parent / "link"
+        link.symlink_to(self.one.files)
+        for path in (self.one.files / "one.part", link / "folder" / "one.part"):
+            for words in ((), ("-o", "-"), ("-o", "/dev/stdout"), ("--begin",)):
+                with path.open("wb") as file:
+                    ran = subprocess.run([self.program, "part", "--home", self.one.home, *words], stdout=file, stderr=subprocess.PIPE, text=True)
+                written = path.read_bytes()
+                path.unlink()
+                self.assertEqual((ran.returncode, written), (2, b""), ran.stderr)
+                self.assertIn(f"one.part would be in folder {FOLDER}, whose devices would all get it: name a file elsewhere. It is there already",
+                              ran.stderr)
+        with beside.open("wb") as file:
+            subprocess.run([self.program, "part", "--home", self.one.home], stdout=file, check=True)
+        self.assertGreater(beside.stat().st_size, 0)
+
     def test_nothing_of_the_homes_changes(self):
         before = [files_of(device.home.parent) for device in (self.one, self.two)]
         self.document()

@@ -69,7 +69,7 @@ func beginPart(asked options, write writing, output, log io.Writer) error {
 	tellCopied(log, from.home)
 	fmt.Fprintf(log, lineOfAge, time.Since(over).Seconds())
 	token := looks.Token(from.read.ID, from.read.Look.ID)
-	if standardOutput[asked.output] {
+	if asked.isStandard {
 		output = log
 	}
 	_, err = fmt.Fprintln(faulty{output}, token)
@@ -184,7 +184,7 @@ func writeWhole(write writing, fill func(io.Writer) error) error {
 	}
 	defer leftover.Remove(file.Name())
 	defer file.Close()
-	if err := fill(faulty{file}); err != nil {
+	if err := fill(faulty{temporary{file}}); err != nil {
 		return err
 	}
 	if _, err := file.Seek(0, io.SeekStart); err != nil {

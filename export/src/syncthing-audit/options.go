@@ -6,6 +6,7 @@ import (
 	"fmt"
 	"io"
 	"os"
+	"regexp"
 	"runtime"
 	"strings"
 
@@ -14,28 +15,29 @@ import (
 
 // options are what the command line asks for.
 type options struct {
-	homes    []string
-	parts    []string
-	folders  []string
-	names    string
-	leaveOut map[string]bool
-	bytes    bool
-	lines    bool
-	json     bool
-	into     string
-	output   string
-	about    bool
-	begin    bool
-	end      bool
-	tokens   []string // files with tokens
-	rescan   bool
-	dryRun   bool
-	heeds    bool    // whether the end of standard input ends a first look
-	still    float64 // seconds
-	remote   string  // how this program is called on other machines
-	program  string
-	jobs     int
-	hasJobs  bool // whether they were asked for
+	homes      []string
+	parts      []string
+	folders    []string
+	names      string
+	leaveOut   map[string]bool
+	bytes      bool
+	lines      bool
+	json       bool
+	into       string
+	output     string
+	isStandard bool // whether that is standard output: the file to which it goes, or nothing
+	about      bool
+	begin      bool
+	end        bool
+	tokens     []string // files with tokens
+	rescan     bool
+	dryRun     bool
+	heeds      bool    // whether the end of standard input ends a first look
+	still      float64 // seconds
+	remote     string  // how this program is called on other machines
+	program    string
+	jobs       int
+	hasJobs    bool // whether they were asked for
 }
 
 var usage = fmt.Sprintf(`usage: syncthing-audit part [--home DIR] [--folder ID ..] [--names PREFIX] -o FILE
@@ -138,7 +140,7 @@ func readOptions(name string, words []string, flagsOf func(*flag.FlagSet, *optio
 		if err := flags.Parse(words); errors.Is(err, flag.ErrHelp) {
 			return options{}, errHelp
 		} else if err != nil {
-			return options{}, &wrongUsage{err.Error()}
+			return options{}, wrongFlag(err)
 		}
 		if flags.NArg() == 0 {
 			break
@@ -151,6 +153,19 @@ func readOptions(name string, words []string, flagsOf func(*flag.FlagSet, *optio
 		return options{}, &wrongUsage{"--jobs is at least 1"}
 	}
 	return read, nil
+}
+
+// flagOfGo is a flag as Go's package names it: with one dash, however it was written.
+var flagOfGo = regexp.MustCompile(`(^|\s)-([a-z][a-z-]+)`)
+
+// wrongFlag says what is wrong with a flag, which is named as the help does.
+func wrongFlag(err error) error {
+	text := flagOfGo.ReplaceAllString(err.Error(), "$1--$2")
+	text = strings.Replace(text, "flag provided but not defined: ", "there is no flag ", 1)
+	if flag := strings.TrimPrefix(text, "flag needs an argument: "); flag != text {
+		text = flag + " needs a word behind it"
+	}
+	return &wrongUsage{text}
 }
 
 // checkInputs says what is wrong with homes and parts that belong together.

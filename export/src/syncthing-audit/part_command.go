@@ -5,10 +5,7 @@ import (
 	"flag"
 	"fmt"
 	"io"
-	"path/filepath"
-	"strings"
 
-	"github.com/syncthing/syncthing/lib/config"
 	"syncthing-audit/device"
 	"syncthing-audit/disk"
 	"syncthing-audit/gather"
@@ -26,6 +23,9 @@ func runPart(words []string, output, log io.Writer) (int, error) {
 	write, err := whereTo(asked.output, output)
 	if err != nil {
 		return 0, err
+	}
+	if standardOutput[asked.output] {
+		asked.isStandard, asked.output = true, fileOf(output)
 	}
 	switch {
 	case asked.about:
@@ -94,35 +94,17 @@ func openSource(open func(string) (*device.Home, error), asked options) (*source
 	if err = checkFolders(home, asked.folders); err == nil {
 		made.read, err = made.deviceOf(home, asked)
 	}
-	if err == nil && !standardOutput[asked.output] {
+	if err == nil && asked.output != "" {
 		err = checkOutside(asked.output, home.Config.Folders)
+		if err != nil && asked.isStandard {
+			err = fmt.Errorf("%w. It is there already, since the shell made it: take it away", err)
+		}
 	}
 	if err != nil {
 		made.close()
 		return nil, err
 	}
 	return made, nil
-}
-
-// checkOutside says whether a part would be written into a folder of the device: it would be found there, and sent to others.
-func checkOutside(path string, folders []config.FolderConfiguration) error {
-	real, err := filepath.EvalSymlinks(path)
-	if err != nil {
-		if real, err = filepath.EvalSymlinks(filepath.Dir(path)); err != nil {
-			return err
-		}
-		real = filepath.Join(real, filepath.Base(path))
-	}
-	if real, err = filepath.Abs(real); err != nil {
-		return err
-	}
-	for _, one := range folders {
-		root, err := filepath.EvalSymlinks(one.Filesystem().URI())
-		if err == nil && one.Path != "" && strings.HasPrefix(real, strings.TrimSuffix(root, "/")+"/") {
-			return fmt.Errorf("refused: %s would be in folder %s, whose devices would all get it: name a file elsewhere", shell.Quoted(path), shell.Folder(one.ID, one.Label))
-		}
-	}
-	return nil
 }
 
 // checkFolders says whether a home has no folder, or none with an id that is asked for.
