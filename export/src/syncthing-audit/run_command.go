@@ -61,9 +61,6 @@ func runRun(words []string, output, log io.Writer) (int, error) {
 	}
 	defer leftover.Remove(room)
 	run := &running{asked: asked, places: places, room: room, log: log, patience: secondsOfPatience * time.Second}
-	if err := run.ask(); err != nil {
-		return 0, err
-	}
 	if err := run.look(); err != nil {
 		return 0, err
 	}
@@ -101,8 +98,11 @@ func (r *running) file(at int, look string) string {
 	return filepath.Join(r.room, fmt.Sprintf("%s-%d.part", look, at+1))
 }
 
-// look makes the first look at all devices, and the second one once all of these are over.
+// look asks all devices what they share, makes the first look at all of them, and the second one once all of these are over.
 func (r *running) look() error {
+	if err := r.ask(); err != nil {
+		return err
+	}
 	fmt.Fprintf(r.log, "syncthing-audit: first look at %s, hashing all files\n", countOf(len(r.places), "device"))
 	if err := r.all("first look", r.begin); err != nil {
 		return err
