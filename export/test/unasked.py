@@ -58,6 +58,11 @@ class OtherFolders(Exporting):
         self.assertEqual({line for line in lines if line.startswith("not asked for: ")},
                          {f"not asked for: folder {OTHER} on {self.number(device)}" for device in self.devices})
 
+    def test_one_part_is_without_a_folder(self):
+        ran = self.check_parts([self.part(self.one), self.part(self.two, "--folder", FOLDER)])
+        self.assertEqual((ran.returncode, ran.stdout), (2, ""))
+        self.assertIn(f"folder {OTHER} ({LABEL}), device {self.two.id}: its part is without the folder: make it without --folder", ran.stderr)
+
     def test_one_folder_of_all(self):
         for inputs in (self.homes(), [self.part(device) for device in self.devices]):
             self.assertEqual(self.told(*inputs, "--folder", FOLDER), (0, [f"not asked for: 1 folder: {self.on_both()}"]))

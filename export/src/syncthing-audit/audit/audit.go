@@ -26,7 +26,7 @@ type Options struct {
 
 // Collect goes through the folders of a plan. Each document is given to take, as long as nothing was refused.
 func Collect(plan *join.Plan, options Options, take func(*document.Document) error) (*finding.Answer, error) {
-	made := &collector{plan: plan, options: options, take: take, answer: &finding.Answer{IsByName: plan.IsByName}}
+	made := &collector{plan: plan, options: options, take: take, answer: &finding.Answer{IsByName: plan.IsByName, HasRest: true}}
 	made.refusePlan()
 	for _, one := range plan.Devices {
 		made.answer.Devices = append(made.answer.Devices, finding.Device{ID: one.Head.Device, Number: one.Number, Name: one.Head.Name,

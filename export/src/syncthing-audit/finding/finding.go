@@ -17,6 +17,7 @@ type Answer struct {
 	Unlisted map[string]int64 // how many more refusals there are of each kind than are listed
 	LeftOut  []Refusal        // devices and folders that were left out on request
 	IsByName bool             // whether the folders were asked for by their ids
+	HasRest  bool             // whether the devices' other folders are told: an export of 0.8.0 or before doesn't
 }
 
 // Device is a device that was audited.

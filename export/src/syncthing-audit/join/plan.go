@@ -166,9 +166,9 @@ func (p *Plan) checkSharing(folder *Folder) bool {
 			case at >= 0 && !sharesWith(folder.Members[at].About, one.Head.Device):
 				isShared = false
 				p.refuse(part.Unshared, folder, other.Device, other.Name, "it doesn't share the folder with "+one.Label()+", which shares it with this one")
-			case at < 0 && p.hasDevice(other.Device):
+			case at < 0 && p.device(other.Device) != nil:
 				isShared = false
-				p.refuse(part.Unshared, folder, other.Device, other.Name, "it doesn't share the folder, or its part is without it; "+one.Label()+" shares it with this one")
+				p.refuse(part.Unshared, folder, other.Device, other.Name, p.device(other.Device).whyWithout(folder.ID)+"; "+one.Label()+" shares it with this one")
 			case at < 0 && !absent[other.Device]:
 				absent[other.Device] = true
 				p.refuse(part.Absent, folder, other.Device, other.Name, "it shares the folder, and no home or part of it is given ("+other.Device+")")
@@ -178,14 +178,27 @@ func (p *Plan) checkSharing(folder *Folder) bool {
 	return isShared
 }
 
-// hasDevice says whether a part of this device is here.
-func (p *Plan) hasDevice(device string) bool {
+// device gives the device with this id, if a part of it is here.
+func (p *Plan) device(id string) *Device {
 	for _, one := range p.Devices {
-		if one.Head.Device == device {
-			return true
+		if one.Head.Device == id {
+			return one
 		}
 	}
-	return false
+	return nil
+}
+
+// whyWithout says why a device's part hasn't a folder, as far as the part says that.
+func (d *Device) whyWithout(folder string) string {
+	for _, one := range d.Head.Others {
+		if one.ID == folder {
+			return "its part is without the folder: make it without --folder, or with it for this one, too"
+		}
+	}
+	if d.Head.Others == nil {
+		return "it doesn't share the folder, or its part is without it"
+	}
+	return "it doesn't share the folder"
 }
 
 // sharesWith says whether a folder is shared with this device.
