@@ -43,6 +43,7 @@ type Fault struct {
 	Reasons  []string `json:"reasons"`       // in syncaudit's words
 	Why      string   `json:"why,omitempty"` // of Damaged: the system's words
 	contents []part.Content
+	ends     ends
 	isSeen   bool // by the next scan, since the mode isn't as recorded
 }
 

@@ -125,6 +125,7 @@ func (f *folding) end() ([]*File, []*Group) {
 	for _, one := range files {
 		one.Advice = adviceOf(one, f.named)
 	}
+	link(files)
 	return files, groups
 }
 

@@ -110,6 +110,7 @@ func (p *printer) file(folder *Folder, one *File) {
 	for next := range one.Faults {
 		p.fault(&one.Faults[next])
 	}
+	p.renamed(one)
 	for _, same := range one.Same {
 		p.line("  the same other bytes on: %s", p.named.all(same))
 	}

@@ -138,8 +138,7 @@ var textsForAPerson = []struct {
 ` + lastLine},
 	{"a deletion on its way", 2, func(folder *finding.Folder) {
 		folder.Deleting = 1
-		gone := &part.Name{Own: &part.Record{ModifiedS: later, ModifiedBy: 1, Version: [][2]uint64{{1, 2}}, Sequence: 2, Deleted: true}}
-		fails(folder, "a", []*part.Name{gone, file(1, 1)}, "RecordDiffers 2", "StoreDiffers 2", "ViewAhead 2")
+		fails(folder, "a", []*part.Name{gone(), file(1, 1)}, "RecordDiffers 2", "StoreDiffers 2", "ViewAhead 2")
 	}, `docs (Documents): NOT in step, 1 name is wrong; 1,204 names (4 deleted, 1 being deleted), 335.2 MB hashed on laptop, server
 
 a  (in docs, 300.0 kB)
