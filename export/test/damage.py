@@ -52,6 +52,7 @@ class Damage(Exporting):
         except subprocess.SubprocessError:
             self.skipTest("a filter of system calls isn't allowed here, so no read fails")
         self.assertEqual(ran.returncode, 0, ran.stderr)
+        self.assertIn("the disk here fails to give what it has of 1 name: see the system's log; 'check' tells which these are\n", ran.stderr)
         return path
 
     def test_a_file_that_the_disk_fails_to_give(self):

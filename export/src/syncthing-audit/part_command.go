@@ -20,6 +20,9 @@ func runPart(words []string, output, log io.Writer) (int, error) {
 	if err != nil {
 		return 0, err
 	}
+	if asked.about && standardOutput[asked.output] {
+		return statusDone, tellAbout(asked, directly(output)) // a line that a person can read, too
+	}
 	write, err := whereTo(asked.output, output)
 	if err != nil {
 		return 0, err
@@ -130,20 +133,29 @@ func whereTo(path string, output io.Writer) (writing, error) {
 	if isTerminal(output) {
 		return nil, &wrongUsage{"a part is nothing to read on a terminal: -o FILE"}
 	}
-	return func(write func(io.Writer) error) error { return write(faulty{output}) }, nil
+	return directly(output), nil
 }
 
-// writeLines writes a part whose lines go through something else first, and says of one without names that it has none.
+// directly writes to an output as it is.
+func directly(output io.Writer) writing {
+	return func(write func(io.Writer) error) error { return write(faulty{output}) }
+}
+
+// writeLines writes a part whose lines go through something else first, and says of one without names that it has none, and of
+// what its disk fails to give how much that is.
 func writeLines(to, log io.Writer, read *gather.Device, through func(part.Sink) part.Sink) error {
 	head := read.Head()
 	writer, err := part.NewWriter(to, head)
 	if err != nil {
 		return err
 	}
-	names := 0
+	names, damaged := 0, 0
 	err = read.Run(head, through(func(line part.Line) error {
 		if line.Name != nil {
 			names++
+		}
+		if line.Name != nil && line.Name.IsDamaged() {
+			damaged++
 		}
 		return writer.Take(line)
 	}))
@@ -152,6 +164,10 @@ func writeLines(to, log io.Writer, read *gather.Device, through func(part.Sink) 
 	}
 	if names == 0 && read.Prefix != "" {
 		fmt.Fprintf(log, "syncthing-audit: no name here begins with %s, on the disk or in the index: the part has none\n", shell.Quoted(read.Prefix))
+	}
+	if damaged > 0 {
+		fmt.Fprintf(log, "syncthing-audit: the disk here fails to give what it has of %s: see the system's log; 'check' tells which these are\n",
+			countOf(damaged, "name"))
 	}
 	return writer.Close()
 }

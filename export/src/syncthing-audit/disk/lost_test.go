@@ -69,6 +69,28 @@ func (f failing) DirNames(name string) ([]string, error) {
 	return f.Filesystem.DirNames(name)
 }
 
+// gone is a disk that fails once a file is read.
+type gone struct{ fs.Filesystem }
+
+func (gone) Lstat(name string) (fs.FileInfo, error) {
+	return nil, &os.PathError{Op: "lstat", Path: name, Err: syscall.EIO}
+}
+
+func TestADiskThatFailsAfterTheBytesAreRead(t *testing.T) {
+	room := t.TempDir()
+	path := filepath.Join(room, "file")
+	if err := os.WriteFile(path, []byte("hello"), 0o600); err != nil {
+		t.Fatal(err)
+	}
+	pool := NewPool(1)
+	defer pool.Close()
+	_, _, _, err := pool.Begin(File{Disk: gone{fs.NewFilesystem(fs.FilesystemTypeBasic, room)}, Name: "file", Stamp: Stamp(path), Node: nodeAt(t, path),
+		BlockSizes: []int64{protocol.MinBlockSize}}).Wait()
+	if !IsDamage(err) {
+		t.Error(err)
+	}
+}
+
 func TestADirectoryThatTheDiskFailsToGive(t *testing.T) {
 	room := t.TempDir()
 	if err := os.MkdirAll(filepath.Join(room, "a/b"), 0o755); err != nil {
