@@ -14,6 +14,7 @@ complete -c syncthing-audit -n "__fish_seen_subcommand_from part check export" -
 complete -c syncthing-audit -n "__fish_seen_subcommand_from part check run export" -l folder -x -d 'Only this folder'
 complete -c syncthing-audit -n "__fish_seen_subcommand_from part check run export" -l names -x -d 'Only names that begin so'
 complete -c syncthing-audit -n "__fish_seen_subcommand_from part check run export" -l jobs -x -d 'How many at once'
+complete -c syncthing-audit -n "__fish_seen_subcommand_from part" -l about -d 'What the device shares'
 complete -c syncthing-audit -n "__fish_seen_subcommand_from part" -l begin -d 'The first look at a device that may run'
 complete -c syncthing-audit -n "__fish_seen_subcommand_from part" -l end -d 'The second look'
 complete -c syncthing-audit -n "__fish_seen_subcommand_from part" -l tokens -r -d 'What all first looks told'

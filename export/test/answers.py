@@ -43,6 +43,19 @@ class Answers:
                      f"  to do: Syncthing won't repair it: copy it from {self.label(self.one)} to {self.label(self.two)}"):
             self.assertIn(told, text)
 
+    def test_a_person_reads_of_a_rename(self):
+        """Two names with the same bytes, one of which is gone from the disk, are told as renamed."""
+        old, new = self.two.files / "folder" / "large", self.two.files / "renamed"
+        old.rename(new)
+        try:
+            status, text = self.answer()
+        finally:
+            new.rename(old)
+        self.assertEqual(status, 1)
+        entries = {entry.split("  (in ")[0]: entry for entry in text.split("\n\n")}
+        self.assertIn("  it seems to be renamed to renamed: the bytes are the same\n", entries["folder/large"])
+        self.assertIn("  it seems to be renamed from folder/large: the bytes are the same\n", entries["renamed"])
+
     def test_a_program_reads_the_same(self):
         with self.other_bytes():
             status, text = self.answer("--json")

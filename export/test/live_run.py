@@ -91,6 +91,21 @@ cd "{room}/$machine/user" && HOME=$PWD PATH={programs}:$PATH exec sh -c "$*"
         self.assertEqual((ran.returncode, ran.stdout), (2, ""))
         self.assertIn("does Syncthing run there?", ran.stderr)
 
+    def test_a_scan_of_a_paused_folder_is_refused(self):
+        """It is told what to do, before any device scans or hashes."""
+        self.two.api("PATCH", f"config/folders/{FOLDER}", {"paused": True})
+        try:
+            wait_until("it is paused", lambda: "<paused>true" in (self.two.home / "config.xml").read_text())
+            ran = self.run_on("--rescan")
+            alone = run([self.program, "part", "--begin", "--rescan", "--home", self.two.home, "-o", self.room / "paused.begin"])
+        finally:
+            self.two.api("PATCH", f"config/folders/{FOLDER}", {"paused": False})
+            wait_until_in_step(*self.devices)
+        for one in (ran, alone):
+            self.assertEqual((one.returncode, one.stdout), (2, ""))
+            self.assertIn(f"folder {FOLDER} is paused there, and Syncthing doesn't scan it: resume it", one.stderr)
+        self.assertNotIn("hashing", ran.stderr)
+
     def test_a_program_reads_the_same(self):
         ran = self.run_on("--json")
         read = json.loads(ran.stdout)
@@ -125,6 +140,7 @@ cd "{room}/$machine/user" && HOME=$PWD PATH={programs}:$PATH exec sh -c "$*"
         ran = self.run_at(["one:", "off:"])
         self.assertEqual((ran.returncode, ran.stdout), (2, ""))
         self.assertIn("off: its command ended with exit status 255: ssh: connect to host off", ran.stderr)
+        self.assertNotIn("hashing", ran.stderr)
 
     def test_a_machine_without_the_program(self):
         ran = self.run_at(["one:"], "--remote-program", "nothing-there")
@@ -136,8 +152,28 @@ cd "{room}/$machine/user" && HOME=$PWD PATH={programs}:$PATH exec sh -c "$*"
         ran = self.run_at(["one:", "two:"])
         self.assertEqual((ran.returncode, ran.stdout), (2, ""))
         self.assertIn(self.three.id, ran.stderr)
+        self.assertNotIn("hashing", ran.stderr)
         ran = self.run_at(["one:", "two:"], "--leave-out", "absent", "--lines")
         self.assertEqual((ran.returncode, ran.stdout.splitlines()[0]), (6, "settled as far as audited"), ran.stderr)
+
+    def test_a_device_that_is_given_twice(self):
+        ran = self.run_at(["one:", f"two:{self.two.home}", self.three.home, self.one.home])
+        self.assertEqual((ran.returncode, ran.stdout), (2, ""))
+        self.assertIn(f"one: and {self.one.home} are both of device", ran.stderr)
+        self.assertNotIn("hashing", ran.stderr)
+
+    def test_a_machine_with_an_older_program(self):
+        """It doesn't know the question what it shares, which is told; all else goes on as it did."""
+        older = self.room / "older"
+        older.write_text('#!/bin/sh\ncase "$*" in *--about*) echo "syncthing-audit: flag provided but not defined: -about" >&2; exit 3;; esac\n'
+                         f'exec {self.program} "$@"\n')
+        older.chmod(0o700)
+        ran = self.run_on("--remote-program", str(older))
+        self.assertEqual(ran.returncode, 0, ran.stderr)
+        self.assertIn("one: the syncthing-audit there is older, and doesn't say what is shared before it hashes", ran.stderr)
+        ran = self.run_at(["one:", "two:"], "--remote-program", str(older))
+        self.assertEqual((ran.returncode, ran.stdout), (2, ""))
+        self.assertIn(self.three.id, ran.stderr)
 
     def test_the_other_machine_ends_with_the_run(self):
         """What hashes elsewhere ends once the one who asks is gone, and takes away its copy of the index."""

@@ -134,7 +134,7 @@ class Manners(unittest.TestCase):
         """The status says that it can't be written; a part that stood there before stays as it was."""
         ran = self.on_a_full_disk("64k", f"echo old > one.part; {self.program} part --home {self.homes[0]} -o one.part; echo $?; ls -A; cat one.part")
         self.assertEqual(ran.stdout.split(), ["5", "one.part", "old"], ran.stderr)
-        self.assertIn("no space left on device", ran.stderr)
+        self.assertIn("write one.part: no space left on device", ran.stderr)
 
     def test_documents_on_a_full_disk(self):
         ran = self.on_a_full_disk("64k", f"{self.program} export {self.parts[0]} {self.parts[1]} --into documents; echo $?")

@@ -124,10 +124,10 @@ class Device:
                 self.process.kill()
             self.process = None
 
-    def api(self, method, path):
-        """What the REST API answers."""
+    def api(self, method, path, body=None):
+        """What the REST API answers, to this body as JSON where there is one."""
         asked = urllib.request.Request(f"http://127.0.0.1:{self.api_port}/rest/{path}", method=method,
-                                       headers={"X-API-Key": self.api_key})
+                                       data=None if body is None else json.dumps(body).encode(), headers={"X-API-Key": self.api_key})
         with urllib.request.urlopen(asked, timeout=SECONDS_TO_WAIT) as answer:
             text = answer.read()
         return json.loads(text) if text else None

@@ -57,6 +57,36 @@ class TwoDevices(Answers, Exporting):
     def test_names_of_which_there_is_none_are_refused(self):
         self.assertIn("no name begins with nobody", self.refused("--names", "nobody"))
 
+    def test_a_part_without_names_says_so(self):
+        """It is made all the same: the device may be behind with all of them. Where no part has any, the audit is refused."""
+        parts = [self.room / f"{place}.nobody.part" for place in (1, 2)]
+        for device, path in zip(self.devices, parts):
+            ran = run([self.program, "part", "--home", device.home, "--names", "no body", "-o", path])
+            self.assertEqual((ran.returncode, ran.stdout), (0, ""))
+            self.assertIn("no name here begins with 'no body', on the disk or in the index: the part has none\n", ran.stderr)
+        ran = self.check_parts(parts)
+        self.assertEqual((ran.returncode, ran.stdout), (2, ""))
+        self.assertIn("no name begins with 'no body'", ran.stderr)
+        ran = run([self.program, "part", "--home", self.one.home, "--names", "text", "-o", parts[0]])
+        self.assertEqual((ran.returncode, ran.stderr), (0, ""))
+
+    def test_a_part_that_a_shell_writes_into_a_folder_is_refused(self):
+        """It would be found there. That is so by another path of the folder, too, and not of a file beside the folder."""
+        beside, link = self.one.home.parent / "beside.part", self.one.home.parent / "link"
+        link.symlink_to(self.one.files)
+        for path in (self.one.files / "one.part", link / "folder" / "one.part"):
+            for words in ((), ("-o", "-"), ("-o", "/dev/stdout"), ("--begin",)):
+                with path.open("wb") as file:
+                    ran = subprocess.run([self.program, "part", "--home", self.one.home, *words], stdout=file, stderr=subprocess.PIPE, text=True)
+                written = path.read_bytes()
+                path.unlink()
+                self.assertEqual((ran.returncode, written), (2, b""), ran.stderr)
+                self.assertIn(f"one.part would be in folder {FOLDER}, whose devices would all get it: name a file elsewhere. It is there already",
+                              ran.stderr)
+        with beside.open("wb") as file:
+            subprocess.run([self.program, "part", "--home", self.one.home], stdout=file, check=True)
+        self.assertGreater(beside.stat().st_size, 0)
+
     def test_nothing_of_the_homes_changes(self):
         before = [files_of(device.home.parent) for device in (self.one, self.two)]
         self.document()

@@ -63,5 +63,9 @@ func (e *exported) readFrom(lines *json.Decoder) error {
 	if e.Answer == nil {
 		return errors.New("it has no answer")
 	}
+	for place := range e.Answer.Devices {
+		one := &e.Answer.Devices[place]
+		one.IsSilent = one.IsSilent || !e.Answer.HasRest
+	}
 	return e.Answer.ReadLists(lines)
 }

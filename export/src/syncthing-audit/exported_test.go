@@ -55,3 +55,22 @@ func TestWhatAnExportLeft(t *testing.T) {
 		t.Errorf("a directory without an export: status %d, and %q", status, log.String())
 	}
 }
+
+// An export of an older program doesn't say which other folders the devices share, and the sum says so.
+func TestAnExportOfAnOlderProgram(t *testing.T) {
+	room := exportedPart(t)
+	path := filepath.Join(room, restName)
+	text, err := os.ReadFile(path)
+	if err != nil {
+		t.Fatal(err)
+	}
+	for from, isTold := range map[string]bool{`"HasRest":true`: false, `"HasRest":false`: true} {
+		if err := os.WriteFile(path, []byte(strings.Replace(string(text), `"HasRest":true`, from, 1)), 0o600); err != nil {
+			t.Fatal(err)
+		}
+		var output strings.Builder
+		if status := run([]string{"sum", room}, &output, io.Discard); status != statusPartial || strings.Contains(output.String(), "not told: ") != isTold {
+			t.Errorf("%s: %d\n%s", from, status, output.String())
+		}
+	}
+}

@@ -7,6 +7,7 @@ import (
 	"strings"
 	"testing"
 
+	"golang.org/x/exp/slices"
 	"syncthing-audit/ask"
 	"syncthing-audit/device"
 	"syncthing-audit/finding"
@@ -120,31 +121,33 @@ func TestAnAnswerThatDiffersIsRefused(t *testing.T) {
 	}
 }
 
-// What an answer means is said as far as it was asked.
+// What an answer means is said as far as it rests on that: nothing is promised of what isn't in step.
 func TestMeaning(t *testing.T) {
-	const caveat, argued, old = "merge versions", "argued", "too old"
-	first := &finding.Failure{Reason: finding.VersionDiffers, Name: "a", Device: 1}
+	const caveat, argued, old, scan, page = "merge versions", "argued", "too old", "next scan", "'man syncthing-audit', under WHAT AN ANSWER MEANS"
 	scans := finding.Permissions{Name: "a", At: []finding.Bits{{Has: true, Index: 0o644, OnDisk: true, Disk: 0o600}}}
+	firm := &finding.Folder{Firmness: finding.Firmness{Asked: true}}
+	scanned, failed := &finding.Folder{Firmness: firm.Firmness}, &finding.Folder{Firmness: firm.Firmness}
+	scanned.Permissions.Add(scans)
+	failed.Permissions.Add(scans)
+	failed.Failures.Add(finding.Failure{Reason: "StoreDiffers", Name: "a", Device: 1})
+	isnt := &finding.Folder{Firmness: finding.Firmness{Asked: true, First: &finding.Failure{Reason: finding.VersionDiffers, Name: "a", Device: 1}}}
+	unasked := &finding.Folder{}
 	for _, one := range []struct {
-		firmness finding.Firmness
-		modes    []finding.Permissions
-		told     []string
-	}{{finding.Firmness{Asked: true}, nil, []string{argued}}, {finding.Firmness{Asked: true}, []finding.Permissions{scans}, []string{argued, "next scan"}},
-		{finding.Firmness{Asked: true, First: first}, nil, []string{caveat}}, {finding.Firmness{}, nil, []string{caveat, old}}} {
-		folder := &finding.Folder{Firmness: one.firmness}
-		for _, modes := range one.modes {
-			folder.Permissions.Add(modes)
-		}
-		text := meaningOf(&finding.Answer{Folders: []*finding.Folder{folder}})
-		for _, words := range []string{caveat, argued, old, "next scan"} {
-			is := false
-			for _, other := range one.told {
-				is = is || words == other
-			}
-			if strings.Contains(text, words) != is {
-				t.Errorf("%+v: %q", one.firmness, text)
+		folders []*finding.Folder
+		told    []string
+	}{{[]*finding.Folder{firm}, []string{argued, page}}, {[]*finding.Folder{scanned}, []string{argued, scan, page}}, {[]*finding.Folder{isnt}, []string{caveat, page}},
+		{[]*finding.Folder{unasked}, []string{caveat, old, page}}, {[]*finding.Folder{failed}, nil}, {[]*finding.Folder{failed, firm}, []string{argued, page}},
+		{[]*finding.Folder{isnt, firm, failed}, []string{caveat, argued, page}}} {
+		text := meaningOf(&finding.Answer{Folders: one.folders})
+		for _, words := range []string{caveat, argued, old, scan, page} {
+			if strings.Contains(text, words) != slices.Contains(one.told, words) {
+				t.Errorf("%s: %q", one.told, text)
 			}
 		}
+	}
+	manual, err := os.ReadFile("../../../docs/syncthing-audit.1")
+	if err != nil || !strings.Contains(string(manual), "\n.SH WHAT AN ANSWER MEANS\n") {
+		t.Error("the man page hasn't the section that is told")
 	}
 }
 

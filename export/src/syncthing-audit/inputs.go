@@ -5,6 +5,8 @@ import (
 	"io"
 	"sort"
 
+	"github.com/syncthing/syncthing/lib/config"
+	"github.com/syncthing/syncthing/lib/protocol"
 	"golang.org/x/exp/slices"
 	"syncthing-audit/audit"
 	"syncthing-audit/device"
@@ -12,7 +14,9 @@ import (
 	"syncthing-audit/finding"
 	"syncthing-audit/gather"
 	"syncthing-audit/join"
+	"syncthing-audit/part"
 	"syncthing-audit/report"
+	"syncthing-audit/shell"
 )
 
 // inputs are the homes and parts that are read, to be closed.
@@ -140,17 +144,29 @@ func (i *inputs) deviceOf(home *device.Home, asked options) (*gather.Device, err
 	sort.Slice(folders, func(a, b int) bool { return folders[a].ID < folders[b].ID })
 	for _, one := range folders {
 		if len(asked.folders) > 0 && !slices.Contains(asked.folders, one.ID) {
+			made.Others = append(made.Others, otherOf(one, home.ID))
 			continue
 		}
 		index, err := home.Index(one)
 		if err != nil {
-			return nil, fmt.Errorf("%s: %w", home.Dir, err)
+			return nil, fmt.Errorf("%s: %w", home.Dir, shell.Labelled(err, one.ID, one.Label))
 		}
 		i.closers = append(i.closers, index.Close)
 		i.work.toHash += index.Bytes()
 		made.Folders = append(made.Folders, index)
 	}
 	return made, nil
+}
+
+// otherOf gives what a part says of a folder that it hasn't, at a device of this id.
+func otherOf(one config.FolderConfiguration, device protocol.DeviceID) part.Other {
+	made := part.Other{ID: one.ID, Label: one.Label, Devices: []string{}}
+	for _, other := range one.Devices {
+		if other.DeviceID != device {
+			made.Devices = append(made.Devices, other.DeviceID.String())
+		}
+	}
+	return made
 }
 
 // tellDevices tells whose homes and parts these are.

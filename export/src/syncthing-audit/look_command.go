@@ -11,25 +11,25 @@ import (
 	"syscall"
 	"time"
 
-	"golang.org/x/exp/slices"
 	"syncthing-audit/device"
 	"syncthing-audit/gather"
 	"syncthing-audit/leftover"
 	"syncthing-audit/looks"
 	"syncthing-audit/part"
-	"syncthing-audit/rest"
 )
 
 // checkLooks says what is wrong with the words that ask for one of two looks.
 func (o *options) checkLooks() error {
 	switch {
+	case o.about && (o.begin || o.end):
+		return &wrongUsage{"--about looks at nothing: --begin and --end do"}
 	case o.begin && o.end:
 		return &wrongUsage{"--begin and --end are two looks: the second one comes after the first looks at all devices"}
 	case o.end && len(o.tokens) == 0:
 		return &wrongUsage{"--end needs --tokens FILE with the tokens that '--begin' wrote on all devices"}
 	case !o.end && len(o.tokens) > 0:
 		return &wrongUsage{"--tokens is for --end"}
-	case !o.begin && o.rescan:
+	case !o.begin && !o.about && o.rescan:
 		return &wrongUsage{"--rescan is for --begin: a stopped Syncthing scans nothing"}
 	case !o.begin && o.heeds:
 		return &wrongUsage{"--heed-input is for --begin"}
@@ -61,7 +61,7 @@ func beginPart(asked options, write writing, output, log io.Writer) error {
 	}
 	defer glance.Close()
 	endProgress := from.startProgress(log, asked)
-	err = writeWhole(write, func(to io.Writer) error { return writeLines(to, from.read, glance.Compare) })
+	err = writeWhole(write, func(to io.Writer) error { return writeLines(to, log, from.read, glance.Compare) })
 	endProgress()
 	if err != nil {
 		return err
@@ -69,7 +69,7 @@ func beginPart(asked options, write writing, output, log io.Writer) error {
 	tellCopied(log, from.home)
 	fmt.Fprintf(log, lineOfAge, time.Since(over).Seconds())
 	token := looks.Token(from.read.ID, from.read.Look.ID)
-	if standardOutput[asked.output] {
+	if asked.isStandard {
 		output = log
 	}
 	_, err = fmt.Fprintln(faulty{output}, token)
@@ -126,7 +126,7 @@ func endPart(asked options, write writing, log io.Writer) error {
 	}
 	tellCopied(log, from.home)
 	return write(func(to io.Writer) error {
-		return writeLines(to, from.read, func(sink part.Sink) part.Sink {
+		return writeLines(to, log, from.read, func(sink part.Sink) part.Sink {
 			return func(line part.Line) error {
 				if line.Name != nil {
 					line.Name = gather.WithoutChanging(line.Name)
@@ -161,23 +161,6 @@ func (o *options) takeDefaultHome() error {
 	return nil
 }
 
-// rescan has the folders of a home that are asked for scanned, or all.
-func rescan(asked options) error {
-	about, err := device.ReadConfig(asked.homes[0])
-	if err != nil {
-		return err
-	}
-	for _, one := range about.Folders {
-		if len(asked.folders) > 0 && !slices.Contains(asked.folders, one.ID) {
-			continue
-		}
-		if err := rest.Scan(asked.homes[0], about.GUI, one.ID); err != nil {
-			return fmt.Errorf("refused: %s: %w", asked.homes[0], err)
-		}
-	}
-	return nil
-}
-
 // lookOf begins a look at a home.
 func lookOf(home *device.Home) (*part.Look, error) {
 	identity, err := home.Identity()
@@ -201,7 +184,7 @@ func writeWhole(write writing, fill func(io.Writer) error) error {
 	}
 	defer leftover.Remove(file.Name())
 	defer file.Close()
-	if err := fill(faulty{file}); err != nil {
+	if err := fill(faulty{temporary{file}}); err != nil {
 		return err
 	}
 	if _, err := file.Seek(0, io.SeekStart); err != nil {

@@ -2,16 +2,17 @@ package main
 
 import "syncthing-audit/finding"
 
-// What an answer means for real Syncthing, which is said once, on standard error.
+// What an answer means for real Syncthing, which is said once, on standard error, as far as the answer rests on it. The man page
+// has a section of this name, and is installed with the program.
 const (
 	meaning = `syncthing-audit: what an answer means: the files, records and views are compared exactly as they were when
 they were read.
 `
-	meaningOfSettled = `That a settled cut stays settled is proved of this project's peers, which merge versions when they
-adopt a record, as Syncthing does not.
+	meaningOfSettled = `What is in step, and not known to be firm: that it stays so is proved of this project's peers, which merge versions when
+they adopt a record, as Syncthing does not ('man syncthing-audit', under WHAT AN ANSWER MEANS).
 `
-	meaningOfFirm = `What is firm stays as it is with all peers that keep a few rules. That Syncthing keeps them is argued
-in free-peers.md, and not proved.
+	meaningOfFirm = `What is firm stays as it is with all peers that keep a few rules. That Syncthing keeps them is argued, and
+not proved ('man syncthing-audit', under WHAT AN ANSWER MEANS).
 `
 	butPermissions = `But there are permissions on a disk that aren't as recorded: the next scan records them.
 `
@@ -19,24 +20,37 @@ in free-peers.md, and not proved.
 `
 )
 
-// meaningOf says what an answer means.
+// meaningOf says what an answer means. Where nothing is in step, nothing is promised.
 func meaningOf(answer *finding.Answer) string {
-	switch answer.HowFirm() {
-	case finding.IsFirm:
-		if hasUnscannedModes(answer) {
-			return meaning + meaningOfFirm + butPermissions
+	text := meaning
+	is := map[finding.Firm]bool{}
+	for _, folder := range answer.Folders {
+		if !folder.HasFailures() {
+			is[folder.HowFirm()] = true
 		}
-		return meaning + meaningOfFirm
-	case finding.NotAsked:
-		return meaning + meaningOfSettled + firmWasNotAsked
 	}
-	return meaning + meaningOfSettled
+	if is[finding.NotFirm] || is[finding.NotAsked] {
+		text += meaningOfSettled
+	}
+	if is[finding.NotAsked] {
+		text += firmWasNotAsked
+	}
+	if is[finding.IsFirm] {
+		text += meaningOfFirm
+		if hasUnscannedModes(answer) {
+			text += butPermissions
+		}
+	}
+	return text
 }
 
-// hasUnscannedModes says whether permissions on some disk aren't as recorded there.
+// hasUnscannedModes says whether permissions on some disk aren't as recorded there, in a folder that is in step.
 func hasUnscannedModes(answer *finding.Answer) bool {
 	has := false
 	for _, folder := range answer.Folders {
+		if folder.HasFailures() {
+			continue
+		}
 		folder.Permissions.Each(func(one *finding.Permissions) {
 			for _, bits := range one.At {
 				has = has || bits.Has && bits.OnDisk && bits.Index != bits.Disk

@@ -6,6 +6,7 @@ import (
 	"fmt"
 	"io"
 	"os"
+	"regexp"
 	"runtime"
 	"strings"
 
@@ -14,33 +15,36 @@ import (
 
 // options are what the command line asks for.
 type options struct {
-	homes    []string
-	parts    []string
-	folders  []string
-	names    string
-	leaveOut map[string]bool
-	bytes    bool
-	lines    bool
-	json     bool
-	into     string
-	output   string
-	begin    bool
-	end      bool
-	tokens   []string // files with tokens
-	rescan   bool
-	dryRun   bool
-	heeds    bool    // whether the end of standard input ends a first look
-	still    float64 // seconds
-	remote   string  // how this program is called on other machines
-	program  string
-	jobs     int
-	hasJobs  bool // whether they were asked for
+	homes      []string
+	parts      []string
+	folders    []string
+	names      string
+	leaveOut   map[string]bool
+	bytes      bool
+	lines      bool
+	json       bool
+	into       string
+	output     string
+	isStandard bool // whether that is standard output: the file to which it goes, or nothing
+	about      bool
+	begin      bool
+	end        bool
+	tokens     []string // files with tokens
+	rescan     bool
+	dryRun     bool
+	heeds      bool    // whether the end of standard input ends a first look
+	still      float64 // seconds
+	remote     string  // how this program is called on other machines
+	program    string
+	jobs       int
+	hasJobs    bool // whether they were asked for
 }
 
 var usage = fmt.Sprintf(`usage: syncthing-audit part [--home DIR] [--folder ID ..] [--names PREFIX] -o FILE
        syncthing-audit check [--home DIR ..] [PART ..] [--folder ID ..]
        syncthing-audit run [MACHINE:[DIR] | DIR ..] [--folder ID ..]
        syncthing-audit part (--begin [--rescan] | --end --tokens FILE ..) [--home DIR] [--folder ID ..] -o FILE
+       syncthing-audit part --about [--rescan] [--home DIR] [--folder ID ..]
        syncthing-audit export [--home DIR ..] [PART ..] --into DIR
        syncthing-audit sum DIR
        syncthing-audit --version
@@ -58,11 +62,13 @@ Says whether Syncthing devices are in step, and where not which device is wrong.
   --home DIR           a device's home on this machine: config.xml, cert.pem and index-v0.14.0.db
   --folder ID          only this folder (may be given more than once; all folders if it isn't)
   --names PREFIX       only names that begin with these bytes
+  --about              of part: what the device is configured to share, as JSON; 'run' asks that of all before it looks.
+                       With --rescan it refuses what can't be scanned
   --begin              first look at a device that may run; writes a token to standard output, or error where the part is there
   --end                second look; needs the tokens of all
   --tokens FILE        tokens, one on a line; - is standard input
   --heed-input         of --begin: end without a part once standard input ends; 'run' has it so on other machines
-  --rescan             ask Syncthing for a scan before the first look, by its REST API, and wait for it
+  --rescan             of run, and of part --begin: ask Syncthing for a scan before the first look, by its REST API, and wait for it
   --still SECONDS      of run: how long second looks wait at least, once first ones are over (10)
   --remote-program P   of run: how this program is called on the other machines (syncthing-audit, on PATH or in ~/.local/bin)
   --dry-run            of run: tell the commands
@@ -77,8 +83,8 @@ Says whether Syncthing devices are in step, and where not which device is wrong.
   --jobs N             how many of it run at once, and how many files are hashed at once (%d)
 
 Exit status: 0 in step, firm or not, or written; 1 not in step; 2 refused; 3 usage; 4 syncaudit is out of memory; 5 what was asked for
-can't be written, or syncaudit has a read or write fault; 6 in step as far as audited: something was left out; 127
-syncaudit can't be run.
+can't be written, or syncaudit has a read or write fault; 6 in step as far as audited: something was left out, or folders
+weren't asked for; 127 syncaudit can't be run.
 `, strings.Join(part.Kinds, ","), runtime.NumCPU())
 
 // list is a flag that may be given more than once.
@@ -134,7 +140,7 @@ func readOptions(name string, words []string, flagsOf func(*flag.FlagSet, *optio
 		if err := flags.Parse(words); errors.Is(err, flag.ErrHelp) {
 			return options{}, errHelp
 		} else if err != nil {
-			return options{}, &wrongUsage{err.Error()}
+			return options{}, wrongFlag(err)
 		}
 		if flags.NArg() == 0 {
 			break
@@ -147,6 +153,19 @@ func readOptions(name string, words []string, flagsOf func(*flag.FlagSet, *optio
 		return options{}, &wrongUsage{"--jobs is at least 1"}
 	}
 	return read, nil
+}
+
+// flagOfGo is a flag as Go's package names it: with one dash, however it was written.
+var flagOfGo = regexp.MustCompile(`(^|\s)-([a-z][a-z-]+)`)
+
+// wrongFlag says what is wrong with a flag, which is named as the help does.
+func wrongFlag(err error) error {
+	text := flagOfGo.ReplaceAllString(err.Error(), "$1--$2")
+	text = strings.Replace(text, "flag provided but not defined: ", "there is no flag ", 1)
+	if flag := strings.TrimPrefix(text, "flag needs an argument: "); flag != text {
+		text = flag + " needs a word behind it"
+	}
+	return &wrongUsage{text}
 }
 
 // checkInputs says what is wrong with homes and parts that belong together.

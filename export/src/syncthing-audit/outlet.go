@@ -53,7 +53,7 @@ func (o *outlet) end(answer *finding.Answer, log io.Writer) error {
 		_, err := faulty{o.output}.Write(o.kept)
 		return err
 	}
-	fmt.Fprintf(log, "syncthing-audit: %d documents in %s\n", o.count, o.directory)
+	fmt.Fprintf(log, "syncthing-audit: %s in %s\n", countOf(o.count, "document"), o.directory)
 	return (&exported{answer, o.written}).save(o.directory)
 }
 

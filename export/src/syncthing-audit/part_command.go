@@ -5,10 +5,7 @@ import (
 	"flag"
 	"fmt"
 	"io"
-	"path/filepath"
-	"strings"
 
-	"github.com/syncthing/syncthing/lib/config"
 	"syncthing-audit/device"
 	"syncthing-audit/disk"
 	"syncthing-audit/gather"
@@ -19,8 +16,36 @@ import (
 
 // runPart writes a device's part.
 func runPart(words []string, output, log io.Writer) (int, error) {
+	asked, err := readPartOptions(words)
+	if err != nil {
+		return 0, err
+	}
+	if asked.about && standardOutput[asked.output] {
+		return statusDone, tellAbout(asked, directly(output)) // a line that a person can read, too
+	}
+	write, err := whereTo(asked.output, output)
+	if err != nil {
+		return 0, err
+	}
+	if standardOutput[asked.output] {
+		asked.isStandard, asked.output = true, fileOf(output)
+	}
+	switch {
+	case asked.about:
+		return statusDone, tellAbout(asked, write)
+	case asked.begin:
+		return statusDone, beginPart(asked, write, output, log)
+	case asked.end:
+		return statusDone, endPart(asked, write, log)
+	}
+	return statusDone, onePart(asked, write, log)
+}
+
+// readPartOptions reads the words behind 'part'.
+func readPartOptions(words []string) (options, error) {
 	asked, err := readOptions("part", words, func(flags *flag.FlagSet, read *options) {
 		flags.StringVar(&read.output, "o", "", "")
+		flags.BoolVar(&read.about, "about", false, "")
 		flags.BoolVar(&read.begin, "begin", false, "")
 		flags.BoolVar(&read.end, "end", false, "")
 		flags.BoolVar(&read.rescan, "rescan", false, "")
@@ -28,31 +53,16 @@ func runPart(words []string, output, log io.Writer) (int, error) {
 		flags.Var((*list)(&read.tokens), "tokens", "")
 		flags.Var(kinds(read.leaveOut), "leave-out", "")
 	})
-	if err != nil {
-		return 0, err
+	if err == nil && len(asked.homes) == 0 && (asked.about || asked.begin || asked.end) {
+		err = asked.takeDefaultHome()
 	}
-	if len(asked.homes) == 0 && (asked.begin || asked.end) {
-		if err := asked.takeDefaultHome(); err != nil {
-			return 0, err
-		}
+	if err == nil && (len(asked.homes) != 1 || len(asked.parts) > 0) {
+		err = &wrongUsage{"a part is made of one --home"}
 	}
-	if len(asked.homes) != 1 || len(asked.parts) > 0 {
-		return 0, &wrongUsage{"a part is made of one --home"}
+	if err == nil {
+		err = asked.checkLooks()
 	}
-	if err := asked.checkLooks(); err != nil {
-		return 0, err
-	}
-	write, err := whereTo(asked.output, output)
-	if err != nil {
-		return 0, err
-	}
-	switch {
-	case asked.begin:
-		return statusDone, beginPart(asked, write, output, log)
-	case asked.end:
-		return statusDone, endPart(asked, write, log)
-	}
-	return statusDone, onePart(asked, write, log)
+	return asked, err
 }
 
 // writing writes a part to where it is to go.
@@ -66,7 +76,7 @@ func onePart(asked options, write writing, log io.Writer) error {
 	}
 	defer from.close()
 	defer from.startProgress(log, asked)()
-	return write(func(to io.Writer) error { return writePart(to, from.read) })
+	return write(func(to io.Writer) error { return writeLines(to, log, from.read, asTheyAre) })
 }
 
 // source is the home of which a part is made.
@@ -87,35 +97,17 @@ func openSource(open func(string) (*device.Home, error), asked options) (*source
 	if err = checkFolders(home, asked.folders); err == nil {
 		made.read, err = made.deviceOf(home, asked)
 	}
-	if err == nil && !standardOutput[asked.output] {
+	if err == nil && asked.output != "" {
 		err = checkOutside(asked.output, home.Config.Folders)
+		if err != nil && asked.isStandard {
+			err = fmt.Errorf("%w. It is there already, since the shell made it: take it away", err)
+		}
 	}
 	if err != nil {
 		made.close()
 		return nil, err
 	}
 	return made, nil
-}
-
-// checkOutside says whether a part would be written into a folder of the device: it would be found there, and sent to others.
-func checkOutside(path string, folders []config.FolderConfiguration) error {
-	real, err := filepath.EvalSymlinks(path)
-	if err != nil {
-		if real, err = filepath.EvalSymlinks(filepath.Dir(path)); err != nil {
-			return err
-		}
-		real = filepath.Join(real, filepath.Base(path))
-	}
-	if real, err = filepath.Abs(real); err != nil {
-		return err
-	}
-	for _, one := range folders {
-		root, err := filepath.EvalSymlinks(one.Filesystem().URI())
-		if err == nil && one.Path != "" && strings.HasPrefix(real, strings.TrimSuffix(root, "/")+"/") {
-			return fmt.Errorf("refused: %s would be in folder %s, whose devices would all get it: name a file elsewhere", shell.Quoted(path), one.ID)
-		}
-	}
-	return nil
 }
 
 // checkFolders says whether a home has no folder, or none with an id that is asked for.
@@ -141,23 +133,44 @@ func whereTo(path string, output io.Writer) (writing, error) {
 	if isTerminal(output) {
 		return nil, &wrongUsage{"a part is nothing to read on a terminal: -o FILE"}
 	}
-	return func(write func(io.Writer) error) error { return write(faulty{output}) }, nil
+	return directly(output), nil
 }
 
-// writePart writes a part.
-func writePart(to io.Writer, read *gather.Device) error {
-	return writeLines(to, read, func(sink part.Sink) part.Sink { return sink })
+// directly writes to an output as it is.
+func directly(output io.Writer) writing {
+	return func(write func(io.Writer) error) error { return write(faulty{output}) }
 }
 
-// writeLines writes a part whose lines go through something else first.
-func writeLines(to io.Writer, read *gather.Device, through func(part.Sink) part.Sink) error {
+// writeLines writes a part whose lines go through something else first, and says of one without names that it has none, and of
+// what its disk fails to give how much that is.
+func writeLines(to, log io.Writer, read *gather.Device, through func(part.Sink) part.Sink) error {
 	head := read.Head()
 	writer, err := part.NewWriter(to, head)
 	if err != nil {
 		return err
 	}
-	if err := read.Run(head, through(writer.Take)); err != nil {
+	names, damaged := 0, 0
+	err = read.Run(head, through(func(line part.Line) error {
+		if line.Name != nil {
+			names++
+		}
+		if line.Name != nil && line.Name.IsDamaged() {
+			damaged++
+		}
+		return writer.Take(line)
+	}))
+	if err != nil {
 		return err
+	}
+	if names == 0 && read.Prefix != "" {
+		fmt.Fprintf(log, "syncthing-audit: no name here begins with %s, on the disk or in the index: the part has none\n", shell.Quoted(read.Prefix))
+	}
+	if damaged > 0 {
+		fmt.Fprintf(log, "syncthing-audit: the disk here fails to give what it has of %s: see the system's log; 'check' tells which these are\n",
+			countOf(damaged, "name"))
 	}
 	return writer.Close()
 }
+
+// asTheyAre gives a sink as it is.
+func asTheyAre(sink part.Sink) part.Sink { return sink }

@@ -27,6 +27,8 @@ type place struct {
 	self   string // this program
 	ssh    []string
 	looked time.Time
+
+	isOlder bool // than this program: it isn't able to say what is shared before it looks
 }
 
 // placesOf reads the places of a command line. As rsync has it, a colon before any slash stands behind a machine.
@@ -83,6 +85,15 @@ func (p *place) label() string {
 // gently has a command take no more of a machine than others leave: the devices' own work goes before the hashing.
 var gently = []string{"nice", "-n", "19"}
 
+// about gives the command that says what a device shares.
+func (p *place) about(asked options) []string {
+	words := []string{"part", "--about"}
+	if asked.rescan {
+		words = append(words, "--rescan")
+	}
+	return p.words(nil, append(words, p.chosen(asked)...), asked)
+}
+
 // begin gives the command of the first look. On another machine it ends when this program does, which keeps its input open.
 func (p *place) begin(asked options) []string {
 	words := []string{"part", "--begin"}
@@ -95,16 +106,16 @@ func (p *place) begin(asked options) []string {
 	if asked.hasJobs {
 		words = append(words, "--jobs", strconv.Itoa(asked.jobs))
 	}
-	return p.words(gently, append(words, p.about(asked)...), asked)
+	return p.words(gently, append(words, p.chosen(asked)...), asked)
 }
 
 // end gives the command of the second look. Whose first looks it comes after is judged by the one who joins all.
 func (p *place) end(asked options) []string {
-	return p.words(nil, append([]string{"part", "--end", "--tokens", "-", "--leave-out", part.Absent}, p.about(asked)...), asked)
+	return p.words(nil, append([]string{"part", "--end", "--tokens", "-", "--leave-out", part.Absent}, p.chosen(asked)...), asked)
 }
 
-// about gives the words that both looks have.
-func (p *place) about(asked options) []string {
+// chosen gives the words that say of what a look is.
+func (p *place) chosen(asked options) []string {
 	words := []string{}
 	if p.home != "" {
 		words = append(words, "--home", p.home)
@@ -155,7 +166,7 @@ func (p *place) run(words []string, input io.Reader, path string) (string, error
 	err = command.Run()
 	var ended *exec.ExitError
 	if errors.As(err, &ended) {
-		return "", fmt.Errorf("%s: its command ended with %v: %s%s", p.called(), ended, strings.TrimSpace(told.String()), p.whereIs(ended))
+		return "", fmt.Errorf("%s: its command ended with %w: %s%s", p.called(), ended, strings.TrimSpace(told.String()), p.whereIs(ended))
 	}
 	if err != nil {
 		return "", fmt.Errorf("%s: %s can't be run: %w", p.called(), shell.Quoted(words[0]), err)

@@ -82,6 +82,14 @@ func (p *progress) run() {
 	}
 }
 
+// countOf gives a number of things, of whose word an s makes several.
+func countOf(number int, word string) string {
+	if number == 1 {
+		return "1 " + word
+	}
+	return fmt.Sprintf("%d %ss", number, word)
+}
+
 // megabytes gives bytes as a person reads them.
 func megabytes(bytes int64) string {
 	if bytes >= 1e10 {

@@ -23,6 +23,7 @@ func tellCommands(output io.Writer, places []*place, asked options) {
 		}
 		return strings.Join(words, " ")
 	}
+	fmt.Fprintln(output, "# 'run' asks first what each device shares (part --about), and refuses by that before any file is hashed. Here 'check' does, at the end.")
 	fmt.Fprintln(output, "# The first looks, at once or one after another. Each tells its token on standard error.")
 	for at, one := range places {
 		fmt.Fprintf(output, "%s < /dev/null > %s 2> %s\n", quotedWords(one.begin(asked)), shell.Quoted(labels[at]+".begin"), shell.Quoted(labels[at]+".log"))

@@ -16,6 +16,7 @@ import (
 	"syncthing-audit/finding"
 	"syncthing-audit/leftover"
 	"syncthing-audit/looks"
+	"syncthing-audit/part"
 )
 
 // secondsOfStillness is how long second looks wait once all first ones are over, if --still doesn't say it. Mostly, what is
@@ -97,13 +98,12 @@ func (r *running) file(at int, look string) string {
 	return filepath.Join(r.room, fmt.Sprintf("%s-%d.part", look, at+1))
 }
 
-// look makes the first look at all devices, and the second one once all of these are over.
+// look asks all devices what they share, makes the first look at all of them, and the second one once all of these are over.
 func (r *running) look() error {
-	devices := "1 device"
-	if len(r.places) > 1 {
-		devices = fmt.Sprintf("%d devices", len(r.places))
+	if err := r.ask(); err != nil {
+		return err
 	}
-	fmt.Fprintf(r.log, "syncthing-audit: first look at %s, hashing all files\n", devices)
+	fmt.Fprintf(r.log, "syncthing-audit: first look at %s, hashing all files\n", countOf(len(r.places), "device"))
 	if err := r.all("first look", r.begin); err != nil {
 		return err
 	}
@@ -255,6 +255,9 @@ func (r *running) answer(program ask.Program, output io.Writer) (int, error) {
 	defer opened.close()
 	for _, one := range opened.devices {
 		one.From = names[one.From]
+		if len(r.asked.folders) == 0 && one.Head.Others == nil {
+			one.Head.Others = []part.Other{} // an older program made it, of all folders
+		}
 	}
 	if read.lines {
 		tellDevices(r.log, opened.devices)

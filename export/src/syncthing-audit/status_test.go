@@ -26,7 +26,7 @@ func aPart(t *testing.T) string {
 	defer file.Close()
 	id := protocol.DeviceID(sha256.Sum256(nil)).String()
 	head := &part.Head{Version: part.Version, Device: id, Made: time.Unix(0, 0).UTC(), Folders: []part.Folder{{ID: "docs",
-		Kind: "send-receive", Directory: id, IndexID: 1, Max: 1}}}
+		Kind: "send-receive", Directory: id, IndexID: 1, Max: 1}}, Others: []part.Other{}}
 	content := part.Content{Size: 5, BlockSize: protocol.MinBlockSize, Hash: part.Hash{1}}
 	to, err := part.NewWriter(file, head)
 	for _, line := range []part.Line{{Begin: &part.Begin{Folder: "docs"}},

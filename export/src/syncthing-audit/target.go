@@ -63,14 +63,14 @@ func (t *target) write(write func(io.Writer) error) error {
 		if err != nil {
 			return faultOf(err)
 		}
-		return fill(file, write)
+		return fill(file, t.path, write)
 	}
 	file, err := leftover.File(filepath.Dir(t.path), ".syncthing-audit-")
 	if err != nil {
-		return faultOf(err)
+		return faultOf(namedAs(t.path, err))
 	}
 	defer leftover.Remove(file.Name())
-	if err := fill(file, write); err != nil {
+	if err := fill(file, t.path, write); err != nil {
 		return err
 	}
 	// Something else may have come meanwhile, which a new name would replace.
@@ -80,15 +80,15 @@ func (t *target) write(write func(io.Writer) error) error {
 	return faultOf(os.Rename(file.Name(), t.path))
 }
 
-// fill writes into a file and closes it.
-func fill(file *os.File, write func(io.Writer) error) error {
-	buffered := bufio.NewWriter(faulty{file})
+// fill writes into a file and closes it. Errors name it as this path.
+func fill(file *os.File, path string, write func(io.Writer) error) error {
+	buffered := bufio.NewWriter(faulty{inPlaceOf{path, file}})
 	err := write(buffered)
 	if err == nil {
 		err = buffered.Flush()
 	}
 	if closed := file.Close(); err == nil {
-		err = faultOf(closed)
+		err = faultOf(namedAs(path, closed))
 	}
 	return err
 }

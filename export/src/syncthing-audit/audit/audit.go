@@ -26,13 +26,11 @@ type Options struct {
 
 // Collect goes through the folders of a plan. Each document is given to take, as long as nothing was refused.
 func Collect(plan *join.Plan, options Options, take func(*document.Document) error) (*finding.Answer, error) {
-	made := &collector{plan: plan, options: options, take: take, answer: &finding.Answer{}}
+	made := &collector{plan: plan, options: options, take: take, answer: &finding.Answer{IsByName: plan.IsByName, HasRest: true}}
+	made.refusePlan()
 	for _, one := range plan.Devices {
 		made.answer.Devices = append(made.answer.Devices, finding.Device{ID: one.Head.Device, Number: one.Number, Name: one.Head.Name,
-			Made: one.Head.Made, From: one.From})
-	}
-	for _, one := range plan.Refusals {
-		made.refuse(finding.Refusal{Kind: one.Kind, Folder: one.Folder, Device: label(one), Why: one.Why})
+			Made: one.Head.Made, From: one.From, Unasked: unaskedOf(plan, one), IsSilent: one.Head.Others == nil})
 	}
 	for _, one := range plan.Folders {
 		if err := made.folder(one); err != nil {
@@ -45,6 +43,20 @@ func Collect(plan *join.Plan, options Options, take func(*document.Document) err
 		}
 	}
 	return made.answer, made.checkSomething()
+}
+
+// Refused gives what of a plan isn't audited, before any of its names is read. These kinds are left out on request.
+func Refused(plan *join.Plan, leaveOut map[string]bool) *finding.Answer {
+	made := &collector{plan: plan, options: Options{LeaveOut: leaveOut}, answer: &finding.Answer{}}
+	made.refusePlan()
+	return made.answer
+}
+
+// refusePlan notes what of the plan isn't audited.
+func (c *collector) refusePlan() {
+	for _, one := range c.plan.Refusals {
+		c.refuse(finding.Refusal{Kind: one.Kind, Folder: one.Folder, Label: one.Label, Device: label(one), Why: one.Why})
+	}
 }
 
 // label names the device of a refusal for a person.

@@ -34,6 +34,7 @@ func (n *names) row(row *join.Row) error {
 	case isOutside(row):
 		n.found.Outside.Add(1, row.Size())
 	case hasOut(row):
+		n.addDamaged(row)
 		n.leaveOut(row, reasonsOf(row))
 	default:
 		return n.audit(row)
@@ -47,6 +48,10 @@ func (n *names) audit(row *join.Row) error {
 	n.addUnheard(row)
 	n.addPermissions(row)
 	n.addConflict(row)
+	n.addDamaged(row)
+	if isDeleting(row) {
+		n.found.Deleting++
+	}
 	if !hasWinner(row) && isKnown(row) {
 		n.addUnwon(row)
 		return nil
@@ -112,9 +117,9 @@ func (n *names) leaveOut(row *join.Row, reasons []finding.Reason) {
 	}
 	refused := false
 	for _, why := range reasons {
-		if !n.options.LeaveOut[why.Kind] {
+		if why.Kind != part.Damaged && !n.options.LeaveOut[why.Kind] {
 			refused = true
-			n.refuse(finding.Refusal{Kind: why.Kind, Folder: n.found.ID, Device: n.labelOf(why.Member), Name: row.Name, Why: why.Why})
+			n.refuse(finding.Refusal{Kind: why.Kind, Folder: n.found.ID, Label: n.found.Label, Device: n.labelOf(why.Member), Name: row.Name, Why: why.Why})
 		}
 	}
 	switch {

@@ -41,6 +41,28 @@ func TestWinners(t *testing.T) {
 	}
 }
 
+// A deletion that a device hasn't taken yet is counted, and one that all have isn't; nor is a newer file in its place.
+func TestDeletionsOnTheirWay(t *testing.T) {
+	at := func(version uint64, isDeleted bool) *part.Name {
+		return &part.Name{Own: &part.Record{ModifiedBy: 1, Sequence: 1, Deleted: isDeleted, Version: [][2]uint64{{1, version}}}}
+	}
+	for _, one := range []struct {
+		why        string
+		one, other *part.Name
+		is         bool
+	}{
+		{"on its way", at(2, true), at(1, false), true},
+		{"on all", at(2, true), at(2, true), false},
+		{"made anew", at(2, true), at(3, false), false},
+		{"never had there", at(2, true), nil, false},
+		{"a file", at(2, false), at(1, false), false},
+	} {
+		if isDeleting(rowOf(one.one, one.other)) != one.is {
+			t.Errorf("%s: expected %v", one.why, one.is)
+		}
+	}
+}
+
 func TestOutside(t *testing.T) {
 	ignored := part.LeftOut{Kind: part.Ignored, Why: "ignored"}
 	left := func(node *part.Node, own *part.Record) *part.Name {

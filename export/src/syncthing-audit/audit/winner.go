@@ -17,6 +17,17 @@ func hasWinner(row *join.Row) bool {
 	return false
 }
 
+// isDeleting says whether a deletion is what is due, and a device records the name as something that stands there still.
+func isDeleting(row *join.Row) bool {
+	isGone, stands := false, false
+	for _, one := range row.At {
+		if one != nil && one.Own != nil && !one.Own.Invalid {
+			isGone, stands = isGone || one.Own.Deleted, stands || !one.Own.Deleted
+		}
+	}
+	return isGone && stands && winnerOf(row).Deleted
+}
+
 // isKnown says whether anything holds a name: an own record, a node, or a record that others may take in a view.
 func isKnown(row *join.Row) bool {
 	for _, one := range row.At {

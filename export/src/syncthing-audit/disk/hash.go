@@ -169,14 +169,8 @@ func (f *File) open() (*os.File, error) {
 	return file, nil
 }
 
-// unread says why a file can't be read. Where the disk itself fails, its bytes may be lost, which is more than a want of
-// permission.
-func unread(err error) error {
-	if errors.Is(err, syscall.EIO) {
-		return fmt.Errorf("the disk fails to give its bytes, which may be lost there: %w", err)
-	}
-	return fmt.Errorf("it can't be read: %w", err)
-}
+// unread says why a file can't be read.
+func unread(err error) error { return fmt.Errorf("it can't be read: %w", err) }
 
 // checkOpened says whether an opened file is the one that was found, as it was then.
 func (f *File) checkOpened(file *os.File) error {
@@ -243,6 +237,9 @@ func (j *Job) Wait() ([]part.Content, *part.Differ, []byte, error) {
 // check says whether the file that was found is at its path still, with its size and time.
 func (j *Job) check() error {
 	after, err := j.file.Disk.Lstat(j.file.Name)
+	if IsDamage(err) {
+		return unread(err)
+	}
 	if err != nil || !after.IsRegular() || after.Size() != j.file.Node.Size ||
 		after.ModTime().Unix() != j.file.Node.ModifiedS || after.ModTime().Nanosecond() != j.file.Node.ModifiedNs ||
 		Stamp(j.file.path()) != j.file.Stamp {

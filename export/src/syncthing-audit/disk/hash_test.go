@@ -7,7 +7,6 @@ import (
 	"os"
 	"path/filepath"
 	"reflect"
-	"syscall"
 	"testing"
 
 	"github.com/syncthing/syncthing/lib/fs"
@@ -142,17 +141,5 @@ func TestManyBlocksThatDiffer(t *testing.T) {
 	made := compare(recorded, found)
 	if made.Count != 150 || len(made.Ranges) != part.MostRanges || made.Unlisted() != 150-part.MostRanges {
 		t.Errorf("%d blocks, %d ranges, %d unlisted", made.Count, len(made.Ranges), made.Unlisted())
-	}
-}
-
-// A disk that fails is told apart from a want of permission.
-func TestWhyAFileIsUnread(t *testing.T) {
-	for told, err := range map[string]error{
-		"it can't be read: open a: permission denied":                                           &os.PathError{Op: "open", Path: "a", Err: syscall.EACCES},
-		"the disk fails to give its bytes, which may be lost there: read a: input/output error": &os.PathError{Op: "read", Path: "a", Err: syscall.EIO},
-	} {
-		if why := unread(err); why.Error() != told || !errors.Is(why, err) {
-			t.Errorf("%v, not %s", why, told)
-		}
 	}
 }

@@ -38,11 +38,12 @@ func (w *Walker) Walk() error { return w.walk(".") }
 func (w *Walker) walk(directory string) error {
 	names, err := w.Disk.DirNames(directory)
 	if err != nil {
-		why := part.LeftOut{Kind: part.Unreadable, Why: "the directory can't be read: " + err.Error(), Below: true}
 		if directory == "." {
 			return fmt.Errorf("%s: %w", w.Disk.URI(), err)
 		}
-		return w.Take(Found{Name: directory + "/", Out: &why})
+		why := outOf("the directory", err)
+		why.Below = true
+		return w.Take(Found{Name: directory + "/", Out: why})
 	}
 	sort.Strings(names)
 	below := []string{} // directories that were met, each with its slash, whose names are still to come
@@ -86,7 +87,7 @@ func (w *Walker) visit(name string) (bool, error) {
 	}
 	info, err := w.Disk.Lstat(name)
 	if err != nil {
-		return false, w.Take(Found{Name: name, Out: &part.LeftOut{Kind: part.Unreadable, Why: "it can't be read: " + err.Error()}})
+		return false, w.Take(Found{Name: name, Out: outOf("it", err)})
 	}
 	if strings.HasPrefix(name, w.Prefix) && !fs.IsTemporary(name) {
 		if err := w.Take(w.found(name, info)); err != nil {
@@ -118,7 +119,8 @@ func (w *Walker) found(name string, info fs.FileInfo) Found {
 	case info.IsSymlink():
 		target, err := w.Disk.ReadSymlink(name)
 		if err != nil {
-			return out(part.Unreadable, "it can't be read: "+err.Error())
+			made.Out = outOf("its target", err)
+			return made
 		}
 		if err := limits.CheckTarget(target); err != nil {
 			return out(part.OddTarget, err.Error())

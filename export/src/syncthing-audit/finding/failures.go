@@ -26,6 +26,7 @@ type Told struct {
 	Failures    []Failure // that syncaudit tells, in its order
 	Unwon       *Unwon
 	Permissions *Permissions
+	Damaged     *Damaged
 }
 
 // HasFailures says whether something keeps the folder from being settled.
@@ -56,6 +57,7 @@ type byName struct {
 	reason string
 	failed *spill.Cursor[failed]
 	unwon  *spill.Cursor[Unwon] // of NotWinner alone: such a name is told by no document
+	damage *damages             // of StoreDiffers alone: a document hasn't all of these names
 }
 
 // failuresOf goes through the failures of the reason in this place.
@@ -63,6 +65,9 @@ func (f *Folder) failuresOf(place int) *byName {
 	made := &byName{reason: Reasons[place], failed: f.Failures.byReason[place].Read()}
 	if made.reason == notWinner {
 		made.unwon = f.Unwon.Read()
+	}
+	if made.reason == storeDiffers {
+		made.damage = f.failuresOfDamage()
 	}
 	return made
 }
@@ -78,6 +83,11 @@ func (b *byName) next() *Failure {
 			return &Failure{Reason: b.reason, Name: unwon.Name}
 		}
 	}
+	if b.damage != nil {
+		if damaged := b.damage.peek(); damaged != nil && (next == nil || string(damaged.Name) < next.Name) {
+			return b.damage.take()
+		}
+	}
 	if next == nil {
 		return nil
 	}
@@ -90,11 +100,12 @@ type names struct {
 	failures    [reasons]*spill.Cursor[failed]
 	unwon       *spill.Cursor[Unwon]
 	permissions *spill.Cursor[Permissions]
+	damaged     *spill.Cursor[Damaged]
 }
 
 // EachName gives all names of which something is told to take, rising.
 func (f *Folder) EachName(take func(*Told)) {
-	all := &names{unwon: f.Unwon.Read(), permissions: f.Permissions.Read()}
+	all := &names{unwon: f.Unwon.Read(), permissions: f.Permissions.Read(), damaged: f.Damaged.Read()}
 	for place := range all.failures {
 		all.failures[place] = f.Failures.byReason[place].Read()
 	}
@@ -122,6 +133,9 @@ func (n *names) least() (string, bool) {
 	if next := n.permissions.Peek(); next != nil {
 		see(next.Name)
 	}
+	if next := n.damaged.Peek(); next != nil {
+		see(string(next.Name))
+	}
 	return least, is
 }
 
@@ -142,6 +156,10 @@ func (n *names) take(name string) *Told {
 		made.Permissions = next
 		n.permissions.Take()
 	}
+	if next := n.damaged.Peek(); next != nil && string(next.Name) == name {
+		made.Damaged = next
+		n.damaged.Take()
+	}
 	return made
 }
 
@@ -160,6 +178,9 @@ func (a *Answer) Err() error {
 			return err
 		}
 		if err := folder.Loose.Err(); err != nil {
+			return err
+		}
+		if err := folder.Damaged.Err(); err != nil {
 			return err
 		}
 	}

@@ -16,6 +16,8 @@ type Answer struct {
 	Refusals []Refusal        // what isn't audited and wasn't asked to be left out: with any of these there is no verdict; the first MostListed
 	Unlisted map[string]int64 // how many more refusals there are of each kind than are listed
 	LeftOut  []Refusal        // devices and folders that were left out on request
+	IsByName bool             // whether the folders were asked for by their ids
+	HasRest  bool             // whether the devices' other folders are told: an export of 0.8.0 or before doesn't
 }
 
 // Device is a device that was audited.
@@ -25,6 +27,15 @@ type Device struct {
 	Name   string
 	Made   time.Time // when its part was made
 	From   string    // the home or file that it was read from
+
+	Unasked  []Unasked // folders of it that weren't asked for
+	IsSilent bool      // whether its part doesn't say which folders it hasn't
+}
+
+// Unasked is a folder that a device has and that wasn't audited, since nobody asked for it.
+type Unasked struct {
+	ID, Label string
+	InPart    bool // whether the device's part has it
 }
 
 // Folder is what was found in a folder. As JSON it lacks the long lists, which WriteLists writes.
@@ -33,11 +44,13 @@ type Folder struct {
 	Members     []join.Member // their numbers rising; the rows' places are theirs
 	Names       int64         // known ones, those without a winner included
 	Deleted     int64         // of these what no device holds
+	Deleting    int64         // of these what is deleted, and a device hasn't taken that yet
 	Bytes       int64         // that were hashed on all devices together
 	Documents   int
 	Failures    Failures                `json:"-"` // what documents tell
 	Unwon       spill.List[Unwon]       `json:"-"` // names without a winner, rising; each is a failure, too
 	Permissions spill.List[Permissions] `json:"-"` // rising
+	Damaged     spill.List[Damaged]     `json:"-"` // rising: what a disk itself fails to give; each is a failure, too
 	Firmness    Firmness                `json:"-"` // what documents tell, where none tells a failure
 	Loose       spill.List[Loose]       `json:"-"` // rising: what keeps a settled folder from being firm
 	Conflicts   []Conflict              // copies that a device still has, whether they are in step or not: the first MostListed
@@ -127,6 +140,7 @@ type Reason struct {
 type Refusal struct {
 	Kind   string // that --leave-out names; none where it can't be left out
 	Folder string
+	Label  string // of the folder
 	Device string // as a person knows it
 	Name   string
 	Why    string
@@ -173,7 +187,18 @@ func (a *Answer) IsPartial() bool {
 			return true
 		}
 	}
-	return len(a.LeftOut) > 0
+	return len(a.LeftOut) > 0 || a.lacksFolders()
+}
+
+// lacksFolders says whether the devices have folders that weren't audited, or may have some, and nobody chose the others by
+// their ids.
+func (a *Answer) lacksFolders() bool {
+	for _, one := range a.Devices {
+		if !a.IsByName && (one.IsSilent || len(one.Unasked) > 0) {
+			return true
+		}
+	}
+	return false
 }
 
 // First gives the failure that one document of all would have told, with its folder; nothing where all is settled.

@@ -4,6 +4,7 @@ import (
 	"fmt"
 
 	"golang.org/x/exp/slices"
+	"syncthing-audit/shell"
 )
 
 // FirmReasons are why a folder that is settled isn't firm, in the order in which they are told.
@@ -110,7 +111,7 @@ func (f *Folder) CheckLoose() error {
 		}
 	})
 	if (first == nil) != (f.Firmness.First == nil) || first != nil && *first != *f.Firmness.First {
-		return fmt.Errorf("refused: folder %s: syncaudit says that %v keeps it from being firm, and this program that %v does", f.ID,
+		return fmt.Errorf("refused: folder %s: syncaudit says that %v keeps it from being firm, and this program that %v does", shell.Folder(f.ID, f.Label),
 			told(f.Firmness.First), told(first))
 	}
 	return nil

@@ -13,6 +13,7 @@ type listed struct {
 	Unwon       *Unwon       `json:",omitempty"`
 	Permissions *Permissions `json:",omitempty"`
 	Loose       *Loose       `json:",omitempty"`
+	Damaged     *Damaged     `json:",omitempty"`
 	IsLast      bool         `json:",omitempty"` // nothing comes behind: the lists are whole
 }
 
@@ -28,6 +29,7 @@ func (a *Answer) WriteLists(to *json.Encoder) error {
 		folder.Unwon.Each(func(one *Unwon) { write(listed{Folder: place, Unwon: one}) })
 		folder.Permissions.Each(func(one *Permissions) { write(listed{Folder: place, Permissions: one}) })
 		folder.Loose.Each(func(one *Loose) { write(listed{Folder: place, Loose: one}) })
+		folder.Damaged.Each(func(one *Damaged) { write(listed{Folder: place, Damaged: one}) })
 	}
 	write(listed{IsLast: true})
 	if failed == nil {
@@ -65,5 +67,8 @@ func (f *Folder) add(one *listed) {
 	}
 	if one.Loose != nil {
 		f.Loose.Add(*one.Loose)
+	}
+	if one.Damaged != nil {
+		f.Damaged.Add(*one.Damaged)
 	}
 }

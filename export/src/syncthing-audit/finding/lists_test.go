@@ -10,6 +10,7 @@ import (
 	"strings"
 	"testing"
 
+	"syncthing-audit/part"
 	"syncthing-audit/spill"
 )
 
@@ -22,6 +23,7 @@ func withLists(count int) *Answer {
 			name := fmt.Sprintf("%d <ü> %d", folder, number)
 			next.Unwon.Add(Unwon{name, []Cause{{1, Unscanned}}})
 			next.Permissions.Add(Permissions{name, []Bits{{Has: true, Index: 0o644}, {}}})
+			next.Damaged.Add(Damaged{Name: part.Bytes(name + "\xff"), IsFile: number%2 == 0, At: []DamagedAt{{1, "input/output error"}}})
 			next.Loose.Add(Loose{name, []LooseAt{{2, VersionDiffers, true}}})
 		}
 		made.Folders = append(made.Folders, next)
@@ -35,6 +37,7 @@ func listsOf(answer *Answer) []any {
 	for _, folder := range answer.Folders {
 		folder.Unwon.Each(func(one *Unwon) { made = append(made, *one) })
 		folder.Permissions.Each(func(one *Permissions) { made = append(made, *one) })
+		folder.Damaged.Each(func(one *Damaged) { made = append(made, *one) })
 		folder.Loose.Each(func(one *Loose) { made = append(made, *one) })
 	}
 	return made
@@ -64,7 +67,7 @@ func TestListsAreReadAsTheyWereWritten(t *testing.T) {
 	for _, count := range []int{0, 3, spill.MostInMemory + 7} {
 		answer := withLists(count)
 		read, err := readInto(2, written(t, answer))
-		if made := listsOf(read); err != nil || len(made) != 6*count || !reflect.DeepEqual(made, listsOf(answer)) {
+		if made := listsOf(read); err != nil || len(made) != 8*count || !reflect.DeepEqual(made, listsOf(answer)) {
 			t.Errorf("%d: %d things, %v", count, len(made), err)
 		}
 	}

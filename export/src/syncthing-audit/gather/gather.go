@@ -10,6 +10,7 @@ import (
 	"syncthing-audit/device"
 	"syncthing-audit/disk"
 	"syncthing-audit/part"
+	"syncthing-audit/shell"
 )
 
 // Folder is where a folder at a device is read from.
@@ -31,12 +32,13 @@ type Device struct {
 	Bytes    bool     // the bytes of files, too, in memory alone
 	Pool     *disk.Pool
 	Look     *part.Look // of a device that may run
+	Others   []part.Other
 }
 
 // Head gives the head of the device's part.
 func (d *Device) Head() *part.Head {
 	made := &part.Head{Version: part.Version, Device: d.ID, Name: d.Name, Made: time.Now().UTC().Truncate(time.Second),
-		Prefix: d.Prefix, Folders: []part.Folder{}, Look: d.Look}
+		Prefix: d.Prefix, Folders: []part.Folder{}, Look: d.Look, Others: append([]part.Other{}, d.Others...)}
 	if d.Look != nil {
 		made.Version = part.VersionOfLooks
 	}
@@ -55,7 +57,7 @@ func (d *Device) Run(head *part.Head, sink part.Sink) error {
 		}
 		end := &part.End{Folder: about.ID, Last: place == len(d.Folders)-1}
 		if err := d.names(one, about, end, sink); err != nil {
-			return err
+			return shell.Labelled(err, about.ID, about.Label)
 		}
 		if err := one.Check(); err != nil {
 			return err
@@ -86,7 +88,7 @@ func (d *Device) names(folder Folder, about *part.Folder, end *part.End, sink pa
 		}
 		line := next.finish()
 		end.Names++
-		if line.Disk != nil && line.Disk.Contents != nil {
+		if line.Disk != nil && line.Disk.Contents != nil && line.Disk.Lost == "" {
 			end.Bytes += line.Disk.Size
 		}
 		if err := sink(part.Line{Name: line}); err != nil {

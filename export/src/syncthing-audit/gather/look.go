@@ -10,6 +10,7 @@ import (
 	"syncthing-audit/disk"
 	"syncthing-audit/leftover"
 	"syncthing-audit/part"
+	"syncthing-audit/shell"
 )
 
 // isSecondLook says whether the files aren't hashed.
@@ -41,7 +42,8 @@ func (d *Device) Glance() (*Glance, error) {
 		made.folders = append(made.folders, file)
 		if err := d.walkInto(file, one); err != nil {
 			made.Close()
-			return nil, err
+			about := one.Folder()
+			return nil, shell.Labelled(err, about.ID, about.Label)
 		}
 	}
 	return made, nil

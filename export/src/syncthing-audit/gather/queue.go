@@ -24,16 +24,22 @@ func (p *pending) finish() *part.Name {
 		return p.line
 	}
 	contents, differ, data, err := p.job.Wait()
-	if err != nil {
-		kind := part.Unreadable
-		if errors.Is(err, disk.ErrChanged) {
-			kind = part.Changing
-		}
-		p.line.Out = append(p.line.Out, part.LeftOut{Kind: kind, Why: err.Error(), Bytes: p.line.Disk.Size})
-		return p.line
+	switch {
+	case err == nil:
+		p.line.Disk.Contents, p.line.Disk.Differ, p.line.Disk.Data = contents, differ, data
+	case disk.IsDamage(err):
+		p.job.Lose(p.line, err)
+	case errors.Is(err, disk.ErrChanged):
+		p.leaveOut(part.Changing, err)
+	default:
+		p.leaveOut(part.Unreadable, err)
 	}
-	p.line.Disk.Contents, p.line.Disk.Differ, p.line.Disk.Data = contents, differ, data
 	return p.line
+}
+
+// leaveOut says why the file isn't hashed.
+func (p *pending) leaveOut(kind string, err error) {
+	p.line.Out = append(p.line.Out, part.LeftOut{Kind: kind, Why: err.Error(), Bytes: p.line.Disk.Size})
 }
 
 // queue holds names in their order, as many as memory allows.

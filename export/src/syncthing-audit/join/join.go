@@ -37,6 +37,9 @@ type Folder struct {
 	Members []Member
 }
 
+// Called names the folder for a person.
+func (f *Folder) Called() string { return shell.Folder(f.ID, f.Label) }
+
 // Member gives the place of a device among a folder's members, or -1.
 func (f *Folder) Member(device string) int {
 	for place, one := range f.Members {
@@ -149,7 +152,7 @@ func (d *Device) end(about *part.Folder) (*part.End, error) {
 	}
 	if line.End.Max != about.Max {
 		return nil, fmt.Errorf("refused: folder %s, %s: its index changed while it was read (sequence %d, then %d): make the part anew",
-			about.ID, d.Label(), about.Max, line.End.Max)
+			shell.Folder(about.ID, about.Label), d.Label(), about.Max, line.End.Max)
 	}
 	return line.End, nil
 }

@@ -14,6 +14,7 @@ import (
 type Refusal struct {
 	Kind   string
 	Folder string
+	Label  string // of the folder
 	Device string // its id, or nothing
 	Name   string // what the device is called by those who know it
 	Why    string
@@ -24,6 +25,7 @@ type Plan struct {
 	Devices  []*Device // their numbers rising
 	Folders  []*Folder
 	Refusals []Refusal
+	IsByName bool // whether the folders were asked for by their ids
 }
 
 // NewPlan says what is to be audited of these devices: the folders that are wanted, or all. Of what the refusals name the
@@ -40,7 +42,7 @@ func NewPlan(devices []*Device, wanted []string) (*Plan, error) {
 	if err != nil {
 		return nil, err
 	}
-	made := &Plan{Devices: devices}
+	made := &Plan{Devices: devices, IsByName: len(wanted) > 0}
 	for _, id := range ids {
 		if folder := made.folder(id); folder != nil {
 			made.Folders = append(made.Folders, folder)
@@ -129,7 +131,7 @@ func (p *Plan) folder(id string) *Folder {
 
 // refuse adds a refusal.
 func (p *Plan) refuse(kind string, folder *Folder, device, name, why string) {
-	p.Refusals = append(p.Refusals, Refusal{kind, folder.ID, device, name, why})
+	p.Refusals = append(p.Refusals, Refusal{kind, folder.ID, folder.Label, device, name, why})
 }
 
 // checkWhole refuses a folder that no document has.
@@ -141,7 +143,7 @@ func (p *Plan) checkWhole(folder *Folder) {
 		p.refuse("", folder, "", "", fmt.Sprintf("%d devices, at most %d go into a document", len(folder.Members), limits.MostDevices))
 	}
 	for _, one := range folder.Members {
-		if one.About.Kind == "encrypted" {
+		if one.About.Kind == part.KindEncrypted {
 			p.refuse(part.Encrypted, folder, one.Head.Device, one.Head.Name, "the folder is encrypted there")
 		}
 		for _, other := range one.About.Sharing {
@@ -164,9 +166,9 @@ func (p *Plan) checkSharing(folder *Folder) bool {
 			case at >= 0 && !sharesWith(folder.Members[at].About, one.Head.Device):
 				isShared = false
 				p.refuse(part.Unshared, folder, other.Device, other.Name, "it doesn't share the folder with "+one.Label()+", which shares it with this one")
-			case at < 0 && p.hasDevice(other.Device):
+			case at < 0 && p.device(other.Device) != nil:
 				isShared = false
-				p.refuse(part.Unshared, folder, other.Device, other.Name, "it doesn't share the folder, or its part is without it; "+one.Label()+" shares it with this one")
+				p.refuse(part.Unshared, folder, other.Device, other.Name, p.device(other.Device).whyWithout(folder.ID)+"; "+one.Label()+" shares it with this one")
 			case at < 0 && !absent[other.Device]:
 				absent[other.Device] = true
 				p.refuse(part.Absent, folder, other.Device, other.Name, "it shares the folder, and no home or part of it is given ("+other.Device+")")
@@ -176,14 +178,27 @@ func (p *Plan) checkSharing(folder *Folder) bool {
 	return isShared
 }
 
-// hasDevice says whether a part of this device is here.
-func (p *Plan) hasDevice(device string) bool {
+// device gives the device with this id, if a part of it is here.
+func (p *Plan) device(id string) *Device {
 	for _, one := range p.Devices {
-		if one.Head.Device == device {
-			return true
+		if one.Head.Device == id {
+			return one
 		}
 	}
-	return false
+	return nil
+}
+
+// whyWithout says why a device's part hasn't a folder, as far as the part says that.
+func (d *Device) whyWithout(folder string) string {
+	for _, one := range d.Head.Others {
+		if one.ID == folder {
+			return "its part is without the folder: make it without --folder, or with it for this one, too"
+		}
+	}
+	if d.Head.Others == nil {
+		return "it doesn't share the folder, or its part is without it"
+	}
+	return "it doesn't share the folder"
 }
 
 // sharesWith says whether a folder is shared with this device.
@@ -240,9 +255,9 @@ func checkDirectories(folders []*Folder) error {
 			other, taken := seen[one.About.Directory]
 			if taken && other.Device != one.Device {
 				return fmt.Errorf("refused: folder %s, %s: its directory %s is that of %s for folder %s, too. A copied home's "+
-					"config.xml is to name the directory of the copied folder", folder.ID, one.Label(), one.About.Path, other.Label(), other.folder)
+					"config.xml is to name the directory of the copied folder", folder.Called(), one.Label(), one.About.Path, other.Label(), other.folder)
 			}
-			seen[one.About.Directory] = owner{one, folder.ID}
+			seen[one.About.Directory] = owner{one, folder.Called()}
 		}
 	}
 	return nil

@@ -87,6 +87,19 @@ func TestSharing(t *testing.T) {
 	}
 }
 
+// Whether a device doesn't share a folder, or its part is without it, is told as far as its part says that.
+func TestWhyAPartIsWithoutAFolder(t *testing.T) {
+	for told, others := range map[string][]part.Other{"it doesn't share the folder, or its part is without it; device ": nil, "it doesn't share the folder; device ": {},
+		"its part is without the folder: make it without --folder, or with it for this one, too; device ": {{ID: "docs"}}} {
+		devices := sharing(map[byte]string{1: "12", 2: "12"}, unchanged)
+		devices[1].Head.Folders[0].ID, devices[1].Head.Folders[0].Sharing, devices[1].Head.Others = "music", nil, others
+		plan, err := NewPlan(devices, nil)
+		if err != nil || len(plan.Refusals) != 1 || !strings.HasPrefix(plan.Refusals[0].Why, told) {
+			t.Errorf("%v, %v", plan.Refusals, err)
+		}
+	}
+}
+
 func TestMoments(t *testing.T) {
 	cases := []struct {
 		why     string

@@ -39,11 +39,7 @@ func idsWith(labels map[string]string, label string) []string {
 func idsOf(labels map[string]string) string {
 	made := []string{}
 	for id, label := range labels {
-		word := shell.Quoted(id)
-		if label != "" && label != id {
-			word += " (" + shell.Printable(label) + ")"
-		}
-		made = append(made, word)
+		made = append(made, shell.Folder(id, label))
 	}
 	if len(made) == 0 {
 		return "there is no folder"

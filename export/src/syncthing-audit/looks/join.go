@@ -7,6 +7,7 @@ import (
 
 	"golang.org/x/exp/slices"
 	"syncthing-audit/part"
+	"syncthing-audit/shell"
 )
 
 // Stream gives a device's lines as they were at both of two looks, and which names changed between them.
@@ -75,12 +76,12 @@ func joinFolder(one, other *part.Folder) (*part.Folder, error) {
 	case one.ID != other.ID:
 		return nil, fmt.Errorf("the two looks are at other folders: make both with the same --folder")
 	case one.IndexID != other.IndexID:
-		return nil, fmt.Errorf("folder %s: its index was made anew between the two looks: begin again", one.ID)
+		return nil, fmt.Errorf("folder %s: its index was made anew between the two looks: begin again", shell.Folder(one.ID, one.Label))
 	case one.Max > other.Max:
-		return nil, fmt.Errorf("folder %s: its index went back from change %d to %d between the two looks: begin again", one.ID, one.Max, other.Max)
+		return nil, fmt.Errorf("folder %s: its index went back from change %d to %d between the two looks: begin again", shell.Folder(one.ID, one.Label), one.Max, other.Max)
 	case one.Directory != other.Directory || one.Kind != other.Kind || one.IgnoresPermissions != other.IgnoresPermissions ||
 		!reflect.DeepEqual(one.Sharing, other.Sharing):
-		return nil, fmt.Errorf("folder %s: its configuration changed between the two looks: begin again", one.ID)
+		return nil, fmt.Errorf("folder %s: its configuration changed between the two looks: begin again", shell.Folder(one.ID, one.Label))
 	}
 	made := *one
 	made.Max = other.Max

@@ -74,6 +74,11 @@ func (n *Name) IsAsRecorded() bool {
 	return own.Content == nil || own.Content.Size == disk.Size && own.ModifiedS == disk.ModifiedS && own.ModifiedNs == disk.ModifiedNs
 }
 
+// IsDamaged says whether the disk itself fails to give what it has of a name.
+func (n *Name) IsDamaged() bool {
+	return n.Disk != nil && n.Disk.Lost != "" || slices.IndexFunc(n.Out, func(out LeftOut) bool { return out.Kind == Damaged }) >= 0
+}
+
 // IsIgnored says whether .stignore keeps a name out of the folder at the device, whatever its file does.
 func (n *Name) IsIgnored() bool {
 	return slices.IndexFunc(n.Out, func(out LeftOut) bool { return out.Kind == Ignored }) >= 0

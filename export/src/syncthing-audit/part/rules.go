@@ -32,13 +32,28 @@ func checkHead(head *Head) error {
 			return fmt.Errorf("the part's folder %q: %w", one.ID, err)
 		}
 	}
+	return checkOthers(head)
+}
+
+// checkOthers says why the folders that a part hasn't are none.
+func checkOthers(head *Head) error {
+	for place, one := range head.Others {
+		if head.Folder(one.ID) != nil || place > 0 && head.Others[place-1].ID >= one.ID {
+			return fmt.Errorf("the part says that it hasn't the folder %q, which isn't in its place", one.ID)
+		}
+		for _, device := range one.Devices {
+			if Number(device) == 0 {
+				return fmt.Errorf("the part says that folder %q is shared with %q, which is no device id", one.ID, device)
+			}
+		}
+	}
 	return nil
 }
 
 // checkFolder says why a folder of a head is none.
 func checkFolder(one *Folder) error {
 	switch one.Kind {
-	case "send-receive", "send-only", "receive-only", "encrypted":
+	case "send-receive", "send-only", "receive-only", KindEncrypted:
 	default:
 		return fmt.Errorf("its kind is %q", one.Kind)
 	}
@@ -153,7 +168,7 @@ func checkName(one *Name, in *Folder, hasBytes bool) error {
 		}
 	}
 	for _, out := range one.Out {
-		if !IsKind(out.Kind) || out.Why == "" || out.Bytes < 0 {
+		if !IsKind(out.Kind) && out.Kind != Damaged || out.Why == "" || out.Bytes < 0 {
 			return fmt.Errorf("%s is left out as %q", shell.Path(string(one.Name)), out.Kind)
 		}
 	}

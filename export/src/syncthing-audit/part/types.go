@@ -31,8 +31,14 @@ const (
 	Unshared   = "unshared"   // a folder that one device shares and the other doesn't
 )
 
-// Kinds are all of them.
+// Damaged is the kind of what the disk itself fails to give. That is a fault of the device, and never left out on request.
+const Damaged = "damaged"
+
+// Kinds are all that may be left out.
 var Kinds = []string{Ignored, Unreadable, Changing, Special, OddName, OddTarget, OddRecord, Rescan, Large, Absent, Encrypted, Unshared}
+
+// KindEncrypted is the kind of a folder whose device has it encrypted, of which no document is made.
+const KindEncrypted = "encrypted"
 
 // Head says whose part it is and what it holds.
 type Head struct {
@@ -43,6 +49,14 @@ type Head struct {
 	Prefix  string    `json:"prefix,omitempty"` // only names that begin so were read
 	Folders []Folder  `json:"folders"`          // rising by id
 	Look    *Look     `json:"look,omitempty"`   // of a device that may run
+	Others  []Other   `json:"other_folders"`    // rising by id; nothing where an older program made the part, which doesn't say
+}
+
+// Other is a folder that the device has by its configuration, and that its part hasn't, since it wasn't asked for.
+type Other struct {
+	ID      string   `json:"id"`
+	Label   string   `json:"label,omitempty"`
+	Devices []string `json:"devices"` // others that it is shared with
 }
 
 // Folder is a folder at the device.
@@ -142,6 +156,7 @@ type Node struct {
 	Target      string    `json:"target,omitempty"`
 	Permissions uint32    `json:"permissions"`
 	Differ      *Differ   `json:"differ,omitempty"`
+	Lost        string    `json:"lost,omitempty"`  // why the disk fails to give the file's bytes; its contents are those of no file then
 	Stamp       string    `json:"stamp,omitempty"` // of a look: another one for each file and directory, and for each write to a file
 
 	Data []byte `json:"-"` // in memory alone, for documents with bytes

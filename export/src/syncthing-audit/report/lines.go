@@ -62,10 +62,24 @@ func Rest(to io.Writer, answer *finding.Answer) {
 		live(to, folder)
 		unwon(to, folder)
 		permissions(to, folder)
+		damaged(to, folder)
 		leftOut(to, folder)
 	}
 	for _, one := range answer.LeftOut {
 		fmt.Fprintf(to, "left out: folder %s, device %s: %s\n", one.Folder, one.Device, one.Why)
+	}
+	unasked(to, answer)
+}
+
+// unasked prints which folders of the devices weren't audited, since nobody asked for them, or that this isn't known.
+func unasked(to io.Writer, answer *finding.Answer) {
+	for _, device := range answer.Devices {
+		for _, one := range device.Unasked {
+			fmt.Fprintf(to, "not asked for: folder %s on %d\n", one.ID, device.Number)
+		}
+		if device.IsSilent {
+			fmt.Fprintf(to, "not told: other folders of %d\n", device.Number)
+		}
 	}
 }
 
@@ -91,6 +105,15 @@ func permissions(to io.Writer, folder *finding.Folder) {
 			}
 		}
 		fmt.Fprintln(to)
+	})
+}
+
+// damaged prints of which names a disk itself fails to give what it has.
+func damaged(to io.Writer, folder *finding.Folder) {
+	folder.Damaged.Each(func(one *finding.Damaged) {
+		for _, at := range one.At {
+			fmt.Fprintf(to, "damaged: %s %s on %d: %s\n", folder.ID, printed(string(one.Name)), folder.Members[at.Member].Number, at.Why)
+		}
 	})
 }
 
@@ -139,22 +162,22 @@ const mostAlike = 5
 
 // tellRefusals prints refusals. Of many names of one kind at one device of a folder it tells the first ones.
 func tellRefusals(to io.Writer, all []finding.Refusal) {
-	type alike struct{ folder, device, kind string }
+	type alike struct{ folder, label, device, kind string }
 	told, more := map[alike]int{}, []alike{}
 	for _, one := range all {
-		same := alike{one.Folder, one.Device, one.Kind}
+		same := alike{one.Folder, one.Label, one.Device, one.Kind}
 		if one.Name != "" && one.Kind != "" {
 			told[same]++
 		}
 		switch {
 		case told[same] <= mostAlike || one.Name == "":
-			fmt.Fprintf(to, "syncthing-audit: refused: folder %s%s: %s\n", shell.Quoted(one.Folder), placeOf(one), one.Why)
+			fmt.Fprintf(to, "syncthing-audit: refused: folder %s%s: %s\n", shell.Folder(one.Folder, one.Label), placeOf(one), one.Why)
 		case told[same] == mostAlike+1:
 			more = append(more, same)
 		}
 	}
 	for _, one := range more {
-		fmt.Fprintf(to, "syncthing-audit: refused: folder %s%s: %d more of the kind %s\n", shell.Quoted(one.folder),
+		fmt.Fprintf(to, "syncthing-audit: refused: folder %s%s: %d more of the kind %s\n", shell.Folder(one.folder, one.label),
 			placeOf(finding.Refusal{Device: one.device}), told[one]-mostAlike, one.kind)
 	}
 }

@@ -52,11 +52,11 @@ func TestVerdicts(t *testing.T) {
 func TestRefusals(t *testing.T) {
 	var written strings.Builder
 	Refusals(&written, &finding.Answer{Refusals: []finding.Refusal{
-		{Kind: "absent", Folder: "docs", Device: "phone", Why: "no part of it is given"},
+		{Kind: "absent", Folder: "docs", Label: "My Documents", Device: "phone", Why: "no part of it is given"},
 		{Kind: "special", Folder: "docs", Device: "laptop (ABCDEFG)", Name: "-a `b` $c", Why: "it is a fifo"},
 		{Folder: "docs", Why: "too many"},
 	}, Unlisted: map[string]int64{"special": 4, "ignored": 5}})
-	const expected = `syncthing-audit: refused: folder docs, device phone: no part of it is given
+	const expected = `syncthing-audit: refused: folder docs (My Documents), device phone: no part of it is given
 syncthing-audit: refused: folder docs, device laptop (ABCDEFG), name './-a ` + "`b`" + ` $c': it is a fifo
 syncthing-audit: refused: folder docs: too many
 syncthing-audit: refused: 5 more of the kind ignored
@@ -135,6 +135,20 @@ firm wasn't asked: pics
 `
 	if written.String() != expected {
 		t.Errorf("%s\nnot\n%s", written.String(), expected)
+	}
+}
+
+// Which folders of the devices weren't audited is told; without --folder that isn't settled.
+func TestLinesOfOtherFolders(t *testing.T) {
+	answer := &finding.Answer{Folders: []*finding.Folder{folderOf("docs", 2)}, Devices: []finding.Device{{Number: 1, IsSilent: true},
+		{Number: 2, Unasked: []finding.Unasked{{ID: "music", Label: "My music"}}}}}
+	for _, verdict := range []string{"settled as far as audited", "settled"} {
+		var written strings.Builder
+		Lines(&written, answer)
+		if written.String() != verdict+"\nfolder docs: 2 names, 0 deleted, 2 devices\nfirm: docs\nnot told: other folders of 1\nnot asked for: folder music on 2\n" {
+			t.Errorf("%s", written.String())
+		}
+		answer.IsByName = true
 	}
 }
 

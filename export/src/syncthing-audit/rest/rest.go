@@ -18,10 +18,12 @@ import (
 	"strings"
 
 	"github.com/syncthing/syncthing/lib/config"
+	"syncthing-audit/shell"
 )
 
 // Scan has the Syncthing of a home scan a folder, and waits until that is done.
-func Scan(home string, about config.GUIConfiguration, folder string) error {
+func Scan(home string, about config.GUIConfiguration, folder, label string) error {
+	called := shell.Folder(folder, label)
 	client := &http.Client{Transport: transport(home, about)}
 	scheme := "http"
 	if about.UseTLS() {
@@ -34,16 +36,17 @@ func Scan(home string, about config.GUIConfiguration, folder string) error {
 	asked.Header.Set("X-API-Key", about.APIKey)
 	answer, err := client.Do(asked)
 	if err != nil {
-		return fmt.Errorf("folder %s isn't scanned: does Syncthing run there? %w", folder, err)
+		return fmt.Errorf("folder %s isn't scanned: does Syncthing run there? %w", called, err)
 	}
 	defer answer.Body.Close()
 	if answer.StatusCode == http.StatusForbidden || answer.StatusCode == http.StatusUnauthorized {
 		return fmt.Errorf("folder %s isn't scanned: Syncthing doesn't take the API key of %s (%s): restart it if that file was changed, "+
-			"and see that no other Syncthing listens at %s", folder, filepath.Join(home, "config.xml"), answer.Status, about.Address())
+			"and see that no other Syncthing listens at %s", called, filepath.Join(home, "config.xml"), answer.Status, about.Address())
 	}
 	if answer.StatusCode != http.StatusOK {
 		text, _ := io.ReadAll(io.LimitReader(answer.Body, 1000))
-		return fmt.Errorf("folder %s isn't scanned: %s: %s", folder, answer.Status, strings.TrimSpace(string(text)))
+		return fmt.Errorf("folder %s isn't scanned (%s), and Syncthing says: %s. See to that on its page, or audit without --rescan", called, answer.Status,
+			strings.TrimSpace(string(text)))
 	}
 	return nil
 }

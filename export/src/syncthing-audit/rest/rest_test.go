@@ -65,7 +65,7 @@ func TestScan(t *testing.T) {
 			}
 		}
 		one.change(home, &about)
-		err := Scan(home, about, one.folder)
+		err := Scan(home, about, one.folder, "")
 		if (err == nil) != (one.told == "") || err != nil && !strings.Contains(err.Error(), one.told) {
 			t.Errorf("%s: %v", one.why, err)
 		}

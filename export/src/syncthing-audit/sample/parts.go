@@ -47,7 +47,7 @@ func (p *plan) writePart(file *os.File, ids []string, place int) error {
 		}
 	}
 	head := &part.Head{Version: part.Version, Device: ids[place], Name: fmt.Sprintf("device%d", place+1),
-		Made: time.Unix(1700000000, 0).UTC(), Folders: []part.Folder{folder}}
+		Made: time.Unix(1700000000, 0).UTC(), Folders: []part.Folder{folder}, Others: []part.Other{}}
 	to, err := part.NewWriter(file, head)
 	if err != nil {
 		return err

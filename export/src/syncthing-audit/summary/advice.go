@@ -91,6 +91,8 @@ func adviceOfFault(one *Fault, file *File, named labels) string {
 	switch one.Cause {
 	case OtherBytes:
 		return otherBytesAdvice(one, file, at, named)
+	case Damaged:
+		return damageAdvice(file, at, named)
 	case Changed:
 		return changedAdvice(one, file, at, named)
 	case Missing:

@@ -26,6 +26,7 @@ const (
 	OtherTime     Cause = "other-time"      // the right bytes with another time or size than recorded
 	NewerKnown    Cause = "newer-known"     // the device knows of a version that it could still take
 	Permissions   Cause = "permissions"     // beside the verdict
+	Damaged       Cause = "damaged"         // the disk itself fails to give what it has
 	Differs       Cause = "differs"         // details weren't kept
 )
 
@@ -39,8 +40,10 @@ type Fault struct {
 	Recorded *State   `json:"recorded,omitempty"`
 	Found    *State   `json:"found,omitempty"` // on its disk
 	Blocks   *Blocks  `json:"blocks,omitempty"`
-	Reasons  []string `json:"reasons"` // in syncaudit's words
+	Reasons  []string `json:"reasons"`       // in syncaudit's words
+	Why      string   `json:"why,omitempty"` // of Damaged: the system's words
 	contents []part.Content
+	ends     ends
 	isSeen   bool // by the next scan, since the mode isn't as recorded
 }
 
@@ -101,6 +104,8 @@ func onDisk(at *part.Name) Cause {
 	switch {
 	case !isThere && disk == nil:
 		return ""
+	case disk != nil && disk.Lost != "" && (own == nil || isThere):
+		return Damaged
 	case own == nil:
 		return NotScanned
 	case !isThere:

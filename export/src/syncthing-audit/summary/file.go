@@ -19,6 +19,8 @@ type File struct {
 	Follows     []Follow   `json:"follows"`                    // what fails for want of the above
 	Permissions []Mode     `json:"permissions"`                // where they differ
 	Advice      []string   `json:"advice"`
+	RenamedFrom Text       `json:"renamed_from,omitempty"` // the name that goes where this one comes with the same bytes
+	RenamedTo   Text       `json:"renamed_to,omitempty"`   // and the other way round
 	hasDetails  bool
 }
 
@@ -46,6 +48,9 @@ func fileOf(folder *finding.Folder, told *finding.Told) *File {
 		read := &reader{folder: folder, row: row, file: made, reasons: map[int][]string{}}
 		read.read(told.Failures)
 	}
+	if told.Damaged != nil {
+		made.addDamage(folder, told.Damaged)
+	}
 	if told.Permissions != nil {
 		made.Permissions = modesOf(folder, told.Permissions)
 	}
@@ -68,6 +73,7 @@ func addUnwon(file *File, folder *finding.Folder, one *finding.Unwon) {
 		if row != nil && row.At[at.Member] != nil {
 			fault.Recorded, fault.Found = recorded(row.At[at.Member].Own), found(row.At[at.Member].Disk)
 			fault.Deletion = fault.Recorded != nil && fault.Recorded.Deleted
+			fault.ends = endsOf(&fault, row.At[at.Member], nil)
 		}
 		file.Faults = append(file.Faults, fault)
 	}
@@ -216,5 +222,6 @@ func (r *reader) add(member int, cause Cause) {
 		}
 	}
 	made.Deletion = cause == Behind && made.Due != nil && made.Due.Deleted || cause == LocalChange && made.Recorded != nil && made.Recorded.Deleted
+	made.ends = endsOf(&made, r.at(member), r.winner)
 	r.file.Faults = append(r.file.Faults, made)
 }

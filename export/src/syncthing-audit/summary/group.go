@@ -28,7 +28,7 @@ type Group struct {
 }
 
 // canFold are the causes that ask for the same everywhere. What else is wrong is to be looked at file by file.
-var canFold = map[Cause]bool{Behind: true, Missing: true, NotScanned: true, OtherTime: true, NewerKnown: true, OtherBlocks: true, Differs: true}
+var canFold = map[Cause]bool{Behind: true, Missing: true, NotScanned: true, OtherTime: true, NewerKnown: true, OtherBlocks: true, Damaged: true, Differs: true}
 
 // keyOf says with which other names a name may be told; not at all if it is empty.
 func keyOf(file *File) string {
@@ -125,6 +125,7 @@ func (f *folding) end() ([]*File, []*Group) {
 	for _, one := range files {
 		one.Advice = adviceOf(one, f.named)
 	}
+	link(files)
 	return files, groups
 }
 

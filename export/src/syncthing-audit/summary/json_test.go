@@ -20,6 +20,8 @@ func full(folder *finding.Folder) {
 	fails(folder, "alike", []*part.Name{with(file(1, 1), rotten), with(file(1, 1), rotten)}, "StoreDiffers 1", "StoreDiffers 2")
 	fails(folder, "behind", []*part.Name{file(2, 1), file(1, 2)}, "RecordDiffers 2", "StoreDiffers 2", "ViewAhead 2", "ViewAhead 3")
 	fails(folder, "odd", nil, "NameUnknown 0")
+	fails(folder, "lost", []*part.Name{file(1, 1), with(file(1, 1), lost)}, "StoreDiffers 2")
+	folder.Damaged.Add(finding.Damaged{Name: "lost", IsFile: true, At: []finding.DamagedAt{{Member: 1, Why: "read lost: input/output error"}}})
 	fails(folder, "kept", nil, "StoreDiffers 1")
 	for _, name := range []string{"1", "2", "3", "4", "5", "6"} {
 		fails(folder, name, []*part.Name{file(1, 1), nil}, "RecordMissing 2")
@@ -29,13 +31,14 @@ func full(folder *finding.Folder) {
 	folder.Conflicts = []finding.Conflict{{Name: "a.sync-conflict-20261126-170000.txt", Bytes: 1}}
 	folder.LeftOut = []*finding.LeftOut{{Name: "odd\xff", Names: 1, Why: []finding.Reason{{Member: -1, Kind: part.Large, Why: "large"}, {Member: 0, Kind: part.OddName}}}}
 	folder.Members[0].Head.Prefix = "a"
-	folder.Members[1].Head.Folders = append(folder.Members[1].Head.Folders, part.Folder{ID: "music"})
 }
 
 // What is written is what the schema says, and what the schema says is looked at: a document of other words is none.
 func TestSchema(t *testing.T) {
 	answer := answerOf(2, full)
 	answer.LeftOut = []finding.Refusal{{Kind: part.Absent, Folder: "docs", Device: "phone", Why: "no part of it is given"}}
+	answer.Devices[1].Unasked = []finding.Unasked{{ID: "music", Label: "my music", InPart: true}, {ID: "pics"}}
+	answer.Devices[0].IsSilent = true
 	var written strings.Builder
 	for _, one := range []*finding.Answer{answer, answerOf(1, func(*finding.Folder) {}), answerOf(3, notFirm), {}} {
 		if err := Of(one).WriteJSON(&written); err != nil {

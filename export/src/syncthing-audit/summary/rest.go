@@ -20,11 +20,9 @@ func (p *printer) rest(s *Summary) {
 		}
 	}
 	for _, one := range s.LeftOut {
-		p.line("left out: %s of %s: %s", one.Folder, one.Device, one.Why)
+		p.line("left out: %s of %s: %s", shell.Folder(one.Folder, one.label), one.Device, one.Why)
 	}
-	if len(s.NotAsked) > 0 {
-		p.line("not asked for: %s", p.notAsked(s))
-	}
+	p.notAsked(s)
 	for _, one := range s.Devices {
 		if one.Prefix != "" {
 			p.line("not asked for: names on %s that don't begin with %s", p.named.of(one.ID), shell.Quoted(string(one.Prefix)))
@@ -163,21 +161,4 @@ func (p *printer) left(one Names) {
 		}
 		return why
 	}))
-}
-
-// notAsked gives the folders that weren't asked for, each with its devices.
-func (p *printer) notAsked(s *Summary) string {
-	var folders []string
-	devices := map[string][]string{}
-	for _, one := range s.NotAsked {
-		if devices[one.Folder] == nil {
-			folders = append(folders, one.Folder)
-		}
-		devices[one.Folder] = append(devices[one.Folder], one.Device)
-	}
-	words := []string{}
-	for _, one := range folders {
-		words = append(words, one+" ("+p.named.all(devices[one])+")")
-	}
-	return counted(int64(len(folders)), "folder", "folders") + ": " + strings.Join(words, ", ")
 }

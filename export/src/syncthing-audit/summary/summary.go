@@ -29,7 +29,9 @@ type Summary struct {
 	Folders     []*Folder  `json:"folders"`
 	LeftOut     []LeftOut  `json:"left_out"`  // devices, and folders as a whole
 	NotAsked    []NotAsked `json:"not_asked"` // folders of these devices
+	NotTold     []string   `json:"not_told"`  // devices whose parts don't say which folders they haven't
 	NotCompared []string   `json:"not_compared"`
+	isByName    bool       // whether the folders were asked for by their ids
 }
 
 // Device is a device that was audited.
@@ -49,6 +51,7 @@ type Folder struct {
 	Verdict string   `json:"verdict"`
 	Names   int64    `json:"names"`
 	Deleted int64    `json:"deleted"`
+	Going   int64    `json:"being_deleted"`
 	Bytes   int64    `json:"bytes_hashed"`
 	Devices []Member `json:"devices"`
 	Wrong   int64    `json:"names_wrong"` // files, directories and symlinks that keep the folder from being in step
@@ -114,12 +117,7 @@ type LeftOut struct {
 	Device string `json:"device"`
 	Kind   string `json:"kind"`
 	Why    string `json:"why"`
-}
-
-// NotAsked is a folder that a device has and that wasn't audited.
-type NotAsked struct {
-	Folder string `json:"folder"`
-	Device string `json:"device"`
+	label  string // of the folder
 }
 
 // notCompared is what no audit compares.
@@ -128,7 +126,7 @@ var notCompared = []string{"owners", "extended attributes", "old versions"}
 // Of gives the summary of an answer.
 func Of(answer *finding.Answer) *Summary {
 	made := &Summary{Version: Version, Verdict: verdictOf(answer), Firm: answer.HowFirm(), Devices: []Device{}, Folders: []*Folder{}, LeftOut: []LeftOut{},
-		NotAsked: notAsked(answer), NotCompared: notCompared}
+		NotAsked: notAsked(answer), NotTold: notTold(answer), NotCompared: notCompared, isByName: answer.IsByName}
 	prefixes := prefixesOf(answer)
 	for _, one := range answer.Devices {
 		made.Devices = append(made.Devices, Device{one.ID, one.Name, one.Made, one.From, prefixes[one.ID]})
@@ -138,7 +136,7 @@ func Of(answer *finding.Answer) *Summary {
 		made.Folders = append(made.Folders, folderOf(answer, one, named))
 	}
 	for _, one := range answer.LeftOut {
-		made.LeftOut = append(made.LeftOut, LeftOut{one.Folder, one.Device, one.Kind, one.Why})
+		made.LeftOut = append(made.LeftOut, LeftOut{one.Folder, one.Device, one.Kind, one.Why, one.Label})
 	}
 	return made
 }
@@ -181,7 +179,7 @@ func verdictOf(answer *finding.Answer) string {
 
 // folderOf gives the summary of a folder.
 func folderOf(answer *finding.Answer, from *finding.Folder, named labels) *Folder {
-	made := &Folder{ID: from.ID, Label: from.Label, Verdict: InStep, Names: from.Names, Deleted: from.Deleted, Bytes: from.Bytes,
+	made := &Folder{ID: from.ID, Label: from.Label, Verdict: InStep, Names: from.Names, Deleted: from.Deleted, Going: from.Deleting, Bytes: from.Bytes,
 		Devices: []Member{}, Files: []*File{}, Groups: []*Group{}, Copies: []Copy{}, LeftOut: []Names{}, Ignored: Count(from.Outside), MoreOut: Count(from.Unlisted.LeftOut), More: Count(from.Unlisted.Conflicts)}
 	switch {
 	case from.HasFailures():
@@ -227,31 +225,6 @@ func prefixesOf(answer *finding.Answer) map[string]Text {
 	for _, folder := range answer.Folders {
 		for _, one := range folder.Members {
 			made[one.Head.Device] = Text(one.Head.Prefix)
-		}
-	}
-	return made
-}
-
-// notAsked gives the folders of these devices that weren't asked for.
-func notAsked(answer *finding.Answer) []NotAsked {
-	asked := map[string]bool{}
-	for _, one := range answer.Folders {
-		asked[one.ID] = true
-	}
-	for _, one := range answer.LeftOut {
-		asked[one.Folder] = true
-	}
-	made := []NotAsked{}
-	seen := map[NotAsked]bool{}
-	for _, folder := range answer.Folders {
-		for _, member := range folder.Members {
-			for _, has := range member.Head.Folders {
-				one := NotAsked{has.ID, member.Head.Device}
-				if !asked[has.ID] && !seen[one] {
-					seen[one] = true
-					made = append(made, one)
-				}
-			}
 		}
 	}
 	return made

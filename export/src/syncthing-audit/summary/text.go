@@ -29,9 +29,7 @@ func (s *Summary) Print(to io.Writer, zone *time.Location, now time.Time) {
 		for _, one := range folder.Groups {
 			p.group(folder, one)
 		}
-		for _, one := range folder.Files {
-			p.file(folder, one)
-		}
+		p.files(folder)
 		p.loose(folder)
 	}
 	p.rest(s)
@@ -60,10 +58,6 @@ func (p *printer) verdict(one *Folder) string {
 // folder prints the one line of a folder.
 func (p *printer) folder(one *Folder) {
 	verdict := p.verdict(one)
-	label := ""
-	if one.Label != "" && one.Label != one.ID {
-		label = " (" + shell.Printable(one.Label) + ")"
-	}
 	devices := []string{}
 	for _, member := range one.Devices {
 		devices = append(devices, member.Device)
@@ -72,8 +66,11 @@ func (p *printer) folder(one *Folder) {
 	if one.Live != nil {
 		names, moving = still(one)+names, "; in motion: "+thousands(one.Live.Moving)
 	}
-	p.line("%s%s: %s; %s (%s deleted), %s hashed on %s%s", one.ID, label, verdict, names, thousands(one.Deleted), size(one.Bytes),
-		p.named.all(devices), moving)
+	deleted := thousands(one.Deleted) + " deleted"
+	if one.Going > 0 {
+		deleted += ", " + thousands(one.Going) + " being deleted"
+	}
+	p.line("%s: %s; %s (%s), %s hashed on %s%s", shell.Folder(one.ID, one.Label), verdict, names, deleted, size(one.Bytes), p.named.all(devices), moving)
 }
 
 // group prints names with the same fault as one entry.
@@ -113,21 +110,27 @@ func (p *printer) file(folder *Folder, one *File) {
 	for next := range one.Faults {
 		p.fault(&one.Faults[next])
 	}
+	p.renamed(one)
 	for _, same := range one.Same {
 		p.line("  the same other bytes on: %s", p.named.all(same))
 	}
 	p.modes(one.Permissions)
 	if len(one.Faults) > 0 && !isOfNobody(one) {
-		have := "no audited device"
-		if len(one.Have) > 0 {
-			have = p.named.all(one.Have)
-		}
-		p.line("  as recorded on: %s", have)
+		p.have(one)
 	}
 	if len(one.Follows) > 0 {
 		p.line("  so %s can still take another version of it, until that is mended", p.named.all(devicesOf(one.Follows)))
 	}
 	p.advice(one.Advice)
+}
+
+// have prints which devices have what is due.
+func (p *printer) have(one *File) {
+	have := "no audited device"
+	if len(one.Have) > 0 {
+		have = p.named.all(one.Have)
+	}
+	p.line("  as recorded on: %s", have)
 }
 
 // isOfNobody says whether a name has no winner, so that there is nothing that devices should have.
@@ -163,6 +166,7 @@ var wordsOf = map[Cause]string{
 	OnlySeen:      "known from another device, which doesn't have it",
 	OtherTime:     "the recorded bytes with another time than recorded",
 	NewerKnown:    "knows of another version that it could still take",
+	Damaged:       "the disk fails to give what it has; it may be lost there",
 	Differs:       "differs; details weren't kept",
 }
 
@@ -198,6 +202,8 @@ func (p *printer) wordsOf(one *Fault) string {
 // since says when a file was modified, as far as that is known. For a deletion it says of when the deletion is.
 func (p *printer) since(one *Fault) string {
 	switch {
+	case one.Cause == Damaged && one.Why != "":
+		return " (" + one.Why + ")"
 	case one.Cause == OtherBytes && one.Recorded != nil:
 		return " (modified " + p.when(one.Recorded.Modified) + ")"
 	case one.Cause == LocalChange && one.Recorded != nil && one.Deletion:

@@ -136,6 +136,18 @@ var textsForAPerson = []struct {
   to do: if instead the bytes on phone, server are the right ones, which are the same, 'touch' the
          file on phone alone and let Syncthing scan: it sends them to all.
 ` + lastLine},
+	{"a deletion on its way", 2, func(folder *finding.Folder) {
+		folder.Deleting = 1
+		fails(folder, "a", []*part.Name{gone(), file(1, 1)}, "RecordDiffers 2", "StoreDiffers 2", "ViewAhead 2")
+	}, `docs (Documents): NOT in step, 1 name is wrong; 1,204 names (4 deleted, 1 being deleted), 335.2 MB hashed on laptop, server
+
+a  (in docs, 300.0 kB)
+  server: behind: hasn't deleted it yet (since 2020-09-13 12:27:40 UTC)
+  as recorded on: laptop
+  to do: let Syncthing run on server and on laptop, and let them finish. If it stays so, see whether
+         a device or the folder is paused, whether they are connected, and whether a disk is full;
+         or 'Ignore Delete' is set for the folder on server.
+` + lastLine},
 	{"a missing file", 2, func(folder *finding.Folder) {
 		fails(folder, "a", []*part.Name{file(1, 1), with(file(1, 1), func(one *part.Name) { one.Disk = nil })}, "StoreDiffers 2")
 	}, lineOfFolder + `
@@ -240,17 +252,15 @@ a  (in docs)
   to do: 'chmod' it to the same mode on laptop, server: the next scan of one where it is changed may
          send its mode to all; or choose 'Ignore Permissions' for the folder.
 ` + lastLine},
-	{"what was left out, and what wasn't asked for", 2, func(folder *finding.Folder) {
+	{"what was left out, and which names weren't asked for", 2, func(folder *finding.Folder) {
 		folder.LeftOut = []*finding.LeftOut{{Name: "odd\xff", Names: 1, Bytes: 3000000, Why: []finding.Reason{{Member: 0, Kind: part.OddName, Why: "its name isn't UTF-8"}}}}
 		folder.Outside = finding.Count{Names: 4, Bytes: 7}
-		folder.Members[1].Head.Folders = append(folder.Members[1].Head.Folders, part.Folder{ID: "music"})
 		folder.Members[0].Head.Prefix = "a b"
 	}, `docs (Documents): in step and firm as far as audited; 1,204 names (4 deleted), 335.2 MB hashed on laptop, server
 
 left out of docs: 1 name, 3.0 MB
   $'odd\377', 3.0 MB: laptop: its name isn't UTF-8
 outside docs: 4 names, 7 bytes, which .stignore keeps out on each device that has them
-not asked for: 1 folder: music (server)
 not asked for: names on laptop that don't begin with 'a b'
 not compared: owners, extended attributes, old versions
 `},

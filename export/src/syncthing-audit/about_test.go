@@ -1,0 +1,89 @@
+package main
+
+import (
+	"encoding/json"
+	"errors"
+	"fmt"
+	"strings"
+	"testing"
+
+	"github.com/syncthing/syncthing/lib/config"
+	"github.com/syncthing/syncthing/lib/protocol"
+	"syncthing-audit/audit"
+	"syncthing-audit/join"
+	"syncthing-audit/part"
+)
+
+// configured gives the configuration of a device that shares the folder docs, and music with nobody.
+func configured(devices ...byte) config.Configuration {
+	made := config.Configuration{Folders: []config.FolderConfiguration{{ID: "docs", Label: "Documents"}, {ID: "music"}}}
+	for _, number := range devices {
+		id := protocol.DeviceID{7: number}
+		made.Devices = append(made.Devices, config.DeviceConfiguration{DeviceID: id, Name: fmt.Sprint("device ", number)})
+		made.Folders[0].Devices = append(made.Folders[0].Devices, config.FolderDeviceConfiguration{DeviceID: id})
+	}
+	return made
+}
+
+// whatDevicesSay are devices with those that they share the folder with, and what is refused by that.
+var whatDevicesSay = []struct {
+	why      string
+	with     map[byte][]byte
+	change   func(*config.Configuration)
+	leaveOut string
+	refused  string
+}{
+	{"all are named", map[byte][]byte{1: {1, 2}, 2: {1, 2}}, nil, "", ""},
+	{"one isn't", map[byte][]byte{1: {1, 2, 3}, 2: {1, 2, 3}}, nil, "", part.Absent},
+	{"one is left out", map[byte][]byte{1: {1, 2, 3}, 2: {1, 2, 3}}, nil, part.Absent, ""},
+	{"one doesn't share it back", map[byte][]byte{1: {1, 2}, 2: {2}}, nil, "", part.Unshared},
+	{"encrypted", map[byte][]byte{1: {1, 2}, 2: {1, 2}}, func(one *config.Configuration) { one.Folders[0].Type = config.FolderTypeReceiveEncrypted },
+		"", part.Encrypted + " " + part.Encrypted},
+}
+
+// By what devices are configured to share, it is known before any file is read what can't be audited.
+func TestWhatDevicesSay(t *testing.T) {
+	for _, one := range whatDevicesSay {
+		var devices []*join.Device
+		for number := byte(1); number < 3; number++ {
+			about := configured(one.with[number]...)
+			if one.change != nil {
+				one.change(&about)
+			}
+			devices = append(devices, saying(t, number, about))
+		}
+		plan, err := join.NewPlan(devices, []string{"docs"})
+		if err != nil {
+			t.Fatal(one.why, err)
+		}
+		told := []string{}
+		for _, refusal := range audit.Refused(plan, map[string]bool{one.leaveOut: true}).Refusals {
+			told = append(told, refusal.Kind)
+		}
+		if strings.Join(told, " ") != one.refused {
+			t.Errorf("%s: %q", one.why, told)
+		}
+	}
+}
+
+// saying gives a device as it says of itself what it shares of the folder docs.
+func saying(t *testing.T, number byte, about config.Configuration) *join.Device {
+	text, err := json.Marshal(aboutOf(protocol.DeviceID{7: number}, about, []string{"docs"}))
+	if err != nil {
+		t.Fatal(err)
+	}
+	read, err := readAbout(text, fmt.Sprint("place ", number))
+	if err != nil || read.Called() != fmt.Sprintf("device %d (%s)", number, read.Head.Device[:7]) || len(read.Head.Folders) != 1 {
+		t.Fatal(read, err)
+	}
+	return read
+}
+
+// What something else prints isn't taken for what a device says.
+func TestWhatNoDeviceSays(t *testing.T) {
+	for _, text := range []string{"", "Last login: today", "{}", `{"device":"laptop"}`} {
+		if _, err := readAbout([]byte(text), "place"); !errors.Is(err, part.ErrNone) {
+			t.Errorf("%q is taken: %v", text, err)
+		}
+	}
+}

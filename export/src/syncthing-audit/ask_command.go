@@ -1,0 +1,61 @@
+package main
+
+import (
+	"errors"
+	"fmt"
+	"os"
+	"os/exec"
+	"strings"
+
+	"syncthing-audit/audit"
+	"syncthing-audit/join"
+	"syncthing-audit/report"
+)
+
+// ask asks all devices what they share, and refuses what can't be audited by that, before any file is hashed: that a device
+// isn't named, say, or can't be reached.
+func (r *running) ask() error {
+	fmt.Fprintf(r.log, "syncthing-audit: asking %s what is shared\n", countOf(len(r.places), "device"))
+	if err := r.all("question", r.about); err != nil {
+		return err
+	}
+	devices := []*join.Device{}
+	for at, one := range r.places {
+		if one.isOlder {
+			fmt.Fprintf(r.log, "syncthing-audit: %s: the syncthing-audit there is older, and doesn't say what is shared before it hashes: "+
+				"whether all devices are named is seen after that\n", one.called())
+			return nil
+		}
+		text, err := os.ReadFile(r.file(at, "about"))
+		if err != nil {
+			return err
+		}
+		read, err := readAbout(text, one.given)
+		if err != nil {
+			return fmt.Errorf("%s: %w", one.called(), one.hint(err))
+		}
+		devices = append(devices, read)
+	}
+	plan, err := join.NewPlan(devices, r.asked.folders)
+	if err != nil {
+		return err
+	}
+	if answer := audit.Refused(plan, r.asked.leaveOut); len(answer.Refusals) > 0 {
+		report.Refusals(r.log, answer)
+		return errTold
+	}
+	return nil
+}
+
+// about asks a device. A program of 0.8.0 or before doesn't know the question.
+func (r *running) about(at int) error {
+	one := r.places[at]
+	told, err := one.run(one.about(r.asked), strings.NewReader(""), r.file(at, "about"))
+	var ended *exec.ExitError
+	if errors.As(err, &ended) && ended.ExitCode() == statusUsage && strings.Contains(err.Error(), "-about") {
+		one.isOlder = true
+		return nil
+	}
+	r.tell(at, told)
+	return err
+}

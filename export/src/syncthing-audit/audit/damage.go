@@ -1,0 +1,30 @@
+package audit
+
+import (
+	"syncthing-audit/finding"
+	"syncthing-audit/join"
+	"syncthing-audit/part"
+)
+
+// addDamaged adds a name of which a disk itself fails to give what it has. A file goes into a document all the same, with bytes
+// of no file, so that the other devices are compared. What else fails so has no document: a directory's names aren't known, say.
+func (n *names) addDamaged(row *join.Row) {
+	made := finding.Damaged{Name: part.Bytes(row.Name)}
+	for member, one := range row.At {
+		if one == nil || one.IsIgnored() {
+			continue
+		}
+		if one.Disk != nil && one.Disk.Lost != "" {
+			made.IsFile = true
+			made.At = append(made.At, finding.DamagedAt{Member: member, Why: one.Disk.Lost})
+		}
+		for _, out := range one.Out {
+			if out.Kind == part.Damaged {
+				made.At = append(made.At, finding.DamagedAt{Member: member, Why: out.Why})
+			}
+		}
+	}
+	if made.IsFile = made.IsFile && !hasOut(row); len(made.At) > 0 {
+		n.found.Damaged.Add(made)
+	}
+}

@@ -1,0 +1,41 @@
+package audit
+
+import (
+	"fmt"
+	"testing"
+
+	"syncthing-audit/finding"
+	"syncthing-audit/join"
+	"syncthing-audit/part"
+)
+
+// What a disk fails to give is a fault, and never left out on request alone; what a directory's names are isn't known then.
+func TestWhatADiskFailsToGive(t *testing.T) {
+	damaged := part.LeftOut{Kind: part.Damaged, Why: "input/output error", Below: true}
+	for _, one := range []struct {
+		why      string
+		row      *join.Row
+		leaveOut string
+		refused  int
+		told     string
+		first    string
+	}{
+		{"a directory", rowOf(&part.Name{Out: []part.LeftOut{damaged}}, nil), "", 0, "[{0 input/output error}]", "&{StoreDiffers d/ 1}"},
+		{"a directory on both", rowOf(&part.Name{Out: []part.LeftOut{damaged}}, &part.Name{Out: []part.LeftOut{damaged}}), "", 0,
+			"[{0 input/output error} {1 input/output error}]", "&{StoreDiffers d/ 1}"},
+		{"what one of them ignores", rowOf(&part.Name{Out: []part.LeftOut{damaged, {Kind: part.Ignored}}}, &part.Name{Own: record}), "", 1, "", "<nil>"},
+		{"the same, left out", rowOf(&part.Name{Out: []part.LeftOut{damaged, {Kind: part.Ignored}}}, &part.Name{Own: record}), part.Ignored, 0, "", "<nil>"},
+	} {
+		next := namesOf(one.leaveOut)
+		next.found.Members[0].Number, next.found.Members[1].Number = 1, 2
+		one.row.Name = "d/"
+		if err := next.row(one.row); err != nil {
+			t.Fatal(err)
+		}
+		told := ""
+		next.found.Damaged.Each(func(damaged *finding.Damaged) { told += fmt.Sprint(damaged.At) })
+		if len(next.answer.Refusals) != one.refused || told != one.told || fmt.Sprint(next.found.FirstFailure()) != one.first {
+			t.Errorf("%s: %d refused, %s, %v", one.why, len(next.answer.Refusals), told, next.found.FirstFailure())
+		}
+	}
+}

@@ -1,0 +1,9 @@
+package device
+
+import (
+	"github.com/syncthing/syncthing/lib/config"
+	"github.com/syncthing/syncthing/lib/protocol"
+)
+
+// About reads whose home a directory is, and how it is configured. No index is read.
+func About(dir string) (protocol.DeviceID, config.Configuration, error) { return readAbout(dir) }

@@ -1,0 +1,22 @@
+package disk
+
+import (
+	"errors"
+	"syscall"
+
+	"syncthing-audit/part"
+)
+
+// IsDamage says whether the disk itself, or the file system on it, fails to give what it has: a bad sector, say. That is more
+// than a want of permission, since the bytes may be lost.
+func IsDamage(err error) bool {
+	return errors.Is(err, syscall.EIO) || errors.Is(err, syscall.EUCLEAN) || errors.Is(err, syscall.EBADMSG)
+}
+
+// outOf says why something isn't read: by what it is called, and the error.
+func outOf(what string, err error) *part.LeftOut {
+	if IsDamage(err) {
+		return &part.LeftOut{Kind: part.Damaged, Why: "the disk fails to give " + what + ": " + err.Error()}
+	}
+	return &part.LeftOut{Kind: part.Unreadable, Why: what + " can't be read: " + err.Error()}
+}

@@ -1,0 +1,50 @@
+package main
+
+import (
+	"fmt"
+
+	"github.com/syncthing/syncthing/lib/config"
+	"golang.org/x/exp/slices"
+	"syncthing-audit/device"
+	"syncthing-audit/rest"
+	"syncthing-audit/shell"
+)
+
+// rescan has the folders of a home that are asked for scanned, or all.
+func rescan(asked options) error {
+	about, err := device.ReadConfig(asked.homes[0])
+	if err != nil {
+		return err
+	}
+	if err := checkScannable(about, asked); err != nil {
+		return err
+	}
+	for _, one := range chosenOf(about, asked.folders) {
+		if err := rest.Scan(asked.homes[0], about.GUI, one.ID, one.Label); err != nil {
+			return fmt.Errorf("refused: %s: %w", asked.homes[0], err)
+		}
+	}
+	return nil
+}
+
+// checkScannable says which folder is paused, before any of them is scanned: Syncthing scans none such.
+func checkScannable(about config.Configuration, asked options) error {
+	for _, one := range chosenOf(about, asked.folders) {
+		if one.Paused {
+			return fmt.Errorf("refused: %s: folder %s is paused there, and Syncthing doesn't scan it: resume it on Syncthing's page, audit it without "+
+				"--rescan, or choose other folders by --folder", asked.homes[0], shell.Folder(one.ID, one.Label))
+		}
+	}
+	return nil
+}
+
+// chosenOf gives the folders that are asked for, or all.
+func chosenOf(about config.Configuration, wanted []string) []config.FolderConfiguration {
+	made := []config.FolderConfiguration{}
+	for _, one := range about.Folders {
+		if len(wanted) == 0 || slices.Contains(wanted, one.ID) {
+			made = append(made, one)
+		}
+	}
+	return made
+}

@@ -1,0 +1,38 @@
+package summary
+
+import "syncthing-audit/finding"
+
+// addDamage says of which devices the disk itself fails to give what it has, and why. Of a file that is a fault already, by what
+// syncaudit says.
+func (f *File) addDamage(folder *finding.Folder, one *finding.Damaged) {
+	for _, at := range one.At {
+		member := folder.Members[at.Member]
+		if fault := f.damageOf(member.Head.Device); fault != nil {
+			fault.Cause, fault.Why = Damaged, at.Why
+			continue
+		}
+		f.Faults = append(f.Faults, Fault{Device: member.Head.Device, Cause: Damaged, Kind: kindOf(member), Why: at.Why, Reasons: []string{"StoreDiffers"}})
+	}
+}
+
+// damageOf gives the fault of a device that is one of its disk, if it is told already: as one of a file that a scan hasn't seen,
+// say, or without details.
+func (f *File) damageOf(device string) *Fault {
+	for place := range f.Faults {
+		one := &f.Faults[place]
+		if one.Device == device && (one.Cause == Damaged || one.Cause == NotScanned || one.Cause == Differs) {
+			return one
+		}
+	}
+	return nil
+}
+
+// damageAdvice says what to do where a disk fails.
+func damageAdvice(file *File, at string, named labels) string {
+	told := "see the system's log on " + at + " (journalctl -k, smartctl -a): its disk fails there, and may soon fail elsewhere. Save what it " +
+		"has that no other device has, and replace it"
+	if len(file.Have) == 0 {
+		return told + ". Then bring back what was lost, from another device, old versions or backups"
+	}
+	return told + ". Then " + source(file, named) + at + withTime
+}

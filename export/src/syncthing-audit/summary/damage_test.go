@@ -1,0 +1,85 @@
+package summary
+
+import (
+	"strings"
+	"testing"
+	"time"
+
+	"syncthing-audit/finding"
+	"syncthing-audit/part"
+)
+
+// lost has a file whose bytes the disk doesn't give.
+func lost(one *part.Name) {
+	one.Disk.Lost = "read lost: input/output error"
+	one.Disk.Contents = []part.Content{{Size: 300000, BlockSize: 131072, Hash: part.Hash{77}}}
+}
+
+const (
+	damageOfServer = `  to do: see the system's log on server (journalctl -k, smartctl -a): its disk fails there, and may
+         soon fail elsewhere. Save what it has that no other device has, and replace it. Then `
+	copyOfServer = `copy
+         it from laptop to server with its time (cp -p, or rsync --times --ignore-times) while
+         Syncthing is stopped there.
+`
+	bringBack = `bring
+         back what was lost, from another device, old versions or backups.
+`
+)
+
+// damaged has the second device's disk fail to give a name.
+func damaged(folder *finding.Folder, name string, isFile bool) {
+	folder.Damaged.Add(finding.Damaged{Name: part.Bytes(name), IsFile: isFile, At: []finding.DamagedAt{{Member: 1, Why: "read " + name + ": input/output error"}}})
+}
+
+// textsOfDamage are what a person reads of what a disk fails to give.
+var textsOfDamage = []struct {
+	why  string
+	fill func(*finding.Folder)
+	text string
+}{
+	{"a file", func(folder *finding.Folder) {
+		fails(folder, "lost", []*part.Name{file(1, 1), with(file(1, 1), lost)}, "StoreDiffers 2")
+		damaged(folder, "lost", true)
+	}, `
+lost  (in docs, 300.0 kB)
+  server: the disk fails to give what it has; it may be lost there (read lost: input/output error)
+  as recorded on: laptop
+` + damageOfServer + copyOfServer},
+	{"a file of other bytes on the other device", func(folder *finding.Folder) {
+		fails(folder, "lost", []*part.Name{with(file(1, 1), rotten), with(file(1, 1), lost)}, "StoreDiffers 1", "StoreDiffers 2")
+		damaged(folder, "lost", true)
+	}, `
+lost  (in docs, 300.0 kB)
+  laptop: other bytes on the disk; size and time are as recorded, so no scan sees it (modified 2020-09-13 12:26:40 UTC)
+    block 2 differs (1 of 3 blocks of 128 KiB; the first is block 0)
+    the first of them: SHA-256 abcd0000.. recorded, 12000000.. on the disk
+  server: the disk fails to give what it has; it may be lost there (read lost: input/output error)
+  as recorded on: no audited device
+`},
+	{"one without details", func(folder *finding.Folder) {
+		fails(folder, "lost", nil, "StoreDiffers 2")
+		damaged(folder, "lost", true)
+	}, `
+lost  (in docs)
+  server: the disk fails to give what it has; it may be lost there (read lost: input/output error)
+  as recorded on: laptop
+` + damageOfServer + copyOfServer},
+	{"a directory", func(folder *finding.Folder) { damaged(folder, "d/", false) }, `
+d/  (in docs)
+  server: the disk fails to give what it has; it may be lost there (read d/: input/output error)
+  as recorded on: no audited device
+` + damageOfServer + bringBack},
+}
+
+// What a disk itself fails to give is wrong on that device. Who has the file's bytes is told, and what else is wrong with it.
+func TestWhatADiskFailsToGive(t *testing.T) {
+	for _, one := range textsOfDamage {
+		var written strings.Builder
+		made := Of(answerOf(2, one.fill))
+		made.Print(&written, time.UTC, time.Time{})
+		if made.Verdict != NotInStep || !strings.HasPrefix(written.String(), lineOfFolder+one.text) {
+			t.Errorf("%s: %s\n%s", one.why, made.Verdict, written.String())
+		}
+	}
+}

@@ -1,0 +1,52 @@
+package summary
+
+import (
+	"fmt"
+	"strings"
+	"testing"
+	"time"
+
+	"syncthing-audit/finding"
+	"syncthing-audit/part"
+)
+
+// Many names of other bytes on the same disks are one entry for a person: their first ones, and how many blocks differ. Another
+// device or another mode is told by itself, and so are as few as one reads. --json has each with its blocks.
+func TestManyNamesOfOtherBytes(t *testing.T) {
+	fill := func(names int) func(*finding.Folder) {
+		return func(folder *finding.Folder) {
+			for next := 0; next < names; next++ {
+				fails(folder, fmt.Sprintf("photos/%02d", next), []*part.Name{file(1, 1), with(file(1, 1), rotten), file(1, 1)}, "StoreDiffers 2")
+			}
+			fails(folder, "photos/10 on another", []*part.Name{file(1, 1), file(1, 1), with(file(1, 1), rotten)}, "StoreDiffers 3")
+			fails(folder, "photos/20 of another mode", []*part.Name{file(1, 1), with(file(1, 1), rotten), file(1, 1)}, "StoreDiffers 2")
+			folder.Permissions.Add(finding.Permissions{Name: "photos/20 of another mode", At: []finding.Bits{{Has: true, Index: 0o644},
+				{Has: true, Index: 0o644, OnDisk: true, Disk: 0o600}, {Has: true, Index: 0o644}}})
+		}
+	}
+	const many = `
+40 names in docs: 12.0 MB
+  server: other bytes on the disk; size and time are as recorded, so no scan sees it; 40 blocks differ in all (--json tells them)
+  the first: photos/00 photos/01 photos/02 photos/03 photos/04, and 35 more (--lines has all)
+  as recorded on: laptop, phone
+  to do: Syncthing won't repair it: copy it from laptop to server with its time (cp -p, or rsync
+         --times --ignore-times) while Syncthing is stopped there. If instead the bytes on server
+         are the right ones, 'touch' the file there and let Syncthing scan: it sends them to all.
+`
+	for names, entries := range map[int]int{mostAlone: mostAlone, 40: 0} {
+		answer := answerOf(3, fill(names))
+		made := Of(answer)
+		var written strings.Builder
+		made.Print(&written, time.UTC, time.Time{})
+		text := written.String()
+		if found := strings.Count(text, "\nphotos/"); found != entries || strings.Contains(text, many) != (names == 40) {
+			t.Errorf("%d names have %d entries:\n%s", names, found, text)
+		}
+		if !strings.Contains(text, "\n'photos/10 on another'  (in docs") || !strings.Contains(text, "\n'photos/20 of another mode'  (in docs") {
+			t.Errorf("what is another's isn't told by itself:\n%s", text)
+		}
+		if len(made.Folders[0].Files) != names+2 || made.Folders[0].Files[0].Faults[0].Blocks.Count != 1 {
+			t.Errorf("%d names are told to programs", len(made.Folders[0].Files))
+		}
+	}
+}

@@ -1,0 +1,64 @@
+package summary
+
+import (
+	"strings"
+
+	"syncthing-audit/finding"
+	"syncthing-audit/shell"
+)
+
+// NotAsked is a folder that a device has and that wasn't audited.
+type NotAsked struct {
+	Folder string `json:"folder"`
+	Label  string `json:"label"`
+	Device string `json:"device"`
+	InPart bool   `json:"in_part"` // whether the device's part has it
+}
+
+// notAsked gives the folders of these devices that weren't asked for.
+func notAsked(answer *finding.Answer) []NotAsked {
+	made := []NotAsked{}
+	for _, device := range answer.Devices {
+		for _, one := range device.Unasked {
+			made = append(made, NotAsked{one.ID, one.Label, device.ID, one.InPart})
+		}
+	}
+	return made
+}
+
+// notTold gives the devices whose parts don't say which folders they haven't.
+func notTold(answer *finding.Answer) []string {
+	made := []string{}
+	for _, one := range answer.Devices {
+		if one.IsSilent {
+			made = append(made, one.ID)
+		}
+	}
+	return made
+}
+
+// notAsked prints which folders of the devices weren't audited, or that this isn't known.
+func (p *printer) notAsked(s *Summary) {
+	folders, devices := []string{}, map[string][]string{}
+	for _, one := range s.NotAsked {
+		name := shell.Folder(one.Folder, one.Label)
+		folders = addOnce(folders, name)
+		devices[name] = addOnce(devices[name], one.Device)
+	}
+	words := []string{}
+	for _, name := range folders {
+		words = append(words, name+" on "+p.named.all(devices[name]))
+	}
+	count := counted(int64(len(folders)), "folder", "folders")
+	switch {
+	case len(folders) == 0:
+	case s.isByName:
+		p.line("not asked for: %s: %s", count, strings.Join(words, "; "))
+	default:
+		p.line("not audited: %s that these devices share and no part has: %s", count, strings.Join(words, "; "))
+		p.advice([]string{"make the parts without --folder, or with it for each of these folders; or name with --folder which ones to audit"})
+	}
+	if len(s.NotTold) > 0 {
+		p.line("not told: which other folders %s may share; an older syncthing-audit made the part there: make it anew", p.named.all(s.NotTold))
+	}
+}

@@ -1,0 +1,61 @@
+package main
+
+import (
+	"io"
+	"os"
+	"strings"
+	"testing"
+)
+
+// What is wrong with a flag is told by its name in the help, however it was written.
+func TestWrongFlags(t *testing.T) {
+	for words, told := range map[string]string{
+		"check --folder":            "--folder needs a word behind it",
+		"part -o":                   "-o needs a word behind it",
+		"check --fold docs x":       "there is no flag --fold",
+		"run x: --still soon":       "invalid value \"soon\" for flag --still: parse error",
+		"check --leave-out all x":   "invalid value \"all\" for flag --leave-out: \"all\" is none of ",
+		"check --lines=often x":     "invalid boolean value \"often\" for --lines: ",
+		"check --folder  x":         "invalid value \"\" for flag --folder: empty",
+		"part --home a --jobs none": "invalid value \"none\" for flag --jobs: ",
+	} {
+		var log strings.Builder
+		status := run(strings.Split(words, " "), io.Discard, &log)
+		if status != statusUsage || !strings.HasPrefix(log.String(), "syncthing-audit: "+told) {
+			t.Errorf("%s: %d, %s", words, status, log.String())
+		}
+	}
+}
+
+// One document is one, and two are two.
+func TestCounts(t *testing.T) {
+	for number, told := range map[int]string{0: "0 documents", 1: "1 document", 2: "2 documents"} {
+		if made := countOf(number, "document"); made != told {
+			t.Error(made)
+		}
+	}
+	var log strings.Builder
+	if run([]string{"export", "--into", t.TempDir(), aPart(t)}, io.Discard, &log); !strings.Contains(log.String(), "syncthing-audit: 1 document in ") {
+		t.Error(log.String())
+	}
+}
+
+// What can't be written is named as it was asked for; of the temporary directory it is said how another one is chosen.
+func TestWhatIsNamedWhereThereIsNoRoom(t *testing.T) {
+	file, err := os.OpenFile("/dev/full", os.O_WRONLY, 0)
+	if err != nil {
+		t.Fatal(err)
+	}
+	defer file.Close()
+	for to, told := range map[io.Writer]string{
+		faulty{inPlaceOf{"one.part", file}}: "write one.part: no space left on device",
+		faulty{temporary{file}}:             "write /dev/full: no space left on device (TMPDIR may name another directory)",
+	} {
+		if _, err := to.Write([]byte("new")); err == nil || err.Error() != told || statusOf(err, io.Discard, io.Discard) != statusFault {
+			t.Errorf("%v, not %s", err, told)
+		}
+	}
+	if err := (&target{path: "/proc/one.part"}).write(func(io.Writer) error { return nil }); err == nil || !strings.Contains(err.Error(), " /proc/one.part: ") {
+		t.Error(err)
+	}
+}

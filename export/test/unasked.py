@@ -1,0 +1,110 @@
+#!/usr/bin/env python3
+"""Real Syncthing devices on loopback that share more than one folder, of which one is audited.
+
+    export/test/unasked.py
+"""
+
+import gzip
+import json
+import xml.etree.ElementTree as xml
+
+from exporting import Exporting, main, run
+from syncthing import FOLDER
+
+OTHER, LABEL = "music", "My music"
+
+
+class OtherFolders(Exporting):
+    """Two devices in step, that share a second folder, too."""
+
+    @classmethod
+    def configure(cls):
+        super().configure()
+        for device in cls.devices:
+            path = device.home / "config.xml"
+            tree = xml.parse(path)
+            folder = xml.fromstring(xml.tostring(tree.getroot().find("folder")))
+            files = device.room / device.home.parent.name / OTHER
+            (files / ".stfolder").mkdir(parents=True)
+            folder.attrib.update(id=OTHER, label=LABEL, path=str(files))
+            tree.getroot().append(folder)
+            tree.write(path)
+
+    def told(self, *words):
+        """What an audit for people says of other folders, and its status."""
+        ran = run([self.program, "check", *words, "--syncaudit", self.auditor])
+        return ran.returncode, [line for line in ran.stdout.splitlines() if line.startswith("not ") and "compared" not in line]
+
+    def homes(self):
+        """The words for all homes."""
+        return [word for device in self.devices for word in ("--home", device.home)]
+
+    def on_both(self):
+        """The second folder with its devices, as a person reads of it."""
+        return f"{OTHER} ({LABEL}) on {', '.join(sorted(device.id[:7] for device in self.devices))}"
+
+    def test_all_folders_are_audited(self):
+        self.assertEqual(self.told(*self.homes()), (0, []))
+        self.assertEqual(self.told(*(self.part(device) for device in self.devices)), (0, []))
+
+    def test_parts_of_one_folder(self):
+        """Nobody who checks asked for that one alone, so the answer is one as far as audited."""
+        parts = [self.part(device, "--folder", FOLDER) for device in self.devices]
+        told = f"not audited: 1 folder that these devices share and no part has: {self.on_both()}"
+        self.assertEqual(self.told(*parts), (6, [told]))
+        self.assertEqual(self.told(*parts, "--folder", FOLDER), (0, [f"not asked for: 1 folder: {self.on_both()}"]))
+        lines = self.check_parts(parts).stdout.splitlines()
+        self.assertEqual(lines[0], "settled as far as audited")
+        self.assertEqual({line for line in lines if line.startswith("not asked for: ")},
+                         {f"not asked for: folder {OTHER} on {self.number(device)}" for device in self.devices})
+
+    def test_one_part_is_without_a_folder(self):
+        ran = self.check_parts([self.part(self.one), self.part(self.two, "--folder", FOLDER)])
+        self.assertEqual((ran.returncode, ran.stdout), (2, ""))
+        self.assertIn(f"folder {OTHER} ({LABEL}), device {self.two.id}: its part is without the folder: make it without --folder", ran.stderr)
+
+    def test_one_folder_of_all(self):
+        for inputs in (self.homes(), [self.part(device) for device in self.devices]):
+            self.assertEqual(self.told(*inputs, "--folder", FOLDER), (0, [f"not asked for: 1 folder: {self.on_both()}"]))
+
+    def test_a_part_of_an_older_program(self):
+        """It doesn't say which folders it hasn't, and that is told."""
+        parts = [self.part(device, "--folder", FOLDER) for device in self.devices]
+        with gzip.open(parts[0], "rt") as file:
+            head, *lines = file.readlines()
+        read = json.loads(head)
+        del read["other_folders"]
+        with gzip.open(parts[0], "wt") as file:
+            file.writelines([json.dumps(read) + "\n", *lines])
+        status, told = self.told(*parts)
+        self.assertEqual((status, told[1]), (6, f"not told: which other folders {self.one.id[:7]} may share; an older syncthing-audit "
+                                                "made the part there: make it anew"))
+
+    def assert_named(self, words, why):
+        """What is refused names the folder by its id and its label, as an answer does."""
+        ran = run([self.program, *words])
+        self.assertEqual((ran.returncode, ran.stdout), (2, ""))
+        self.assertRegex(ran.stderr, f"folder {OTHER} \\({LABEL}\\){why}")
+
+    def test_refusals_name_the_label(self):
+        part = ("part", "--home", self.one.home, "--folder", OTHER, "-o")
+        files = self.one.home.parent / OTHER
+        self.assert_named(["check", "--home", self.one.home, "--syncaudit", self.auditor], ", device .*: it shares the folder")
+        self.assert_named([*part, files / "one.part"], ", whose devices would all get it")
+        (files / ".stignore").write_text("#include nowhere\n")
+        for look in ((), ("--begin",)):
+            self.assert_named([*part, self.room / "one.part", *look], ": .*/.stignore can't be read")
+        (files / ".stignore").unlink()
+        (files / ".stfolder").rename(files / "away")
+        self.assert_named([*part, self.room / "one.part"], ": .* is its disk mounted")
+        (files / "away").rename(files / ".stfolder")
+
+    def test_two_looks_at_one_folder(self):
+        """The devices are stopped, which 'run' doesn't mind."""
+        for words, told in (((), []), (("--folder", FOLDER), [f"not asked for: 1 folder: {self.on_both()}"])):
+            ran = run([self.program, "run", self.one.home, self.two.home, "--still", "0", "--syncaudit", self.auditor, *words])
+            self.assertEqual((ran.returncode, [line for line in ran.stdout.splitlines() if line.startswith("not asked")]), (0, told), ran.stderr)
+
+
+if __name__ == "__main__":
+    main()
