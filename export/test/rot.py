@@ -1,6 +1,6 @@
 #!/usr/bin/env python3
 """The audit of two real Syncthing devices one of which has rotten files: rot in many blocks, rot together with another
-mode, and rot in files of each block size.
+mode, where scans look at attributes, and rot in files of each block size.
 
     export/test/rot.py
 """
@@ -8,10 +8,11 @@ mode, and rot in files of each block size.
 import gzip
 import json
 import os
+import unittest
 
 from exporting import Exporting, main
 from large_folders import MEGA, rot
-from syncthing import FOLDER, wait_until
+from syncthing import FOLDER, programs, version_of, wait_until
 
 KILO = 1 << 10
 
@@ -105,6 +106,37 @@ class RotWithAnotherMode(Rotten):
         self.start()
         self.two.scan()
         wait_until("the rotten bytes are on the other device", lambda: text_of(self.one.files / "text") == "hallo")
+        self.stop()
+
+
+class RotWhereAttributesAreScanned(Rotten):
+    """Other bytes of the same size and time on a device whose scans look at extended attributes, too. They hash each file
+    whose inode changed."""
+
+    @classmethod
+    def setUpClass(cls):
+        if any(version_of(one).startswith("syncthing v1.19") for one in programs()):
+            raise unittest.SkipTest("Syncthing 1.19 doesn't scan attributes")
+        super().setUpClass()
+
+    @classmethod
+    def configure(cls):
+        super().configure()
+        cls.two.choose(sendXattrs="true")
+
+    def test_a_scan_may_see_them_and_does(self):
+        path = self.two.files / "text"
+        times = path.stat()
+        path.write_text("hallo")
+        os.utime(path, ns=(times.st_atime_ns, times.st_mtime_ns))
+        self.assertEqual(self.verdict(), self.fault("StoreDiffers", "text", self.two))
+        text = " ".join(self.answer()[1].split())
+        for told in ("size and time are as recorded, but a scan of owners or attributes may see it",
+                     "before Syncthing scans there, which may send these bytes to all, copy it from"):
+            self.assertIn(told, text)
+        self.start()
+        self.two.scan()
+        wait_until("the other bytes are on the other device", lambda: text_of(self.one.files / "text") == "hallo")
         self.stop()
 
 

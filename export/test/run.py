@@ -27,7 +27,7 @@ CLASSES = [("rot", "BlockSizes"), ("large_folders", "LargeFiles"), ("large_folde
            ("live_changes", "LiveWriter"), ("live_changes", "LiveReceiver"), ("live_devices", "LiveDevices"), ("live_run", "LiveRun"),
            ("firm_devices", "Firm"), ("unasked", "OtherFolders"), ("damage", "Damage"), ("two_devices", "Conflict"), ("two_devices", "TwoDevices"), ("two_devices", "SendOnly"),
            ("two_devices", "ReceiveOnly"), ("three_devices", "Chain"), ("three_devices", "ThreeDevices"),
-           ("rot", "RotInManyBlocks"), ("rot", "RotWithAnotherMode"), ("manners", "Manners"), ("nightly", "Nightly"), ("spread", "Spread")]
+           ("rot", "RotInManyBlocks"), ("rot", "RotWithAnotherMode"), ("rot", "RotWhereAttributesAreScanned"), ("manners", "Manners"), ("nightly", "Nightly"), ("spread", "Spread")]
 # The classes and Go's tests.
 ALL = len(CLASSES) + 1
 SIDE_BY_SIDE = 4
@@ -55,9 +55,9 @@ def missing():
 
 
 def versions():
-    """What the programs that devices run say of themselves."""
-    from syncthing import programs
-    return [subprocess.run([one, "--version"], capture_output=True, text=True).stdout for one in programs()]
+    """The versions of the programs that devices run."""
+    from syncthing import programs, version_of
+    return [version_of(one) for one in programs()]
 
 
 def count_of(text):

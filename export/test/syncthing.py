@@ -43,6 +43,11 @@ def programs():
     return os.environ.get("SYNCTHING", "syncthing").split(":")
 
 
+def version_of(program):
+    """What a program says of its version."""
+    return subprocess.run([program, "--version"], capture_output=True, text=True).stdout
+
+
 # Devices take them by turns, so two programs make a mixed cluster.
 programs_in_turn = itertools.cycle(programs())
 
@@ -104,6 +109,17 @@ class Device:
             for old in options.findall(name):
                 options.remove(old)
             xml.SubElement(options, name).text = value
+        tree.write(path)
+
+    def choose(self, **options):
+        """Gives these options to the folder."""
+        path = self.home / "config.xml"
+        tree = xml.parse(path)
+        folder = tree.getroot().find("folder")
+        for name, value in options.items():
+            for old in folder.findall(name):
+                folder.remove(old)
+            xml.SubElement(folder, name).text = value
         tree.write(path)
 
     def start(self):

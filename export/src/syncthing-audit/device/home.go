@@ -45,6 +45,8 @@ type Home struct {
 	isLive  bool
 	backend backend.Backend
 	index   *db.Lowlevel
+
+	attributes map[string]bool // folders in which scans look at them
 }
 
 // Open reads and locks a home and opens a copy of its index. Nothing of the home is changed.
@@ -59,6 +61,9 @@ func openWith(dir string, open func(*Home) error) (*Home, error) {
 		return nil, err
 	}
 	opened := &Home{Dir: dir, ID: id, Config: read}
+	if opened.attributes, err = attributesIn(filepath.Join(dir, "config.xml")); err != nil {
+		return nil, err
+	}
 	if err := open(opened); err != nil {
 		opened.Close()
 		return nil, err

@@ -92,7 +92,7 @@ func (i *Index) Bytes() int64 { return i.snapshot.LocalSize().Bytes }
 func (i *Index) Folder() part.Folder {
 	made := part.Folder{ID: i.Config.ID, Label: i.Config.Label, Kind: kindOf(i.Config.Type), Path: adapt.Filesystem(i.Config.Filesystem, nil).URI(),
 		Directory: i.directory, IndexID: uint64(i.files.IndexID(protocol.LocalDeviceID)), Max: i.Max(),
-		IgnoresPermissions: i.Config.IgnorePerms, Sharing: []part.Sharing{}, Views: []part.View{}}
+		IgnoresPermissions: i.Config.IgnorePerms, ScansAttributes: i.home.attributes[i.Config.ID], Sharing: []part.Sharing{}, Views: []part.View{}}
 	for _, other := range i.Config.Devices {
 		if other.DeviceID == i.home.ID {
 			continue

@@ -69,6 +69,7 @@ type Folder struct {
 	IndexID            uint64    `json:"index_id,string"`
 	Max                int64     `json:"max"`
 	IgnoresPermissions bool      `json:"ignores_permissions,omitempty"`
+	ScansAttributes    bool      `json:"scans_attributes,omitempty"` // owners or extended ones, so it hashes files whose inode changed
 	Sharing            []Sharing `json:"sharing"`
 	Views              []View    `json:"views"`
 }

@@ -139,12 +139,18 @@ func spreads(one *Fault) string {
 }
 
 func otherBytesAdvice(one *Fault, file *File, at string, named labels) string {
-	mend := "Syncthing won't repair it: " + source(file, named) + at + withTime
-	if one.isSeen && one.Kind == receiveOnly {
-		mend = "before Syncthing scans there, which takes these bytes for a local change, " + source(file, named) + at + withTime
-	} else if one.isSeen {
-		mend = "before Syncthing scans there, which sends these bytes to all, " + source(file, named) + at + withTime
+	mend := "Syncthing won't repair it: "
+	switch {
+	case one.isSeen && one.Kind == receiveOnly:
+		mend = "before Syncthing scans there, which takes these bytes for a local change, "
+	case one.isSeen:
+		mend = "before Syncthing scans there, which sends these bytes to all, "
+	case one.mayShow && one.Kind == receiveOnly:
+		mend = "before Syncthing scans there, which may take these bytes for a local change, "
+	case one.mayShow:
+		mend = "before Syncthing scans there, which may send these bytes to all, "
 	}
+	mend += source(file, named) + at + withTime
 	if one.Kind == receiveOnly || len(file.sendersOfOtherBytes()) > 1 {
 		return mend
 	}

@@ -81,6 +81,13 @@ func TestAdviceOnOtherBytes(t *testing.T) {
 			t.Errorf("other bytes with another mode, %s: %s", kind, told)
 		}
 	}
+	for kind, has := range map[string]string{"send-receive": "which may send these bytes to all", receiveOnly: "may take these bytes for a local change"} {
+		seen := faultsOf(kind, OtherBytes)
+		seen[0].mayShow = true
+		if told := adviceOf(&File{Faults: seen, Have: []string{laptop}}, labels{}); !strings.Contains(told[0], has) {
+			t.Errorf("other bytes where scans look at attributes, %s: %s", kind, told)
+		}
+	}
 	told := adviceOf(&File{Faults: faultsOf("send-receive", OtherBytes)}, labels{})
 	if !strings.Contains(told[0], "no audited device has the recorded bytes") {
 		t.Errorf("where no device has the bytes: %s", told)

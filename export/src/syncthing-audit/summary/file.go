@@ -219,6 +219,7 @@ func (r *reader) add(member int, cause Cause) {
 		made.Recorded, made.Found = recorded(at.Own), found(at.Disk)
 		if cause == OtherBytes || cause == Changed {
 			made.Blocks, made.contents = blocksOf(at), at.Disk.Contents
+			made.mayShow = cause == OtherBytes && one.About != nil && one.About.ScansAttributes
 		}
 	}
 	made.Deletion = cause == Behind && made.Due != nil && made.Due.Deleted || cause == LocalChange && made.Recorded != nil && made.Recorded.Deleted
