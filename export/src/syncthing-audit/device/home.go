@@ -35,18 +35,20 @@ const (
 
 // Home is a stopped device's home, its index opened from a copy.
 type Home struct {
-	Dir     string
-	ID      protocol.DeviceID
-	Config  config.Configuration
-	Copied  Copied // of the index of a home whose Syncthing may run
+	Dir    string
+	ID     protocol.DeviceID
+	Config config.Configuration
+	Copied Copied // of the index of a home whose Syncthing may run
+
+	Syncthing  string          // the version that was started on it last
+	attributes map[string]bool // folders in which scans look at them
+
 	lock    *os.File
 	before  listing // the index before it was copied
 	copied  string
 	isLive  bool
 	backend backend.Backend
 	index   *db.Lowlevel
-
-	attributes map[string]bool // folders in which scans look at them
 }
 
 // Open reads and locks a home and opens a copy of its index. Nothing of the home is changed.
@@ -207,6 +209,9 @@ func (h *Home) openCopy(options ...db.Option) error {
 	}
 	if err := checkSchema(h.backend); err != nil {
 		return fmt.Errorf("refused: %s: %w", h.Dir, err)
+	}
+	if h.Syncthing, _, err = db.NewMiscDataNamespace(h.backend).String(keyOfRan); err != nil {
+		return err
 	}
 	h.index, err = db.NewLowlevel(h.backend, events.NoopLogger, options...)
 	return err

@@ -15,6 +15,7 @@ const (
 	keyOfSchema = "dbVersion"
 	keyOfMended = "dbMigrationVersion"    // how far a Syncthing has mended it without changing the schema
 	keyOfLeast  = "dbMinSyncthingVersion" // the first Syncthing that reads it
+	keyOfRan    = "prevVersion"           // the Syncthing that was started on it last
 )
 
 // checkSchema says why an index has another schema than the one that Syncthing's packages know here. They would bring an

@@ -43,8 +43,9 @@ const KindEncrypted = "encrypted"
 // Head says whose part it is and what it holds.
 type Head struct {
 	Version int       `json:"version"`
-	Device  string    `json:"device"` // its id
-	Name    string    `json:"name"`   // as it is configured at itself
+	Device  string    `json:"device"`              // its id
+	Name    string    `json:"name"`                // as it is configured at itself
+	Runs    string    `json:"syncthing,omitempty"` // the version of Syncthing that was started there last
 	Made    time.Time `json:"made"`
 	Prefix  string    `json:"prefix,omitempty"` // only names that begin so were read
 	Folders []Folder  `json:"folders"`          // rising by id

@@ -346,6 +346,28 @@ func TestWhatAPersonReads(t *testing.T) {
 	}
 }
 
+// Versions of Syncthing that this program wasn't tried with are told.
+func TestAnotherSyncthing(t *testing.T) {
+	for _, one := range []struct {
+		runs []string
+		told string
+	}{
+		{[]string{"v1.19.2-ds1", "v1.29.5", ""}, lastLine},
+		{[]string{"v1.2.9", "v1.29.5", "v1.190.0"},
+			"\nnot tried with such a Syncthing: laptop v1.2.9, phone v1.190.0; it was with 1.19 and 1.29" + lastLine},
+	} {
+		answer := answerOf(3, func(*finding.Folder) {})
+		for place, version := range one.runs {
+			answer.Devices[place].Runs = version
+		}
+		var written strings.Builder
+		Of(answer).Print(&written, time.UTC, time.Time{})
+		if !strings.HasSuffix(written.String(), one.told) || strings.Contains(written.String(), "not tried") != (one.told != lastLine) {
+			t.Errorf("%s: %s", one.runs, written.String())
+		}
+	}
+}
+
 // A part that was made long ago may be of one moment with the others by all indexes. When it was made is told then.
 func TestOldParts(t *testing.T) {
 	now := time.Unix(later, 0)
