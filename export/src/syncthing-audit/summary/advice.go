@@ -85,6 +85,18 @@ const (
 	asAnother = " as it is (cp -a, or rsync -a), once what stands there is moved away, while Syncthing is stopped there"
 )
 
+// keeping says how something is copied so that a scan that looks at owners or extended attributes finds these, too, as they
+// are recorded.
+func (f *Fault) keeping(how string) string {
+	if !f.isWide {
+		return how
+	}
+	if how == withTime {
+		return " with its time, owner and attributes (cp -a, or rsync -aX --ignore-times) while Syncthing is stopped there"
+	}
+	return strings.Replace(how, "rsync -a", "rsync -aX", 1)
+}
+
 // adviceOfFault says what to do about one fault.
 func adviceOfFault(one *Fault, file *File, named labels) string {
 	at := named.of(one.Device)
@@ -145,12 +157,12 @@ func otherBytesAdvice(one *Fault, file *File, at string, named labels) string {
 		mend = "before Syncthing scans there, which takes these bytes for a local change, "
 	case one.isSeen:
 		mend = "before Syncthing scans there, which sends these bytes to all, "
-	case one.mayShow && one.Kind == receiveOnly:
+	case one.isWide && one.Kind == receiveOnly:
 		mend = "before Syncthing scans there, which may take these bytes for a local change, "
-	case one.mayShow:
+	case one.isWide:
 		mend = "before Syncthing scans there, which may send these bytes to all, "
 	}
-	mend += source(file, named) + at + withTime
+	mend += source(file, named) + at + one.keeping(withTime)
 	if one.Kind == receiveOnly || len(file.sendersOfOtherBytes()) > 1 {
 		return mend
 	}
@@ -162,7 +174,7 @@ func changedAdvice(one *Fault, file *File, at string, named labels) string {
 	if one.isFileForFile() {
 		how = withTime
 	}
-	undo := "if the change isn't wanted, first " + source(file, named) + at + how
+	undo := "if the change isn't wanted, first " + source(file, named) + at + one.keeping(how)
 	if one.Kind == receiveOnly {
 		return "start Syncthing on " + at + " and 'Rescan': the change stays there as a local one, which 'Revert Local Changes' takes back"
 	}
@@ -181,7 +193,7 @@ func missingAdvice(one *Fault, file *File, at string, named labels) string {
 			"deletes files that were added there"
 	}
 	return "see that the folder's disk is mounted on " + at + ", before Syncthing starts there: a scan takes it for deleted, and then all devices " +
-		"delete it. To keep it, first " + source(file, named) + at + asItIs
+		"delete it. To keep it, first " + source(file, named) + at + one.keeping(asItIs)
 }
 
 func behindAdvice(one *Fault, file *File, at string, named labels) string {

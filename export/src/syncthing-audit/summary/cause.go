@@ -45,7 +45,7 @@ type Fault struct {
 	contents []part.Content
 	ends     ends
 	isSeen   bool // by the next scan, since the mode isn't as recorded
-	mayShow  bool // at the next scan, which looks at owners or extended attributes
+	isWide   bool // the device's scans look at owners or extended attributes, too
 }
 
 // State is what a record or a disk says of a name.

@@ -214,12 +214,12 @@ func (r *reader) addFaults(member int) {
 // add adds a fault with what is known of it.
 func (r *reader) add(member int, cause Cause) {
 	one := r.folder.Members[member]
-	made := Fault{Device: one.Head.Device, Cause: cause, Kind: kindOf(one), Due: recorded(r.winner), Reasons: r.reasons[member]}
+	made := Fault{Device: one.Head.Device, Cause: cause, Kind: kindOf(one), Due: recorded(r.winner), Reasons: r.reasons[member],
+		isWide: one.About != nil && one.About.ScansAttributes}
 	if at := r.at(member); at != nil {
 		made.Recorded, made.Found = recorded(at.Own), found(at.Disk)
 		if cause == OtherBytes || cause == Changed {
 			made.Blocks, made.contents = blocksOf(at), at.Disk.Contents
-			made.mayShow = cause == OtherBytes && one.About != nil && one.About.ScansAttributes
 		}
 	}
 	made.Deletion = cause == Behind && made.Due != nil && made.Due.Deleted || cause == LocalChange && made.Recorded != nil && made.Recorded.Deleted

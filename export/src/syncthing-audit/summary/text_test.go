@@ -126,9 +126,9 @@ a  (in docs, 300.0 kB)
     the first of them: SHA-256 abcd0000.. recorded, 12000000.. on the disk
   as recorded on: laptop
   to do: before Syncthing scans there, which may send these bytes to all, copy it from laptop to
-         server with its time (cp -p, or rsync --times --ignore-times) while Syncthing is stopped
-         there. If instead the bytes on server are the right ones, 'touch' the file there and let
-         Syncthing scan: it sends them to all.
+         server with its time, owner and attributes (cp -a, or rsync -aX --ignore-times) while
+         Syncthing is stopped there. If instead the bytes on server are the right ones, 'touch' the
+         file there and let Syncthing scan: it sends them to all.
 ` + lastLine},
 	{"the same other bytes on two devices, under a name like an option", 3, func(folder *finding.Folder) {
 		fails(folder, "-rf", []*part.Name{file(1, 1), with(file(1, 1), rotten), with(file(1, 1), rotten)}, "StoreDiffers 2", "StoreDiffers 3")
