@@ -104,7 +104,7 @@ func adviceOfFault(one *Fault, file *File, named labels) string {
 	case OtherBytes:
 		return otherBytesAdvice(one, file, at, named)
 	case Damaged:
-		return damageAdvice(file, at, named)
+		return damageAdvice(one, file, at, named)
 	case Changed:
 		return changedAdvice(one, file, at, named)
 	case Missing:
