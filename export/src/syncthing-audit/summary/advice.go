@@ -85,6 +85,10 @@ const (
 	asAnother = " as it is (cp -a, or rsync -a), once what stands there is moved away, while Syncthing is stopped there"
 )
 
+// mayShow says whether a scan may take other bytes for a change: it hashes a file whose inode changed. In a folder that only
+// receives, Syncthing 1.29 then keeps the record that all others have, and tells no local change.
+func (f *Fault) mayShow() bool { return f.Cause == OtherBytes && f.isWide && f.Kind != receiveOnly }
+
 // keeping says how something is copied so that a scan that looks at owners or extended attributes finds these, too, as they
 // are recorded.
 func (f *Fault) keeping(how string) string {
@@ -157,9 +161,7 @@ func otherBytesAdvice(one *Fault, file *File, at string, named labels) string {
 		mend = "before Syncthing scans there, which takes these bytes for a local change, "
 	case one.isSeen:
 		mend = "before Syncthing scans there, which sends these bytes to all, "
-	case one.isWide && one.Kind == receiveOnly:
-		mend = "before Syncthing scans there, which may take these bytes for a local change, "
-	case one.isWide:
+	case one.mayShow():
 		mend = "before Syncthing scans there, which may send these bytes to all, "
 	}
 	mend += source(file, named) + at + one.keeping(withTime)

@@ -94,7 +94,7 @@ func TestAdviceOnOtherBytes(t *testing.T) {
 			t.Errorf("other bytes with another mode, %s: %s", kind, told)
 		}
 	}
-	for kind, has := range map[string]string{"send-receive": "which may send these bytes to all", receiveOnly: "may take these bytes for a local change"} {
+	for kind, has := range map[string]string{"send-receive": "which may send these bytes to all", receiveOnly: "Syncthing won't repair it"} {
 		seen := faultsOf(kind, OtherBytes)
 		seen[0].isWide = true
 		if told := adviceOf(&File{Faults: seen, Have: []string{laptop}}, labels{}); !strings.Contains(told[0], has) || !strings.Contains(told[0], "cp -a, or rsync -aX") {
