@@ -109,9 +109,8 @@ class RotWithAnotherMode(Rotten):
         self.stop()
 
 
-class RotWhereAttributesAreScanned(Rotten):
-    """Other bytes of the same size and time on a device whose scans look at extended attributes, too. They hash each file
-    whose inode changed."""
+class WhereAttributesAreScanned(Rotten):
+    """A device whose scans look at extended attributes, too. They hash each file whose inode changed."""
 
     @classmethod
     def setUpClass(cls):
@@ -124,20 +123,43 @@ class RotWhereAttributesAreScanned(Rotten):
         super().configure()
         cls.two.choose(sendXattrs="true")
 
-    def test_a_scan_may_see_them_and_does(self):
+    def assert_told(self, *told):
+        """Other bytes of the same size and time are wrong, and a person reads this of them."""
         path = self.two.files / "text"
         times = path.stat()
         path.write_text("hallo")
         os.utime(path, ns=(times.st_atime_ns, times.st_mtime_ns))
         self.assertEqual(self.verdict(), self.fault("StoreDiffers", "text", self.two))
         text = " ".join(self.answer()[1].split())
-        for told in ("size and time are as recorded, but a scan of owners or attributes may see it",
-                     "before Syncthing scans there, which may send these bytes to all, copy it from"):
-            self.assertIn(told, text)
+        for one in told:
+            self.assertIn(one, text)
+
+
+class RotWhereAttributesAreScanned(WhereAttributesAreScanned):
+    """Other bytes of the same size and time."""
+
+    def test_a_scan_may_see_them_and_does(self):
+        self.assert_told("size and time are as recorded, but a scan of owners or attributes may see it",
+                         "before Syncthing scans there, which may send these bytes to all, copy it from")
         self.start()
         self.two.scan()
         wait_until("the other bytes are on the other device", lambda: text_of(self.one.files / "text") == "hallo")
         self.stop()
+
+
+class RotThatAScanDrops(WhereAttributesAreScanned):
+    """The same on a device that only receives: a scan finds them, and Syncthing keeps the record that all others have."""
+
+    kinds = {"two": "receiveonly"}
+
+    def test_no_local_change_is_told(self):
+        told = ("size and time are as recorded, so no scan sees it", "Syncthing won't repair it: copy it from")
+        self.assert_told(*told)
+        self.start()
+        self.two.scan()
+        self.assertEqual(self.two.api("GET", f"db/status?folder={FOLDER}")["receiveOnlyTotalItems"], 0)
+        self.stop()
+        self.assert_told(*told)
 
 
 class BlockSizes(Rotten):

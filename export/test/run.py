@@ -27,7 +27,7 @@ CLASSES = [("rot", "BlockSizes"), ("large_folders", "LargeFiles"), ("large_folde
            ("live_changes", "LiveWriter"), ("live_changes", "LiveReceiver"), ("live_devices", "LiveDevices"), ("live_run", "LiveRun"),
            ("firm_devices", "Firm"), ("unasked", "OtherFolders"), ("damage", "Damage"), ("two_devices", "Conflict"), ("two_devices", "TwoDevices"), ("two_devices", "SendOnly"),
            ("two_devices", "ReceiveOnly"), ("three_devices", "Chain"), ("three_devices", "ThreeDevices"),
-           ("rot", "RotInManyBlocks"), ("rot", "RotWithAnotherMode"), ("rot", "RotWhereAttributesAreScanned"), ("manners", "Manners"), ("nightly", "Nightly"), ("spread", "Spread")]
+           ("rot", "RotInManyBlocks"), ("rot", "RotWithAnotherMode"), ("rot", "RotWhereAttributesAreScanned"), ("rot", "RotThatAScanDrops"), ("manners", "Manners"), ("nightly", "Nightly"), ("spread", "Spread")]
 # The classes and Go's tests.
 ALL = len(CLASSES) + 1
 SIDE_BY_SIDE = 4
