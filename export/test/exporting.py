@@ -10,13 +10,13 @@ import time
 import unittest
 from pathlib import Path
 
-from syncthing import FOLDER, SECONDS_TO_WAIT, Device, wait_until_in_step
+from syncthing import FOLDER, SECONDS_TO_WAIT, Device, programs, wait_until_in_step
 
 SOURCES = Path(__file__).resolve().parents[1]
 PROGRAM = "syncthing-audit"
 SAMPLE = f"{PROGRAM}/sample"
 GOPATH = Path("/usr/share/gocode")
-NEEDED = {"golang-go": lambda: shutil.which("go"), "syncthing": lambda: shutil.which("syncthing"),
+NEEDED = {"golang-go": lambda: shutil.which("go"), "syncthing": lambda: all(map(shutil.which, programs())),
           "golang-github-syncthing-syncthing-dev":
               lambda: (GOPATH / "src/github.com/syncthing/syncthing/lib/db").is_dir()}
 BUILT = SOURCES.parent / "crates/syncaudit/out/syncaudit"

@@ -3,6 +3,7 @@
 side by side. The last line is 'N passed, M failed', and ', K skipped' after it where something was.
 
     export/test/run.py [SECONDS]
+    SYNCTHING=syncthing:OTHER/syncthing export/test/run.py [SECONDS]    devices run these by turns
 
 It installs nothing. Where something is missing it says what, and skips all; a class and Go's tests count as one each
 then. With SECONDS, cases that aren't begun by then are skipped; so are all where building takes longer. What was begun
@@ -26,11 +27,12 @@ CLASSES = [("rot", "BlockSizes"), ("large_folders", "LargeFiles"), ("large_folde
            ("live_changes", "LiveWriter"), ("live_changes", "LiveReceiver"), ("live_devices", "LiveDevices"), ("live_run", "LiveRun"),
            ("firm_devices", "Firm"), ("unasked", "OtherFolders"), ("damage", "Damage"), ("two_devices", "Conflict"), ("two_devices", "TwoDevices"), ("two_devices", "SendOnly"),
            ("two_devices", "ReceiveOnly"), ("three_devices", "Chain"), ("three_devices", "ThreeDevices"),
-           ("rot", "RotInManyBlocks"), ("rot", "RotWithAnotherMode"), ("manners", "Manners"), ("nightly", "Nightly"), ("spread", "Spread")]
+           ("rot", "RotInManyBlocks"), ("rot", "RotWithAnotherMode"), ("rot", "RotWhereAttributesAreScanned"), ("rot", "RotThatAScanDrops"), ("manners", "Manners"), ("nightly", "Nightly"), ("spread", "Spread")]
 # The classes and Go's tests.
 ALL = len(CLASSES) + 1
 SIDE_BY_SIDE = 4
-SYNCTHING = "syncthing v1.19"
+# What devices may run.
+VERSIONS = ("syncthing v1.19", "syncthing v1.29")
 # Go's tests take some seconds. One of the others fails by itself where a wait takes 300; this is for what else may hang.
 SECONDS_OF_GO = 120
 SECONDS_OF_A_CASE = 600
@@ -43,14 +45,19 @@ def missing():
     from exporting import missing_packages
     lacking = missing_packages()
     if not lacking:
-        said = subprocess.run(["syncthing", "--version"], capture_output=True, text=True).stdout
-        if not said.startswith(SYNCTHING):
-            lacking.append(f"{SYNCTHING}, as Debian 12 has it (this is {said.strip()})")
+        lacking += [f"{' or '.join(VERSIONS)}, as Debian 12 and 13 have it (this is {said.strip()})"
+                    for said in versions() if not said.startswith(VERSIONS)]
     try:
         socket.create_server(("127.0.0.1", 0)).close()
     except OSError:
         lacking.append("the loopback address 127.0.0.1")
     return lacking
+
+
+def versions():
+    """The versions of the programs that devices run."""
+    from syncthing import programs, version_of
+    return [version_of(one) for one in programs()]
 
 
 def count_of(text):
@@ -167,7 +174,8 @@ def run_all(room, deadline):
     """Builds the audit and runs all tests; gives how many passed and failed, and what was skipped."""
     from exporting import PROGRAM, STAND_IN, UNTIL, auditor, go_environment
     program = auditor()
-    print("tests of the audit of real devices, answered by", "compare/ in place of the program" if program == str(STAND_IN) else program)
+    print("tests of the audit of real devices of", " and ".join(said.partition(" \"")[0] for said in versions()) + ",",
+          "answered by", "compare/ in place of the program" if program == str(STAND_IN) else program)
     for_go = go_environment(room)
     status = build(room, for_go, deadline)
     if status is None:

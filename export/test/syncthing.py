@@ -1,6 +1,7 @@
 """Real Syncthing devices on loopback: their homes, their processes, and what their REST API says."""
 
 import copy
+import itertools
 import json
 import os
 import re
@@ -37,6 +38,20 @@ def ports_of_this_process():
 free_ports = ports_of_this_process()
 
 
+def programs():
+    """The programs that devices run: $SYNCTHING, several of them with colons between, or the one on PATH."""
+    return os.environ.get("SYNCTHING", "syncthing").split(":")
+
+
+def version_of(program):
+    """What a program says of its version."""
+    return subprocess.run([program, "--version"], capture_output=True, text=True).stdout
+
+
+# Devices take them by turns, so two programs make a mixed cluster.
+programs_in_turn = itertools.cycle(programs())
+
+
 def wait_until(what, holds):
     """Waits until something holds, and fails if that takes too long."""
     end = time.monotonic() + SECONDS_TO_WAIT
@@ -53,12 +68,13 @@ class Device:
         self.home, self.files = room / name / "home", room / name / "files"
         self.room = room
         self.api_port, self.listen_port = next(free_ports), next(free_ports)
+        self.program = next(programs_in_turn)
         self.process = None
         self.peers = []
         self.log = room / f"{name}.log"
         self.files.mkdir(parents=True)
         (self.files / ".stfolder").mkdir()
-        made = subprocess.run(["syncthing", "generate", f"--home={self.home}", "--no-default-folder"],
+        made = subprocess.run([self.program, "generate", f"--home={self.home}", "--no-default-folder"],
                               env=self.environment(), capture_output=True, text=True, check=True)
         self.id = re.search(r"(?:[A-Z2-7]{7}-){7}[A-Z2-7]{7}", made.stdout + made.stderr)[0]
         self.api_key = xml.parse(self.home / "config.xml").findtext("gui/apikey")
@@ -95,10 +111,21 @@ class Device:
             xml.SubElement(options, name).text = value
         tree.write(path)
 
+    def choose(self, **options):
+        """Gives these options to the folder."""
+        path = self.home / "config.xml"
+        tree = xml.parse(path)
+        folder = tree.getroot().find("folder")
+        for name, value in options.items():
+            for old in folder.findall(name):
+                folder.remove(old)
+            xml.SubElement(folder, name).text = value
+        tree.write(path)
+
     def start(self):
         """Starts the process and waits for its API."""
         with self.log.open("ab") as log:
-            self.process = subprocess.Popen(["syncthing", "serve", f"--home={self.home}", "--no-browser",
+            self.process = subprocess.Popen([self.program, "serve", f"--home={self.home}", "--no-browser",
                                              "--no-restart"], env=self.environment(), stdout=log, stderr=log)
         wait_until(f"{self.home} answers", self.answers)
 

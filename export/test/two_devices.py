@@ -7,6 +7,8 @@ Builds the audit, makes two devices that share a folder, lets them synchronise, 
 them. It installs nothing, and says what is missing.
 """
 
+import gzip
+import json
 import os
 import subprocess
 import tempfile
@@ -15,7 +17,7 @@ from pathlib import Path
 
 from answers import Answers
 from exporting import Exporting, main, run
-from syncthing import FOLDER, files_of, wait_until, wait_until_in_step
+from syncthing import FOLDER, files_of, version_of, wait_until, wait_until_in_step
 
 
 class TwoDevices(Answers, Exporting):
@@ -275,6 +277,11 @@ class TwoDevices(Answers, Exporting):
         self.assertEqual((ran.returncode, ran.stdout.splitlines()[0]), (1, self.differs()), ran.stderr)
         ran = self.check_parts(parts[:1])
         self.assertEqual((ran.returncode, ran.stdout), (2, ""))
+
+    def test_a_part_tells_which_syncthing_runs(self):
+        for device in self.devices:
+            with gzip.open(self.part(device), "rt") as part:
+                self.assertIn(f"syncthing {json.loads(part.readline())['syncthing']} ", version_of(device.program))
 
     def test_what_is_no_part_is_refused(self):
         whole = self.part(self.one).read_bytes()

@@ -11,6 +11,7 @@ import (
 	"syncthing-audit/ask"
 	"syncthing-audit/device"
 	"syncthing-audit/finding"
+	"syncthing-audit/join"
 	"syncthing-audit/part"
 )
 
@@ -124,12 +125,14 @@ func TestAnAnswerThatDiffersIsRefused(t *testing.T) {
 // What an answer means is said as far as it rests on that: nothing is promised of what isn't in step.
 func TestMeaning(t *testing.T) {
 	const caveat, argued, old, scan, page = "merge versions", "argued", "too old", "next scan", "'man syncthing-audit', under WHAT AN ANSWER MEANS"
+	const attributes = "owners or extended attributes"
 	scans := finding.Permissions{Name: "a", At: []finding.Bits{{Has: true, Index: 0o644, OnDisk: true, Disk: 0o600}}}
 	firm := &finding.Folder{Firmness: finding.Firmness{Asked: true}}
 	scanned, failed := &finding.Folder{Firmness: firm.Firmness}, &finding.Folder{Firmness: firm.Firmness}
 	scanned.Permissions.Add(scans)
 	failed.Permissions.Add(scans)
 	failed.Failures.Add(finding.Failure{Reason: "StoreDiffers", Name: "a", Device: 1})
+	wide := &finding.Folder{Firmness: firm.Firmness, Members: []join.Member{{About: &part.Folder{ScansAttributes: true}}}}
 	isnt := &finding.Folder{Firmness: finding.Firmness{Asked: true, First: &finding.Failure{Reason: finding.VersionDiffers, Name: "a", Device: 1}}}
 	unasked := &finding.Folder{}
 	for _, one := range []struct {
@@ -137,9 +140,9 @@ func TestMeaning(t *testing.T) {
 		told    []string
 	}{{[]*finding.Folder{firm}, []string{argued, page}}, {[]*finding.Folder{scanned}, []string{argued, scan, page}}, {[]*finding.Folder{isnt}, []string{caveat, page}},
 		{[]*finding.Folder{unasked}, []string{caveat, old, page}}, {[]*finding.Folder{failed}, nil}, {[]*finding.Folder{failed, firm}, []string{argued, page}},
-		{[]*finding.Folder{isnt, firm, failed}, []string{caveat, argued, page}}} {
+		{[]*finding.Folder{isnt, firm, failed}, []string{caveat, argued, page}}, {[]*finding.Folder{wide}, []string{argued, scan, attributes, page}}} {
 		text := meaningOf(&finding.Answer{Folders: one.folders})
-		for _, words := range []string{caveat, argued, old, scan, page} {
+		for _, words := range []string{caveat, argued, old, scan, attributes, page} {
 			if strings.Contains(text, words) != slices.Contains(one.told, words) {
 				t.Errorf("%s: %q", one.told, text)
 			}

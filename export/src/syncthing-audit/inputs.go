@@ -139,7 +139,7 @@ func (i *inputs) openParts(paths []string) error {
 
 // deviceOf opens the indexes of a home's folders: those that are wanted, or all.
 func (i *inputs) deviceOf(home *device.Home, asked options) (*gather.Device, error) {
-	made := &gather.Device{ID: home.ID.String(), Name: home.Name(), Prefix: asked.names, Bytes: asked.bytes, Pool: i.pool}
+	made := &gather.Device{ID: home.ID.String(), Name: home.Name(), Runs: home.Syncthing, Prefix: asked.names, Bytes: asked.bytes, Pool: i.pool}
 	folders := append(home.Config.Folders[:0:0], home.Config.Folders...)
 	sort.Slice(folders, func(a, b int) bool { return folders[a].ID < folders[b].ID })
 	for _, one := range folders {

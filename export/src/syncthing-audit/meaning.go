@@ -16,6 +16,9 @@ not proved ('man syncthing-audit', under WHAT AN ANSWER MEANS).
 `
 	butPermissions = `But there are permissions on a disk that aren't as recorded: the next scan records them.
 `
+	butAttributes = `But there are folders whose scans look at owners or extended attributes. These aren't compared, and the next scan
+records what changed of them.
+`
 	firmWasNotAsked = `Whether it is firm wasn't asked: this syncaudit is too old to know that.
 `
 )
@@ -40,8 +43,23 @@ func meaningOf(answer *finding.Answer) string {
 		if hasUnscannedModes(answer) {
 			text += butPermissions
 		}
+		if hasScannedAttributes(answer) {
+			text += butAttributes
+		}
 	}
 	return text
+}
+
+// hasScannedAttributes says whether scans look at owners or extended attributes somewhere, in a folder that is in step.
+func hasScannedAttributes(answer *finding.Answer) bool {
+	for _, folder := range answer.Folders {
+		for _, one := range folder.Members {
+			if !folder.HasFailures() && one.About != nil && one.About.ScansAttributes {
+				return true
+			}
+		}
+	}
+	return false
 }
 
 // hasUnscannedModes says whether permissions on some disk aren't as recorded there, in a folder that is in step.

@@ -7,6 +7,7 @@ import (
 	"path/filepath"
 
 	"github.com/syncthing/syncthing/lib/config"
+	"syncthing-audit/adapt"
 	"syncthing-audit/shell"
 )
 
@@ -25,7 +26,7 @@ func checkOutside(path string, folders []config.FolderConfiguration) error {
 	}
 	for above := filepath.Dir(real); ; above = filepath.Dir(above) {
 		for _, one := range folders {
-			if one.Path != "" && isSame(above, one.Filesystem().URI()) {
+			if one.Path != "" && isSame(above, adapt.Filesystem(one.Filesystem, nil).URI()) {
 				return fmt.Errorf("refused: %s would be in folder %s, whose devices would all get it: name a file elsewhere", shell.Quoted(path),
 					shell.Folder(one.ID, one.Label))
 			}

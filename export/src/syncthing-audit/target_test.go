@@ -10,7 +10,6 @@ import (
 	"testing"
 
 	"github.com/syncthing/syncthing/lib/config"
-	"github.com/syncthing/syncthing/lib/fs"
 )
 
 // writeTo writes "new" to a path, as a part is written.
@@ -107,7 +106,7 @@ func TestAPartStaysOutsideTheFolders(t *testing.T) {
 	os.Symlink("docs", at("link"))
 	os.WriteFile(at("docs/old"), nil, 0o644)
 	os.Symlink("docs/old", at("pointing"))
-	folders := []config.FolderConfiguration{{ID: "none"}, {ID: "docs", Path: at("link"), FilesystemType: fs.FilesystemTypeBasic}}
+	folders := []config.FolderConfiguration{{ID: "none"}, {ID: "docs", Path: at("link")}}
 	for name, isIn := range map[string]bool{"docs/new": true, "docs/old": true, "docs/below/new": true, "link/new": true, "pointing": true,
 		"docs-parts/new": false, "new": false} {
 		err := checkOutside(at(name), folders)

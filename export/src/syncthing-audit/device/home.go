@@ -22,16 +22,27 @@ import (
 // databaseName is the folder of the index in a home of Syncthing 1.
 const databaseName = "index-v0.14.0.db"
 
-// leastConfig is the first version of config.xml that Syncthing's reader doesn't bring up to date by changing the
-// folders themselves.
-const leastConfig = 23
+// indexOfTwo is the folder of the index in a home of Syncthing 2.
+const indexOfTwo = "index-v2"
+
+const (
+	// leastConfig is the first version of config.xml that Syncthing's reader doesn't bring up to date by changing the folders
+	// themselves.
+	leastConfig = 23
+	// mostConfig is that of Syncthing 1.29. The reader of 1.19, whose own version is 36, takes of it all that is read here.
+	mostConfig = 37
+)
 
 // Home is a stopped device's home, its index opened from a copy.
 type Home struct {
-	Dir     string
-	ID      protocol.DeviceID
-	Config  config.Configuration
-	Copied  Copied // of the index of a home whose Syncthing may run
+	Dir    string
+	ID     protocol.DeviceID
+	Config config.Configuration
+	Copied Copied // of the index of a home whose Syncthing may run
+
+	Syncthing  string          // the version that was started on it last
+	attributes map[string]bool // folders in which scans look at them
+
 	lock    *os.File
 	before  listing // the index before it was copied
 	copied  string
@@ -52,6 +63,9 @@ func openWith(dir string, open func(*Home) error) (*Home, error) {
 		return nil, err
 	}
 	opened := &Home{Dir: dir, ID: id, Config: read}
+	if opened.attributes, err = attributesIn(filepath.Join(dir, "config.xml")); err != nil {
+		return nil, err
+	}
 	if err := open(opened); err != nil {
 		opened.Close()
 		return nil, err
@@ -68,8 +82,29 @@ func readAbout(dir string) (protocol.DeviceID, config.Configuration, error) {
 	if err != nil {
 		return id, config.Configuration{}, err
 	}
+	if err := checkOne(dir); err != nil {
+		return id, config.Configuration{}, err
+	}
 	read, err := readConfig(filepath.Join(dir, "config.xml"), id)
 	return id, read, err
+}
+
+// checkOne refuses a home on which Syncthing 2 ran.
+func checkOne(dir string) error {
+	if !isThere(dir, indexOfTwo) {
+		return nil
+	}
+	if isThere(dir, databaseName) {
+		return fmt.Errorf("refused: %s: it has an index of Syncthing 1 and one of Syncthing 2, which isn't read: if Syncthing 1 runs on it, "+
+			"move %s away", dir, indexOfTwo)
+	}
+	return fmt.Errorf("refused: %s: its index is that of Syncthing 2 (%s), which isn't read", dir, indexOfTwo)
+}
+
+// isThere says whether something is at a place in a home.
+func isThere(dir, place string) bool {
+	_, err := os.Stat(filepath.Join(dir, place))
+	return err == nil
 }
 
 // ReadConfig reads the configuration of a home.
@@ -78,10 +113,9 @@ func ReadConfig(dir string) (config.Configuration, error) {
 	return read, err
 }
 
-// IsHome says whether a directory is a home with an index.
+// IsHome says whether a directory is a home with an index, be it one that isn't read.
 func IsHome(dir string) bool {
-	_, err := os.Stat(filepath.Join(dir, databaseName, "CURRENT"))
-	return err == nil
+	return isThere(dir, databaseName+"/CURRENT") || isThere(dir, indexOfTwo)
 }
 
 // Name gives the device's name, as it is configured at itself.
@@ -121,6 +155,10 @@ func readConfig(path string, id protocol.DeviceID) (config.Configuration, error)
 	}
 	if err := xml.Unmarshal(text, &head); err != nil {
 		return config.Configuration{}, fmt.Errorf("%s: %w", path, err)
+	}
+	if head.Version > mostConfig && head.Version > config.CurrentVersion {
+		return config.Configuration{}, fmt.Errorf("refused: %s: version %d is of a newer Syncthing than those that are read (up to %d)", path,
+			head.Version, mostConfig)
 	}
 	if head.Version < leastConfig {
 		return config.Configuration{}, fmt.Errorf("%s: version %d is too old (from %d on): start a newer Syncthing on it once",
@@ -169,14 +207,14 @@ func (h *Home) openCopy(options ...db.Option) error {
 	if h.backend, err = backend.Open(h.copied, backend.TuningAuto); err != nil {
 		return err
 	}
-	if h.index, err = db.NewLowlevel(h.backend, events.NoopLogger, options...); err != nil {
+	if err := checkSchema(h.backend); err != nil {
+		return fmt.Errorf("refused: %s: %w", h.Dir, err)
+	}
+	if h.Syncthing, _, err = db.NewMiscDataNamespace(h.backend).String(keyOfRan); err != nil {
 		return err
 	}
-	if err := db.UpdateSchema(h.index); err != nil {
-		return fmt.Errorf("refused: %s: its index is of another Syncthing than those that this program reads, which has the packages of "+
-			"Syncthing 1.19: %w", h.Dir, err)
-	}
-	return nil
+	h.index, err = db.NewLowlevel(h.backend, events.NoopLogger, options...)
+	return err
 }
 
 // notCopied says what can be done where the temporary directory has no room, or isn't there.

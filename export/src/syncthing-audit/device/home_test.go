@@ -9,7 +9,6 @@ import (
 	"github.com/syncthing/syncthing/lib/config"
 	"github.com/syncthing/syncthing/lib/db"
 	"github.com/syncthing/syncthing/lib/db/backend"
-	"github.com/syncthing/syncthing/lib/fs"
 )
 
 // Where the index can't be copied, the variable is told that names another place.
@@ -39,7 +38,7 @@ func TestAFolderThatIsNotThere(t *testing.T) {
 		"~/nowhere":                     "there is no " + empty + "/nowhere (~/nowhere in config.xml, and ~ is that of the user who runs this): is its",
 		filepath.Join(empty, "nowhere"): "there is no " + empty + "/nowhere: is its disk mounted? --folder chooses other folders",
 	} {
-		folder := config.FolderConfiguration{ID: "docs", Path: path, FilesystemType: fs.FilesystemTypeBasic, MarkerName: ".stfolder"}
+		folder := config.FolderConfiguration{ID: "docs", Path: path, MarkerName: ".stfolder"}
 		_, err := (&Home{}).Index(folder)
 		if err == nil || !strings.HasPrefix(err.Error(), "folder docs: ") || !strings.Contains(err.Error(), told) {
 			t.Errorf("%s: %v", path, err)

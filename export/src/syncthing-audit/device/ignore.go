@@ -3,21 +3,68 @@ package device
 import (
 	"errors"
 	"fmt"
+	"io"
 	"os"
 
+	"github.com/syncthing/syncthing/lib/fs"
 	"github.com/syncthing/syncthing/lib/ignore"
+	"golang.org/x/text/unicode/norm"
+	"syncthing-audit/adapt"
 )
 
-// Patterns gives the folder's patterns of names to ignore. Without a file of patterns nothing is ignored. A file that is
-// there and can't be read, or that includes one which can't, is an error: nobody knows then what would be ignored.
+// nameOfPatterns is the file with a folder's patterns.
+const nameOfPatterns = ".stignore"
+
+// Patterns gives the folder's patterns of names to ignore.
 func (i *Index) Patterns() (*ignore.Matcher, error) {
-	disk := i.Config.Filesystem()
-	patterns := ignore.New(disk)
-	if _, err := disk.Lstat(".stignore"); errors.Is(err, os.ErrNotExist) {
+	made, err := patternsIn(adapt.Filesystem(i.Config.Filesystem, nil))
+	if err != nil {
+		return nil, fmt.Errorf("folder %s: %w", i.Config.ID, err)
+	}
+	return made, nil
+}
+
+// patternsIn gives the patterns of a folder's directory. Without a file of patterns nothing is ignored. A file that is there
+// and can't be read, or that includes one which can't, is an error: nobody knows then what would be ignored. So is a file
+// that not all versions of Syncthing take for the same: 1.29 brings patterns into Unicode's form NFC, and 1.19 doesn't.
+func patternsIn(disk fs.Filesystem) (*ignore.Matcher, error) {
+	files := &files{Filesystem: disk}
+	patterns := ignore.New(files)
+	if _, err := disk.Lstat(nameOfPatterns); errors.Is(err, os.ErrNotExist) {
 		return patterns, nil
 	}
-	if err := patterns.Load(".stignore"); err != nil {
-		return nil, fmt.Errorf("folder %s: %s/.stignore can't be read: %w", i.Config.ID, disk.URI(), err)
+	if err := patterns.Load(nameOfPatterns); err != nil {
+		return nil, fmt.Errorf("%s/%s can't be read: %w", disk.URI(), nameOfPatterns, err)
+	}
+	if files.odd != "" {
+		return nil, fmt.Errorf("%s/%s has a pattern that isn't in Unicode's form NFC, which Syncthing 1.19 and 1.29 take otherwise: write it "+
+			"in that form, or take it out", disk.URI(), files.odd)
 	}
 	return patterns, nil
+}
+
+// files are those of a directory, and tell of one that was opened and isn't in Unicode's form NFC.
+type files struct {
+	fs.Filesystem
+	odd string
+}
+
+// Open opens a file to be read from its beginning.
+func (f *files) Open(name string) (fs.File, error) {
+	file, err := f.Filesystem.Open(name)
+	if err != nil {
+		return nil, err
+	}
+	text, err := io.ReadAll(file)
+	if err == nil {
+		_, err = file.Seek(0, io.SeekStart)
+	}
+	if err != nil {
+		file.Close()
+		return nil, err
+	}
+	if !norm.NFC.IsNormal(text) {
+		f.odd = name
+	}
+	return file, nil
 }

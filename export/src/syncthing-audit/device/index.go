@@ -9,6 +9,7 @@ import (
 	"github.com/syncthing/syncthing/lib/db"
 	"github.com/syncthing/syncthing/lib/fs"
 	"github.com/syncthing/syncthing/lib/protocol"
+	"syncthing-audit/adapt"
 	"syncthing-audit/part"
 )
 
@@ -28,7 +29,7 @@ func (h *Home) Index(folder config.FolderConfiguration) (made *Index, err error)
 	if err := folder.CheckPath(); err != nil {
 		return nil, pathFault(folder, err)
 	}
-	directory, err := directoryOf(folder.Filesystem().URI())
+	directory, err := directoryOf(adapt.Filesystem(folder.Filesystem, nil).URI())
 	if err != nil {
 		return nil, fmt.Errorf("folder %s: %w", folder.ID, err)
 	}
@@ -45,7 +46,7 @@ func (h *Home) Index(folder config.FolderConfiguration) (made *Index, err error)
 
 // pathFault says what is to be seen to where a folder's directory isn't as Syncthing wants it.
 func pathFault(folder config.FolderConfiguration, err error) error {
-	path := folder.Filesystem().URI()
+	path := adapt.Filesystem(folder.Filesystem, nil).URI()
 	if strings.HasPrefix(folder.Path, "~") {
 		path += " (" + folder.Path + " in config.xml, and ~ is that of the user who runs this)"
 	}
@@ -70,7 +71,7 @@ func recovered(folder string, err *error) {
 func (i *Index) Close() { i.snapshot.Release() }
 
 // Disk gives the folder's files, with their times as Syncthing sees them.
-func (i *Index) Disk() fs.Filesystem { return i.files.MtimeFS(i.Config.Filesystem()) }
+func (i *Index) Disk() fs.Filesystem { return adapt.Filesystem(i.Config.Filesystem, i.files) }
 
 // Max gives the greatest sequence of the device's own index.
 func (i *Index) Max() int64 { return i.snapshot.Sequence(protocol.LocalDeviceID) }
@@ -89,9 +90,9 @@ func (i *Index) Bytes() int64 { return i.snapshot.LocalSize().Bytes }
 
 // Folder gives what a part's head says of the folder. A view that was never filled isn't told.
 func (i *Index) Folder() part.Folder {
-	made := part.Folder{ID: i.Config.ID, Label: i.Config.Label, Kind: kindOf(i.Config.Type), Path: i.Config.Filesystem().URI(),
+	made := part.Folder{ID: i.Config.ID, Label: i.Config.Label, Kind: kindOf(i.Config.Type), Path: adapt.Filesystem(i.Config.Filesystem, nil).URI(),
 		Directory: i.directory, IndexID: uint64(i.files.IndexID(protocol.LocalDeviceID)), Max: i.Max(),
-		IgnoresPermissions: i.Config.IgnorePerms, Sharing: []part.Sharing{}, Views: []part.View{}}
+		IgnoresPermissions: i.Config.IgnorePerms, ScansAttributes: i.home.attributes[i.Config.ID], Sharing: []part.Sharing{}, Views: []part.View{}}
 	for _, other := range i.Config.Devices {
 		if other.DeviceID == i.home.ID {
 			continue
@@ -145,8 +146,7 @@ func viewedEntry(entry protocol.FileInfo) Entry {
 // entries reads what the index has of one device.
 func (i *Index) entries(of protocol.DeviceID, prefix string, greatest int64, read func(protocol.FileInfo) Entry, take func(Entry) bool) (err error) {
 	defer recovered(i.Config.ID, &err)
-	i.snapshot.WithHave(of, func(item protocol.FileIntf) bool {
-		entry := item.(protocol.FileInfo)
+	adapt.Have(i.snapshot.WithHave, of, func(entry protocol.FileInfo) bool {
 		if !strings.HasPrefix(entry.Name, prefix) {
 			return entry.Name < prefix
 		}

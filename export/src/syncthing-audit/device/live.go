@@ -11,7 +11,6 @@ import (
 	"time"
 
 	"github.com/syncthing/syncthing/lib/db"
-	"github.com/syncthing/syncthing/lib/protocol"
 	"github.com/syndtr/goleveldb/leveldb"
 	"github.com/syndtr/goleveldb/leveldb/util"
 	"syncthing-audit/leftover"
@@ -69,7 +68,7 @@ func checkLive(copied string) error {
 	return checkSequences(opened)
 }
 
-// checkSequences says which folder has own entries behind its greatest sequence. Syncthing 1.19 writes a large update in
+// checkSequences says which folder has own entries behind its greatest sequence. Syncthing writes a large update in
 // several steps, with the greatest sequence in each. Were it otherwise, its package would mend the copy on opening it, and
 // give the index another id.
 func checkSequences(opened *leveldb.DB) error {
@@ -106,16 +105,7 @@ func greatestSequence(opened *leveldb.DB, folder []byte) (int64, error) {
 	if err != nil {
 		return 0, err
 	}
-	var counts db.CountsSet
-	if err := counts.Unmarshal(text); err != nil {
-		return 0, err
-	}
-	for _, one := range counts.Counts {
-		if id, err := protocol.DeviceIDFromBytes(one.DeviceID); err == nil && id == protocol.LocalDeviceID && one.LocalFlags == 0 {
-			return one.Sequence, nil
-		}
-	}
-	return 0, nil
+	return sequenceIn(text)
 }
 
 // sequencesBehind gives where the index has entries of a folder with greater sequences.

@@ -10,6 +10,7 @@ import (
 	"time"
 
 	"github.com/syncthing/syncthing/lib/protocol"
+	"syncthing-audit/adapt"
 )
 
 // homeOfDevice is the variable with the home of a device that runs and is writing to its index. It is stopped in the end.
@@ -28,8 +29,7 @@ func wholeOf(t *testing.T, database string, of protocol.DeviceID) (map[string]pr
 	}
 	defer snapshot.Release()
 	made, greatest := map[string]protocol.FileInfo{}, int64(0)
-	snapshot.WithHave(of, func(item protocol.FileIntf) bool {
-		entry := item.(protocol.FileInfo)
+	adapt.Have(snapshot.WithHave, of, func(entry protocol.FileInfo) bool {
 		made[entry.Name] = entry
 		if entry.Sequence > greatest {
 			greatest = entry.Sequence

@@ -28,6 +28,8 @@ func ownEntry(entry protocol.FileInfo) Entry {
 		return leftOut(entry, part.Ignored, "it is ignored there by .stignore")
 	case entry.IsUnsupported():
 		return leftOut(entry, part.OddRecord, "its kind isn't supported there")
+	case entry.LocalFlags&^protocol.LocalAllFlags != 0:
+		return leftOut(entry, part.OddRecord, fmt.Sprintf("it has local flags %#x, which aren't known here", entry.LocalFlags))
 	case entry.MustRescan():
 		return leftOut(entry, part.Rescan, "it waits for a scan: start Syncthing, let it finish, stop it")
 	}
@@ -52,7 +54,7 @@ func entryOf(entry protocol.FileInfo) Entry {
 		return leftOut(entry, part.OddName, err.Error())
 	}
 	if entry.Type == protocol.FileInfoTypeSymlink && !entry.Deleted {
-		if err := limits.CheckTarget(entry.SymlinkTarget); err != nil {
+		if err := limits.CheckTarget(string(entry.SymlinkTarget)); err != nil {
 			return leftOut(entry, part.OddTarget, err.Error())
 		}
 	}
@@ -72,7 +74,7 @@ func recordOf(entry protocol.FileInfo) (*part.Record, [][32]byte, error) {
 	if err != nil {
 		return nil, nil, err
 	}
-	made := &part.Record{Type: int(entry.Type), ModifiedS: entry.ModifiedS, ModifiedNs: entry.ModifiedNs, ModifiedBy: uint64(entry.ModifiedBy),
+	made := &part.Record{Type: int(entry.Type), ModifiedS: entry.ModifiedS, ModifiedNs: int(entry.ModifiedNs), ModifiedBy: uint64(entry.ModifiedBy),
 		Version: version, Sequence: entry.Sequence, Deleted: entry.Deleted, Invalid: entry.IsInvalid()}
 	if entry.Deleted {
 		return made, nil, nil
@@ -82,7 +84,7 @@ func recordOf(entry protocol.FileInfo) (*part.Record, [][32]byte, error) {
 		made.Permissions = &bits
 	}
 	if entry.Type != protocol.FileInfoTypeFile {
-		made.Target = entry.SymlinkTarget
+		made.Target = string(entry.SymlinkTarget)
 		return made, nil, checkOther(entry)
 	}
 	blocks, err := blocksOf(entry)
@@ -134,7 +136,7 @@ func checkOther(entry protocol.FileInfo) error {
 	if entry.Size != 0 || len(entry.Blocks) > 0 {
 		return errors.New("it has a size or blocks, and is no file")
 	}
-	if entry.Type == protocol.FileInfoTypeDirectory && entry.SymlinkTarget != "" {
+	if entry.Type == protocol.FileInfoTypeDirectory && len(entry.SymlinkTarget) > 0 {
 		return errors.New("it is a directory with a target")
 	}
 	return nil
@@ -144,7 +146,7 @@ func checkOther(entry protocol.FileInfo) error {
 func blocksOf(entry protocol.FileInfo) ([][32]byte, error) {
 	size := int64(entry.BlockSize())
 	switch {
-	case entry.SymlinkTarget != "":
+	case len(entry.SymlinkTarget) > 0:
 		return nil, errors.New("it is a file with a target")
 	case entry.Size < 0:
 		return nil, fmt.Errorf("its size is %d", entry.Size)

@@ -7,6 +7,7 @@ import (
 	"testing"
 
 	"github.com/syncthing/syncthing/lib/protocol"
+	"syncthing-audit/adapt"
 	"syncthing-audit/part"
 )
 
@@ -73,7 +74,7 @@ func TestRecords(t *testing.T) {
 				r.Version = append(r.Version, [2]uint64{id, 1})
 			}
 		}},
-		{"a deletion loses size, blocks and target", func(e *protocol.FileInfo) { e.Deleted, e.SymlinkTarget = true, "t" },
+		{"a deletion loses size, blocks and target", func(e *protocol.FileInfo) { e.Deleted = true; adapt.SetText(&e.SymlinkTarget, "t") },
 			func(r *part.Record) { noContent(r); r.Deleted = true }},
 		{"a local change of a receive-only folder goes invalid and without version",
 			func(e *protocol.FileInfo) { e.LocalFlags = protocol.FlagLocalReceiveOnly },
@@ -82,7 +83,8 @@ func TestRecords(t *testing.T) {
 		{"a directory", func(e *protocol.FileInfo) { e.Type, e.Size, e.Blocks = protocol.FileInfoTypeDirectory, 0, nil },
 			func(r *part.Record) { r.Type, r.Content = 1, nil }},
 		{"a symlink", func(e *protocol.FileInfo) {
-			e.Type, e.Size, e.Blocks, e.SymlinkTarget = protocol.FileInfoTypeSymlink, 0, nil, "t"
+			e.Type, e.Size, e.Blocks = protocol.FileInfoTypeSymlink, 0, nil
+			adapt.SetText(&e.SymlinkTarget, "t")
 		}, func(r *part.Record) { noContent(r); r.Type, r.Target = 4, "t" }},
 		{"an empty file has one block", func(e *protocol.FileInfo) { e.Size, e.Blocks = 0, []protocol.BlockInfo{{Hash: nothing}} },
 			func(r *part.Record) { r.Content = contentOf(0, hashOfNothing) }},
@@ -102,6 +104,7 @@ func TestRefusedRecords(t *testing.T) {
 	}{
 		{"ignored", func(e *protocol.FileInfo) { e.LocalFlags = protocol.FlagLocalIgnored }},
 		{"unsupported", func(e *protocol.FileInfo) { e.LocalFlags = protocol.FlagLocalUnsupported }},
+		{"a flag of a newer Syncthing", func(e *protocol.FileInfo) { e.LocalFlags = 1 << 10 }},
 		{"waits for a scan", func(e *protocol.FileInfo) { e.LocalFlags = protocol.FlagLocalMustRescan }},
 		{"a name that isn't UTF-8", func(e *protocol.FileInfo) { e.Name = "\xff" }},
 		{"an old type of symlink", func(e *protocol.FileInfo) { e.Type = protocol.FileInfoTypeSymlinkFile }},
@@ -118,7 +121,7 @@ func TestRefusedRecords(t *testing.T) {
 		{"a block missing", func(e *protocol.FileInfo) { e.Blocks = nil }},
 		{"an empty file with another block", func(e *protocol.FileInfo) { e.Size, e.Blocks[0].Size = 0, 0 }},
 		{"a short hash", func(e *protocol.FileInfo) { e.Blocks[0].Hash = e.Blocks[0].Hash[:31] }},
-		{"a file with a target", func(e *protocol.FileInfo) { e.SymlinkTarget = "t" }},
+		{"a file with a target", func(e *protocol.FileInfo) { adapt.SetText(&e.SymlinkTarget, "t") }},
 		{"a directory with blocks", func(e *protocol.FileInfo) { e.Type, e.Size = protocol.FileInfoTypeDirectory, 0 }},
 		{"a symlink without target", func(e *protocol.FileInfo) { e.Type, e.Size, e.Blocks = protocol.FileInfoTypeSymlink, 0, nil }},
 	}

@@ -25,6 +25,7 @@ type Device struct {
 	ID     string
 	Number uint64
 	Name   string
+	Runs   string    // the version of Syncthing that was started there last, as far as its part tells
 	Made   time.Time // when its part was made
 	From   string    // the home or file that it was read from
 

@@ -27,6 +27,7 @@ type Folder interface {
 // Device is a device that is to be read.
 type Device struct {
 	ID, Name string
+	Runs     string   // the version of Syncthing that was started there last
 	Folders  []Folder // rising by id
 	Prefix   string   // only names that begin so
 	Bytes    bool     // the bytes of files, too, in memory alone
@@ -37,7 +38,7 @@ type Device struct {
 
 // Head gives the head of the device's part.
 func (d *Device) Head() *part.Head {
-	made := &part.Head{Version: part.Version, Device: d.ID, Name: d.Name, Made: time.Now().UTC().Truncate(time.Second),
+	made := &part.Head{Version: part.Version, Device: d.ID, Name: d.Name, Runs: d.Runs, Made: time.Now().UTC().Truncate(time.Second),
 		Prefix: d.Prefix, Folders: []part.Folder{}, Look: d.Look, Others: append([]part.Other{}, d.Others...)}
 	if d.Look != nil {
 		made.Version = part.VersionOfLooks

@@ -80,6 +80,7 @@ func joinFolder(one, other *part.Folder) (*part.Folder, error) {
 	case one.Max > other.Max:
 		return nil, fmt.Errorf("folder %s: its index went back from change %d to %d between the two looks: begin again", shell.Folder(one.ID, one.Label), one.Max, other.Max)
 	case one.Directory != other.Directory || one.Kind != other.Kind || one.IgnoresPermissions != other.IgnoresPermissions ||
+		one.ScansAttributes != other.ScansAttributes ||
 		!reflect.DeepEqual(one.Sharing, other.Sharing):
 		return nil, fmt.Errorf("folder %s: its configuration changed between the two looks: begin again", shell.Folder(one.ID, one.Label))
 	}

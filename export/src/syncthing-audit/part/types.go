@@ -43,8 +43,9 @@ const KindEncrypted = "encrypted"
 // Head says whose part it is and what it holds.
 type Head struct {
 	Version int       `json:"version"`
-	Device  string    `json:"device"` // its id
-	Name    string    `json:"name"`   // as it is configured at itself
+	Device  string    `json:"device"`              // its id
+	Name    string    `json:"name"`                // as it is configured at itself
+	Runs    string    `json:"syncthing,omitempty"` // the version of Syncthing that was started there last
 	Made    time.Time `json:"made"`
 	Prefix  string    `json:"prefix,omitempty"` // only names that begin so were read
 	Folders []Folder  `json:"folders"`          // rising by id
@@ -69,6 +70,7 @@ type Folder struct {
 	IndexID            uint64    `json:"index_id,string"`
 	Max                int64     `json:"max"`
 	IgnoresPermissions bool      `json:"ignores_permissions,omitempty"`
+	ScansAttributes    bool      `json:"scans_attributes,omitempty"` // owners or extended ones, so it hashes files whose inode changed
 	Sharing            []Sharing `json:"sharing"`
 	Views              []View    `json:"views"`
 }

@@ -10,6 +10,7 @@ import (
 
 	"github.com/syncthing/syncthing/lib/protocol"
 	"github.com/syncthing/syncthing/lib/scanner"
+	"syncthing-audit/adapt"
 )
 
 // batchLength is how many entries go into an index at once.
@@ -84,9 +85,11 @@ func put(devices []*device, name string, size int64, random *rand.Rand) (protoco
 	}
 	blockSize := protocol.BlockSize(size)
 	blocks, err := scanner.Blocks(context.Background(), bytes.NewReader(data), blockSize, size, nil, true)
-	return protocol.FileInfo{Name: name, Size: size, Permissions: 0o644, ModifiedS: modified.Unix(), ModifiedNs: modified.Nanosecond(),
-		ModifiedBy: devices[0].id.Short(), Version: protocol.Vector{}.Update(devices[0].id.Short()), RawBlockSize: blockSize,
-		Blocks: blocks, BlocksHash: protocol.BlocksHash(blocks)}, err
+	made := protocol.FileInfo{Name: name, Size: size, Permissions: 0o644, ModifiedS: modified.Unix(), ModifiedBy: devices[0].id.Short(),
+		Version: protocol.Vector{}.Update(devices[0].id.Short()), Blocks: blocks, BlocksHash: protocol.BlocksHash(blocks)}
+	adapt.SetNumber(&made.ModifiedNs, modified.Nanosecond())
+	adapt.SetNumber(&made.RawBlockSize, blockSize)
+	return made, err
 }
 
 // record puts entries into each device's own index and into what each knows of the others.

@@ -85,6 +85,22 @@ const (
 	asAnother = " as it is (cp -a, or rsync -a), once what stands there is moved away, while Syncthing is stopped there"
 )
 
+// mayShow says whether a scan may take other bytes for a change: it hashes a file whose inode changed. In a folder that only
+// receives, Syncthing 1.29 then keeps the record that all others have, and tells no local change.
+func (f *Fault) mayShow() bool { return f.Cause == OtherBytes && f.isWide && f.Kind != receiveOnly }
+
+// keeping says how something is copied so that a scan that looks at owners or extended attributes finds these, too, as they
+// are recorded.
+func (f *Fault) keeping(how string) string {
+	if !f.isWide {
+		return how
+	}
+	if how == withTime {
+		return " with its time, owner and attributes (cp -a, or rsync -aX --ignore-times) while Syncthing is stopped there"
+	}
+	return strings.Replace(how, "rsync -a", "rsync -aX", 1)
+}
+
 // adviceOfFault says what to do about one fault.
 func adviceOfFault(one *Fault, file *File, named labels) string {
 	at := named.of(one.Device)
@@ -92,7 +108,7 @@ func adviceOfFault(one *Fault, file *File, named labels) string {
 	case OtherBytes:
 		return otherBytesAdvice(one, file, at, named)
 	case Damaged:
-		return damageAdvice(file, at, named)
+		return damageAdvice(one, file, at, named)
 	case Changed:
 		return changedAdvice(one, file, at, named)
 	case Missing:
@@ -139,12 +155,16 @@ func spreads(one *Fault) string {
 }
 
 func otherBytesAdvice(one *Fault, file *File, at string, named labels) string {
-	mend := "Syncthing won't repair it: " + source(file, named) + at + withTime
-	if one.isSeen && one.Kind == receiveOnly {
-		mend = "before Syncthing scans there, which takes these bytes for a local change, " + source(file, named) + at + withTime
-	} else if one.isSeen {
-		mend = "before Syncthing scans there, which sends these bytes to all, " + source(file, named) + at + withTime
+	mend := "Syncthing won't repair it: "
+	switch {
+	case one.isSeen && one.Kind == receiveOnly:
+		mend = "before Syncthing scans there, which takes these bytes for a local change, "
+	case one.isSeen:
+		mend = "before Syncthing scans there, which sends these bytes to all, "
+	case one.mayShow():
+		mend = "before Syncthing scans there, which may send these bytes to all, "
 	}
+	mend += source(file, named) + at + one.keeping(withTime)
 	if one.Kind == receiveOnly || len(file.sendersOfOtherBytes()) > 1 {
 		return mend
 	}
@@ -156,7 +176,7 @@ func changedAdvice(one *Fault, file *File, at string, named labels) string {
 	if one.isFileForFile() {
 		how = withTime
 	}
-	undo := "if the change isn't wanted, first " + source(file, named) + at + how
+	undo := "if the change isn't wanted, first " + source(file, named) + at + one.keeping(how)
 	if one.Kind == receiveOnly {
 		return "start Syncthing on " + at + " and 'Rescan': the change stays there as a local one, which 'Revert Local Changes' takes back"
 	}
@@ -175,7 +195,7 @@ func missingAdvice(one *Fault, file *File, at string, named labels) string {
 			"deletes files that were added there"
 	}
 	return "see that the folder's disk is mounted on " + at + ", before Syncthing starts there: a scan takes it for deleted, and then all devices " +
-		"delete it. To keep it, first " + source(file, named) + at + asItIs
+		"delete it. To keep it, first " + source(file, named) + at + one.keeping(asItIs)
 }
 
 func behindAdvice(one *Fault, file *File, at string, named labels) string {

@@ -72,6 +72,19 @@ func TestAdviceOnOtherTypes(t *testing.T) {
 	}
 }
 
+// Where scans look at owners or extended attributes, a copy is to have these, too.
+func TestAdviceKeepsAttributes(t *testing.T) {
+	for _, cause := range []Cause{OtherBytes, Changed, Missing} {
+		for _, recorded := range []string{"file", "directory"} {
+			faults := faultsOf("send-receive", cause)
+			faults[0].Recorded, faults[0].isWide = &State{Type: recorded}, true
+			if told := adviceOf(&File{Faults: faults, Have: []string{laptop}}, labels{}); !strings.Contains(told[0], "cp -a, or rsync -aX") {
+				t.Errorf("%s, a %s: %s", cause, recorded, told)
+			}
+		}
+	}
+}
+
 // Whether the next scan sees other bytes, and whether an audited device has the recorded ones, is told.
 func TestAdviceOnOtherBytes(t *testing.T) {
 	for kind, has := range map[string]string{"send-receive": "which sends these bytes to all", receiveOnly: "takes these bytes for a local change"} {
@@ -79,6 +92,13 @@ func TestAdviceOnOtherBytes(t *testing.T) {
 		seen[0].isSeen = true
 		if told := adviceOf(&File{Faults: seen, Have: []string{laptop}}, labels{}); !strings.Contains(told[0], has) {
 			t.Errorf("other bytes with another mode, %s: %s", kind, told)
+		}
+	}
+	for kind, has := range map[string]string{"send-receive": "which may send these bytes to all", receiveOnly: "Syncthing won't repair it"} {
+		seen := faultsOf(kind, OtherBytes)
+		seen[0].isWide = true
+		if told := adviceOf(&File{Faults: seen, Have: []string{laptop}}, labels{}); !strings.Contains(told[0], has) || !strings.Contains(told[0], "cp -a, or rsync -aX") {
+			t.Errorf("other bytes where scans look at attributes, %s: %s", kind, told)
 		}
 	}
 	told := adviceOf(&File{Faults: faultsOf("send-receive", OtherBytes)}, labels{})

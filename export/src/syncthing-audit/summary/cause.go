@@ -12,7 +12,7 @@ type Cause string
 
 // Causes.
 const (
-	OtherBytes    Cause = "other-bytes"     // on the disk, while size and time are as recorded: no scan sees it
+	OtherBytes    Cause = "other-bytes"     // on the disk, while size and time are as recorded
 	Changed       Cause = "changed-on-disk" // since the last scan
 	Missing       Cause = "missing-on-disk" // the device's index has it
 	Back          Cause = "back-on-disk"    // the device's index has it as deleted
@@ -45,6 +45,7 @@ type Fault struct {
 	contents []part.Content
 	ends     ends
 	isSeen   bool // by the next scan, since the mode isn't as recorded
+	isWide   bool // the device's scans look at owners or extended attributes, too
 }
 
 // State is what a record or a disk says of a name.

@@ -11,7 +11,8 @@ func (f *File) addDamage(folder *finding.Folder, one *finding.Damaged) {
 			fault.Cause, fault.Why = Damaged, at.Why
 			continue
 		}
-		f.Faults = append(f.Faults, Fault{Device: member.Head.Device, Cause: Damaged, Kind: kindOf(member), Why: at.Why, Reasons: []string{"StoreDiffers"}})
+		f.Faults = append(f.Faults, Fault{Device: member.Head.Device, Cause: Damaged, Kind: kindOf(member), Why: at.Why, Reasons: []string{"StoreDiffers"},
+			isWide: isWide(member)})
 	}
 }
 
@@ -28,11 +29,11 @@ func (f *File) damageOf(device string) *Fault {
 }
 
 // damageAdvice says what to do where a disk fails.
-func damageAdvice(file *File, at string, named labels) string {
+func damageAdvice(one *Fault, file *File, at string, named labels) string {
 	told := "see the system's log on " + at + " (journalctl -k, smartctl -a): its disk fails there, and may soon fail elsewhere. Save what it " +
 		"has that no other device has, and replace it"
 	if len(file.Have) == 0 {
 		return told + ". Then bring back what was lost, from another device, old versions or backups"
 	}
-	return told + ". Then " + source(file, named) + at + withTime
+	return told + ". Then " + source(file, named) + at + one.keeping(withTime)
 }

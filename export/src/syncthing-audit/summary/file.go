@@ -86,6 +86,9 @@ func kindOf(member join.Member) string {
 	return member.About.Kind
 }
 
+// isWide says whether scans look at owners or extended attributes, too.
+func isWide(member join.Member) bool { return member.About != nil && member.About.ScansAttributes }
+
 // reader reads what is wrong with a name that has a winner.
 type reader struct {
 	folder  *finding.Folder
@@ -214,7 +217,8 @@ func (r *reader) addFaults(member int) {
 // add adds a fault with what is known of it.
 func (r *reader) add(member int, cause Cause) {
 	one := r.folder.Members[member]
-	made := Fault{Device: one.Head.Device, Cause: cause, Kind: kindOf(one), Due: recorded(r.winner), Reasons: r.reasons[member]}
+	made := Fault{Device: one.Head.Device, Cause: cause, Kind: kindOf(one), Due: recorded(r.winner), Reasons: r.reasons[member],
+		isWide: isWide(one)}
 	if at := r.at(member); at != nil {
 		made.Recorded, made.Found = recorded(at.Own), found(at.Disk)
 		if cause == OtherBytes || cause == Changed {

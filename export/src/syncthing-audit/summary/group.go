@@ -152,7 +152,7 @@ func (a *alike) groupOf(named labels) *Group {
 func withoutDetails(faults []Fault) []Fault {
 	made := []Fault{}
 	for _, one := range faults {
-		made = append(made, Fault{Device: one.Device, Cause: one.Cause, Kind: one.Kind})
+		made = append(made, Fault{Device: one.Device, Cause: one.Cause, Kind: one.Kind, isWide: one.isWide})
 	}
 	return made
 }

@@ -36,6 +36,7 @@ func full(folder *finding.Folder) {
 // What is written is what the schema says, and what the schema says is looked at: a document of other words is none.
 func TestSchema(t *testing.T) {
 	answer := answerOf(2, full)
+	answer.Devices[0].Runs = "v1.29.5"
 	answer.LeftOut = []finding.Refusal{{Kind: part.Absent, Folder: "docs", Device: "phone", Why: "no part of it is given"}}
 	answer.Devices[1].Unasked = []finding.Unasked{{ID: "music", Label: "my music", InPart: true}, {ID: "pics"}}
 	answer.Devices[0].IsSilent = true

@@ -4,6 +4,7 @@ import (
 	"strings"
 	"time"
 
+	"golang.org/x/exp/slices"
 	"syncthing-audit/finding"
 	"syncthing-audit/shell"
 )
@@ -32,6 +33,7 @@ func (p *printer) rest(s *Summary) {
 		p.line("not asked: whether what is in step is firm, too: this syncaudit is too old to say so")
 	}
 	p.ages(s)
+	p.untried(s)
 	p.line("not compared: %s", strings.Join(s.NotCompared, ", "))
 }
 
@@ -49,6 +51,22 @@ func (p *printer) ages(s *Summary) {
 	}
 	if len(old) > 0 {
 		p.line("read more than a day ago: %s; what changed on a disk since isn't seen", strings.Join(old, ", "))
+	}
+}
+
+// tried are the versions of Syncthing with which this program was tried.
+var tried = []string{"1.19", "1.29"}
+
+// untried tells which devices have another version of Syncthing than those.
+func (p *printer) untried(s *Summary) {
+	others := []string{}
+	for _, one := range s.Devices {
+		if one.Runs != "" && slices.IndexFunc(tried, func(version string) bool { return strings.HasPrefix(one.Runs, "v"+version+".") }) < 0 {
+			others = append(others, p.named.of(one.ID)+" "+shell.Printable(one.Runs))
+		}
+	}
+	if len(others) > 0 {
+		p.line("not tried with such a Syncthing: %s; it was with %s", strings.Join(others, ", "), strings.Join(tried, " and "))
 	}
 }
 

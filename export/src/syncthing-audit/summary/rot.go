@@ -59,7 +59,7 @@ func (p *printer) rotten(folder *Folder, all []*File) {
 	p.line("\n%s in %s: %s", counted(int64(len(all)), "name", "names"), folder.ID, size(bytes))
 	for next := range all[0].Faults {
 		one := &all[0].Faults[next]
-		p.line("  %s: %s; %s in all (--json tells them)", p.named.of(one.Device), wordsOf[OtherBytes], counted(blocks[next], "block differs", "blocks differ"))
+		p.line("  %s: %s; %s in all (--json tells them)", p.named.of(one.Device), p.wordsOf(one), counted(blocks[next], "block differs", "blocks differ"))
 	}
 	for _, same := range all[0].Same {
 		p.line("  the same other bytes on: %s", p.named.all(same))

@@ -50,3 +50,18 @@ func TestManyNamesOfOtherBytes(t *testing.T) {
 		}
 	}
 }
+
+// Where scans look at owners or extended attributes, a scan may see them, and the one entry says so.
+func TestManyNamesOfOtherBytesWhereScansLookAtAttributes(t *testing.T) {
+	answer := answerOf(2, func(folder *finding.Folder) {
+		folder.Members[1].About.ScansAttributes = true
+		for next := 0; next < 40; next++ {
+			fails(folder, fmt.Sprintf("photos/%02d", next), []*part.Name{file(1, 1), with(file(1, 1), rotten)}, "StoreDiffers 2")
+		}
+	})
+	var written strings.Builder
+	Of(answer).Print(&written, time.UTC, time.Time{})
+	if text := written.String(); !strings.Contains(text, "but a scan of owners or attributes may see it; 40 blocks differ") || strings.Contains(text, "no scan sees") {
+		t.Error(text)
+	}
+}

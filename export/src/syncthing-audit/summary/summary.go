@@ -40,6 +40,7 @@ type Device struct {
 	Name string    `json:"name"`
 	Read time.Time `json:"read"` // when its files were read
 	From string    `json:"from"`
+	Runs string    `json:"syncthing,omitempty"` // the version that was started there last
 
 	Prefix Text `json:"names_that_begin,omitempty"` // only these were read
 }
@@ -129,7 +130,7 @@ func Of(answer *finding.Answer) *Summary {
 		NotAsked: notAsked(answer), NotTold: notTold(answer), NotCompared: notCompared, isByName: answer.IsByName}
 	prefixes := prefixesOf(answer)
 	for _, one := range answer.Devices {
-		made.Devices = append(made.Devices, Device{one.ID, one.Name, one.Made, one.From, prefixes[one.ID]})
+		made.Devices = append(made.Devices, Device{one.ID, one.Name, one.Made, one.From, one.Runs, prefixes[one.ID]})
 	}
 	named := made.labels()
 	for _, one := range answer.Folders {

@@ -187,6 +187,8 @@ func (p *printer) wordsOf(one *Fault) string {
 	switch {
 	case one.isSeen:
 		return "other bytes on the disk; size and time are as recorded, the mode isn't, so the next scan sees it"
+	case one.mayShow():
+		return "other bytes on the disk; size and time are as recorded, but a scan of owners or attributes may see it"
 	case one.Cause == Behind && one.Deletion:
 		return "behind: hasn't deleted it yet"
 	case one.Cause == Behind && one.Recorded == nil:

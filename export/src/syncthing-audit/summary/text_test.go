@@ -116,6 +116,20 @@ var textsForAPerson = []struct {
          --times --ignore-times) while Syncthing is stopped there. If instead the bytes on server
          are the right ones, 'touch' the file there and let Syncthing scan: it sends them to all.
 ` + lastLine},
+	{"a file of other bytes where scans look at attributes", 2, func(folder *finding.Folder) {
+		folder.Members[1].About.ScansAttributes = true
+		fails(folder, "a", []*part.Name{file(1, 1), with(file(1, 1), rotten)}, "StoreDiffers 2")
+	}, lineOfFolder + `
+a  (in docs, 300.0 kB)
+  server: other bytes on the disk; size and time are as recorded, but a scan of owners or attributes may see it (modified 2020-09-13 12:26:40 UTC)
+    block 2 differs (1 of 3 blocks of 128 KiB; the first is block 0)
+    the first of them: SHA-256 abcd0000.. recorded, 12000000.. on the disk
+  as recorded on: laptop
+  to do: before Syncthing scans there, which may send these bytes to all, copy it from laptop to
+         server with its time, owner and attributes (cp -a, or rsync -aX --ignore-times) while
+         Syncthing is stopped there. If instead the bytes on server are the right ones, 'touch' the
+         file there and let Syncthing scan: it sends them to all.
+` + lastLine},
 	{"the same other bytes on two devices, under a name like an option", 3, func(folder *finding.Folder) {
 		fails(folder, "-rf", []*part.Name{file(1, 1), with(file(1, 1), rotten), with(file(1, 1), rotten)}, "StoreDiffers 2", "StoreDiffers 3")
 	}, `docs (Documents): NOT in step, 1 name is wrong; 1,204 names (4 deleted), 335.2 MB hashed on laptop, phone, server
@@ -328,6 +342,28 @@ func TestWhatAPersonReads(t *testing.T) {
 		Of(answerOf(one.devices, one.fill)).Print(&written, time.UTC, time.Time{})
 		if written.String() != one.text {
 			t.Errorf("%s:\n%s\nnot\n%s", one.why, written.String(), one.text)
+		}
+	}
+}
+
+// Versions of Syncthing that this program wasn't tried with are told.
+func TestAnotherSyncthing(t *testing.T) {
+	for _, one := range []struct {
+		runs []string
+		told string
+	}{
+		{[]string{"v1.19.2-ds1", "v1.29.5", ""}, lastLine},
+		{[]string{"v1.2.9", "v1.29.5", "v1.190.0"},
+			"\nnot tried with such a Syncthing: laptop v1.2.9, phone v1.190.0; it was with 1.19 and 1.29" + lastLine},
+	} {
+		answer := answerOf(3, func(*finding.Folder) {})
+		for place, version := range one.runs {
+			answer.Devices[place].Runs = version
+		}
+		var written strings.Builder
+		Of(answer).Print(&written, time.UTC, time.Time{})
+		if !strings.HasSuffix(written.String(), one.told) || strings.Contains(written.String(), "not tried") != (one.told != lastLine) {
+			t.Errorf("%s: %s", one.runs, written.String())
 		}
 	}
 }

@@ -1,3 +1,5 @@
+//go:build !go1.21
+
 package disk
 
 import (
@@ -12,8 +14,9 @@ import (
 // bytesBeforeChoice is how much is hashed before it pays to measure which SHA-256 is the fastest.
 const bytesBeforeChoice = 64 << 20
 
-// chooser gives the SHA-256 that Syncthing itself would choose. Its choice takes a second of measuring, so what is hashed
-// until then takes the standard one, which a small folder takes alone.
+// chooser gives the SHA-256 that Syncthing itself would choose: before Go 1.21 the standard one doesn't use all that
+// processors have. The choice takes a second of measuring, so what is hashed until then takes the standard one, which a
+// small folder takes alone.
 type chooser struct {
 	once   sync.Once
 	hashed int64

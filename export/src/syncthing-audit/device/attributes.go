@@ -1,0 +1,34 @@
+package device
+
+import (
+	"encoding/xml"
+	"fmt"
+	"os"
+)
+
+// attributesIn gives the folders in which scans look at owners or extended attributes, by their ids. Such a scan hashes each
+// file whose inode changed, also where size and time are as recorded. Syncthing 1.19 has no such scans, and its packages
+// don't read these options.
+func attributesIn(path string) (map[string]bool, error) {
+	text, err := os.ReadFile(path)
+	if err != nil {
+		return nil, err
+	}
+	var read struct {
+		Folders []struct {
+			ID            string `xml:"id,attr"`
+			SendOwnership bool   `xml:"sendOwnership"`
+			SyncOwnership bool   `xml:"syncOwnership"`
+			SendXattrs    bool   `xml:"sendXattrs"`
+			SyncXattrs    bool   `xml:"syncXattrs"`
+		} `xml:"folder"`
+	}
+	if err := xml.Unmarshal(text, &read); err != nil {
+		return nil, fmt.Errorf("%s: %w", path, err)
+	}
+	made := map[string]bool{}
+	for _, one := range read.Folders {
+		made[one.ID] = one.SendOwnership || one.SyncOwnership || one.SendXattrs || one.SyncXattrs
+	}
+	return made, nil
+}
