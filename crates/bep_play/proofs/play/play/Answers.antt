@@ -9,7 +9,7 @@ pub overflow_add-place : goal.overflow_add-place
 overflow_add-place c =
     let left : c.loop-step.step-iterator ≡ c.in-Some.step ∷ c.next.new.self = search rules in
     let so_far = subst (λ (rest : List Step). LeadsSoFar (cluster_of c.args.cluster.now) c.args.steps (cluster_of c.loop-step.cluster) rest c.loop-step.told.items c.loop-step.place) left c.loop-step.invariant in
-    omega (arith, place_among (cluster_of c.args.cluster.now) c.args.steps (cluster_of c.loop-step.cluster) c.in-Some.step c.next.new.self c.loop-step.told.items c.loop-step.place so_far, c.len-_count.ensures.value)
+    omega (arith, place_among (cluster_of c.args.cluster.now) c.args.steps (cluster_of c.loop-step.cluster) c.in-Some.step c.next.new.self c.loop-step.told.items c.loop-step.place so_far, c.len-count.ensures.value)
 
 pub loop-step-preserved : goal.loop-step-preserved
 loop-step-preserved c =
