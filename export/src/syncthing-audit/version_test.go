@@ -35,7 +35,6 @@ func TestReasonsOfUsage(t *testing.T) {
 		"check --leave-out much x":    `"much" is none of`,
 		"sum":                         "'sum' has one directory",
 		"export --bytes --into x y":   "parts have no bytes",
-		"check --names a --lines x":   "--names is for homes",
 		"part --begin --end --home x": "the second one comes after the first looks",
 		"part --end --home x":         "--end needs --tokens FILE",
 		"part --home x --tokens x":    "--tokens is for --end",

@@ -75,11 +75,19 @@ func checkDevices(devices []*Device) error {
 			return fmt.Errorf("refused: %s and %s are of one device number, %d", one.From, other.From, one.Number)
 		}
 		if one.Head.Prefix != other.Head.Prefix {
-			return fmt.Errorf("refused: %s has the names that begin with %s, and %s those with %s: make all parts with the same --names",
-				one.From, shell.Quoted(string(one.Head.Prefix)), other.From, shell.Quoted(string(other.Head.Prefix)))
+			return fmt.Errorf("refused: %s has %s, and %s has %s: make all parts with the same --names",
+				one.From, Names(one.Head.Prefix), other.From, Names(other.Head.Prefix))
 		}
 	}
 	return nil
+}
+
+// Names says which names were read, by how they begin.
+func Names(prefix string) string {
+	if prefix == "" {
+		return "all names"
+	}
+	return "the names that begin with " + shell.Quoted(prefix)
 }
 
 // chosen gives the ids of the folders to audit, rising.

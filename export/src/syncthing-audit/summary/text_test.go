@@ -275,7 +275,8 @@ a  (in docs)
 left out of docs: 1 name, 3.0 MB
   $'odd\377', 3.0 MB: laptop: its name isn't UTF-8
 outside docs: 4 names, 7 bytes, which .stignore keeps out on each device that has them
-not asked for: names on laptop that don't begin with 'a b'
+not audited: names that don't begin with 'a b'; no part has them
+  to do: make the parts without --names; or say by --names 'a b' that only these are to be audited.
 not compared: owners, extended attributes, old versions
 `},
 	{"a conflict copy that lies about", 2, func(folder *finding.Folder) {

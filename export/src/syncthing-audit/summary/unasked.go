@@ -37,6 +37,23 @@ func notTold(answer *finding.Answer) []string {
 	return made
 }
 
+// otherNames prints that only names which begin so were audited: all parts have the same.
+func (p *printer) otherNames(s *Summary) {
+	for _, one := range s.Devices {
+		begin := shell.Quoted(string(one.Prefix))
+		switch {
+		case one.Prefix == "":
+			continue
+		case s.byNames:
+			p.line("not asked for: names that don't begin with %s", begin)
+		default:
+			p.line("not audited: names that don't begin with %s; no part has them", begin)
+			p.advice([]string{"make the parts without --names; or say by --names " + begin + " that only these are to be audited"})
+		}
+		return
+	}
+}
+
 // notAsked prints which folders of the devices weren't audited, or that this isn't known.
 func (p *printer) notAsked(s *Summary) {
 	folders, devices := []string{}, map[string][]string{}

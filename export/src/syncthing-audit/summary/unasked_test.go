@@ -45,3 +45,28 @@ func TestFoldersThatWereNotAudited(t *testing.T) {
 		}
 	}
 }
+
+// Of parts that were made with --names it is told which names they have. Who answers without it didn't choose these.
+func TestNamesThatWereNotAudited(t *testing.T) {
+	for _, one := range []struct {
+		byNames       bool
+		verdict, told string
+	}{
+		{false, AsFar, "not audited: names that don't begin with 'a b'; no part has them\n" +
+			"  to do: make the parts without --names; or say by --names 'a b' that only these are to be audited.\n"},
+		{true, InStep, "not asked for: names that don't begin with 'a b'\n"},
+	} {
+		answer := answerOf(2, func(folder *finding.Folder) {
+			for _, member := range folder.Members {
+				member.Head.Prefix = "a b"
+			}
+		})
+		answer.ByNames = one.byNames
+		var written strings.Builder
+		made := Of(answer)
+		made.Print(&written, time.UTC, time.Time{})
+		if made.Verdict != one.verdict || made.Folders[0].Verdict != one.verdict || !strings.HasSuffix(written.String(), "on laptop, server\n\n"+one.told+lastLine[1:]) {
+			t.Errorf("%s\n%s", made.Verdict, written.String())
+		}
+	}
+}
