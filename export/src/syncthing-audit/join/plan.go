@@ -49,16 +49,17 @@ func NewPlan(devices []*Device, wanted []string) (*Plan, error) {
 		}
 	}
 	for _, device := range devices {
-		device.Choose(made.has)
+		id := device.Head.Device
+		device.Choose(func(folder string) bool { return made.has(folder, id) })
 	}
 	return made, checkDirectories(made.Folders)
 }
 
-// has says whether a folder is audited.
-func (p *Plan) has(id string) bool {
+// has says whether a folder is audited on a device.
+func (p *Plan) has(folder, device string) bool {
 	for _, one := range p.Folders {
-		if one.ID == id {
-			return true
+		if one.ID == folder {
+			return one.Member(device) >= 0
 		}
 	}
 	return false
@@ -129,6 +130,7 @@ func (p *Plan) folder(id string) *Folder {
 	if len(p.Refusals) > before {
 		return nil
 	}
+	p.checkApart(made)
 	if !p.checkSharing(made) {
 		return nil
 	}
