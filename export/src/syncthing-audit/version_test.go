@@ -34,6 +34,8 @@ func TestReasonsOfUsage(t *testing.T) {
 		"check --jobs 0 x":            "--jobs is at least 1",
 		"check --leave-out much x":    `"much" is none of`,
 		"sum":                         "'sum' has one directory",
+		"sum --folder x y":            "--folder and --names are for 'export'",
+		"sum --names x y":             "--folder and --names are for 'export'",
 		"export --bytes --into x y":   "parts have no bytes",
 		"part --begin --end --home x": "the second one comes after the first looks",
 		"part --end --home x":         "--end needs --tokens FILE",
