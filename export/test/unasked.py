@@ -53,6 +53,9 @@ class OtherFolders(Exporting):
         told = f"not audited: 1 folder that these devices share and no part has: {self.on_both()}"
         self.assertEqual(self.told(*parts), (6, [told]))
         self.assertEqual(self.told(*parts, "--folder", FOLDER), (0, [f"not asked for: 1 folder: {self.on_both()}"]))
+        ran = self.check_parts(parts, "--folder", OTHER)
+        self.assertEqual((ran.returncode, ran.stdout), (2, ""))
+        self.assertRegex(ran.stderr, f"no part has folder {OTHER} \\({LABEL}\\), which device .* has: make the parts without --folder, or with it for this")
         lines = self.check_parts(parts).stdout.splitlines()
         self.assertEqual(lines[0], "settled as far as audited")
         self.assertEqual({line for line in lines if line.startswith("not asked for: ")},

@@ -98,7 +98,11 @@ func (i *inputs) open(asked options) error {
 	if err := i.checkNames(asked.names); err != nil {
 		return err
 	}
-	if err := join.CheckWanted(i.labels(homes), asked.folders); err != nil {
+	labels := i.labels(homes)
+	if err := i.checkInParts(labels, asked.folders); err != nil {
+		return err
+	}
+	if err := join.CheckWanted(labels, asked.folders); err != nil {
 		return fmt.Errorf("refused: %w", err)
 	}
 	for _, home := range homes {
@@ -127,6 +131,19 @@ func (i *inputs) labels(homes []*device.Home) map[string]string {
 		}
 	}
 	return made
+}
+
+// checkInParts says which folder that is wanted no part has, where a device shares it: CheckWanted knows of those alone that are there.
+func (i *inputs) checkInParts(labels map[string]string, wanted []string) error {
+	for _, read := range i.devices {
+		for _, one := range read.Head.Others {
+			if _, there := labels[one.ID]; !there && slices.Contains(wanted, one.ID) {
+				return fmt.Errorf("refused: no part has folder %s, which %s has: make the parts without --folder, or with it for this one, too",
+					shell.Folder(one.ID, one.Label), read.Label())
+			}
+		}
+	}
+	return nil
 }
 
 // checkNames says whether a part has other names than those that were asked for; without a word it is asked for what parts have.
