@@ -80,8 +80,7 @@ class OtherFolders(Exporting):
         with gzip.open(parts[0], "wt") as file:
             file.writelines([json.dumps(read) + "\n", *lines])
         status, told = self.told(*parts)
-        self.assertEqual((status, told[1]), (6, f"not told: which other folders {self.one.id[:7]} may share; an older syncthing-audit "
-                                                "made the part there: make it anew"))
+        self.assertEqual((status, told[1]), (6, f"not told: which other folders {self.one.id[:7]} may share; an older syncthing-audit made its part"))
 
     def assert_named(self, words, why):
         """What is refused names the folder by its id and its label, as an answer does."""

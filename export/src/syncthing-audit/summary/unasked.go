@@ -75,7 +75,20 @@ func (p *printer) notAsked(s *Summary) {
 		p.line("not audited: %s that these devices share and no part has: %s", count, strings.Join(words, "; "))
 		p.advice([]string{"make the parts without --folder, or with it for each of these folders; or name with --folder which ones to audit"})
 	}
-	if len(s.NotTold) > 0 {
-		p.line("not told: which other folders %s may share; an older syncthing-audit made the part there: make it anew", p.named.all(s.NotTold))
+	p.notTold(s)
+}
+
+// notTold prints of which devices it isn't known whether they share other folders. It matters to who didn't choose the folders.
+func (p *printer) notTold(s *Summary) {
+	if len(s.NotTold) == 0 {
+		return
+	}
+	parts, them := "its part", "it"
+	if len(s.NotTold) > 1 {
+		parts, them = "their parts", "them"
+	}
+	p.line("not told: which other folders %s may share; an older syncthing-audit made %s", p.named.all(s.NotTold), parts)
+	if !s.isByName {
+		p.advice([]string{"make " + them + " anew; or name with --folder which ones to audit"})
 	}
 }

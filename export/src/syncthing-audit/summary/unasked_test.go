@@ -17,7 +17,8 @@ func TestFoldersThatWereNotAudited(t *testing.T) {
 		answer.Devices[1].Unasked = []finding.Unasked{music, pics}
 	}
 	silent := func(answer *finding.Answer) { answer.Devices[1].IsSilent = true }
-	const toldOfSilent = "not told: which other folders server may share; an older syncthing-audit made the part there: make it anew\n"
+	bothSilent := func(answer *finding.Answer) { answer.Devices[0].IsSilent, answer.Devices[1].IsSilent = true, true }
+	const toldOfSilent = "not told: which other folders server may share; an older syncthing-audit made its part\n"
 	for _, one := range []struct {
 		why      string
 		isByName bool
@@ -31,7 +32,9 @@ func TestFoldersThatWereNotAudited(t *testing.T) {
 				"  to do: make the parts without --folder, or with it for each of these folders; or name with\n" +
 				"         --folder which ones to audit.\n"},
 		{"others were asked for", true, both, InStep, "not asked for: 2 folders: music (My music) on laptop, server; pics on server\n"},
-		{"an old part", false, silent, AsFar, toldOfSilent},
+		{"an old part", false, silent, AsFar, toldOfSilent + "  to do: make it anew; or name with --folder which ones to audit.\n"},
+		{"old parts", false, bothSilent, AsFar, "not told: which other folders laptop, server may share; an older syncthing-audit made their parts\n" +
+			"  to do: make them anew; or name with --folder which ones to audit.\n"},
 		{"an old part, and one folder was asked for", true, silent, InStep, toldOfSilent},
 	} {
 		answer := answerOf(2, func(*finding.Folder) {})
