@@ -98,7 +98,7 @@ class RotWithAnotherMode(Rotten):
         entry, = [" ".join(entry.split()) for entry in text.split("\n\n") if entry.startswith("text")]
         for told in (f"{self.two.id[:7]}: other bytes on the disk; size and time are as recorded, the mode isn't, so the next scan sees it",
                      "permissions differ (they don't count for the verdict)", "0644 recorded, 0600 on the disk",
-                     "before Syncthing scans there, which sends these bytes to all, copy it from"):
+                     "before Syncthing scans there (the scan sends these bytes to all), copy it from"):
             self.assertIn(told, entry)
 
     def assert_the_next_scan_sends_them(self):
@@ -140,7 +140,7 @@ class RotWhereAttributesAreScanned(WhereAttributesAreScanned):
 
     def test_a_scan_may_see_them_and_does(self):
         self.assert_told("size and time are as recorded, but a scan of owners or attributes may see it",
-                         "before Syncthing scans there, which may send these bytes to all, copy it from")
+                         "before Syncthing scans there (the scan may send these bytes to all), copy it from")
         self.start()
         self.two.scan()
         wait_until("the other bytes are on the other device", lambda: text_of(self.one.files / "text") == "hallo")

@@ -72,6 +72,22 @@ class TwoDevices(Answers, Exporting):
         ran = run([self.program, "part", "--home", self.one.home, "--names", "text", "-o", parts[0]])
         self.assertEqual((ran.returncode, ran.stderr), (0, ""))
 
+    def test_parts_of_some_names(self):
+        """Who checks them without --names didn't choose these, so the answer is one as far as audited."""
+        parts = [self.room / f"{place}.folder.part" for place in (1, 2)]
+        for device, path in zip(self.devices, parts):
+            self.assertEqual(run([self.program, "part", "--home", device.home, "--names", "folder/", "-o", path]).returncode, 0)
+        told = f"not asked for: names of {FOLDER} that don't begin with folder/"
+        for words, status, verdict in (((), 6, "settled as far as audited"), (("--names", "folder/"), 0, "settled")):
+            ran = self.check_parts(parts, *words)
+            lines = ran.stdout.splitlines()
+            self.assertEqual((ran.returncode, lines[0], lines[-1]), (status, verdict, told))
+        for made, words, why in ((parts, ("--names", "text"), "has the names that begin with folder/: make it anew with --names text"),
+                                 ([self.part(self.one), parts[1]], (), "has all names(:|, and).* make all parts with the same --names")):
+            ran = self.check_parts(made, *words)
+            self.assertEqual((ran.returncode, ran.stdout), (2, ""))
+            self.assertRegex(" ".join(ran.stderr.split()), why)
+
     def test_a_part_that_a_shell_writes_into_a_folder_is_refused(self):
         """It would be found there. That is so by another path of the folder, too, and not of a file beside the folder."""
         beside, link = self.one.home.parent / "beside.part", self.one.home.parent / "link"
@@ -316,7 +332,8 @@ class ReceiveOnly(Exporting):
         self.assertEqual(self.report("--names", "added"),
                          [self.fault("NotWinner", "added"), f"folder {FOLDER}: 1 names, 0 deleted, 2 devices",
                           self.failure("NotWinner", "added"),
-                          f"no winner: {FOLDER} added on {self.number(self.two)}: local change"])
+                          f"no winner: {FOLDER} added on {self.number(self.two)}: local change",
+                          f"not asked for: names of {FOLDER} that don't begin with added"])
 
     def test_they_go_as_over_the_wire(self):
         shares = {share["device"]: share for share in self.document()["cut"]["folders"][0]["devices"]}

@@ -53,6 +53,9 @@ class OtherFolders(Exporting):
         told = f"not audited: 1 folder that these devices share and no part has: {self.on_both()}"
         self.assertEqual(self.told(*parts), (6, [told]))
         self.assertEqual(self.told(*parts, "--folder", FOLDER), (0, [f"not asked for: 1 folder: {self.on_both()}"]))
+        ran = self.check_parts(parts, "--folder", OTHER)
+        self.assertEqual((ran.returncode, ran.stdout), (2, ""))
+        self.assertRegex(ran.stderr, f"no part has folder {OTHER} \\({LABEL}\\), which device .* has: make the parts without --folder, or with it for this")
         lines = self.check_parts(parts).stdout.splitlines()
         self.assertEqual(lines[0], "settled as far as audited")
         self.assertEqual({line for line in lines if line.startswith("not asked for: ")},
@@ -77,8 +80,7 @@ class OtherFolders(Exporting):
         with gzip.open(parts[0], "wt") as file:
             file.writelines([json.dumps(read) + "\n", *lines])
         status, told = self.told(*parts)
-        self.assertEqual((status, told[1]), (6, f"not told: which other folders {self.one.id[:7]} may share; an older syncthing-audit "
-                                                "made the part there: make it anew"))
+        self.assertEqual((status, told[1]), (6, f"not told: which other folders {self.one.id[:7]} may share; an older syncthing-audit made its part"))
 
     def assert_named(self, words, why):
         """What is refused names the folder by its id and its label, as an answer does."""

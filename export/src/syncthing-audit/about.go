@@ -4,22 +4,24 @@ import (
 	"encoding/json"
 	"fmt"
 	"io"
+	"sort"
 
 	"github.com/syncthing/syncthing/lib/config"
 	"github.com/syncthing/syncthing/lib/protocol"
+	"golang.org/x/exp/slices"
 	"syncthing-audit/device"
 	"syncthing-audit/join"
 	"syncthing-audit/part"
 )
 
 // tellAbout writes what a device is configured to share: no index and no file is read for that. 'run' asks it of all devices
-// before any of them hashes its files.
+// before any of them hashes its files. A folder that is asked for needn't be there: another device may have it.
 func tellAbout(asked options, write writing) error {
 	id, about, err := device.About(asked.homes[0])
 	if err != nil {
 		return err
 	}
-	if err := checkFolders(&device.Home{ID: id, Config: about}, asked.folders); err != nil {
+	if err := checkFolders(&device.Home{ID: id, Config: about}, nil); err != nil {
 		return err
 	}
 	if asked.rescan {
@@ -37,6 +39,7 @@ func aboutOf(id protocol.DeviceID, about config.Configuration, wanted []string) 
 		names[one.DeviceID] = one.Name
 	}
 	made := &part.Head{Version: part.Version, Device: id.String(), Name: names[id], Folders: []part.Folder{}}
+	made.Others = othersOf(about, wanted, id)
 	for _, one := range chosenOf(about, wanted) {
 		folder := part.Folder{ID: one.ID, Label: one.Label, Directory: id.String() + one.ID, Sharing: []part.Sharing{}}
 		if one.Type == config.FolderTypeReceiveEncrypted {
@@ -50,6 +53,18 @@ func aboutOf(id protocol.DeviceID, about config.Configuration, wanted []string) 
 		}
 		made.Folders = append(made.Folders, folder)
 	}
+	return made
+}
+
+// othersOf gives the folders of a device that aren't asked for, rising.
+func othersOf(about config.Configuration, wanted []string, device protocol.DeviceID) []part.Other {
+	made := []part.Other{}
+	for _, one := range about.Folders {
+		if len(wanted) > 0 && !slices.Contains(wanted, one.ID) {
+			made = append(made, otherOf(one, device))
+		}
+	}
+	sort.Slice(made, func(a, b int) bool { return made[a].ID < made[b].ID })
 	return made
 }
 

@@ -87,3 +87,50 @@ func TestWhatNoDeviceSays(t *testing.T) {
 		}
 	}
 }
+
+// A device is asked for those of the wanted folders that it has. One without any is refused, and so is a folder that none has.
+func TestWhichFoldersADeviceIsAskedFor(t *testing.T) {
+	one, two := configured(1, 2), configured(1, 2)
+	two.Folders = two.Folders[:1]
+	for _, expected := range []struct {
+		wanted   []string
+		one, two string
+		refused  string
+	}{
+		{nil, "", "", ""},
+		{[]string{"docs", "music"}, " --folder docs --folder music", " --folder docs", ""},
+		{[]string{"music"}, "", "", "two has none of the folders that are asked for"},
+		{[]string{"docs", "Documents"}, "", "", "is a label: the id is docs"},
+		{[]string{"docs", "pics"}, "", "", "no folder here has the id pics: there are docs (Documents), music"},
+	} {
+		run := &running{asked: options{folders: expected.wanted}, places: []*place{{given: "one"}, {given: "two"}}}
+		devices := []*join.Device{}
+		for at, about := range []config.Configuration{one, two} {
+			text, err := json.Marshal(aboutOf(protocol.DeviceID{7: byte(at + 1)}, about, expected.wanted))
+			if err != nil {
+				t.Fatal(err)
+			}
+			read, err := readAbout(text, run.places[at].given)
+			if err != nil {
+				t.Fatal(err)
+			}
+			run.places[at].choose(read)
+			devices = append(devices, read)
+		}
+		err := run.checkWanted(devices)
+		if err == nil {
+			err = run.checkChosen()
+		}
+		if expected.refused != "" {
+			if err == nil || !strings.Contains(err.Error(), expected.refused) {
+				t.Errorf("%s: %v", expected.wanted, err)
+			}
+			continue
+		}
+		for at, words := range []string{expected.one, expected.two} {
+			if told := strings.Join(run.places[at].chosen(run.asked), " "); err != nil || " "+told != words+" -o -" {
+				t.Errorf("%s: %q, %v", expected.wanted, told, err)
+			}
+		}
+	}
+}

@@ -34,7 +34,11 @@ func (r *running) ask() error {
 		if err != nil {
 			return fmt.Errorf("%s: %w", one.called(), one.hint(err))
 		}
+		one.choose(read)
 		devices = append(devices, read)
+	}
+	if err := r.checkWanted(devices); err != nil {
+		return err
 	}
 	plan, err := join.NewPlan(devices, r.asked.folders)
 	if err != nil {
@@ -43,6 +47,40 @@ func (r *running) ask() error {
 	if answer := audit.Refused(plan, r.asked.leaveOut); len(answer.Refusals) > 0 {
 		report.Refusals(r.log, answer)
 		return errTold
+	}
+	return r.checkChosen()
+}
+
+// checkWanted says which folder that is asked for no device has, by what all of them said.
+func (r *running) checkWanted(devices []*join.Device) error {
+	labels := map[string]string{}
+	for _, one := range devices {
+		for _, folder := range one.Head.Folders {
+			labels[folder.ID] = folder.Label
+		}
+		for _, other := range one.Head.Others {
+			labels[other.ID] = other.Label
+		}
+	}
+	if err := join.CheckWanted(labels, r.asked.folders); err != nil {
+		return fmt.Errorf("refused: %w", err)
+	}
+	return nil
+}
+
+// choose says of which folders a device is asked: those of the wanted ones that it has, by what it said.
+func (p *place) choose(said *join.Device) {
+	for _, one := range said.Head.Folders {
+		p.folders = append(p.folders, one.ID)
+	}
+}
+
+// checkChosen refuses a device that has none of the wanted folders.
+func (r *running) checkChosen() error {
+	for _, one := range r.places {
+		if len(one.folders) == 0 {
+			return fmt.Errorf("refused: %s has none of the folders that are asked for: run this without it", one.called())
+		}
 	}
 	return nil
 }

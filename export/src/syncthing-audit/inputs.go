@@ -36,7 +36,7 @@ func (i *inputs) skip() {
 
 // auditOptions say how what was opened is audited.
 func (i *inputs) auditOptions(asked options) audit.Options {
-	return audit.Options{LeaveOut: asked.leaveOut, WithBytes: asked.bytes, Refused: i.skip, Joined: &i.work.joined}
+	return audit.Options{LeaveOut: asked.leaveOut, WithBytes: asked.bytes, ByNames: asked.names != "", Refused: i.skip, Joined: &i.work.joined}
 }
 
 // startProgress begins to tell how far the work is; what it gives ends that.
@@ -95,7 +95,14 @@ func (i *inputs) open(asked options) error {
 	if err := i.openParts(asked.parts); err != nil {
 		return err
 	}
-	if err := join.CheckWanted(i.labels(homes), asked.folders); err != nil {
+	if err := i.checkNames(asked.names); err != nil {
+		return err
+	}
+	labels := i.labels(homes)
+	if err := i.checkInParts(labels, asked.folders); err != nil {
+		return err
+	}
+	if err := join.CheckWanted(labels, asked.folders); err != nil {
 		return fmt.Errorf("refused: %w", err)
 	}
 	for _, home := range homes {
@@ -124,6 +131,29 @@ func (i *inputs) labels(homes []*device.Home) map[string]string {
 		}
 	}
 	return made
+}
+
+// checkInParts says which folder that is wanted no part has, where a device shares it: CheckWanted knows of those alone that are there.
+func (i *inputs) checkInParts(labels map[string]string, wanted []string) error {
+	for _, read := range i.devices {
+		for _, one := range read.Head.Others {
+			if _, there := labels[one.ID]; !there && slices.Contains(wanted, one.ID) {
+				return fmt.Errorf("refused: no part has folder %s, which %s has: make the parts without --folder, or with it for this one, too",
+					shell.Folder(one.ID, one.Label), read.Label())
+			}
+		}
+	}
+	return nil
+}
+
+// checkNames says whether a part has other names than those that were asked for; without a word it is asked for what parts have.
+func (i *inputs) checkNames(wanted string) error {
+	for _, read := range i.devices {
+		if has := string(read.Head.Prefix); wanted != "" && has != wanted {
+			return fmt.Errorf("refused: %s has %s: make it anew with --names %s", read.From, join.Names(has), shell.Quoted(wanted))
+		}
+	}
+	return nil
 }
 
 // openParts opens parts; of a device that was looked at twice both are joined.

@@ -40,7 +40,7 @@ type options struct {
 	hasJobs    bool // whether they were asked for
 }
 
-var usage = fmt.Sprintf(`usage: syncthing-audit part [--home DIR] [--folder ID ..] [--names PREFIX] -o FILE
+var usage = fmt.Sprintf(`usage: syncthing-audit part --home DIR [--folder ID ..] [--names PREFIX] -o FILE
        syncthing-audit check [--home DIR ..] [PART ..] [--folder ID ..]
        syncthing-audit run [MACHINE:[DIR] | DIR ..] [--folder ID ..]
        syncthing-audit part (--begin [--rescan] | --end --tokens FILE ..) [--home DIR] [--folder ID ..] -o FILE
@@ -83,8 +83,8 @@ Says whether Syncthing devices are in step, and where not which device is wrong.
   --jobs N             how many of it run at once, and how many files are hashed at once (%d)
 
 Exit status: 0 in step, firm or not, or written; 1 not in step; 2 refused; 3 usage; 4 syncaudit is out of memory; 5 what was asked for
-can't be written, or syncaudit has a read or write fault; 6 in step as far as audited: something was left out, or folders
-weren't asked for; 127 syncaudit can't be run.
+can't be written, or syncaudit has a read or write fault; 6 in step as far as audited: something was left out, or folders or
+names weren't asked for; 127 syncaudit can't be run.
 `, strings.Join(part.Kinds, ","), runtime.NumCPU())
 
 // list is a flag that may be given more than once.
@@ -175,8 +175,6 @@ func (o *options) checkInputs() error {
 		return &wrongUsage{"no home and no part is given"}
 	case len(o.parts) > 0 && o.bytes:
 		return &wrongUsage{"--bytes reads homes; parts have no bytes"}
-	case len(o.parts) > 0 && o.names != "" && len(o.homes) == 0:
-		return &wrongUsage{"--names is for homes; a part has the names that it was made with"}
 	}
 	return nil
 }

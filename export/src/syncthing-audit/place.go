@@ -28,7 +28,8 @@ type place struct {
 	ssh    []string
 	looked time.Time
 
-	isOlder bool // than this program: it isn't able to say what is shared before it looks
+	folders []string // of those that are asked for the ones that the device has, once it said so
+	isOlder bool     // than this program: it isn't able to say what is shared before it looks
 }
 
 // placesOf reads the places of a command line. As rsync has it, a colon before any slash stands behind a machine.
@@ -120,7 +121,11 @@ func (p *place) chosen(asked options) []string {
 	if p.home != "" {
 		words = append(words, "--home", p.home)
 	}
-	for _, one := range asked.folders {
+	folders := asked.folders
+	if len(folders) > 0 && len(p.folders) > 0 {
+		folders = p.folders
+	}
+	for _, one := range folders {
 		words = append(words, "--folder", one)
 	}
 	if asked.names != "" {

@@ -43,6 +43,9 @@ func (p *place) check(asked options) []string {
 	for _, one := range asked.folders {
 		words = append(words, "--folder", one)
 	}
+	if asked.names != "" {
+		words = append(words, "--names", asked.names)
+	}
 	for _, kind := range part.Kinds {
 		if asked.leaveOut[kind] {
 			words = append(words, "--leave-out", kind)

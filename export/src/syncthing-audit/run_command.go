@@ -239,7 +239,7 @@ func ageOf(told string) time.Duration {
 
 // answer joins what was seen at all devices, and tells the answer.
 func (r *running) answer(program ask.Program, output io.Writer) (int, error) {
-	read := options{folders: r.asked.folders, leaveOut: r.asked.leaveOut, lines: r.asked.lines, json: r.asked.json, jobs: r.asked.jobs}
+	read := options{folders: r.asked.folders, names: r.asked.names, leaveOut: r.asked.leaveOut, lines: r.asked.lines, json: r.asked.json, jobs: r.asked.jobs}
 	names := map[string]string{}
 	for at, one := range r.places {
 		for _, look := range []string{"begin", "end"} {

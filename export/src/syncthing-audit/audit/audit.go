@@ -20,13 +20,14 @@ const bytesOfDocument = 4 << 20
 type Options struct {
 	LeaveOut  map[string]bool // the kinds of what may be left out
 	WithBytes bool            // documents with bytes in place of stand-ins
+	ByNames   bool            // whether the names were asked for by how they begin
 	Refused   func()          // called once there is something without which no answer is given
 	Joined    *atomic.Int64   // counts the names; not needed
 }
 
 // Collect goes through the folders of a plan. Each document is given to take, as long as nothing was refused.
 func Collect(plan *join.Plan, options Options, take func(*document.Document) error) (*finding.Answer, error) {
-	made := &collector{plan: plan, options: options, take: take, answer: &finding.Answer{IsByName: plan.IsByName, HasRest: true}}
+	made := &collector{plan: plan, options: options, take: take, answer: &finding.Answer{IsByName: plan.IsByName, ByNames: options.ByNames, HasRest: true}}
 	made.refusePlan()
 	for _, one := range plan.Devices {
 		made.answer.Devices = append(made.answer.Devices, finding.Device{ID: one.Head.Device, Number: one.Number, Name: one.Head.Name,

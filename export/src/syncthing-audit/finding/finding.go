@@ -17,6 +17,7 @@ type Answer struct {
 	Unlisted map[string]int64 // how many more refusals there are of each kind than are listed
 	LeftOut  []Refusal        // devices and folders that were left out on request
 	IsByName bool             // whether the folders were asked for by their ids
+	ByNames  bool             // whether the names were asked for by how they begin
 	HasRest  bool             // whether the devices' other folders are told: an export of 0.8.0 or before doesn't
 }
 
@@ -170,7 +171,7 @@ func isBefore(one, other *Failure, order []string) bool {
 
 // IsPart says whether something of the folder wasn't audited: a name, a device, or all other devices.
 func (a *Answer) IsPart(folder *Folder) bool {
-	if len(folder.LeftOut) > 0 || len(folder.Members) < 2 || folder.Live.isPart() {
+	if len(folder.LeftOut) > 0 || len(folder.Members) < 2 || folder.Live.isPart() || (folder.Prefix() != "" && !a.ByNames) {
 		return true
 	}
 	for _, one := range a.LeftOut {
@@ -179,6 +180,14 @@ func (a *Answer) IsPart(folder *Folder) bool {
 		}
 	}
 	return false
+}
+
+// Prefix gives how the names begin that were read of the folder; parts of a folder that were made with others aren't joined.
+func (f *Folder) Prefix() string {
+	if len(f.Members) == 0 {
+		return ""
+	}
+	return f.Members[0].Head.Prefix
 }
 
 // IsPartial says whether something wasn't audited.

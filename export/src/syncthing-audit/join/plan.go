@@ -49,16 +49,17 @@ func NewPlan(devices []*Device, wanted []string) (*Plan, error) {
 		}
 	}
 	for _, device := range devices {
-		device.Choose(made.has)
+		id := device.Head.Device
+		device.Choose(func(folder string) bool { return made.has(folder, id) })
 	}
 	return made, checkDirectories(made.Folders)
 }
 
-// has says whether a folder is audited.
-func (p *Plan) has(id string) bool {
+// has says whether a folder is audited on a device.
+func (p *Plan) has(folder, device string) bool {
 	for _, one := range p.Folders {
-		if one.ID == id {
-			return true
+		if one.ID == folder {
+			return one.Member(device) >= 0
 		}
 	}
 	return false
@@ -75,11 +76,19 @@ func checkDevices(devices []*Device) error {
 			return fmt.Errorf("refused: %s and %s are of one device number, %d", one.From, other.From, one.Number)
 		}
 		if one.Head.Prefix != other.Head.Prefix {
-			return fmt.Errorf("refused: %s has the names that begin with %s, and %s those with %s: make all parts with the same --names",
-				one.From, shell.Quoted(string(one.Head.Prefix)), other.From, shell.Quoted(string(other.Head.Prefix)))
+			return fmt.Errorf("refused: %s has %s, and %s has %s: make all parts with the same --names",
+				one.From, Names(one.Head.Prefix), other.From, Names(other.Head.Prefix))
 		}
 	}
 	return nil
+}
+
+// Names says which names were read, by how they begin.
+func Names(prefix string) string {
+	if prefix == "" {
+		return "all names"
+	}
+	return "the names that begin with " + shell.Quoted(prefix)
 }
 
 // chosen gives the ids of the folders to audit, rising.
@@ -121,6 +130,7 @@ func (p *Plan) folder(id string) *Folder {
 	if len(p.Refusals) > before {
 		return nil
 	}
+	p.checkApart(made)
 	if !p.checkSharing(made) {
 		return nil
 	}

@@ -65,6 +65,11 @@ func TestSharing(t *testing.T) {
 		{"a part is missing", map[byte]string{1: "12"}, unchanged, part.Absent, 1},
 		{"one that two miss is told once", map[byte]string{1: "123", 2: "123"}, unchanged, part.Absent, 2},
 		{"not shared back", map[byte]string{1: "12", 2: "2"}, unchanged, part.Unshared, 0},
+		{"two that don't share it", map[byte]string{1: "1", 2: "2"}, unchanged, part.Unshared, 1},
+		{"one beside two that share it", map[byte]string{1: "1", 2: "23", 3: "23"}, unchanged, part.Unshared, 2},
+		{"two beside three by way of one that is missing", map[byte]string{1: "12", 2: "12", 3: "39", 4: "49", 5: "59"}, unchanged,
+			"unshared unshared absent", 3},
+		{"not shared back, by one that others share it with", map[byte]string{1: "12", 2: "23", 3: "23"}, unchanged, part.Unshared, 0},
 		{"encrypted", map[byte]string{1: "12", 2: "12"}, func(device byte, folder *part.Folder) {
 			if device == 2 {
 				folder.Kind = "encrypted"

@@ -71,7 +71,8 @@ func Rest(to io.Writer, answer *finding.Answer) {
 	unasked(to, answer)
 }
 
-// unasked prints which folders of the devices weren't audited, since nobody asked for them, or that this isn't known.
+// unasked prints which folders of the devices and which names of a folder weren't audited, since nobody asked for them, or that this
+// isn't known.
 func unasked(to io.Writer, answer *finding.Answer) {
 	for _, device := range answer.Devices {
 		for _, one := range device.Unasked {
@@ -79,6 +80,11 @@ func unasked(to io.Writer, answer *finding.Answer) {
 		}
 		if device.IsSilent {
 			fmt.Fprintf(to, "not told: other folders of %d\n", device.Number)
+		}
+	}
+	for _, folder := range answer.Folders {
+		if begin := folder.Prefix(); begin != "" {
+			fmt.Fprintf(to, "not asked for: names of %s that don't begin with %s\n", folder.ID, ask.Printed(begin))
 		}
 	}
 }

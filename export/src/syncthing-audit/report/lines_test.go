@@ -152,6 +152,23 @@ func TestLinesOfOtherFolders(t *testing.T) {
 	}
 }
 
+// Parts that were made with --names have no others. Who answers without it didn't choose these, so that isn't settled.
+func TestLinesOfOtherNames(t *testing.T) {
+	folder := folderOf("docs", 2)
+	for _, one := range folder.Members {
+		one.Head.Prefix = "a b"
+	}
+	answer := &finding.Answer{Folders: []*finding.Folder{folder}}
+	for _, verdict := range []string{"settled as far as audited", "settled"} {
+		var written strings.Builder
+		Lines(&written, answer)
+		if written.String() != verdict+"\nfolder docs: 2 names, 0 deleted, 2 devices\nfirm: docs\nnot asked for: names of docs that don't begin with a\\x20b\n" {
+			t.Errorf("%s", written.String())
+		}
+		answer.ByNames = true
+	}
+}
+
 // What was in motion while running devices were looked at isn't called settled.
 func TestLinesOfRunningDevices(t *testing.T) {
 	folder := folderOf("docs", 2)

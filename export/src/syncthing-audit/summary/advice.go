@@ -158,11 +158,11 @@ func otherBytesAdvice(one *Fault, file *File, at string, named labels) string {
 	mend := "Syncthing won't repair it: "
 	switch {
 	case one.isSeen && one.Kind == receiveOnly:
-		mend = "before Syncthing scans there, which takes these bytes for a local change, "
+		mend = "before Syncthing scans there (the scan takes these bytes for a local change), "
 	case one.isSeen:
-		mend = "before Syncthing scans there, which sends these bytes to all, "
+		mend = "before Syncthing scans there (the scan sends these bytes to all), "
 	case one.mayShow():
-		mend = "before Syncthing scans there, which may send these bytes to all, "
+		mend = "before Syncthing scans there (the scan may send these bytes to all), "
 	}
 	mend += source(file, named) + at + one.keeping(withTime)
 	if one.Kind == receiveOnly || len(file.sendersOfOtherBytes()) > 1 {

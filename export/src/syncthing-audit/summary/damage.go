@@ -30,10 +30,15 @@ func (f *File) damageOf(device string) *Fault {
 
 // damageAdvice says what to do where a disk fails.
 func damageAdvice(one *Fault, file *File, at string, named labels) string {
-	told := "see the system's log on " + at + " (journalctl -k, smartctl -a): its disk fails there, and may soon fail elsewhere. Save what it " +
-		"has that no other device has, and replace it"
-	if len(file.Have) == 0 {
-		return told + ". Then bring back what was lost, from another device, old versions or backups"
+	told := "see the system's log on " + at + " (journalctl -k, smartctl -a): its disk fails there, and may soon fail elsewhere. Save what " +
+		"that disk has and no other device has, and replace it. "
+	if len(file.Have) > 0 {
+		return told + "Then copy what is lost from " + named.of(file.Have[0]) + " to " + at + one.keeping(withTime)
 	}
-	return told + ". Then " + source(file, named) + at + one.keeping(withTime)
+	told += "Before Syncthing starts there, bring back what is lost, from another device, old versions or backups: a scan takes what is " +
+		"missing for deleted"
+	if one.Kind == receiveOnly {
+		return told
+	}
+	return told + ", and then all devices delete it"
 }

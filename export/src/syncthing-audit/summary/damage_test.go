@@ -17,13 +17,14 @@ func lost(one *part.Name) {
 
 const (
 	damageOfServer = `  to do: see the system's log on server (journalctl -k, smartctl -a): its disk fails there, and may
-         soon fail elsewhere. Save what it has that no other device has, and replace it. Then `
-	copyOfServer = `copy
-         it from laptop to server with its time (cp -p, or rsync --times --ignore-times) while
-         Syncthing is stopped there.
+         soon fail elsewhere. Save what that disk has and no other device has, and replace it.`
+	copyOfServer = ` Then
+         copy what is lost from laptop to server with its time (cp -p, or rsync --times
+         --ignore-times) while Syncthing is stopped there.
 `
-	bringBack = `bring
-         back what was lost, from another device, old versions or backups.
+	bringBack = `
+         Before Syncthing starts there, bring back what is lost, from another device, old versions
+         or backups: a scan takes what is missing for deleted, and then all devices delete it.
 `
 )
 
@@ -68,8 +69,17 @@ lost  (in docs)
 	{"a directory", func(folder *finding.Folder) { damaged(folder, "d/", false) }, `
 d/  (in docs)
   server: the disk fails to give what it has; it may be lost there (read d/: input/output error)
-  as recorded on: no audited device
 ` + damageOfServer + bringBack},
+	{"a directory on a device that only receives", func(folder *finding.Folder) {
+		folder.Members[1].About.Kind = receiveOnly
+		damaged(folder, "d/", false)
+	}, `
+d/  (in docs)
+  server: the disk fails to give what it has; it may be lost there (read d/: input/output error)
+` + damageOfServer + `
+         Before Syncthing starts there, bring back what is lost, from another device, old versions
+         or backups: a scan takes what is missing for deleted.
+`},
 }
 
 // What a disk itself fails to give is wrong on that device. Who has the file's bytes is told, and what else is wrong with it.

@@ -12,6 +12,7 @@ import (
 // rest prints what was left out, not asked for or not compared.
 func (p *printer) rest(s *Summary) {
 	p.line("")
+	p.first(s)
 	for _, folder := range s.Folders {
 		p.moving(folder)
 		p.copies(folder)
@@ -24,11 +25,7 @@ func (p *printer) rest(s *Summary) {
 		p.line("left out: %s of %s: %s", shell.Folder(one.Folder, one.label), one.Device, one.Why)
 	}
 	p.notAsked(s)
-	for _, one := range s.Devices {
-		if one.Prefix != "" {
-			p.line("not asked for: names on %s that don't begin with %s", p.named.of(one.ID), shell.Quoted(string(one.Prefix)))
-		}
-	}
+	p.otherNames(s)
 	if s.Firm == finding.NotAsked {
 		p.line("not asked: whether what is in step is firm, too: this syncaudit is too old to say so")
 	}

@@ -32,6 +32,7 @@ type Summary struct {
 	NotTold     []string   `json:"not_told"`  // devices whose parts don't say which folders they haven't
 	NotCompared []string   `json:"not_compared"`
 	isByName    bool       // whether the folders were asked for by their ids
+	byNames     bool       // whether the names were asked for by how they begin
 }
 
 // Device is a device that was audited.
@@ -127,7 +128,7 @@ var notCompared = []string{"owners", "extended attributes", "old versions"}
 // Of gives the summary of an answer.
 func Of(answer *finding.Answer) *Summary {
 	made := &Summary{Version: Version, Verdict: verdictOf(answer), Firm: answer.HowFirm(), Devices: []Device{}, Folders: []*Folder{}, LeftOut: []LeftOut{},
-		NotAsked: notAsked(answer), NotTold: notTold(answer), NotCompared: notCompared, isByName: answer.IsByName}
+		NotAsked: notAsked(answer), NotTold: notTold(answer), NotCompared: notCompared, isByName: answer.IsByName, byNames: answer.ByNames}
 	prefixes := prefixesOf(answer)
 	for _, one := range answer.Devices {
 		made.Devices = append(made.Devices, Device{one.ID, one.Name, one.Made, one.From, one.Runs, prefixes[one.ID]})

@@ -100,7 +100,8 @@ func (p *printer) unsized(one *Group) string {
 	return fmt.Sprintf(", without %s whose details weren't kept", counted(one.Unsized, "name", "names"))
 }
 
-// file prints the entry of a name.
+// file prints the entry of a name. Of a directory that a disk fails to give, whose name ends with a slash, it isn't known who has what is
+// below it.
 func (p *printer) file(folder *Folder, one *File) {
 	about := "in " + folder.ID
 	if one.Size > 0 {
@@ -115,7 +116,7 @@ func (p *printer) file(folder *Folder, one *File) {
 		p.line("  the same other bytes on: %s", p.named.all(same))
 	}
 	p.modes(one.Permissions)
-	if len(one.Faults) > 0 && !isOfNobody(one) {
+	if len(one.Faults) > 0 && !isOfNobody(one) && !strings.HasSuffix(string(one.Name), "/") {
 		p.have(one)
 	}
 	if len(one.Follows) > 0 {

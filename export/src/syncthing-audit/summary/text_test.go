@@ -125,7 +125,7 @@ a  (in docs, 300.0 kB)
     block 2 differs (1 of 3 blocks of 128 KiB; the first is block 0)
     the first of them: SHA-256 abcd0000.. recorded, 12000000.. on the disk
   as recorded on: laptop
-  to do: before Syncthing scans there, which may send these bytes to all, copy it from laptop to
+  to do: before Syncthing scans there (the scan may send these bytes to all), copy it from laptop to
          server with its time, owner and attributes (cp -a, or rsync -aX --ignore-times) while
          Syncthing is stopped there. If instead the bytes on server are the right ones, 'touch' the
          file there and let Syncthing scan: it sends them to all.
@@ -238,10 +238,10 @@ a  (in docs, 300.0 kB)
     the first of them: SHA-256 abcd0000.. recorded, 12000000.. on the disk
   permissions differ (they don't count for the verdict): laptop 0644; server 0644 recorded, 0600 on the disk
   as recorded on: laptop
-  to do: before Syncthing scans there, which sends these bytes to all, copy it from laptop to server
-         with its time (cp -p, or rsync --times --ignore-times) while Syncthing is stopped there. If
-         instead the bytes on server are the right ones, 'touch' the file there and let Syncthing
-         scan: it sends them to all.
+  to do: before Syncthing scans there (the scan sends these bytes to all), copy it from laptop to
+         server with its time (cp -p, or rsync --times --ignore-times) while Syncthing is stopped
+         there. If instead the bytes on server are the right ones, 'touch' the file there and let
+         Syncthing scan: it sends them to all.
   to do: on server, 'chmod 0644' it if that is the right mode, before Syncthing scans there: the
          scan may send 0600 to all; or choose 'Ignore Permissions' for the folder.
 ` + lastLine},
@@ -275,7 +275,8 @@ a  (in docs)
 left out of docs: 1 name, 3.0 MB
   $'odd\377', 3.0 MB: laptop: its name isn't UTF-8
 outside docs: 4 names, 7 bytes, which .stignore keeps out on each device that has them
-not asked for: names on laptop that don't begin with 'a b'
+not audited: names that don't begin with 'a b'; no part has them
+  to do: make the parts without --names; or say by --names 'a b' that only these are to be audited.
 not compared: owners, extended attributes, old versions
 `},
 	{"a conflict copy that lies about", 2, func(folder *finding.Folder) {

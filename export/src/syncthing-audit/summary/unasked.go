@@ -37,6 +37,23 @@ func notTold(answer *finding.Answer) []string {
 	return made
 }
 
+// otherNames prints that only names which begin so were audited: all parts have the same.
+func (p *printer) otherNames(s *Summary) {
+	for _, one := range s.Devices {
+		begin := shell.Quoted(string(one.Prefix))
+		switch {
+		case one.Prefix == "":
+			continue
+		case s.byNames:
+			p.line("not asked for: names that don't begin with %s", begin)
+		default:
+			p.line("not audited: names that don't begin with %s; no part has them", begin)
+			p.advice([]string{"make the parts without --names; or say by --names " + begin + " that only these are to be audited"})
+		}
+		return
+	}
+}
+
 // notAsked prints which folders of the devices weren't audited, or that this isn't known.
 func (p *printer) notAsked(s *Summary) {
 	folders, devices := []string{}, map[string][]string{}
@@ -58,7 +75,20 @@ func (p *printer) notAsked(s *Summary) {
 		p.line("not audited: %s that these devices share and no part has: %s", count, strings.Join(words, "; "))
 		p.advice([]string{"make the parts without --folder, or with it for each of these folders; or name with --folder which ones to audit"})
 	}
-	if len(s.NotTold) > 0 {
-		p.line("not told: which other folders %s may share; an older syncthing-audit made the part there: make it anew", p.named.all(s.NotTold))
+	p.notTold(s)
+}
+
+// notTold prints of which devices it isn't known whether they share other folders. It matters to who didn't choose the folders.
+func (p *printer) notTold(s *Summary) {
+	if len(s.NotTold) == 0 {
+		return
+	}
+	parts, them := "its part", "it"
+	if len(s.NotTold) > 1 {
+		parts, them = "their parts", "them"
+	}
+	p.line("not told: which other folders %s may share; an older syncthing-audit made %s", p.named.all(s.NotTold), parts)
+	if !s.isByName {
+		p.advice([]string{"make " + them + " anew; or name with --folder which ones to audit"})
 	}
 }

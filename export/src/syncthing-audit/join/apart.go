@@ -1,0 +1,63 @@
+package join
+
+import "syncthing-audit/part"
+
+// checkApart refuses the devices whose folder has the id by chance: a folder 'default' on two devices, say, that neither shares. Syncthing
+// doesn't bring these together, so they aren't compared. What stays is the folder of most devices that are here.
+func (p *Plan) checkApart(folder *Folder) {
+	together := folder.together()
+	kept := []Member{}
+	for _, one := range folder.Members {
+		if together[one.Head.Device] {
+			kept = append(kept, one)
+		}
+	}
+	for _, one := range folder.Members {
+		if !together[one.Head.Device] {
+			p.refuse(part.Unshared, folder, one.Head.Device, one.Head.Name, "it doesn't share the folder with "+kept[0].Label()+
+				", not even by way of others: its own is another folder of the same id")
+		}
+	}
+	folder.Members = kept
+}
+
+// together gives the ids of devices that share the folder with one another, if only by way of others that needn't be here. Of
+// several such groups it is the one of most members; of two with as many the one with the first member.
+func (f *Folder) together() map[string]bool {
+	var best map[string]bool
+	most, seen := 0, map[string]bool{}
+	for _, one := range f.Members {
+		if seen[one.Head.Device] {
+			continue
+		}
+		reached, members := map[string]bool{}, 0
+		f.reach(one.Head.Device, reached)
+		for _, other := range f.Members {
+			if reached[other.Head.Device] {
+				seen[other.Head.Device] = true
+				members++
+			}
+		}
+		if members > most {
+			best, most = reached, members
+		}
+	}
+	return best
+}
+
+// reach adds a device and all that share the folder with it, in whichever direction and by way of whichever others.
+func (f *Folder) reach(device string, reached map[string]bool) {
+	if reached[device] {
+		return
+	}
+	reached[device] = true
+	for _, one := range f.Members {
+		if one.Head.Device == device {
+			for _, other := range one.About.Sharing {
+				f.reach(other.Device, reached)
+			}
+		} else if sharesWith(one.About, device) {
+			f.reach(one.Head.Device, reached)
+		}
+	}
+}

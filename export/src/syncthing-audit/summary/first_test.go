@@ -1,0 +1,54 @@
+package summary
+
+import (
+	"fmt"
+	"strings"
+	"testing"
+	"time"
+
+	"syncthing-audit/finding"
+	"syncthing-audit/part"
+)
+
+// missing has a file missing on a device's disk.
+func missing(folder *finding.Folder, name string, member int) {
+	row := []*part.Name{file(1, 1), file(1, 1)}
+	row[member].Disk = nil
+	fails(folder, name, row, fmt.Sprint("StoreDiffers ", member+1))
+}
+
+// Who is told to start Syncthing for one name is told what comes first, where a scan of that device would delete another one on all.
+func TestWhatComesFirst(t *testing.T) {
+	const told = "\nfirst, on server: do what is told above to be done before Syncthing starts or scans there; as it starts, it scans all folders\n"
+	fresh := func(folder *finding.Folder, member int) {
+		has := file(1, 1)
+		has.Own = nil
+		unwon(folder, "new", member, finding.Unscanned, has)
+	}
+	for why, one := range map[string]struct {
+		fill func(*finding.Folder)
+		told bool
+	}{
+		"both on one device": {func(folder *finding.Folder) { missing(folder, "a", 1); fresh(folder, 1) }, true},
+		"many are missing": {func(folder *finding.Folder) {
+			for place := 0; place <= mostAlone; place++ {
+				missing(folder, fmt.Sprint("a", place), 1)
+			}
+			fresh(folder, 1)
+		}, true},
+		"on two devices":     {func(folder *finding.Folder) { missing(folder, "a", 1); fresh(folder, 0) }, false},
+		"one is missing":     {func(folder *finding.Folder) { missing(folder, "a", 1) }, false},
+		"nothing is missing": {func(folder *finding.Folder) { fresh(folder, 1) }, false},
+		"a device that receives": {func(folder *finding.Folder) {
+			folder.Members[1].About.Kind = receiveOnly
+			missing(folder, "a", 1)
+			fresh(folder, 1)
+		}, false},
+	} {
+		var written strings.Builder
+		Of(answerOf(2, one.fill)).Print(&written, time.UTC, time.Time{})
+		if strings.Contains(written.String(), told) != one.told || strings.Contains(written.String(), "first, on") != one.told {
+			t.Errorf("%s:\n%s", why, written.String())
+		}
+	}
+}
