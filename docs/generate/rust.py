@@ -63,6 +63,8 @@ def read_call(item, lines):
         found = CLAUSE.match(line)
         if found:
             item.clauses.append(found[2] or found[1])
+        if line.endswith(";"):  # a trait's call that has no body
+            return
 
 
 def items(text):
