@@ -59,6 +59,19 @@ impl Keep for One<u8> {
     }
 }
 
+/// What can be told.
+pub trait Tell {
+    /// Tells it.
+    fn tell(&self) -> u64
+        ensures told { result ≡ 1 }
+        ensures small { result
+            < 3 };
+
+    /// Tells it twice.
+    fn twice(&self) -> u64
+        ensures { result ≡ 2 };
+}
+
 /// Both are the same.
 pub fn both_are_one()
     ensures same { one ≡ other }
@@ -173,6 +186,9 @@ WANTED_ITEMS = [
     ("One::new", "fn new(value: T, count: u64) -> Self", ["A new one."], ["requires", "value", "ensures"], False),
     ("One::short", "fn short(&self) -> bool", ["It is short."], [], False),
     ("One::keep", "fn keep(&self)", ["Keeps it."], [], False),
+    ("Tell", "", ["What can be told."], [], False),
+    ("Tell::tell", "fn tell(&self) -> u64", ["Tells it."], ["told", "small"], False),
+    ("Tell::twice", "fn twice(&self) -> u64", ["Tells it twice."], ["ensures"], False),
     ("both_are_one", "fn both_are_one()", ["Both are the same."], ["same", "other"], True),
 ]
 
