@@ -348,7 +348,7 @@ class ReceiveOnly(Exporting):
         self.assertEqual(ran.returncode, 1, ran.stderr)
         entries = {entry.split("  (in ")[0]: " ".join(entry.split()) for entry in ran.stdout.split("\n\n")}
         self.assertIn("'Revert Local Changes' on", entries["added"])
-        self.assertIn("deletes it: copy it elsewhere first", entries["added"])
+        self.assertIn("deletes what was added there: copy elsewhere first", entries["added"])
         self.assertIn("changed on this receive-only device", entries["text"])
         self.assertIn("deleted on this receive-only device", entries["empty"])
 

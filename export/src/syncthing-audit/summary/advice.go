@@ -121,8 +121,8 @@ func adviceOfFault(one *Fault, file *File, named labels) string {
 		return "'Revert Local Changes' on " + at + " takes back what was changed there, for all such files of the folder: added files are " +
 			"deleted, so copy elsewhere what is to stay. To have the change everywhere, make the folder 'Send & Receive' there"
 	case LocalAddition:
-		return "'Revert Local Changes' on " + at + " deletes it: copy it elsewhere first if it is to stay. To have it everywhere, make the " +
-			"folder 'Send & Receive' there"
+		return "'Revert Local Changes' on " + at + " deletes what was added there: copy elsewhere first what is to stay. To have it everywhere, " +
+			"make the folder 'Send & Receive' there"
 	case NotScanned:
 		if one.Kind == receiveOnly {
 			return "start Syncthing on " + at + " and 'Rescan': it stays there as a local addition, which 'Revert Local Changes' would delete"

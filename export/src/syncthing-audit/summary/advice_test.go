@@ -32,7 +32,7 @@ var advised = []struct {
 	{"not scanned", faultsOf("send-receive", NotScanned), "it then goes to all", "Revert"},
 	{"not scanned on a device that only receives", faultsOf(receiveOnly, NotScanned), "'Revert Local Changes' would delete", "goes to all"},
 	{"behind on a device that only sends", faultsOf(sendOnly, Behind), "'Override Changes' there undoes their changes on all devices", "let them finish"},
-	{"added on a device that only receives", faultsOf(receiveOnly, LocalAddition), "deletes it: copy it elsewhere first", "goes to all"},
+	{"added on a device that only receives", faultsOf(receiveOnly, LocalAddition), "deletes what was added there: copy elsewhere first", "goes to all"},
 	{"changed locally", faultsOf(receiveOnly, LocalChange), "added files are deleted", "goes to all"},
 	{"back", faultsOf("send-receive", Back), "takes it for a new file and sends it to all", "Revert"},
 }

@@ -65,3 +65,42 @@ func TestManyNamesOfOtherBytesWhereScansLookAtAttributes(t *testing.T) {
 		t.Error(text)
 	}
 }
+
+// So are many names that were changed on a receive-only device, and many that were added there; what was changed is told apart from
+// what was deleted.
+func TestManyLocalChanges(t *testing.T) {
+	answer := answerOf(2, func(folder *finding.Folder) {
+		folder.Members[1].About.Kind = "receive-only"
+		local := func(deleted bool) *part.Name {
+			return with(file(1, 2), func(one *part.Name) { one.Own.Invalid, one.Own.Deleted = true, deleted })
+		}
+		for next := 0; next < 40; next++ {
+			fails(folder, fmt.Sprintf("a/%02d", next), []*part.Name{file(2, 1), local(false)}, "LocalOnly 2", "StoreDiffers 2")
+			unwon(folder, fmt.Sprintf("b/%02d", next), 1, finding.LocalChange, file(1, 1))
+		}
+		fails(folder, "c", []*part.Name{file(2, 1), local(true)}, "LocalOnly 2", "StoreDiffers 2")
+	})
+	made := Of(answer)
+	var written strings.Builder
+	made.Print(&written, time.UTC, time.Time{})
+	text := written.String()
+	for _, told := range []string{`
+40 names in docs: 12.0 MB
+  server: changed on this receive-only device
+  the first: a/00 a/01 a/02 a/03 a/04, and 35 more (--lines has all)
+  as recorded on: laptop
+  to do: 'Revert Local Changes' on server takes back`, `
+40 names in docs: 12.0 MB
+  server: added on this receive-only device; no other has it
+  the first: b/00 b/01 b/02 b/03 b/04, and 35 more (--lines has all)
+  to do: 'Revert Local Changes' on server deletes what was added there`, `
+c  (in docs, 300.0 kB)
+  server: deleted on this receive-only device`} {
+		if !strings.Contains(text, told) {
+			t.Errorf("this isn't told: %s\nbut:\n%s", told, text)
+		}
+	}
+	if strings.Contains(text, "\na/") || strings.Contains(text, "\nb/") || len(made.Folders[0].Files) != 81 {
+		t.Errorf("%d names are told to programs:\n%s", len(made.Folders[0].Files), text)
+	}
+}

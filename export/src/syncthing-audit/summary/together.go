@@ -1,0 +1,85 @@
+package summary
+
+import (
+	"fmt"
+	"strings"
+
+	"syncthing-audit/shell"
+)
+
+// readTogether are the causes of which a person reads of many names as one: a disk that rots has many, and so has a receive-only
+// device on which someone worked. --json tells each.
+var readTogether = map[Cause]bool{OtherBytes: true, LocalChange: true, LocalAddition: true}
+
+// files prints the entries of names. Of many with the same fault on the same devices one entry tells the first ones and counts
+// the others.
+func (p *printer) files(folder *Folder) {
+	alike := map[string][]*File{}
+	for _, one := range folder.Files {
+		key := one.readKey()
+		alike[key] = append(alike[key], one)
+	}
+	for _, one := range folder.Files {
+		key := one.readKey()
+		switch all := alike[key]; {
+		case key == "" || len(all) <= mostAlone:
+			p.file(folder, one)
+		case one == all[0]:
+			p.together(folder, all)
+		}
+	}
+}
+
+// readKey says with which other names a person reads of a name; with none if it is empty. All of them ask for the same.
+func (f *File) readKey() string {
+	if len(f.Faults) == 0 || len(f.Permissions) > 0 || len(f.Follows) > 0 {
+		return ""
+	}
+	key := fmt.Sprint(f.Have, f.Same, f.Advice, isOfNobody(f))
+	for place := range f.Faults {
+		one := &f.Faults[place]
+		if !readTogether[one.Cause] || one.isSeen {
+			return ""
+		}
+		key += fmt.Sprint(" ", one.Device, one.Cause, one.Deletion)
+	}
+	return key
+}
+
+// together prints names with the same fault on the same devices as one entry.
+func (p *printer) together(folder *Folder, all []*File) {
+	bytes, first := int64(0), []string{}
+	for place, one := range all {
+		bytes += one.Size
+		if place < mostAlone {
+			first = append(first, shell.Path(string(one.Name)))
+		}
+	}
+	p.line("\n%s in %s: %s", counted(int64(len(all)), "name", "names"), folder.ID, size(bytes))
+	for next := range all[0].Faults {
+		one := &all[0].Faults[next]
+		p.line("  %s: %s%s", p.named.of(one.Device), p.wordsOf(one), differingInAll(all, next))
+	}
+	for _, same := range all[0].Same {
+		p.line("  the same other bytes on: %s", p.named.all(same))
+	}
+	p.line("  the first: %s, and %s more (--lines has all)", strings.Join(first, " "), thousands(int64(len(all)-mostAlone)))
+	if !isOfNobody(all[0]) {
+		p.have(all[0])
+	}
+	p.advice(all[0].Advice)
+}
+
+// differingInAll says how many blocks differ in all names, where these have other bytes on a disk.
+func differingInAll(all []*File, fault int) string {
+	if all[0].Faults[fault].Cause != OtherBytes {
+		return ""
+	}
+	blocks := int64(0)
+	for _, one := range all {
+		if differ := one.Faults[fault].Blocks; differ != nil {
+			blocks += differ.Count
+		}
+	}
+	return "; " + counted(blocks, "block differs", "blocks differ") + " in all (--json tells them)"
+}
