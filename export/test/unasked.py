@@ -14,6 +14,21 @@ from syncthing import FOLDER
 OTHER, LABEL = "music", "My music"
 
 
+def add_folder(device, folder, label, is_shared=True):
+    """Adds a folder to a device's configuration: for the devices of the one that is there, or for the device alone."""
+    path = device.home / "config.xml"
+    tree = xml.parse(path)
+    made = xml.fromstring(xml.tostring(tree.getroot().find("folder")))
+    files = device.room / device.home.parent.name / folder
+    (files / ".stfolder").mkdir(parents=True)
+    made.attrib.update(id=folder, label=label, path=str(files))
+    for one in made.findall("device"):
+        if not is_shared and one.get("id") != device.id:
+            made.remove(one)
+    tree.getroot().append(made)
+    tree.write(path)
+
+
 class OtherFolders(Exporting):
     """Two devices in step, that share a second folder, too."""
 
@@ -21,14 +36,7 @@ class OtherFolders(Exporting):
     def configure(cls):
         super().configure()
         for device in cls.devices:
-            path = device.home / "config.xml"
-            tree = xml.parse(path)
-            folder = xml.fromstring(xml.tostring(tree.getroot().find("folder")))
-            files = device.room / device.home.parent.name / OTHER
-            (files / ".stfolder").mkdir(parents=True)
-            folder.attrib.update(id=OTHER, label=LABEL, path=str(files))
-            tree.getroot().append(folder)
-            tree.write(path)
+            add_folder(device, OTHER, LABEL)
 
     def told(self, *words):
         """What an audit for people says of other folders, and its status."""
@@ -106,6 +114,29 @@ class OtherFolders(Exporting):
         for words, told in (((), []), (("--folder", FOLDER), [f"not asked for: 1 folder: {self.on_both()}"])):
             ran = run([self.program, "run", self.one.home, self.two.home, "--still", "0", "--syncaudit", self.auditor, *words])
             self.assertEqual((ran.returncode, [line for line in ran.stdout.splitlines() if line.startswith("not asked")]), (0, told), ran.stderr)
+
+
+class OwnFolders(Exporting):
+    """Two devices in step, each of which has a folder `default` that it shares with nobody, as a new Syncthing has."""
+
+    @classmethod
+    def configure(cls):
+        super().configure()
+        for device in cls.devices:
+            add_folder(device, "default", "Default Folder", is_shared=False)
+
+    def test_folders_of_one_id_are_not_compared(self):
+        words = [word for device in self.devices for word in ("--home", device.home)]
+        told = [self.program, "check", *words, "--syncaudit", self.auditor]
+        ran = run(told)
+        self.assertEqual(ran.returncode, 6, ran.stdout + ran.stderr)
+        self.assertIn("left out: default (Default Folder) of", ran.stdout)
+        self.assertIn("it shares its folder of this id with nobody", ran.stdout)
+        self.assertIn("alone: default is audited on one device", ran.stdout)
+        for place, device in enumerate(self.devices):
+            (device.room / device.home.parent.name / "default" / "notes.txt").write_text(f"notes of device {place}")
+        self.assertNotIn("conflict", run(told).stdout)
+        self.assertEqual(run([*told, "--folder", FOLDER]).returncode, 0)
 
 
 if __name__ == "__main__":

@@ -56,8 +56,16 @@ func Refused(plan *join.Plan, leaveOut map[string]bool) *finding.Answer {
 // refusePlan notes what of the plan isn't audited.
 func (c *collector) refusePlan() {
 	for _, one := range c.plan.Refusals {
-		c.refuse(finding.Refusal{Kind: one.Kind, Folder: one.Folder, Label: one.Label, Device: label(one), Why: one.Why})
+		c.refuse(refusalOf(one))
 	}
+	for _, one := range c.plan.LeftOut {
+		c.answer.LeftOut = append(c.answer.LeftOut, refusalOf(one))
+	}
+}
+
+// refusalOf says why something of a plan isn't audited, as it is told.
+func refusalOf(one join.Refusal) finding.Refusal {
+	return finding.Refusal{Kind: one.Kind, Folder: one.Folder, Label: one.Label, Device: label(one), Why: one.Why}
 }
 
 // label names the device of a refusal for a person.

@@ -15,7 +15,7 @@ type Answer struct {
 	Folders  []*Folder
 	Refusals []Refusal        // what isn't audited and wasn't asked to be left out: with any of these there is no verdict; the first MostListed
 	Unlisted map[string]int64 // how many more refusals there are of each kind than are listed
-	LeftOut  []Refusal        // devices and folders that were left out on request
+	LeftOut  []Refusal        // devices and folders that were left out, on request or since there was nothing to compare
 	IsByName bool             // whether the folders were asked for by their ids
 	ByNames  bool             // whether the names were asked for by how they begin
 	HasRest  bool             // whether the devices' other folders are told: an export of 0.8.0 or before doesn't

@@ -2,8 +2,10 @@ package join
 
 import "syncthing-audit/part"
 
-// checkApart refuses the devices whose folder has the id by chance: a folder 'default' on two devices, say, that neither shares. Syncthing
-// doesn't bring these together, so they aren't compared. What stays is the folder of most devices that are here.
+// checkApart takes out the devices whose folder has the id by chance: a folder 'default' on two devices, say, that neither shares.
+// Syncthing doesn't bring these together, so they aren't compared. What stays is the folder of most devices that are here. A device
+// that shares its folder with nobody is left out: there is nothing to compare. One that shares it with others is refused: someone may
+// think that these are one folder.
 func (p *Plan) checkApart(folder *Folder) {
 	together := folder.together()
 	kept := []Member{}
@@ -13,7 +15,12 @@ func (p *Plan) checkApart(folder *Folder) {
 		}
 	}
 	for _, one := range folder.Members {
-		if !together[one.Head.Device] {
+		switch {
+		case together[one.Head.Device]:
+		case len(one.About.Sharing) == 0:
+			p.LeftOut = append(p.LeftOut, Refusal{part.Unshared, folder.ID, folder.Label, one.Head.Device, one.Head.Name,
+				"it shares its folder of this id with nobody: it is another folder than that of " + kept[0].Label()})
+		default:
 			p.refuse(part.Unshared, folder, one.Head.Device, one.Head.Name, "it doesn't share the folder with "+kept[0].Label()+
 				", not even by way of others: its own is another folder of the same id")
 		}

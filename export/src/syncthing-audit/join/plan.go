@@ -25,11 +25,12 @@ type Plan struct {
 	Devices  []*Device // their numbers rising
 	Folders  []*Folder
 	Refusals []Refusal
-	IsByName bool // whether the folders were asked for by their ids
+	LeftOut  []Refusal // what is left out without being asked for
+	IsByName bool      // whether the folders were asked for by their ids
 }
 
-// NewPlan says what is to be audited of these devices: the folders that are wanted, or all. Of what the refusals name the
-// devices and folders aren't in it.
+// NewPlan says what is to be audited of these devices: the folders that are wanted, or all. Of what the refusals name, and of
+// what is left out, the devices and folders aren't in it.
 func NewPlan(devices []*Device, wanted []string) (*Plan, error) {
 	sort.Slice(devices, func(a, b int) bool { return devices[a].Number < devices[b].Number })
 	if err := checkDevices(devices); err != nil {

@@ -42,11 +42,14 @@ func sharing(with map[byte]string, change func(device byte, folder *part.Folder)
 
 func unchanged(byte, *part.Folder) {}
 
-// refused gives the kinds of a plan's refusals.
+// refused gives the kinds of a plan's refusals, and of what it leaves out.
 func refused(plan *Plan) string {
 	words := []string{}
 	for _, one := range plan.Refusals {
 		words = append(words, one.Kind)
+	}
+	for _, one := range plan.LeftOut {
+		words = append(words, "left-out:"+one.Kind)
 	}
 	return strings.Join(words, " ")
 }
@@ -65,8 +68,8 @@ func TestSharing(t *testing.T) {
 		{"a part is missing", map[byte]string{1: "12"}, unchanged, part.Absent, 1},
 		{"one that two miss is told once", map[byte]string{1: "123", 2: "123"}, unchanged, part.Absent, 2},
 		{"not shared back", map[byte]string{1: "12", 2: "2"}, unchanged, part.Unshared, 0},
-		{"two that don't share it", map[byte]string{1: "1", 2: "2"}, unchanged, part.Unshared, 1},
-		{"one beside two that share it", map[byte]string{1: "1", 2: "23", 3: "23"}, unchanged, part.Unshared, 2},
+		{"two that share it with nobody", map[byte]string{1: "1", 2: "2"}, unchanged, "left-out:unshared", 1},
+		{"one beside two that share it", map[byte]string{1: "1", 2: "23", 3: "23"}, unchanged, "left-out:unshared", 2},
 		{"two beside three by way of one that is missing", map[byte]string{1: "12", 2: "12", 3: "39", 4: "49", 5: "59"}, unchanged,
 			"unshared unshared absent", 3},
 		{"not shared back, by one that others share it with", map[byte]string{1: "12", 2: "23", 3: "23"}, unchanged, part.Unshared, 0},
