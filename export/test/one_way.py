@@ -1,0 +1,89 @@
+#!/usr/bin/env python3
+"""The audit of two real Syncthing devices on loopback, of which one only receives or only sends.
+
+    export/test/one_way.py
+"""
+
+import os
+
+from exporting import Exporting, main
+from syncthing import FOLDER, wait_until
+
+
+class ReceiveOnly(Exporting):
+    """Local changes on a device that only receives."""
+
+    @classmethod
+    def setUpClass(cls):
+        super().setUpClass()
+        cls.two.configure([cls.one, cls.two], kind="receiveonly")
+        cls.start()
+        (cls.two.files / "text").write_text("my own")
+        (cls.two.files / "added").write_text("added")
+        (cls.two.files / "empty").unlink()
+        cls.two.scan()
+        wait_until("the other device knows of the changes", lambda: cls.one.knows_all_of(cls.two))
+        cls.stop()
+
+    def test_local_changes_are_local_only(self):
+        for name in ("text", "empty"):
+            self.assertEqual(self.verdict("--names", name), self.fault("LocalOnly", name, self.two))
+
+    def test_what_nobody_else_has_has_no_winner(self):
+        self.assertEqual(self.report("--names", "added"),
+                         [self.fault("NotWinner", "added"), f"folder {FOLDER}: 1 names, 0 deleted, 2 devices",
+                          self.failure("NotWinner", "added"),
+                          f"no winner: {FOLDER} added on {self.number(self.two)}: local change",
+                          f"not asked for: names of {FOLDER} that don't begin with added"])
+
+    def test_they_go_as_over_the_wire(self):
+        shares = {share["device"]: share for share in self.document()["cut"]["folders"][0]["devices"]}
+        own = shares[self.numbers[self.two.id]]["own"]
+        viewed = shares[self.numbers[self.one.id]]["views"][0]["records"]
+        self.assertEqual(own, viewed)
+        self.assertEqual([(one["name"], one["version"]) for one in own if one.get("invalid")],
+                         [("empty", []), ("text", [])])
+
+    def test_a_person_reads_what_reverting_does(self):
+        ran = self.on_homes("check", [device.home for device in self.devices], "--syncaudit", self.auditor)
+        self.assertEqual(ran.returncode, 1, ran.stderr)
+        entries = {entry.split("  (in ")[0]: " ".join(entry.split()) for entry in ran.stdout.split("\n\n")}
+        self.assertIn("'Revert Local Changes' on", entries["added"])
+        self.assertIn("deletes what was added there: copy elsewhere first", entries["added"])
+        self.assertIn("changed on this receive-only device", entries["text"])
+        self.assertIn("deleted on this receive-only device", entries["empty"])
+
+    def test_the_rest_is_settled(self):
+        self.assertEqual(self.verdict("--names", "folder"), "settled")
+
+    def test_what_has_no_winner_does_not_hide_other_bytes(self):
+        path = self.one.files / "folder" / "large"
+        times = path.stat()
+        data = path.read_bytes()
+        path.write_bytes(b"rot" + data[3:])
+        os.utime(path, ns=(times.st_atime_ns, times.st_mtime_ns))
+        try:
+            lines = self.report()
+            self.assertEqual(lines[0], self.fault("NotWinner", "added"))
+            for line in (self.failure("LocalOnly", "text", self.two), self.failure("StoreDiffers", "folder/large", self.one)):
+                self.assertIn(line, lines)
+        finally:
+            path.write_bytes(data)
+            os.utime(path, ns=(times.st_atime_ns, times.st_mtime_ns))
+
+
+class SendOnly(Exporting):
+    """A device that only sends, and another that changed a file."""
+
+    def test_out_of_step(self):
+        self.one.configure([self.one, self.two], kind="sendonly")
+        self.start()
+        (self.two.files / "text").write_text("changed on two")
+        self.two.scan()
+        wait_until("the other device knows of the change", lambda: self.one.knows_all_of(self.two))
+        self.stop()
+        self.assertEqual(self.verdict(), self.fault("RecordDiffers", "text", self.one))
+
+
+if __name__ == "__main__":
+    main()
