@@ -14,15 +14,14 @@ var readTogether = map[Cause]bool{OtherBytes: true, LocalChange: true, LocalAddi
 // files prints the entries of names. Of many with the same fault on the same devices one entry tells the first ones and counts
 // the others.
 func (p *printer) files(folder *Folder) {
-	alike := map[string][]*File{}
-	for _, one := range folder.Files {
-		key := one.readKey()
-		alike[key] = append(alike[key], one)
+	keys, alike := make([]string, len(folder.Files)), map[string][]*File{}
+	for place, one := range folder.Files {
+		keys[place] = one.readKey()
+		alike[keys[place]] = append(alike[keys[place]], one)
 	}
-	for _, one := range folder.Files {
-		key := one.readKey()
-		switch all := alike[key]; {
-		case key == "" || len(all) <= mostAlone:
+	for place, one := range folder.Files {
+		switch all := alike[keys[place]]; {
+		case keys[place] == "" || len(all) <= mostAlone:
 			p.file(folder, one)
 		case one == all[0]:
 			p.together(folder, all)
