@@ -7,7 +7,6 @@ import (
 	"sort"
 
 	"github.com/syncthing/syncthing/lib/config"
-	"github.com/syncthing/syncthing/lib/protocol"
 	"golang.org/x/exp/slices"
 	"syncthing-audit/device"
 	"syncthing-audit/join"
@@ -21,7 +20,8 @@ func tellAbout(asked options, write writing) error {
 	if err != nil {
 		return err
 	}
-	if err := checkFolders(&device.Home{ID: id, Config: about}, nil); err != nil {
+	home := &device.Home{ID: id, Config: about}
+	if err := checkFolders(home, nil); err != nil {
 		return err
 	}
 	if asked.rescan {
@@ -29,27 +29,16 @@ func tellAbout(asked options, write writing) error {
 			return err
 		}
 	}
-	return write(func(to io.Writer) error { return json.NewEncoder(to).Encode(aboutOf(id, about, asked.folders)) })
+	return write(func(to io.Writer) error { return json.NewEncoder(to).Encode(aboutOf(home, asked.folders)) })
 }
 
 // aboutOf gives the head of a device's part, as far as its configuration says it.
-func aboutOf(id protocol.DeviceID, about config.Configuration, wanted []string) *part.Head {
-	names := map[protocol.DeviceID]string{}
-	for _, one := range about.Devices {
-		names[one.DeviceID] = one.Name
-	}
-	made := &part.Head{Version: part.Version, Device: id.String(), Name: names[id], Folders: []part.Folder{}}
-	made.Others = othersOf(about, wanted, id)
-	for _, one := range chosenOf(about, wanted) {
-		folder := part.Folder{ID: one.ID, Label: one.Label, Directory: id.String() + one.ID, Sharing: []part.Sharing{}}
+func aboutOf(home *device.Home, wanted []string) *part.Head {
+	made := &part.Head{Version: part.Version, Device: home.ID.String(), Name: home.Name(), Folders: []part.Folder{}, Others: othersOf(home, wanted)}
+	for _, one := range chosenOf(home.Config, wanted) {
+		folder := part.Folder{ID: one.ID, Label: one.Label, Directory: home.ID.String() + one.ID, Sharing: home.Sharing(one)}
 		if one.Type == config.FolderTypeReceiveEncrypted {
 			folder.Kind = part.KindEncrypted
-		}
-		for _, other := range one.Devices {
-			if other.DeviceID != id {
-				folder.Sharing = append(folder.Sharing, part.Sharing{Device: other.DeviceID.String(), Name: names[other.DeviceID],
-					Encrypted: other.EncryptionPassword != ""})
-			}
 		}
 		made.Folders = append(made.Folders, folder)
 	}
@@ -57,14 +46,23 @@ func aboutOf(id protocol.DeviceID, about config.Configuration, wanted []string) 
 }
 
 // othersOf gives the folders of a device that aren't asked for, rising.
-func othersOf(about config.Configuration, wanted []string, device protocol.DeviceID) []part.Other {
+func othersOf(home *device.Home, wanted []string) []part.Other {
 	made := []part.Other{}
-	for _, one := range about.Folders {
+	for _, one := range home.Config.Folders {
 		if len(wanted) > 0 && !slices.Contains(wanted, one.ID) {
-			made = append(made, otherOf(one, device))
+			made = append(made, otherOf(home, one))
 		}
 	}
 	sort.Slice(made, func(a, b int) bool { return made[a].ID < made[b].ID })
+	return made
+}
+
+// otherOf gives what a part says of a folder that it hasn't.
+func otherOf(home *device.Home, one config.FolderConfiguration) part.Other {
+	made := part.Other{ID: one.ID, Label: one.Label, Devices: []string{}}
+	for _, other := range home.Sharing(one) {
+		made.Devices = append(made.Devices, other.Device)
+	}
 	return made
 }
 

@@ -10,6 +10,7 @@ import (
 	"github.com/syncthing/syncthing/lib/config"
 	"github.com/syncthing/syncthing/lib/protocol"
 	"syncthing-audit/audit"
+	"syncthing-audit/device"
 	"syncthing-audit/join"
 	"syncthing-audit/part"
 )
@@ -68,7 +69,7 @@ func TestWhatDevicesSay(t *testing.T) {
 
 // saying gives a device as it says of itself what it shares of the folder docs.
 func saying(t *testing.T, number byte, about config.Configuration) *join.Device {
-	text, err := json.Marshal(aboutOf(protocol.DeviceID{7: number}, about, []string{"docs"}))
+	text, err := json.Marshal(aboutOf(&device.Home{ID: protocol.DeviceID{7: number}, Config: about}, []string{"docs"}))
 	if err != nil {
 		t.Fatal(err)
 	}
@@ -106,7 +107,7 @@ func TestWhichFoldersADeviceIsAskedFor(t *testing.T) {
 		run := &running{asked: options{folders: expected.wanted}, places: []*place{{given: "one"}, {given: "two"}}}
 		devices := []*join.Device{}
 		for at, about := range []config.Configuration{one, two} {
-			text, err := json.Marshal(aboutOf(protocol.DeviceID{7: byte(at + 1)}, about, expected.wanted))
+			text, err := json.Marshal(aboutOf(&device.Home{ID: protocol.DeviceID{7: byte(at + 1)}, Config: about}, expected.wanted))
 			if err != nil {
 				t.Fatal(err)
 			}

@@ -5,8 +5,6 @@ import (
 	"io"
 	"sort"
 
-	"github.com/syncthing/syncthing/lib/config"
-	"github.com/syncthing/syncthing/lib/protocol"
 	"golang.org/x/exp/slices"
 	"syncthing-audit/audit"
 	"syncthing-audit/device"
@@ -14,7 +12,6 @@ import (
 	"syncthing-audit/finding"
 	"syncthing-audit/gather"
 	"syncthing-audit/join"
-	"syncthing-audit/part"
 	"syncthing-audit/report"
 	"syncthing-audit/shell"
 )
@@ -169,14 +166,11 @@ func (i *inputs) openParts(paths []string) error {
 
 // deviceOf opens the indexes of a home's folders: those that are wanted, or all.
 func (i *inputs) deviceOf(home *device.Home, asked options) (*gather.Device, error) {
-	made := &gather.Device{ID: home.ID.String(), Name: home.Name(), Runs: home.Syncthing, Prefix: asked.names, Bytes: asked.bytes, Pool: i.pool}
-	folders := append(home.Config.Folders[:0:0], home.Config.Folders...)
+	made := &gather.Device{ID: home.ID.String(), Name: home.Name(), Runs: home.Syncthing, Prefix: asked.names, Bytes: asked.bytes, Pool: i.pool,
+		Others: othersOf(home, asked.folders)}
+	folders := chosenOf(home.Config, asked.folders)
 	sort.Slice(folders, func(a, b int) bool { return folders[a].ID < folders[b].ID })
 	for _, one := range folders {
-		if len(asked.folders) > 0 && !slices.Contains(asked.folders, one.ID) {
-			made.Others = append(made.Others, otherOf(one, home.ID))
-			continue
-		}
 		index, err := home.Index(one)
 		if err != nil {
 			return nil, fmt.Errorf("%s: %w", home.Dir, shell.Labelled(err, one.ID, one.Label))
@@ -186,17 +180,6 @@ func (i *inputs) deviceOf(home *device.Home, asked options) (*gather.Device, err
 		made.Folders = append(made.Folders, index)
 	}
 	return made, nil
-}
-
-// otherOf gives what a part says of a folder that it hasn't, at a device of this id.
-func otherOf(one config.FolderConfiguration, device protocol.DeviceID) part.Other {
-	made := part.Other{ID: one.ID, Label: one.Label, Devices: []string{}}
-	for _, other := range one.Devices {
-		if other.DeviceID != device {
-			made.Devices = append(made.Devices, other.DeviceID.String())
-		}
-	}
-	return made
 }
 
 // tellDevices tells whose homes and parts these are.

@@ -17,6 +17,7 @@ import (
 	"github.com/syncthing/syncthing/lib/events"
 	"github.com/syncthing/syncthing/lib/protocol"
 	"syncthing-audit/leftover"
+	"syncthing-audit/part"
 )
 
 // databaseName is the folder of the index in a home of Syncthing 1.
@@ -120,6 +121,17 @@ func IsHome(dir string) bool {
 
 // Name gives the device's name, as it is configured at itself.
 func (h *Home) Name() string { return h.nameOf(h.ID) }
+
+// Sharing gives the other devices that a folder is shared with, by the device's own configuration.
+func (h *Home) Sharing(folder config.FolderConfiguration) []part.Sharing {
+	made := []part.Sharing{}
+	for _, other := range folder.Devices {
+		if other.DeviceID != h.ID {
+			made = append(made, part.Sharing{Device: other.DeviceID.String(), Name: h.nameOf(other.DeviceID), Encrypted: other.EncryptionPassword != ""})
+		}
+	}
+	return made
+}
 
 // nameOf gives the name that this device has for another.
 func (h *Home) nameOf(id protocol.DeviceID) string {

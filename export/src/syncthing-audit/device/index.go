@@ -92,14 +92,12 @@ func (i *Index) Bytes() int64 { return i.snapshot.LocalSize().Bytes }
 func (i *Index) Folder() part.Folder {
 	made := part.Folder{ID: i.Config.ID, Label: i.Config.Label, Kind: kindOf(i.Config.Type), Path: adapt.Filesystem(i.Config.Filesystem, nil).URI(),
 		Directory: i.directory, IndexID: uint64(i.files.IndexID(protocol.LocalDeviceID)), Max: i.Max(),
-		IgnoresPermissions: i.Config.IgnorePerms, ScansAttributes: i.home.attributes[i.Config.ID], Sharing: []part.Sharing{}, Views: []part.View{}}
+		IgnoresPermissions: i.Config.IgnorePerms, ScansAttributes: i.home.attributes[i.Config.ID], Sharing: i.home.Sharing(i.Config), Views: []part.View{}}
 	for _, other := range i.Config.Devices {
 		if other.DeviceID == i.home.ID {
 			continue
 		}
-		id := other.DeviceID.String()
-		made.Sharing = append(made.Sharing, part.Sharing{Device: id, Name: i.home.nameOf(other.DeviceID), Encrypted: other.EncryptionPassword != ""})
-		view := part.View{Device: id, IndexID: uint64(i.files.IndexID(other.DeviceID)), Max: i.snapshot.Sequence(other.DeviceID)}
+		view := part.View{Device: other.DeviceID.String(), IndexID: uint64(i.files.IndexID(other.DeviceID)), Max: i.snapshot.Sequence(other.DeviceID)}
 		if view.IndexID != 0 || view.Max != 0 {
 			made.Views = append(made.Views, view)
 		}
