@@ -41,7 +41,7 @@ func adviceOf(file *File, named labels) []string {
 		made = append(made, touchAdvice(file, senders, named))
 	}
 	if len(file.Permissions) > 0 {
-		made = append(made, permissionsAdvice(file.Permissions, named))
+		made = append(made, permissionsAdvice(file, named))
 	}
 	return made
 }
@@ -67,39 +67,9 @@ func addOnce(all []string, text string) []string {
 	return append(all, text)
 }
 
-// source says from where a file can be had, or where else to look.
-func source(file *File, named labels) string {
-	if len(file.Have) == 0 {
-		return "no audited device has the recorded bytes: look among old versions and backups, and copy them to "
-	}
-	return "copy it from " + named.of(file.Have[0]) + " to "
-}
-
-const (
-	// withTime says how a file is copied over a file so that Syncthing doesn't take it for a change.
-	withTime = " with its time (cp -p, or rsync --times --ignore-times) while Syncthing is stopped there"
-	// asItIs says how that is copied to where nothing stands, whether it is a file, a directory or a symlink.
-	asItIs = " as it is (cp -a, or rsync -a) while Syncthing is stopped there"
-	// asAnother says how it is copied to where something else stands. Over a symlink, cp would write into the file to which
-	// that leads.
-	asAnother = " as it is (cp -a, or rsync -a), once what stands there is moved away, while Syncthing is stopped there"
-)
-
 // mayShow says whether a scan may take other bytes for a change: it hashes a file whose inode changed. In a folder that only
 // receives, Syncthing 1.29 then keeps the record that all others have, and tells no local change.
 func (f *Fault) mayShow() bool { return f.Cause == OtherBytes && f.isWide && f.Kind != receiveOnly }
-
-// keeping says how something is copied so that a scan that looks at owners or extended attributes finds these, too, as they
-// are recorded.
-func (f *Fault) keeping(how string) string {
-	if !f.isWide {
-		return how
-	}
-	if how == withTime {
-		return " with its time, owner and attributes (cp -a, or rsync -aX --ignore-times) while Syncthing is stopped there"
-	}
-	return strings.Replace(how, "rsync -a", "rsync -aX", 1)
-}
 
 // adviceOfFault says what to do about one fault.
 func adviceOfFault(one *Fault, file *File, named labels) string {
@@ -114,31 +84,36 @@ func adviceOfFault(one *Fault, file *File, named labels) string {
 	case Missing:
 		return missingAdvice(one, file, at, named)
 	case Back:
-		return "to have it gone, delete it on " + at + " before Syncthing scans there: a scan takes it for a new file" + spreads(one)
+		return file.say("to have it gone, delete it", "to have them gone, delete them") + " on " + at + " before Syncthing scans there: a scan takes " +
+			file.say("it for a new file", "them for new files") + spreads(one, file)
 	case Behind, Conflicting:
 		return behindAdvice(one, file, at, named)
 	case LocalChange:
 		return "'Revert Local Changes' on " + at + " takes back what was changed there, for all such files of the folder: added files are " +
-			"deleted, so copy elsewhere what is to stay. To have the change everywhere, make the folder 'Send & Receive' there"
+			"deleted, so copy elsewhere what is to stay. To have " + file.say("the change", "the changes") + " everywhere, make the folder " +
+			"'Send & Receive' there"
 	case LocalAddition:
 		return "'Revert Local Changes' on " + at + " deletes what was added there: copy elsewhere first what is to stay. To have it everywhere, " +
 			"make the folder 'Send & Receive' there"
 	case NotScanned:
 		if one.Kind == receiveOnly {
-			return "start Syncthing on " + at + " and 'Rescan': it stays there as a local addition, which 'Revert Local Changes' would delete"
+			return "start Syncthing on " + at + " and 'Rescan': " + file.say("it stays there as a local addition", "they stay there as local additions") +
+				", which 'Revert Local Changes' would delete"
 		}
-		return "start Syncthing on " + at + " and 'Rescan': it then goes to all"
+		return "start Syncthing on " + at + " and 'Rescan': " + file.say("it then goes to all", "they then go to all")
 	case OnlySeen, NewerKnown:
 		return "start Syncthing on all of these devices and let them connect: they then tell each other what they have"
 	case OtherTime:
 		if one.Kind == receiveOnly {
-			return "start Syncthing on " + at + " and 'Rescan': the time stays there as a local change, which 'Revert Local Changes' takes back"
+			return "start Syncthing on " + at + " and 'Rescan': " + file.say("the time stays there as a local change", "the times stay there as local changes") +
+				", which 'Revert Local Changes' takes back"
 		}
 		return "start Syncthing on " + at + " and 'Rescan'"
 	case OtherBlocks:
-		return "nothing is lost: the bytes are the same. Once the devices connect, Syncthing takes one of the records"
+		return "nothing is lost: the bytes are the same. Once the devices connect, Syncthing takes one of the records" +
+			file.say("", " of each")
 	}
-	return "audit it by itself: --names with this name tells more"
+	return file.say("audit it by itself: --names with this name tells more", "audit some of them by themselves: --names with how they begin tells more")
 }
 
 const (
@@ -147,15 +122,15 @@ const (
 )
 
 // spreads says where a change goes that a scan finds.
-func spreads(one *Fault) string {
+func spreads(one *Fault, file *File) string {
 	if one.Kind == receiveOnly {
-		return ", a local addition"
+		return file.say(", a local addition", ", local additions")
 	}
-	return " and sends it to all"
+	return " and sends " + file.say("it", "them") + " to all"
 }
 
 func otherBytesAdvice(one *Fault, file *File, at string, named labels) string {
-	mend := "Syncthing won't repair it: "
+	mend := file.say("Syncthing won't repair it: ", "Syncthing won't repair them: ")
 	switch {
 	case one.isSeen && one.Kind == receiveOnly:
 		mend = "before Syncthing scans there (the scan takes these bytes for a local change), "
@@ -164,19 +139,20 @@ func otherBytesAdvice(one *Fault, file *File, at string, named labels) string {
 	case one.mayShow():
 		mend = "before Syncthing scans there (the scan may send these bytes to all), "
 	}
-	mend += source(file, named) + at + one.keeping(withTime)
+	mend += copying(one, file, named, overFile)
 	if one.Kind == receiveOnly || len(file.sendersOfOtherBytes()) > 1 {
 		return mend
 	}
-	return mend + ". If instead the bytes on " + at + " are the right ones, 'touch' the file there and let Syncthing scan: it sends them to all"
+	return mend + ". If instead the bytes on " + at + " are the right ones, 'touch' the " + file.say("file", "files") +
+		" there and let Syncthing scan: it sends them to all"
 }
 
 func changedAdvice(one *Fault, file *File, at string, named labels) string {
-	how := asAnother
+	how := overAnother
 	if one.isFileForFile() {
-		how = withTime
+		how = overFile
 	}
-	undo := "if the change isn't wanted, first " + source(file, named) + at + one.keeping(how)
+	undo := "if the change isn't wanted, first " + copying(one, file, named, how)
 	if one.Kind == receiveOnly {
 		return "start Syncthing on " + at + " and 'Rescan': the change stays there as a local one, which 'Revert Local Changes' takes back"
 	}
@@ -190,12 +166,13 @@ func (f *Fault) isFileForFile() bool {
 }
 
 func missingAdvice(one *Fault, file *File, at string, named labels) string {
+	it := file.say("it", "them")
 	if one.Kind == receiveOnly {
-		return "see that the folder's disk is mounted on " + at + ". After a 'Rescan', 'Revert Local Changes' there brings it back; it also " +
-			"deletes files that were added there"
+		return "see that the folder's disk is mounted on " + at + ". After a 'Rescan', 'Revert Local Changes' there brings " + it +
+			" back; it also deletes files that were added there"
 	}
-	return "see that the folder's disk is mounted on " + at + ", before Syncthing starts there: a scan takes it for deleted, and then all devices " +
-		"delete it. To keep it, first " + source(file, named) + at + one.keeping(asItIs)
+	return "see that the folder's disk is mounted on " + at + ", before Syncthing starts there: a scan takes " + it + " for deleted, and then all " +
+		"devices delete " + it + ". To keep " + it + ", first " + copying(one, file, named, toNothing)
 }
 
 func behindAdvice(one *Fault, file *File, at string, named labels) string {
@@ -218,7 +195,7 @@ func behindAdvice(one *Fault, file *File, at string, named labels) string {
 func holders(file *File, named labels) string {
 	switch len(file.Have) {
 	case 0:
-		return "a device that has it"
+		return file.say("a device that has it", "a device that has them")
 	case 1:
 		return named.of(file.Have[0])
 	}

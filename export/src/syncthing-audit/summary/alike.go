@@ -52,13 +52,14 @@ func (f *File) sendersOfOtherBytes() []string {
 
 // touchAdvice says what to do where the other bytes of one of several devices are the right ones.
 func touchAdvice(file *File, senders []string, named labels) string {
+	touch := "'touch' the " + file.say("file", "files")
 	for _, same := range file.Same {
 		if hasAll(same, senders) {
-			return "if instead the bytes on " + named.all(senders) + " are the right ones, which are the same, 'touch' the file on " +
+			return "if instead the bytes on " + named.all(senders) + " are the right ones, which are the same, " + touch + " on " +
 				named.of(senders[0]) + " alone and let Syncthing scan: it sends them to all"
 		}
 	}
-	return "if instead the bytes on one of " + named.all(senders) + " are the right ones, 'touch' the file on that one alone and let " +
+	return "if instead the bytes on one of " + named.all(senders) + " are the right ones, " + touch + " on that one alone and let " +
 		"Syncthing scan: it sends them to all"
 }
 

@@ -33,7 +33,7 @@ func damageAdvice(one *Fault, file *File, at string, named labels) string {
 	told := "see the system's log on " + at + " (journalctl -k, smartctl -a): its disk fails there, and may soon fail elsewhere. Save what " +
 		"that disk has and no other device has, and replace it. "
 	if len(file.Have) > 0 {
-		return told + "Then copy what is lost from " + named.of(file.Have[0]) + " to " + at + one.keeping(withTime)
+		return told + "Then " + copying(one, file, named, afterLoss)
 	}
 	told += "Before Syncthing starts there, bring back what is lost, from another device, old versions or backups: a scan takes what is " +
 		"missing for deleted"

@@ -22,6 +22,15 @@ type File struct {
 	RenamedFrom Text       `json:"renamed_from,omitempty"` // the name that goes where this one comes with the same bytes
 	RenamedTo   Text       `json:"renamed_to,omitempty"`   // and the other way round
 	hasDetails  bool
+	isMany      bool // whether it stands for many names, which are told as one
+}
+
+// say gives what is said of one name, or of many where the file stands for these.
+func (f *File) say(one, many string) string {
+	if f.isMany {
+		return many
+	}
+	return one
 }
 
 // Follow is a reason of syncaudit that goes away with the faults.

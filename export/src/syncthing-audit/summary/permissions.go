@@ -6,13 +6,14 @@ import (
 )
 
 // permissionsAdvice says on which devices to change permissions, and what the next scan there may do with them.
-func permissionsAdvice(modes []Mode, named labels) string {
+func permissionsAdvice(file *File, named labels) string {
+	it := file.say("it", "them")
 	words := []string{}
 	indexes := []string{}
 	devices := []string{}
 	strays := map[Mode][]string{}
 	kinds := []Mode{}
-	for _, one := range modes {
+	for _, one := range file.Permissions {
 		indexes = addOnce(indexes, one.Index)
 		devices = append(devices, one.Device)
 		if !one.isStray() {
@@ -25,11 +26,11 @@ func permissionsAdvice(modes []Mode, named labels) string {
 		strays[kind] = append(strays[kind], one.Device)
 	}
 	for _, kind := range kinds {
-		words = append(words, "on "+named.all(strays[kind])+", 'chmod "+kind.Index+"' it if that is the right mode, before Syncthing scans there: "+
+		words = append(words, "on "+named.all(strays[kind])+", 'chmod "+kind.Index+"' "+it+" if that is the right mode, before Syncthing scans there: "+
 			"the scan may send "+kind.Disk+" to all")
 	}
 	if len(indexes) > 1 {
-		words = append(words, "'chmod' it to the same mode on "+named.all(devices)+": the next scan of one where it is changed may send its mode to all")
+		words = append(words, "'chmod' "+it+" to the same mode on "+named.all(devices)+": where that changes a mode, the next scan may send it to all")
 	}
 	words = append(words, "or choose 'Ignore Permissions' for the folder")
 	return strings.Join(words, "; ")

@@ -263,8 +263,8 @@ a  (in docs)
 6 names in docs: 0 bytes, without 6 names whose details weren't kept
   permissions differ (they don't count for the verdict): laptop 0644; server 0600
   the first: 1 2 3, and 3 more (--lines has all)
-  to do: 'chmod' it to the same mode on laptop, server: the next scan of one where it is changed may
-         send its mode to all; or choose 'Ignore Permissions' for the folder.
+  to do: 'chmod' them to the same mode on laptop, server: where that changes a mode, the next scan
+         may send it to all; or choose 'Ignore Permissions' for the folder.
 ` + lastLine},
 	{"what was left out, and which names weren't asked for", 2, func(folder *finding.Folder) {
 		folder.LeftOut = []*finding.LeftOut{{Name: "odd\xff", Names: 1, Bytes: 3000000, Why: []finding.Reason{{Member: 0, Kind: part.OddName, Why: "its name isn't UTF-8"}}}}

@@ -66,7 +66,9 @@ func (p *printer) together(folder *Folder, all []*File) {
 	if !isOfNobody(all[0]) {
 		p.have(all[0])
 	}
-	p.advice(all[0].Advice)
+	told := *all[0]
+	told.isMany = true
+	p.advice(adviceOf(&told, p.named))
 }
 
 // differingInAll says how many blocks differ in all names, where these have other bytes on a disk.
