@@ -72,14 +72,35 @@ func TestAdviceOnOtherTypes(t *testing.T) {
 	}
 }
 
-// Where scans look at owners or extended attributes, a copy is to have these, too.
+// Where scans look at owners or extended attributes, a copy over a file leaves it its own, and any other copy is of a device that
+// records them. Where only devices without them have the file, such as one of Syncthing 1.19, that is said.
 func TestAdviceKeepsAttributes(t *testing.T) {
-	for _, cause := range []Cause{OtherBytes, Changed, Missing} {
-		for _, recorded := range []string{"file", "directory"} {
-			faults := faultsOf("send-receive", cause)
-			faults[0].Recorded, faults[0].isWide = &State{Type: recorded}, true
-			if told := adviceOf(&File{Faults: faults, Have: []string{laptop}}, labels{}); !strings.Contains(told[0], "cp -a, or rsync -aX") {
-				t.Errorf("%s, a %s: %s", cause, recorded, told)
+	cases := []struct {
+		cause                Cause
+		recorded, found, has string
+		needsSource          bool
+	}{
+		{OtherBytes, "file", "file", "cp --preserve=timestamps, or rsync --inplace --times --ignore-times", false},
+		{Changed, "file", "file", "cp --preserve=timestamps, or rsync --inplace --times --ignore-times", false},
+		{Changed, "directory", "file", "cp -a, or rsync -aX", true}, {Missing, "file", "", "cp -a, or rsync -aX", true},
+		{Missing, "directory", "", "cp -a, or rsync -aX", true}, {Damaged, "file", "", "cp -a, or rsync -aX", true},
+	}
+	named := labels{laptop: "laptop", phone: "phone", server: "server"}
+	for _, one := range cases {
+		faults := faultsOf("send-receive", one.cause)
+		faults[0].Recorded, faults[0].isWide = &State{Type: one.recorded}, true
+		if one.found != "" {
+			faults[0].Found = &State{Type: one.found}
+		}
+		for _, source := range []struct {
+			areWide map[string]bool
+			from    string
+		}{{map[string]bool{server: true, phone: true}, "phone"}, {map[string]bool{server: true}, "laptop"}} {
+			told := strings.Join(adviceOf(&File{Faults: faults, Have: []string{laptop, phone}, areWide: source.areWide}, named), ". ")
+			from, lacks := source.from, "Syncthing on laptop records no owners and attributes: give it those that it had on server"
+			if !strings.Contains(told, one.has) || !strings.Contains(told, " from "+from+" to server") ||
+				strings.Contains(told, lacks) != (one.needsSource && from == "laptop") {
+				t.Errorf("%s, a %s recorded: %s", one.cause, one.recorded, told)
 			}
 		}
 	}
@@ -97,7 +118,7 @@ func TestAdviceOnOtherBytes(t *testing.T) {
 	for kind, has := range map[string]string{"send-receive": "the scan may send these bytes to all", receiveOnly: "Syncthing won't repair it"} {
 		seen := faultsOf(kind, OtherBytes)
 		seen[0].isWide = true
-		if told := adviceOf(&File{Faults: seen, Have: []string{laptop}}, labels{}); !strings.Contains(told[0], has) || !strings.Contains(told[0], "cp -a, or rsync -aX") {
+		if told := adviceOf(&File{Faults: seen, Have: []string{laptop}}, labels{}); !strings.Contains(told[0], has) || !strings.Contains(told[0], "cp --preserve=timestamps") {
 			t.Errorf("other bytes where scans look at attributes, %s: %s", kind, told)
 		}
 	}

@@ -16,26 +16,48 @@ func copying(one *Fault, file *File, named labels, to way) string {
 	if to == afterLoss {
 		what = "what is lost"
 	}
+	at := named.of(one.Device)
 	if len(file.Have) == 0 {
-		return "no audited device has the recorded bytes: look among old versions and backups, and copy them to " + named.of(one.Device) +
-			file.manner(one, to)
+		return "no audited device has the recorded bytes: look among old versions and backups, and copy them to " + at + file.manner(one, to)
 	}
-	return "copy " + what + " from " + named.of(file.Have[0]) + " to " + named.of(one.Device) + file.manner(one, to)
+	from := file.sourceFor(one)
+	told := "copy " + what + " from " + named.of(from) + " to " + at + file.manner(one, to)
+	if to != overFile && one.isWide && !file.areWide[from] {
+		told += ". Syncthing on " + named.of(from) + " records no owners and attributes: give " + file.say("it", "them") + " those that " +
+			file.say("it", "they") + " had on " + at
+	}
+	return told
 }
 
-// manner says how something is copied.
+// sourceFor gives a device that has what is due: one whose scans look at owners or attributes, where those of the device at fault do.
+func (f *File) sourceFor(one *Fault) string {
+	for _, id := range f.Have {
+		if one.isWide && f.areWide[id] {
+			return id
+		}
+	}
+	return f.Have[0]
+}
+
+// manner says how something is copied. Into a file that stands there its bytes alone are written where scans look at owners and
+// attributes: so it keeps its own, which the source may have otherwise.
 func (f *File) manner(one *Fault, to way) string {
-	how, whole := " with "+f.say("its time", "their times")+" (cp -p, or rsync --times --ignore-times)", "rsync -a"
+	whole := "rsync -a"
 	if one.isWide {
-		how, whole = " with "+f.say("its time, owner", "their times, owners")+" and attributes (cp -a, or rsync -aX --ignore-times)", "rsync -aX"
+		whole = "rsync -aX"
 	}
-	switch to {
-	case toNothing:
-		how = f.asItIs(whole)
-	case overAnother:
-		how = f.asItIs(whole) + ", once what stands there is moved away,"
+	const stopped = " while Syncthing is stopped there"
+	switch {
+	case to == toNothing || to == afterLoss && one.isWide:
+		return f.asItIs(whole) + stopped
+	case to == overAnother:
+		return f.asItIs(whole) + ", once what stands there is moved away," + stopped
+	case one.isWide:
+		return f.say(" with its time alone, into the file that stands there", " with their times alone, into the files that stand there") +
+			" (cp --preserve=timestamps, or rsync --inplace --times --ignore-times)" + stopped + f.say(": that file keeps its owner and attributes",
+			": those files keep their owners and attributes")
 	}
-	return how + " while Syncthing is stopped there"
+	return " with " + f.say("its time", "their times") + " (cp -p, or rsync --times --ignore-times)" + stopped
 }
 
 // asItIs says how something is copied whole, with this command in place of cp.

@@ -22,7 +22,8 @@ type File struct {
 	RenamedFrom Text       `json:"renamed_from,omitempty"` // the name that goes where this one comes with the same bytes
 	RenamedTo   Text       `json:"renamed_to,omitempty"`   // and the other way round
 	hasDetails  bool
-	isMany      bool // whether it stands for many names, which are told as one
+	isMany      bool            // whether it stands for many names, which are told as one
+	areWide     map[string]bool // the devices whose scans look at owners or extended attributes, too
 }
 
 // say gives what is said of one name, or of many where the file stands for these.
@@ -48,7 +49,7 @@ type Mode struct {
 
 // fileOf gives what is to be told of a name.
 func fileOf(folder *finding.Folder, told *finding.Told) *File {
-	made := &File{Name: Text(told.Name), Faults: []Fault{}, Have: []string{}, Follows: []Follow{}, Permissions: []Mode{}}
+	made := &File{Name: Text(told.Name), Faults: []Fault{}, Have: []string{}, Follows: []Follow{}, Permissions: []Mode{}, areWide: areWide(folder)}
 	row := folder.Rows[told.Name]
 	switch {
 	case told.Unwon != nil:
@@ -97,6 +98,20 @@ func kindOf(member join.Member) string {
 
 // isWide says whether scans look at owners or extended attributes, too.
 func isWide(member join.Member) bool { return member.About != nil && member.About.ScansAttributes }
+
+// areWide gives the devices of which that is so; nothing where there is none.
+func areWide(folder *finding.Folder) map[string]bool {
+	var made map[string]bool
+	for _, one := range folder.Members {
+		if isWide(one) {
+			if made == nil {
+				made = map[string]bool{}
+			}
+			made[one.Head.Device] = true
+		}
+	}
+	return made
+}
 
 // reader reads what is wrong with a name that has a winner.
 type reader struct {

@@ -126,8 +126,9 @@ a  (in docs, 300.0 kB)
     the first of them: SHA-256 abcd0000.. recorded, 12000000.. on the disk
   as recorded on: laptop
   to do: before Syncthing scans there (the scan may send these bytes to all), copy it from laptop to
-         server with its time, owner and attributes (cp -a, or rsync -aX --ignore-times) while
-         Syncthing is stopped there. If instead the bytes on server are the right ones, 'touch' the
+         server with its time alone, into the file that stands there (cp --preserve=timestamps, or
+         rsync --inplace --times --ignore-times) while Syncthing is stopped there: that file keeps
+         its owner and attributes. If instead the bytes on server are the right ones, 'touch' the
          file there and let Syncthing scan: it sends them to all.
 ` + lastLine},
 	{"the same other bytes on two devices, under a name like an option", 3, func(folder *finding.Folder) {

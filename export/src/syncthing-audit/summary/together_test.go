@@ -62,7 +62,8 @@ func TestManyNamesOfOtherBytesWhereScansLookAtAttributes(t *testing.T) {
 	})
 	var written strings.Builder
 	Of(answer).Print(&written, time.UTC, time.Time{})
-	if text := written.String(); !strings.Contains(text, "but a scan of owners or attributes may see it; 40 blocks differ") || strings.Contains(text, "no scan sees") {
+	if text := written.String(); !strings.Contains(text, "but a scan of owners or attributes may see it; 40 blocks differ") ||
+		!strings.Contains(text, "files that stand there") || strings.Contains(text, "no scan sees") {
 		t.Error(text)
 	}
 }
