@@ -78,6 +78,27 @@ class OtherFolders(Exporting):
         for inputs in (self.homes(), [self.part(device) for device in self.devices]):
             self.assertEqual(self.told(*inputs, "--folder", FOLDER), (0, [f"not asked for: 1 folder: {self.on_both()}"]))
 
+    def test_folders_that_a_device_lacks(self):
+        """One command serves on all devices: a part has those of the folders that its device has, and the others are told. Who then asks
+        for one that no part has is refused."""
+        one, two = (self.room / f"{name}.some.part" for name in ("one", "two"))
+        for device, path in ((self.one, one), (self.two, two)):
+            for look in (("--begin",), ()):
+                ran = run([self.program, "part", *look, "--home", device.home, "--folder", FOLDER, "--folder", "nowhere", "-o", path])
+                self.assertEqual(ran.returncode, 0, ran.stderr)
+                self.assertIn(f"no folder here has the id nowhere: there are {FOLDER}, {OTHER} ({LABEL}). The part is without it\n", ran.stderr)
+        self.assertEqual(self.told(one, two, "--folder", FOLDER)[0], 0)
+        self.assertEqual(self.told(one, two)[0], 6)
+        for command in (("check", "--syncaudit", self.auditor), ("export",)):
+            for wanted in ("nowhere", OTHER):
+                ran = run([self.program, *command, one, two, "--folder", FOLDER, "--folder", wanted])
+                self.assertEqual((ran.returncode, ran.stdout), (2, ""))
+                self.assertRegex(ran.stderr, f"no folder here has the id {wanted}|no part has folder {wanted} ")
+        ran = run([self.program, "part", "--home", self.one.home, "--folder", "nowhere", "--folder", LABEL, "-o", self.room / "none.part"])
+        self.assertEqual((ran.returncode, ran.stdout), (2, ""))
+        self.assertIn(f"the id nowhere: there are {FOLDER}, {OTHER} ({LABEL}); no folder here has the id '{LABEL}', which is a label: the id is {OTHER}", ran.stderr)
+        self.assertFalse((self.room / "none.part").exists())
+
     def test_a_part_of_an_older_program(self):
         """It doesn't say which folders it hasn't, and that is told."""
         parts = [self.part(device, "--folder", FOLDER) for device in self.devices]

@@ -21,7 +21,7 @@ func tellAbout(asked options, write writing) error {
 		return err
 	}
 	home := &device.Home{ID: id, Config: about}
-	if err := checkFolders(home, nil); err != nil {
+	if err := checkFolders(home, nil, io.Discard); err != nil {
 		return err
 	}
 	if asked.rescan {

@@ -50,7 +50,7 @@ func beginPart(asked options, write writing, output, log io.Writer) error {
 			return err
 		}
 	}
-	from, err := openSource(device.OpenLive, asked)
+	from, err := openSource(device.OpenLive, asked, log)
 	if err != nil {
 		return err
 	}
@@ -112,7 +112,7 @@ func endPart(asked options, write writing, log io.Writer) error {
 		return err
 	}
 	began := time.Now().UTC()
-	from, err := openSource(device.OpenLive, asked)
+	from, err := openSource(device.OpenLive, asked, log)
 	if err != nil {
 		return err
 	}

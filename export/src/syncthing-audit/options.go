@@ -60,7 +60,8 @@ Says whether Syncthing devices are in step, and where not which device is wrong.
           'syncaudit explain' and then 'syncaudit firm' write of each
 
   --home DIR           a device's home on this machine: config.xml, cert.pem and index-v0.14.0.db
-  --folder ID          only this folder (may be given more than once; all folders if it isn't)
+  --folder ID          only this folder (may be given more than once; all folders if it isn't). part takes those that its device has,
+                       and tells which it hasn't
   --names PREFIX       only names that begin with these bytes
   --about              of part: what the device is configured to share, as JSON; 'run' asks that of all before it looks.
                        With --rescan it refuses what can't be scanned

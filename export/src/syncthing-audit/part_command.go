@@ -5,6 +5,7 @@ import (
 	"flag"
 	"fmt"
 	"io"
+	"strings"
 
 	"syncthing-audit/device"
 	"syncthing-audit/disk"
@@ -70,7 +71,7 @@ type writing func(func(io.Writer) error) error
 
 // onePart writes the part of a device that is stopped.
 func onePart(asked options, write writing, log io.Writer) error {
-	from, err := openSource(device.Open, asked)
+	from, err := openSource(device.Open, asked, log)
 	if err != nil {
 		return err
 	}
@@ -87,14 +88,14 @@ type source struct {
 }
 
 // openSource opens the home, and those of its folders that are asked for, or all.
-func openSource(open func(string) (*device.Home, error), asked options) (*source, error) {
+func openSource(open func(string) (*device.Home, error), asked options, log io.Writer) (*source, error) {
 	home, err := open(asked.homes[0])
 	if err != nil {
 		return nil, err
 	}
 	pool := disk.NewPool(asked.jobs)
 	made := &source{inputs: inputs{pool: pool, closers: []func(){home.Close, pool.Close}}, home: home}
-	if err = checkFolders(home, asked.folders); err == nil {
+	if err = checkFolders(home, asked.folders, log); err == nil {
 		made.read, err = made.deviceOf(home, asked)
 	}
 	if err == nil && asked.output != "" {
@@ -110,13 +111,23 @@ func openSource(open func(string) (*device.Home, error), asked options) (*source
 	return made, nil
 }
 
-// checkFolders says whether a home has no folder, or none with an id that is asked for.
-func checkFolders(home *device.Home, wanted []string) error {
+// checkFolders says whether a home has no folder, or none of those that are asked for. Who has other folders on other devices names all of
+// them on each, so those that this one lacks are told, and the part is made.
+func checkFolders(home *device.Home, wanted []string, log io.Writer) error {
 	if len(home.Config.Folders) == 0 {
 		return errors.New("refused: the device has no folder")
 	}
-	if err := join.CheckWanted((&inputs{}).labels([]*device.Home{home}), wanted); err != nil {
-		return fmt.Errorf("refused: %w", err)
+	labels, lacking := (&inputs{}).labels([]*device.Home{home}), []string{}
+	for _, id := range wanted {
+		if err := join.CheckWanted(labels, []string{id}); err != nil {
+			lacking = append(lacking, err.Error())
+		}
+	}
+	if len(lacking) > 0 && len(lacking) == len(wanted) {
+		return fmt.Errorf("refused: %s", strings.Join(lacking, "; "))
+	}
+	for _, why := range lacking {
+		fmt.Fprintf(log, "syncthing-audit: %s. The part is without it\n", why)
 	}
 	return nil
 }

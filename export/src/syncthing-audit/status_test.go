@@ -59,11 +59,36 @@ func TestOneStatusForAFolderThatIsNotThere(t *testing.T) {
 	}
 	home := &device.Home{Config: config.Configuration{Folders: []config.FolderConfiguration{{ID: "docs"}}}}
 	log.Reset()
-	if status := statusOf(checkFolders(home, []string{"pics"}), io.Discard, &log); status != statusRefused || !strings.Contains(log.String(), told) {
+	if status := statusOf(checkFolders(home, []string{"pics"}, io.Discard), io.Discard, &log); status != statusRefused || !strings.Contains(log.String(), told) {
 		t.Errorf("part: %d, %s", status, log.String())
 	}
-	if status := statusOf(checkFolders(&device.Home{}, nil), io.Discard, &log); status != statusRefused {
+	if status := statusOf(checkFolders(&device.Home{}, nil, io.Discard), io.Discard, &log); status != statusRefused {
 		t.Errorf("a device without a folder: %d", status)
+	}
+}
+
+// Who has other folders on other devices names all of them on each: a part has those that the device has, and the others are told. A
+// device with none of them is refused, and tells each.
+func TestFoldersThatADeviceLacks(t *testing.T) {
+	home := &device.Home{Config: config.Configuration{Folders: []config.FolderConfiguration{{ID: "docs", Label: "Documents"}}}}
+	for _, one := range []struct {
+		wanted  []string
+		refused bool
+		told    string
+	}{
+		{[]string{"docs"}, false, ""},
+		{[]string{"docs", "pics"}, false, "syncthing-audit: no folder here has the id pics: the only one is docs (Documents). The part is without it\n"},
+		{[]string{"Documents", "docs"}, false, "syncthing-audit: no folder here has the id Documents, which is a label: the id is docs. The part is without it\n"},
+		{[]string{"pics", "music"}, true, "has the id pics: the only one is docs (Documents); no folder here has the id music: "},
+	} {
+		var log strings.Builder
+		err := checkFolders(home, one.wanted, &log)
+		if err != nil {
+			log.WriteString(err.Error())
+		}
+		if (err != nil) != one.refused || !strings.Contains(log.String(), one.told) || one.told == "" && log.Len() > 0 {
+			t.Errorf("%s: %s", one.wanted, log.String())
+		}
 	}
 }
 
