@@ -105,6 +105,32 @@ class TwoDevices(Answers, Exporting):
             subprocess.run([self.program, "part", "--home", self.one.home], stdout=file, check=True)
         self.assertGreater(beside.stat().st_size, 0)
 
+    def test_documents_are_not_exported_into_a_folder(self):
+        """All its devices would get them. That is so of a folder of these devices, whose marker may have another name, and of any other one,
+        by its marker. Nothing is written, and no file is hashed for it."""
+        link, other, unmarked = self.room / "link to files", self.room / "other", self.one.files / "folder"
+        link.symlink_to(self.one.files)
+        (other / ".stfolder").mkdir(parents=True)
+        parts, homes = [self.part(device) for device in self.devices], [word for device in self.devices for word in ("--home", device.home)]
+        for inputs in (parts, homes):
+            for into, told in ((self.one.files / "out", f"would be in folder {FOLDER} of {self.one.id[:7]}, whose devices would all get the documents"),
+                               (unmarked, f"would be in folder {FOLDER} of"), (link / "a" / "b", f"would be in folder {FOLDER} of"),
+                               (other, "would be in the Syncthing folder"), (other / "a" / "b", f"{other} (.stfolder is there), whose devices")):
+                before = files_of(self.room)
+                ran = run([self.program, "export", *inputs, "--into", into])
+                self.assertEqual((ran.returncode, ran.stdout), (2, ""), ran.stderr)
+                self.assertIn(told, ran.stderr)
+                self.assertIn("name a directory elsewhere", ran.stderr)
+                self.assertEqual((files_of(self.room), (other / "a").exists(), (self.one.files / "a").exists()), (before, False, False))
+        (self.one.files / ".stfolder").rename(self.room / "marker")
+        try:
+            ran = run([self.program, "export", *parts, "--into", self.one.files / "out"])
+            self.assertEqual((ran.returncode, (self.one.files / "out").exists()), (2, False), ran.stderr)
+        finally:
+            (self.room / "marker").rename(self.one.files / ".stfolder")
+        ran = run([self.program, "export", *parts, "--into", self.room / "beside" / "documents"])
+        self.assertEqual((ran.returncode, (self.room / "beside" / "documents" / "cut-0001.json").exists()), (0, True), ran.stderr)
+
     def test_nothing_of_the_homes_changes(self):
         before = [files_of(device.home.parent) for device in (self.one, self.two)]
         self.document()

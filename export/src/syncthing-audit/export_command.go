@@ -21,6 +21,11 @@ func runExport(words []string, output, log io.Writer) (int, error) {
 		return 0, err
 	}
 	defer opened.close()
+	if asked.into != "" {
+		if err := checkUnsynced(asked.into, opened.devices); err != nil {
+			return 0, err
+		}
+	}
 	tellDevices(log, opened.devices)
 	to := &outlet{output: output, directory: asked.into}
 	answer, err := opened.audited(asked, log, func() (*finding.Answer, error) { return export(opened, asked, to) })

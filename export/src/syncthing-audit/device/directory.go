@@ -8,9 +8,9 @@ import (
 	"syscall"
 )
 
-// directoryOf gives a text that is the same for one directory of one machine alone. It follows a tilde and symlinks. It
+// DirectoryOf gives a text that is the same for one directory of one machine alone. It follows a tilde and symlinks. It
 // says nothing else of the directory.
-func directoryOf(path string) (string, error) {
+func DirectoryOf(path string) (string, error) {
 	info, err := os.Stat(path)
 	if err != nil {
 		return "", err

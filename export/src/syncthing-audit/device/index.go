@@ -29,7 +29,7 @@ func (h *Home) Index(folder config.FolderConfiguration) (made *Index, err error)
 	if err := folder.CheckPath(); err != nil {
 		return nil, pathFault(folder, err)
 	}
-	directory, err := directoryOf(adapt.Filesystem(folder.Filesystem, nil).URI())
+	directory, err := DirectoryOf(adapt.Filesystem(folder.Filesystem, nil).URI())
 	if err != nil {
 		return nil, fmt.Errorf("folder %s: %w", folder.ID, err)
 	}

@@ -23,7 +23,7 @@ func OpenLive(dir string) (*Home, error) {
 }
 
 // Identity gives a text that is the same for one home's index on one machine alone.
-func (h *Home) Identity() (string, error) { return directoryOf(filepath.Join(h.Dir, databaseName)) }
+func (h *Home) Identity() (string, error) { return DirectoryOf(filepath.Join(h.Dir, databaseName)) }
 
 // bytesOfFolder is how long the number of a folder is in keys; the key that has its id has room for more.
 const bytesOfFolder = 4
