@@ -6,6 +6,8 @@
 
 import json
 import os
+import pty
+import re
 import signal
 import subprocess
 import sys
@@ -26,6 +28,7 @@ class LiveRun(Live):
 while [ "$1" = -o ]; do shift 2; done
 machine=$1
 shift
+echo "$*" >> "{room}/commands"
 # As with a real connection, no signal reaches the program on this machine; its input ends with the one who asks.
 case $machine in far) machine=one; cat | HOME="{room}/one/user" TMPDIR="{room}/far" PATH={programs}:$PATH setsid sh -c "$*"; exit;; esac
 case $machine in off) echo "ssh: connect to host off port 22: No route to host" >&2; exit 255;; esac
@@ -45,12 +48,22 @@ cd "{room}/$machine/user" && HOME=$PWD PATH={programs}:$PATH exec sh -c "$*"
             user.mkdir(parents=True)
             (user / "syncthing").symlink_to(device.home)
 
+    @property
+    def commands(self):
+        """What was asked of other machines, a command on a line."""
+        return self.room / "commands"
+
+    def assert_no_look(self):
+        """No look was begun on another machine: only what is shared was asked."""
+        self.assertNotIn("--begin", self.commands.read_text())
+
     def run_on(self, *words):
         """Runs the command on all devices: by ssh at the home that Syncthing takes by itself, by ssh at another one, and here."""
         return self.run_at(["one:", f"two:{self.two.home}", self.three.home], *words)
 
     def run_at(self, places, *words):
         """Runs the command at these places."""
+        self.commands.write_text("")
         return run([self.program, "run", *places, "--still", "0", "--syncaudit", self.auditor, *words],
                    env={**os.environ, "PATH": self.path_with_ssh})
 
@@ -58,6 +71,30 @@ cd "{room}/$machine/user" && HOME=$PWD PATH={programs}:$PATH exec sh -c "$*"
         ran = self.run_on()
         self.assertEqual(ran.returncode, 0, ran.stderr)
         self.assertRegex(ran.stdout.splitlines()[0], rf"^{FOLDER}: {in_step()}; still for \d+ s: 6 names .*; in motion: 0$")
+
+    def test_a_pipe_is_told_nothing_of_steps(self):
+        """What an answer means is told there, and the devices' numbers where lines have these."""
+        ran = self.run_on("--lines")
+        self.assertEqual(ran.returncode, 0, ran.stderr)
+        lines = [line for line in ran.stderr.splitlines() if line.startswith("syncthing-audit: ")]
+        self.assertEqual([line.split()[1] for line in lines], ["device", "device", "device", "what"], ran.stderr)
+        self.assertIn("--begin", self.commands.read_text())
+
+    def test_a_terminal_is_told_each_step_once(self):
+        terminal, other_end = pty.openpty()
+        self.addCleanup(os.close, terminal)
+        process = subprocess.Popen([self.program, "run", "one:", f"two:{self.two.home}", self.three.home, "--still", "1", "--syncaudit", self.auditor],
+                                   env={**os.environ, "PATH": self.path_with_ssh}, stdout=subprocess.DEVNULL, stderr=other_end)
+        os.close(other_end)
+        told = b""
+        while b"what an answer means" not in told:
+            told += os.read(terminal, 4096)
+        self.assertEqual(process.wait(SECONDS_TO_WAIT), 0)
+        steps = [line.partition("\r")[0] for line in told.decode().split("syncthing-audit: ")[1:-1]]
+        looks = {f"{name}: {look} look done in 0 s" for name in ("one", f"two:{self.two.home}", str(self.three.home)) for look in ("first", "second")}
+        self.assertEqual(sorted(re.sub(r"done in \d+ s", "done in 0 s", one) for one in steps[2:5] + steps[6:]), sorted(looks))
+        self.assertEqual(steps[:2], ["asking 3 devices what is shared", "first look at 3 devices, hashing all files"])
+        self.assertRegex(steps[5], "^second look in [01] s$")
 
     def test_other_bytes(self):
         with rot(self.two.files / "folder" / "large", 1000):
@@ -104,7 +141,7 @@ cd "{room}/$machine/user" && HOME=$PWD PATH={programs}:$PATH exec sh -c "$*"
         for one in (ran, alone):
             self.assertEqual((one.returncode, one.stdout), (2, ""))
             self.assertIn(f"folder {FOLDER} is paused there, and Syncthing doesn't scan it: resume it", one.stderr)
-        self.assertNotIn("hashing", ran.stderr)
+        self.assert_no_look()
 
     def test_a_program_reads_the_same(self):
         ran = self.run_on("--json")
@@ -140,7 +177,7 @@ cd "{room}/$machine/user" && HOME=$PWD PATH={programs}:$PATH exec sh -c "$*"
         ran = self.run_at(["one:", "off:"])
         self.assertEqual((ran.returncode, ran.stdout), (2, ""))
         self.assertIn("off: its command ended with exit status 255: ssh: connect to host off", ran.stderr)
-        self.assertNotIn("hashing", ran.stderr)
+        self.assert_no_look()
 
     def test_a_machine_without_the_program(self):
         ran = self.run_at(["one:"], "--remote-program", "nothing-there")
@@ -152,7 +189,7 @@ cd "{room}/$machine/user" && HOME=$PWD PATH={programs}:$PATH exec sh -c "$*"
         ran = self.run_at(["one:", "two:"])
         self.assertEqual((ran.returncode, ran.stdout), (2, ""))
         self.assertIn(self.three.id, ran.stderr)
-        self.assertNotIn("hashing", ran.stderr)
+        self.assert_no_look()
         ran = self.run_at(["one:", "two:"], "--leave-out", "absent", "--lines")
         self.assertEqual((ran.returncode, ran.stdout.splitlines()[0]), (6, "settled as far as audited"), ran.stderr)
 
@@ -160,7 +197,7 @@ cd "{room}/$machine/user" && HOME=$PWD PATH={programs}:$PATH exec sh -c "$*"
         ran = self.run_at(["one:", f"two:{self.two.home}", self.three.home, self.one.home])
         self.assertEqual((ran.returncode, ran.stdout), (2, ""))
         self.assertIn(f"one: and {self.one.home} are both of device", ran.stderr)
-        self.assertNotIn("hashing", ran.stderr)
+        self.assert_no_look()
 
     def test_a_machine_with_an_older_program(self):
         """It doesn't know the question what it shares, which is told; all else goes on as it did."""

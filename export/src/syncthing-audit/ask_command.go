@@ -15,7 +15,7 @@ import (
 // ask asks all devices what they share, and refuses what can't be audited by that, before any file is hashed: that a device
 // isn't named, say, or can't be reached.
 func (r *running) ask() error {
-	fmt.Fprintf(r.log, "syncthing-audit: asking %s what is shared\n", countOf(len(r.places), "device"))
+	r.tellStep("asking %s what is shared", countOf(len(r.places), "device"))
 	if err := r.all("question", r.about); err != nil {
 		return err
 	}
@@ -94,6 +94,6 @@ func (r *running) about(at int) error {
 		one.isOlder = true
 		return nil
 	}
-	r.tell(at, told)
+	r.retell(at, told)
 	return err
 }

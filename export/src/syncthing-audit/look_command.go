@@ -66,7 +66,6 @@ func beginPart(asked options, write writing, output, log io.Writer) error {
 	if err != nil {
 		return err
 	}
-	tellCopied(log, from.home)
 	fmt.Fprintf(log, lineOfAge, time.Since(over).Seconds())
 	token := looks.Token(from.read.ID, from.read.Look.ID)
 	if asked.isStandard {
@@ -124,7 +123,6 @@ func endPart(asked options, write writing, log io.Writer) error {
 	if err := checkTokens(from.read, asked); err != nil {
 		return err
 	}
-	tellCopied(log, from.home)
 	return write(func(to io.Writer) error {
 		return writeLines(to, log, from.read, func(sink part.Sink) part.Sink {
 			return func(line part.Line) error {
@@ -165,15 +163,6 @@ func (o *options) takeDefaultHome() error {
 func lookOf(home *device.Home) (*part.Look, error) {
 	identity, err := home.Identity()
 	return &part.Look{Home: identity}, err
-}
-
-// tellCopied tells what the copy of an index took.
-func tellCopied(log io.Writer, home *device.Home) {
-	rounds := ""
-	if home.Copied.Rounds > 1 {
-		rounds = fmt.Sprintf(" in %d rounds, since it changed meanwhile", home.Copied.Rounds)
-	}
-	fmt.Fprintf(log, "syncthing-audit: the index of %s is copied%s: %d bytes\n", home.Dir, rounds, home.Copied.Bytes)
 }
 
 // writeWhole writes into a file of its own first, so that nobody reads the beginning of what isn't at its end.

@@ -44,6 +44,14 @@ func isTerminal(to interface{}) bool {
 	return err == nil
 }
 
+// progressOf gives where steps of the work are told: the log where it is a terminal, and nowhere else.
+func progressOf(log io.Writer) io.Writer {
+	if isTerminal(log) {
+		return log
+	}
+	return io.Discard
+}
+
 const (
 	clearLine    = "\r\x1b[K"
 	defaultWidth = 80

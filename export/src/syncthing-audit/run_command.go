@@ -7,6 +7,7 @@ import (
 	"io"
 	"os"
 	"path/filepath"
+	"regexp"
 	"strconv"
 	"strings"
 	"sync"
@@ -60,7 +61,7 @@ func runRun(words []string, output, log io.Writer) (int, error) {
 		return 0, err
 	}
 	defer leftover.Remove(room)
-	run := &running{asked: asked, places: places, room: room, log: log, patience: secondsOfPatience * time.Second}
+	run := &running{asked: asked, places: places, room: room, log: log, progress: progressOf(log), patience: secondsOfPatience * time.Second}
 	if err := run.look(); err != nil {
 		return 0, err
 	}
@@ -90,6 +91,7 @@ type running struct {
 	mutex  sync.Mutex // of the log
 	began  time.Time  // before the first second look began
 
+	progress io.Writer     // the log, where a person reads it
 	patience time.Duration // after which it is told who is awaited, and after twice as long again, and so on
 }
 
@@ -103,7 +105,7 @@ func (r *running) look() error {
 	if err := r.ask(); err != nil {
 		return err
 	}
-	fmt.Fprintf(r.log, "syncthing-audit: first look at %s, hashing all files\n", countOf(len(r.places), "device"))
+	r.tellStep("first look at %s, hashing all files", countOf(len(r.places), "device"))
 	if err := r.all("first look", r.begin); err != nil {
 		return err
 	}
@@ -120,9 +122,9 @@ func (r *running) look() error {
 	}
 	r.tokens = tokens.String()
 	if left := time.Until(r.lastLook().Add(time.Duration(r.asked.still * float64(time.Second)))); left > 0 {
+		r.tellStep("second look in %.0f s", left.Seconds())
 		time.Sleep(left)
 	}
-	fmt.Fprintln(r.log, "syncthing-audit: second look")
 	r.began = time.Now()
 	return r.all("second look", r.end)
 }
@@ -196,32 +198,50 @@ func (r *running) begin(at int) error {
 	}
 	defer input.Close()
 	defer open.Close() // once it has ended, or by the end of this program
+	began := time.Now()
 	told, err := r.places[at].run(r.places[at].begin(r.asked), input, r.file(at, "begin"))
 	if err != nil {
 		return err
 	}
 	r.places[at].looked = time.Now().Add(-ageOf(told))
-	r.tell(at, told)
+	r.retell(at, told)
+	r.tellStep("%s: first look done in %.0f s", r.places[at].called(), time.Since(began).Seconds())
 	return nil
 }
 
 // end makes the second look at a device.
 func (r *running) end(at int) error {
+	began := time.Now()
 	told, err := r.places[at].run(r.places[at].end(r.asked), strings.NewReader(r.tokens), r.file(at, "end"))
-	r.tell(at, told)
-	return err
+	if err != nil {
+		return err
+	}
+	r.retell(at, told)
+	r.tellStep("%s: second look done in %.0f s", r.places[at].called(), time.Since(began).Seconds())
+	return nil
 }
 
-// tell tells what was said at a place.
-func (r *running) tell(at int, told string) {
+// tellStep tells a person how far the run is.
+func (r *running) tellStep(format string, words ...interface{}) {
+	r.mutex.Lock()
+	defer r.mutex.Unlock()
+	fmt.Fprintf(r.progress, "syncthing-audit: "+format+"\n", words...)
+}
+
+// retell tells what was said at a place, but for what is for this program alone.
+func (r *running) retell(at int, told string) {
 	r.mutex.Lock()
 	defer r.mutex.Unlock()
 	for _, line := range strings.Split(told, "\n") {
-		if said := strings.TrimPrefix(line, "syncthing-audit: "); said != line {
+		if said := strings.TrimPrefix(line, "syncthing-audit: "); said != line && !isForRun.MatchString(line) {
 			fmt.Fprintf(r.log, "syncthing-audit: %s: %s\n", r.places[at].called(), said)
 		}
 	}
 }
+
+// isForRun are lines of a look that nobody has to read: how long it has been over and, of a program of 0.9.0 or before, what the copy of
+// the index took.
+var isForRun = regexp.MustCompile(`^syncthing-audit: (the first look was over .* ago|the index of .* is copied.*: [0-9]+ bytes)$`)
 
 // lineOfAge is how 'part --begin' says on standard error how long its look has been over.
 const lineOfAge = "syncthing-audit: the first look was over %.3f s ago\n"
