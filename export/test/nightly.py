@@ -12,7 +12,9 @@ import socket
 import subprocess
 import tempfile
 import unittest
+from importlib.machinery import SourceFileLoader
 from pathlib import Path
+from types import ModuleType
 
 from exporting import PROGRAM, auditor, built, in_step, is_over, main, run
 from large_folders import rot
@@ -119,6 +121,14 @@ class Nightly(unittest.TestCase):
         self.assertTrue(mail.startswith(f"To: me@example.org\nSubject: syncthing-audit on {socket.gethostname()}: NOT in step\n"), mail)
         self.assertIn("\n00000/07.bin  (in docs, 100 bytes)\n  device1: other bytes on the disk", mail)
         self.assertIn('syncthing_audit_names_wrong{folder="docs"} 1', self.metrics.read_text())
+
+    def test_folders_of_one_id_have_one_metric(self):
+        """Each device may have a folder of its own under the same id. Prometheus takes no file with two values of one metric."""
+        loader, nightly = SourceFileLoader("nightly", f"{CONTRIB / PROGRAM}-nightly"), ModuleType("nightly")
+        exec(loader.source_to_code(loader.get_data(loader.path), loader.path), nightly.__dict__)
+        told = nightly.metrics(1, [{"id": "default", "names": 2, "names_wrong": 1}, {"id": "default", "names": 3, "names_wrong": 0}], [])
+        self.assertEqual([line for line in told.splitlines() if "default" in line],
+                         ['syncthing_audit_names_wrong{folder="default"} 1', 'syncthing_audit_names{folder="default"} 5'])
 
     def test_a_part_that_stayed_away(self):
         """Without the other part there is no answer; with an old one the age is told, though all is in step."""

@@ -9,7 +9,8 @@ import json
 import xml.etree.ElementTree as xml
 
 from exporting import Exporting, main, run
-from syncthing import FOLDER
+from live_looks import rot
+from syncthing import FOLDER, Device
 
 OTHER, LABEL = "music", "My music"
 
@@ -138,7 +139,8 @@ class OtherFolders(Exporting):
 
 
 class OwnFolders(Exporting):
-    """Two devices in step, each of which has a folder `default` that it shares with nobody, as a new Syncthing has."""
+    """Two devices in step, each of which has a folder `default` that it shares with nobody, as a new Syncthing has. These are two folders,
+    of which nothing can be out of step with another device."""
 
     @classmethod
     def configure(cls):
@@ -146,18 +148,87 @@ class OwnFolders(Exporting):
         for device in cls.devices:
             add_folder(device, "default", "Default Folder", is_shared=False)
 
+    @classmethod
+    def synchronise(cls):
+        """Each device has notes of its own there, which are recorded."""
+        for place, device in enumerate(cls.devices):
+            notes = cls.notes(device)
+            notes.write_text(f"notes of device {place}")
+            device.api("POST", "db/scan?folder=default")
+        super().synchronise()
+
+    @staticmethod
+    def notes(device):
+        """A device's notes."""
+        return device.room / device.home.parent.name / "default" / "notes.txt"
+
+    def told(self, *words):
+        """What an audit of both tells, and its status."""
+        ran = run([self.program, *words, "--syncaudit", self.auditor])
+        return ran.returncode, ran.stdout
+
+    def inputs(self):
+        """The words for the homes, and those for the parts."""
+        return [[word for device in self.devices for word in ("--home", device.home)], [self.part(device) for device in self.devices]]
+
     def test_folders_of_one_id_are_not_compared(self):
-        words = [word for device in self.devices for word in ("--home", device.home)]
-        told = [self.program, "check", *words, "--syncaudit", self.auditor]
-        ran = run(told)
-        self.assertEqual(ran.returncode, 6, ran.stdout + ran.stderr)
-        self.assertIn("left out: default (Default Folder) of", ran.stdout)
-        self.assertIn("it shares its folder of this id with nobody", ran.stdout)
-        self.assertIn("alone: default is audited on one device", ran.stdout)
-        for place, device in enumerate(self.devices):
-            (device.room / device.home.parent.name / "default" / "notes.txt").write_text(f"notes of device {place}")
-        self.assertNotIn("conflict", run(told).stdout)
-        self.assertEqual(run([*told, "--folder", FOLDER]).returncode, 0)
+        """Each is compared with its device's own index, and that is told."""
+        names = ", ".join(sorted(device.id[:7] for device in self.devices))
+        for inputs in self.inputs():
+            status, text = self.told("check", *inputs)
+            self.assertEqual(status, 0, text)
+            self.assertEqual(len([line for line in text.splitlines() if line.startswith("default (Default Folder): in step")]), 2, text)
+            self.assertIn(f"\nshared with no device: default (Default Folder) on {names}: what stands on the disk was compared", text)
+            self.assertNotIn("left out", text)
+            status, text = self.told("check", *inputs, "--lines")
+            self.assertEqual((status, text.splitlines()[0]), (0, "settled"))
+            for device in self.devices:
+                self.assertIn(f"\nnot shared: folder default on {self.number(device)}\n", text)
+        self.assertEqual(self.told("run", *(device.home for device in self.devices), "--still", "0")[0], 0)
+
+    def test_the_sum_of_their_documents(self):
+        into = self.room / "documents"
+        self.assertEqual(run([self.program, "export", *self.inputs()[1], "--into", into]).returncode, 0)
+        for document in into.glob("cut-*.json"):
+            replies = [run([self.auditor, *words, "--certify"], input=document.read_text()).stdout for words in (["check"], ["explain"], ["firm"])]
+            document.with_suffix(".reply").write_text("".join(replies))
+        ran = run([self.program, "sum", into])
+        self.assertEqual((ran.returncode, ran.stdout), self.told("check", *self.inputs()[1]))
+
+    def test_a_rotten_file_of_one_of_them(self):
+        """It is told of its own device, and so it is as a program reads it."""
+        for device in self.devices:
+            with rot(self.notes(device), 3):
+                for inputs in self.inputs():
+                    status, text = self.told("check", *inputs, "--lines")
+                    self.assertEqual((status, text.splitlines()[0]), (1, f"not settled: StoreDiffers default notes.txt on {self.number(device)}"))
+                    wrong = [one for one in json.loads(self.told("check", *inputs, "--json")[1])["folders"] if one["names_wrong"]]
+                    self.assertEqual([(one["id"], [at["device"] for at in one["devices"]], one["not_shared"]) for one in wrong],
+                                     [("default", [device.id], True)])
+
+    def test_a_folder_that_is_shared_with_a_device_that_is_missing(self):
+        """There is another device to compare it with, and that is told."""
+        alone = self.part(self.one)
+        ran = run([self.program, "check", alone, "--syncaudit", self.auditor])
+        self.assertEqual((ran.returncode, ran.stdout), (2, ""))
+        status, text = self.told("check", alone, "--leave-out", "absent")
+        self.assertEqual(status, 6)
+        self.assertIn(f"\nalone: {FOLDER} is audited on one device", text)
+
+    def test_a_folder_that_only_others_share(self):
+        """Someone may think that the device shares it, too."""
+        path, third = self.two.home / "config.xml", Device(self.room, "third").id
+        before, tree = path.read_text(), xml.parse(path)
+        folder = [one for one in tree.getroot().findall("folder") if one.get("id") == "default"][0]
+        xml.SubElement(folder, "device", id=third)
+        xml.SubElement(tree.getroot(), "device", id=third)
+        tree.write(path)
+        try:
+            status, text = self.told("check", *self.inputs()[0], "--leave-out", "absent,unshared")
+        finally:
+            path.write_text(before)
+        self.assertEqual(status, 6)
+        self.assertRegex(text, "left out: default .*: (it doesn't share the folder with|it shares its folder of this id with nobody)")
 
 
 if __name__ == "__main__":

@@ -23,7 +23,10 @@ type exported struct {
 }
 
 // exportedDocument is one of the documents.
-type exportedDocument struct{ File, Folder string }
+type exportedDocument struct {
+	File, Folder string
+	Own          string `json:",omitempty"` // as join.Folder has it
+}
 
 // save writes what no document says.
 func (e *exported) save(directory string) error {

@@ -4,6 +4,7 @@ import (
 	"io"
 	"os"
 	"path/filepath"
+	"regexp"
 	"strings"
 	"testing"
 )
@@ -29,7 +30,7 @@ func TestWhatAnExportLeft(t *testing.T) {
 		status int
 		told   string
 	}{
-		{"as it was", func(text string) string { return text }, statusPartial, "what an answer means"},
+		{"as it was", func(text string) string { return text }, statusDone, "what an answer means"},
 		{"nothing", func(string) string { return "" }, statusRefused, "isn't what 'export' writes: EOF"},
 		{"no answer", func(string) string { return "{}\n" }, statusRefused, "isn't what 'export' writes: it has no answer"},
 		{"no JSON", func(text string) string { return text[1:] }, statusRefused, "isn't what 'export' writes: "},
@@ -56,7 +57,8 @@ func TestWhatAnExportLeft(t *testing.T) {
 	}
 }
 
-// An export of an older program doesn't say which other folders the devices share, and the sum says so.
+// An export of an older program doesn't say which other folders the devices share, and the sum says so. One of 0.9.0 doesn't say that a
+// folder is shared with nobody: it is one at one device alone, as it was.
 func TestAnExportOfAnOlderProgram(t *testing.T) {
 	room := exportedPart(t)
 	path := filepath.Join(room, restName)
@@ -64,13 +66,23 @@ func TestAnExportOfAnOlderProgram(t *testing.T) {
 	if err != nil {
 		t.Fatal(err)
 	}
-	for from, isTold := range map[string]bool{`"HasRest":true`: false, `"HasRest":false`: true} {
-		if err := os.WriteFile(path, []byte(strings.Replace(string(text), `"HasRest":true`, from, 1)), 0o600); err != nil {
+	own := regexp.MustCompile(`,"Own":"[^"]*"`)
+	for _, one := range []struct {
+		text   string
+		status int
+		told   string
+	}{
+		{string(text), statusDone, "\nshared with no device: docs on "},
+		{strings.Replace(string(text), `"HasRest":true`, `"HasRest":false`, 1), statusPartial, "\nnot told: "},
+		{own.ReplaceAllString(string(text), ""), statusPartial, "\nalone: docs is audited on one device"},
+	} {
+		if err := os.WriteFile(path, []byte(one.text), 0o600); err != nil {
 			t.Fatal(err)
 		}
 		var output strings.Builder
-		if status := run([]string{"sum", room}, &output, io.Discard); status != statusPartial || strings.Contains(output.String(), "not told: ") != isTold {
-			t.Errorf("%s: %d\n%s", from, status, output.String())
+		status := run([]string{"sum", room}, &output, io.Discard)
+		if status != one.status || !strings.Contains(output.String(), one.told) {
+			t.Errorf("%d, and not %q:\n%s", status, one.told, output.String())
 		}
 	}
 }

@@ -37,7 +37,7 @@ func (o *outlet) take(one *document.Document) error {
 		return faultOf(err)
 	}
 	name := fmt.Sprintf("cut-%04d.json", o.count)
-	o.written = append(o.written, exportedDocument{name, one.Folder})
+	o.written = append(o.written, exportedDocument{name, one.Folder, one.Own})
 	return writeNew(filepath.Join(o.directory, name), func(to io.Writer) error {
 		_, err := to.Write(one.Written)
 		return err

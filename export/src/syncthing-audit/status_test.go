@@ -112,7 +112,7 @@ func TestAnAnswerThatCannotBeWritten(t *testing.T) {
 	room := exportedPart(t)
 	for _, form := range []string{"", "--lines", "--json"} {
 		words := strings.Fields("sum " + room + " " + form)
-		if status := run(words, io.Discard, io.Discard); status != statusPartial {
+		if status := run(words, io.Discard, io.Discard); status != statusDone {
 			t.Errorf("%s has status %d", words, status)
 		}
 		var log strings.Builder

@@ -50,7 +50,7 @@ func sumOf(directory string) (*finding.Answer, error) {
 		if err != nil {
 			return nil, err
 		}
-		replies.Take(&document.Document{Folder: one.Folder}, reply)
+		replies.Take(&document.Document{Folder: one.Folder, Own: one.Own}, reply)
 	}
 	return read.Answer, replies.AddTo(read.Answer)
 }

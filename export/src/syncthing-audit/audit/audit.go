@@ -138,7 +138,7 @@ func (c *collector) folder(folder *join.Folder) error {
 	if c.options.WithBytes {
 		most = limits.MostBytes
 	}
-	next := &names{collector: c, folder: folder, found: &finding.Folder{ID: folder.ID, Label: folder.Label, Members: folder.Members,
+	next := &names{collector: c, folder: folder, found: &finding.Folder{ID: folder.ID, Label: folder.Label, Own: folder.Own, Members: folder.Members,
 		Live: liveOf(folder), Rows: map[string]*join.Row{}}, builder: document.NewBuilder(folder, c.options.WithBytes, most)}
 	c.answer.Folders = append(c.answer.Folders, next.found)
 	var err error

@@ -9,9 +9,12 @@ import (
 
 // Replies gathers what syncaudit says of documents, beside what is found in other ways.
 type Replies struct {
-	folders map[string]*replied
+	folders map[folderKey]*replied
 	room    finding.Room
 }
+
+// folderKey tells folders apart: of one id there may be several, each its device's own.
+type folderKey struct{ id, own string }
 
 // replied is what it says of one folder.
 type replied struct {
@@ -22,14 +25,15 @@ type replied struct {
 }
 
 // NewReplies begins to gather.
-func NewReplies() *Replies { return &Replies{folders: map[string]*replied{}} }
+func NewReplies() *Replies { return &Replies{folders: map[folderKey]*replied{}} }
 
 // Take adds a reply. They come in the order of their documents.
 func (r *Replies) Take(one *document.Document, reply *ask.Reply) {
-	to := r.folders[one.Folder]
+	key := folderKey{one.Folder, one.Own}
+	to := r.folders[key]
 	if to == nil {
 		to = &replied{firmness: finding.Firmness{Asked: true}}
-		r.folders[one.Folder] = to
+		r.folders[key] = to
 	}
 	to.names += reply.Names
 	to.deleted += reply.Deleted
@@ -52,7 +56,7 @@ func (r *Replies) Take(one *document.Document, reply *ask.Reply) {
 // AddTo adds all replies to what was found, and says why that isn't whole, if so.
 func (r *Replies) AddTo(answer *finding.Answer) error {
 	for _, one := range answer.Folders {
-		if from := r.folders[one.ID]; from != nil {
+		if from := r.folders[folderKey{one.ID, one.Own}]; from != nil {
 			one.Names += from.names
 			one.Deleted += from.deleted
 			one.Failures = from.failures

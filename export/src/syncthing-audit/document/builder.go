@@ -22,7 +22,8 @@ const (
 // Document is a check document without its certificate.
 type Document struct {
 	Folder      string
-	Place       int // among all documents, from 0
+	Own         string // the device whose own the folder is, as join.Folder has it
+	Place       int    // among all documents, from 0
 	First, Last string
 	Rows        []*join.Row // in the order of names
 	Written     []byte
@@ -181,7 +182,7 @@ func (b *Builder) takeSequences(row *join.Row) *part.LeftOut {
 
 // Take gives the document as it is, and begins another.
 func (b *Builder) Take() *Document {
-	made := &Document{Folder: b.folder.ID, Rows: b.rows, Written: b.write()}
+	made := &Document{Folder: b.folder.ID, Own: b.folder.Own, Rows: b.rows, Written: b.write()}
 	if len(b.rows) > 0 {
 		made.First, made.Last = b.rows[0].Name, b.rows[len(b.rows)-1].Name
 	}

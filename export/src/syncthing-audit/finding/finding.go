@@ -43,6 +43,7 @@ type Unasked struct {
 // Folder is what was found in a folder. As JSON it lacks the long lists, which WriteLists writes.
 type Folder struct {
 	ID, Label   string
+	Own         string        `json:",omitempty"` // the one device, where that shares its folder with nobody: others may have theirs of this id
 	Members     []join.Member // their numbers rising; the rows' places are theirs
 	Names       int64         // known ones, those without a winner included
 	Deleted     int64         // of these what no device holds
@@ -169,9 +170,10 @@ func isBefore(one, other *Failure, order []string) bool {
 	return one.Device < other.Device
 }
 
-// IsPart says whether something of the folder wasn't audited: a name, a device, or all other devices.
+// IsPart says whether something of the folder wasn't audited: a name, a device, or all other devices. Of one that its device shares with
+// nobody there is no other one.
 func (a *Answer) IsPart(folder *Folder) bool {
-	if len(folder.LeftOut) > 0 || len(folder.Members) < 2 || folder.Live.isPart() || (folder.Prefix() != "" && !a.ByNames) {
+	if len(folder.LeftOut) > 0 || (len(folder.Members) < 2 && folder.Own == "") || folder.Live.isPart() || (folder.Prefix() != "" && !a.ByNames) {
 		return true
 	}
 	for _, one := range a.LeftOut {

@@ -2,10 +2,23 @@ package join
 
 import "syncthing-audit/part"
 
-// checkApart takes out the devices whose folder has the id by chance: a folder 'default' on two devices, say, that neither shares.
-// Syncthing doesn't bring these together, so they aren't compared. What stays is the folder of most devices that are here. A device
-// that shares its folder with nobody is left out: there is nothing to compare. One that shares it with others is refused: someone may
-// think that these are one folder.
+// split gives the folder; or, where each of its devices shares it with nobody, a folder for each: they have the id by chance, as that of
+// the folder 'default' that Syncthing makes. There is nothing on another device with which such a folder could be in step or not. What its
+// device's index and disk say is compared.
+func (f *Folder) split() []*Folder {
+	made := []*Folder{}
+	for _, one := range f.Members {
+		if len(one.About.Sharing) > 0 {
+			return []*Folder{f}
+		}
+		made = append(made, &Folder{ID: f.ID, Label: one.About.Label, Members: []Member{one}, Own: one.Head.Device})
+	}
+	return made
+}
+
+// checkApart takes out the devices whose folder has the id by chance, where others share theirs: Syncthing doesn't bring these together,
+// so they aren't compared. What stays is the folder of most devices that are here. A device that shares its folder with nobody is left
+// out. One that shares it with others is refused. Someone may think that these are one folder.
 func (p *Plan) checkApart(folder *Folder) {
 	together := folder.together()
 	kept := []Member{}

@@ -35,6 +35,7 @@ type Folder struct {
 	ID      string
 	Label   string
 	Members []Member
+	Own     string // the id of the one device, where that shares its folder with nobody
 }
 
 // Called names the folder for a person.

@@ -45,8 +45,10 @@ func NewPlan(devices []*Device, wanted []string) (*Plan, error) {
 	}
 	made := &Plan{Devices: devices, IsByName: len(wanted) > 0}
 	for _, id := range ids {
-		if folder := made.folder(id); folder != nil {
-			made.Folders = append(made.Folders, folder)
+		for _, folder := range made.foldersOf(id) {
+			if made.check(folder) {
+				made.Folders = append(made.Folders, folder)
+			}
 		}
 	}
 	for _, device := range devices {
@@ -59,8 +61,8 @@ func NewPlan(devices []*Device, wanted []string) (*Plan, error) {
 // has says whether a folder is audited on a device.
 func (p *Plan) has(folder, device string) bool {
 	for _, one := range p.Folders {
-		if one.ID == folder {
-			return one.Member(device) >= 0
+		if one.ID == folder && one.Member(device) >= 0 {
+			return true
 		}
 	}
 	return false
@@ -115,8 +117,8 @@ func chosen(devices []*Device, wanted []string) ([]string, error) {
 	return ids, nil
 }
 
-// folder gives a folder with its devices; nothing where it isn't audited as a whole.
-func (p *Plan) folder(id string) *Folder {
+// foldersOf gives the folder of an id with its devices, or each device's own.
+func (p *Plan) foldersOf(id string) []*Folder {
 	made := &Folder{ID: id}
 	for _, device := range p.Devices {
 		if about := device.Head.Folder(id); about != nil {
@@ -126,18 +128,23 @@ func (p *Plan) folder(id string) *Folder {
 			}
 		}
 	}
+	return made.split()
+}
+
+// check refuses what can't be audited of a folder, and says whether it is audited as a whole.
+func (p *Plan) check(folder *Folder) bool {
 	before := len(p.Refusals)
-	p.checkWhole(made)
+	p.checkWhole(folder)
 	if len(p.Refusals) > before {
-		return nil
+		return false
 	}
-	p.checkApart(made)
-	if !p.checkSharing(made) {
-		return nil
+	p.checkApart(folder)
+	if !p.checkSharing(folder) {
+		return false
 	}
-	p.checkMoments(made)
-	p.checkOrder(made)
-	return made
+	p.checkMoments(folder)
+	p.checkOrder(folder)
+	return true
 }
 
 // refuse adds a refusal.

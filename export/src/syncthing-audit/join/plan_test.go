@@ -68,7 +68,7 @@ func TestSharing(t *testing.T) {
 		{"a part is missing", map[byte]string{1: "12"}, unchanged, part.Absent, 1},
 		{"one that two miss is told once", map[byte]string{1: "123", 2: "123"}, unchanged, part.Absent, 2},
 		{"not shared back", map[byte]string{1: "12", 2: "2"}, unchanged, part.Unshared, 0},
-		{"two that share it with nobody", map[byte]string{1: "1", 2: "2"}, unchanged, "left-out:unshared", 1},
+		{"two that share it with nobody", map[byte]string{1: "1", 2: "2"}, unchanged, "", 2},
 		{"one beside two that share it", map[byte]string{1: "1", 2: "23", 3: "23"}, unchanged, "left-out:unshared", 2},
 		{"two beside three by way of one that is missing", map[byte]string{1: "12", 2: "12", 3: "39", 4: "49", 5: "59"}, unchanged,
 			"unshared unshared absent", 3},
@@ -91,6 +91,37 @@ func TestSharing(t *testing.T) {
 		}
 		if refused(plan) != one.refused || members != one.members {
 			t.Errorf("%s: %q, %d devices", one.why, refused(plan), members)
+		}
+	}
+}
+
+// Where each device shares its folder of an id with nobody, each has one of its own. Where others share theirs, one device may be meant to
+// share it, too.
+func TestFoldersThatAreSharedWithNobody(t *testing.T) {
+	for _, one := range []struct {
+		with map[byte]string
+		own  string
+	}{
+		{map[byte]string{1: "1"}, "1"}, {map[byte]string{1: "1", 2: "2", 3: "3"}, "1 2 3"}, {map[byte]string{1: "12"}, "-"},
+		{map[byte]string{1: "1", 2: "23", 3: "23"}, "-"}, {map[byte]string{1: "1", 2: "29"}, "-"},
+	} {
+		plan, err := NewPlan(sharing(one.with, unchanged), nil)
+		if err != nil {
+			t.Fatal(err)
+		}
+		own := []string{}
+		for _, folder := range plan.Folders {
+			if folder.Own == "" {
+				own = append(own, "-")
+				continue
+			}
+			own = append(own, folder.Members[0].From)
+			if len(folder.Members) != 1 || folder.Members[0].Head.Device != folder.Own {
+				t.Errorf("%v: a folder of its own has %d devices", one.with, len(folder.Members))
+			}
+		}
+		if told := strings.Join(own, " "); told != one.own {
+			t.Errorf("%v: %s", one.with, told)
 		}
 	}
 }

@@ -65,6 +65,11 @@ func Rest(to io.Writer, answer *finding.Answer) {
 		damaged(to, folder)
 		leftOut(to, folder)
 	}
+	for _, folder := range answer.Folders {
+		if folder.Own != "" {
+			fmt.Fprintf(to, "not shared: folder %s on %d\n", folder.ID, folder.Members[0].Number)
+		}
+	}
 	for _, one := range answer.LeftOut {
 		fmt.Fprintf(to, "left out: folder %s, device %s: %s\n", one.Folder, one.Device, one.Why)
 	}

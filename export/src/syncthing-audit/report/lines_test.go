@@ -22,6 +22,13 @@ func folderOf(id string, devices int, failures ...finding.Failure) *finding.Fold
 	return made
 }
 
+// ownFolder gives a folder that its device shares with nobody.
+func ownFolder(id string) *finding.Folder {
+	made := folderOf(id, 1)
+	made.Own = "A"
+	return made
+}
+
 func TestVerdicts(t *testing.T) {
 	differs := finding.Failure{Reason: "StoreDiffers", Name: "b", Device: 1}
 	unwon := finding.Failure{Reason: "NotWinner", Name: "z"}
@@ -34,6 +41,7 @@ func TestVerdicts(t *testing.T) {
 	}{
 		{"all in step", finding.Answer{Folders: []*finding.Folder{folderOf("docs", 2)}}, "settled"},
 		{"a folder at one device alone", finding.Answer{Folders: []*finding.Folder{folderOf("docs", 2), folderOf("pics", 1)}}, "settled as far as audited"},
+		{"a folder that a device shares with nobody", finding.Answer{Folders: []*finding.Folder{folderOf("docs", 2), ownFolder("pics")}}, "settled"},
 		{"a name that was left out", finding.Answer{Folders: []*finding.Folder{left}}, "settled as far as audited"},
 		{"a device that was left out", finding.Answer{Folders: []*finding.Folder{folderOf("docs", 2)},
 			LeftOut: []finding.Refusal{{Kind: part.Absent, Folder: "docs"}}}, "settled as far as audited"},

@@ -17,10 +17,11 @@ func (p *printer) rest(s *Summary) {
 		p.moving(folder)
 		p.copies(folder)
 		p.leftOut(folder)
-		if len(folder.Devices) < 2 {
+		if len(folder.Devices) < 2 && !folder.Own {
 			p.line("alone: %s is audited on one device, so there is nothing to compare it with", folder.ID)
 		}
 	}
+	p.own(s)
 	for _, one := range s.LeftOut {
 		p.line("left out: %s of %s: %s", shell.Folder(one.Folder, one.label), one.Device, one.Why)
 	}
@@ -32,6 +33,21 @@ func (p *printer) rest(s *Summary) {
 	p.ages(s)
 	p.untried(s)
 	p.line("not compared: %s", strings.Join(s.NotCompared, ", "))
+}
+
+// own prints which folders are shared with nobody: no other device was asked about these.
+func (p *printer) own(s *Summary) {
+	folders, devices := []string{}, map[string][]string{}
+	for _, one := range s.Folders {
+		if one.Own {
+			name := shell.Folder(one.ID, one.Label)
+			folders = addOnce(folders, name)
+			devices[name] = append(devices[name], one.Devices[0].Device)
+		}
+	}
+	for _, name := range folders {
+		p.line("shared with no device: %s on %s: what stands on the disk was compared with the device's own index alone", name, p.named.all(devices[name]))
+	}
 }
 
 // mostAge is how long ago a device may have been read without that being told.

@@ -336,6 +336,12 @@ not compared: owners, extended attributes, old versions
 alone: docs is audited on one device, so there is nothing to compare it with
 not compared: owners, extended attributes, old versions
 `},
+	{"a device that shares it with nobody", 1, func(folder *finding.Folder) { folder.Own = laptop },
+		`docs (Documents): in step and firm; 1,204 names (4 deleted), 335.2 MB hashed on laptop
+
+shared with no device: docs (Documents) on laptop: what stands on the disk was compared with the device's own index alone
+not compared: owners, extended attributes, old versions
+`},
 }
 
 func TestWhatAPersonReads(t *testing.T) {
