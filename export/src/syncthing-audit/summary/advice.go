@@ -152,17 +152,23 @@ func changedAdvice(one *Fault, file *File, at string, named labels) string {
 	if one.isFileForFile() {
 		how = overFile
 	}
-	undo := "if the change isn't wanted, first " + copying(one, file, named, how)
+	told := "start Syncthing on " + at + " and 'Rescan': "
 	if one.Kind == receiveOnly {
-		return "start Syncthing on " + at + " and 'Rescan': the change stays there as a local one, which 'Revert Local Changes' takes back"
+		return told + file.say("the change stays there as a local one", "the changes stay there as local ones") + ", which 'Revert Local Changes' takes back"
 	}
-	return "start Syncthing on " + at + " and 'Rescan': the change then goes to all. " + strings.ToUpper(undo[:1]) + undo[1:]
+	return told + file.say("the change then goes to all. If the change isn't wanted", "the changes then go to all. If they aren't wanted") +
+		", first " + copying(one, file, named, how)
 }
 
 // isFileForFile says whether a file stands where a file is recorded.
-func (f *Fault) isFileForFile() bool {
-	const file = "file"
-	return f.Recorded != nil && f.Recorded.Type == file && f.Found != nil && f.Found.Type == file
+func (f *Fault) isFileForFile() bool { return f.types() == "file file" }
+
+// types gives what is recorded and what stands on the disk, where both are known.
+func (f *Fault) types() string {
+	if f.Recorded == nil || f.Found == nil {
+		return ""
+	}
+	return f.Recorded.Type + " " + f.Found.Type
 }
 
 func missingAdvice(one *Fault, file *File, at string, named labels) string {
@@ -181,7 +187,8 @@ func behindAdvice(one *Fault, file *File, at string, named labels) string {
 		return at + " only sends: it doesn't take what others change. 'Override Changes' there undoes their changes on all devices, and deletes " +
 			"what they added; to take the changes, make the folder 'Send & Receive' there"
 	case one.Cause == Conflicting:
-		return "start Syncthing on all of these devices: it keeps one version, and the other one as a conflict copy"
+		return "start Syncthing on all of these devices: it keeps one version" + file.say(", and the other one as a conflict copy",
+			" of each, and the others as conflict copies")
 	}
 	told := "let Syncthing run on " + at + " and on " + holders(file, named) + ", and let them finish. If it stays so, see whether a device " +
 		"or the folder is paused, whether they are connected, and whether a disk is full"

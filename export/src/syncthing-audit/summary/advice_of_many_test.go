@@ -35,6 +35,9 @@ var ofMany = []struct {
 	{faultsOf("send-receive", Damaged), []string{laptop}, "with their times"},
 	{faultsOf(receiveOnly, LocalChange), []string{laptop}, "To have the changes everywhere"},
 	{faultsOf("send-receive", Back), nil, "delete them on server"},
+	{faultsOf("send-receive", Changed), []string{laptop}, "the changes then go to all. If they aren't wanted, first copy them from laptop to server as they are"},
+	{faultsOf(receiveOnly, Changed), nil, "the changes stay there as local ones"},
+	{faultsOf("send-receive", Conflicting), nil, "one version of each, and the others as conflict copies"},
 }
 
 // What is said of many names speaks of many, and what is said of one of one.

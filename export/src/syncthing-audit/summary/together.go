@@ -7,9 +7,9 @@ import (
 	"syncthing-audit/shell"
 )
 
-// readTogether are the causes of which a person reads of many names as one: a disk that rots has many, and so has a receive-only
-// device on which someone worked. --json tells each.
-var readTogether = map[Cause]bool{OtherBytes: true, LocalChange: true, LocalAddition: true}
+// readTogether are the causes of which a person reads of many names as one: a disk that rots has many, and so has a device on which
+// someone worked while Syncthing was off. --json tells each.
+var readTogether = map[Cause]bool{OtherBytes: true, LocalChange: true, LocalAddition: true, Changed: true, Back: true, Conflicting: true, OnlySeen: true}
 
 // files prints the entries of names. Of many with the same fault on the same devices one entry tells the first ones and counts
 // the others.
@@ -40,7 +40,7 @@ func (f *File) readKey() string {
 		if !readTogether[one.Cause] || one.isSeen {
 			return ""
 		}
-		key += fmt.Sprint(" ", one.Device, one.Cause, one.Deletion)
+		key += fmt.Sprint(" ", one.Device, one.Cause, one.Deletion, one.types())
 	}
 	return key
 }

@@ -68,6 +68,35 @@ func TestManyNamesOfOtherBytesWhereScansLookAtAttributes(t *testing.T) {
 	}
 }
 
+// So are many files that were changed while Syncthing was off; what is of another type on the disk is told apart.
+func TestManyChanges(t *testing.T) {
+	answer := answerOf(2, func(folder *finding.Folder) {
+		changed := func(one *part.Name) { rotten(one); one.Disk.ModifiedS = later }
+		link := func(one *part.Name) { one.Disk = &part.Node{Type: 4, Target: "elsewhere"} }
+		for next := 0; next < 40; next++ {
+			fails(folder, fmt.Sprintf("a/%02d", next), []*part.Name{file(1, 1), with(file(1, 1), changed)}, "StoreDiffers 2")
+			fails(folder, fmt.Sprintf("b/%02d", next), []*part.Name{file(1, 1), with(file(1, 1), link)}, "StoreDiffers 2")
+		}
+	})
+	var written strings.Builder
+	Of(answer).Print(&written, time.UTC, time.Time{})
+	text := written.String()
+	for _, told := range []string{`
+40 names in docs: 12.0 MB
+  server: changed on the disk since the last scan
+  the first: a/00 a/01 a/02 a/03 a/04, and 35 more (--lines has all)
+  as recorded on: laptop
+  to do: start Syncthing on server and 'Rescan': the changes then go to all. If they aren't wanted,
+         first copy them from laptop to server with their times`, `
+40 names in docs: 12.0 MB
+  server: a symlink on the disk, recorded as a file
+  the first: b/00 b/01 b/02 b/03 b/04, and 35 more (--lines has all)`} {
+		if !strings.Contains(text, told) {
+			t.Errorf("this isn't told: %s\nbut:\n%s", told, text)
+		}
+	}
+}
+
 // So are many names that were changed on a receive-only device, and many that were added there; what was changed is told apart from
 // what was deleted.
 func TestManyLocalChanges(t *testing.T) {
