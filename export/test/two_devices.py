@@ -88,6 +88,19 @@ class TwoDevices(Answers, Exporting):
             self.assertEqual((ran.returncode, ran.stdout), (2, ""))
             self.assertRegex(" ".join(ran.stderr.split()), why)
 
+    def test_a_part_of_the_home_that_syncthing_takes(self):
+        user, path = self.room / "user", self.room / "usual.part"
+        for usual in (".config", ".local/state"):
+            (user / usual).mkdir(parents=True)
+            (user / usual / "syncthing").symlink_to(self.one.home)
+            ran = run([self.program, "part", "-o", path], env={**os.environ, "HOME": str(user)})
+            self.assertEqual((ran.returncode, ran.stderr), (0, ""))
+            (user / usual / "syncthing").unlink()
+        self.assertEqual(self.check_parts([path, self.part(self.two)]).stdout.splitlines()[0], "settled")
+        ran = run([self.program, "part", "-o", path], env={**os.environ, "HOME": str(user)})
+        self.assertEqual(ran.returncode, 3)
+        self.assertIn(f"no Syncthing home is at {user}/.config/syncthing or {user}/.local/state/syncthing: --home names it", ran.stderr)
+
     def test_a_part_that_a_shell_writes_into_a_folder_is_refused(self):
         """It would be found there. That is so by another path of the folder, too, and not of a file beside the folder."""
         beside, link = self.one.home.parent / "beside.part", self.one.home.parent / "link"

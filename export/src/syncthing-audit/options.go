@@ -40,7 +40,7 @@ type options struct {
 	hasJobs    bool // whether they were asked for
 }
 
-var usage = fmt.Sprintf(`usage: syncthing-audit part --home DIR [--folder ID ..] [--names PREFIX] -o FILE
+var usage = fmt.Sprintf(`usage: syncthing-audit part [--home DIR] [--folder ID ..] [--names PREFIX] -o FILE
        syncthing-audit check [--home DIR ..] [PART ..] [--folder ID ..]
        syncthing-audit run [MACHINE:[DIR] | DIR ..] [--folder ID ..]
        syncthing-audit part (--begin [--rescan] | --end --tokens FILE ..) [--home DIR] [--folder ID ..] -o FILE
@@ -49,7 +49,7 @@ var usage = fmt.Sprintf(`usage: syncthing-audit part --home DIR [--folder ID ..]
        syncthing-audit sum DIR
        syncthing-audit --version
 
-Says whether Syncthing devices are in step, and where not which device is wrong.
+Says whether Syncthing devices are in step, and where they aren't, which device is wrong.
 
   part    reads a stopped device's index and hashes its files, and writes what it found: no file's bytes, no private key
   run     looks twice at devices that run, on other machines by ssh, and has syncaudit answer for what was still meanwhile
@@ -59,7 +59,8 @@ Says whether Syncthing devices are in step, and where not which device is wrong.
   sum     joins the answers to exported documents, cut-0001.reply and so on: what 'syncaudit check', then
           'syncaudit explain' and then 'syncaudit firm' write of each
 
-  --home DIR           a device's home on this machine: config.xml, cert.pem and index-v0.14.0.db
+  --home DIR           a device's home on this machine: config.xml, cert.pem and index-v0.14.0.db. Without it part takes the one that
+                       Syncthing takes by itself: ~/.config/syncthing or ~/.local/state/syncthing
   --folder ID          only this folder (may be given more than once; all folders if it isn't). part takes those that its device has,
                        and tells which it hasn't
   --names PREFIX       only names that begin with these bytes
@@ -69,15 +70,16 @@ Says whether Syncthing devices are in step, and where not which device is wrong.
   --end                second look; needs the tokens of all
   --tokens FILE        tokens, one on a line; - is standard input
   --heed-input         of --begin: end without a part once standard input ends; 'run' has it so on other machines
-  --rescan             of run, and of part --begin: ask Syncthing for a scan before the first look, by its REST API, and wait for it
+  --rescan             of run, and of part --begin: have Syncthing scan before the first look, by its REST API, and wait for that: what
+                       changed or is missing on a disk goes to all devices then
   --still SECONDS      of run: how long second looks wait at least, once first ones are over (10)
   --remote-program P   of run: how this program is called on the other machines (syncthing-audit, on PATH or in ~/.local/bin)
-  --dry-run            of run: tell the commands
+  --dry-run            of run: write the commands that it would run, as a script for a shell, and run none of them
   -o FILE              where the part goes; standard output if it is - or isn't given
   --leave-out KINDS    leave out what can't be audited, by kinds with commas between, and say so:
                        %s
-  --lines              in place of a summary for people: the verdict and all that fails, a line each, in syncaudit's words
-  --json               in place of it: the summary for programs; audit.schema.json is its schema
+  --lines              in place of the summary for people, the verdict and a line for each failure, in syncaudit's words
+  --json               in place of it, the summary for programs; audit.schema.json is its schema
   --bytes              documents with the bytes of files (from homes alone), as others may want to read them
   --into DIR           write the documents there, as cut-0001.json and so on
   --syncaudit FILE     the program that answers; if it isn't given, $SYNCAUDIT, or syncaudit on PATH

@@ -54,14 +54,17 @@ func readPartOptions(words []string) (options, error) {
 		flags.Var((*list)(&read.tokens), "tokens", "")
 		flags.Var(kinds(read.leaveOut), "leave-out", "")
 	})
-	if err == nil && len(asked.homes) == 0 && (asked.about || asked.begin || asked.end) {
-		err = asked.takeDefaultHome()
+	if err == nil && len(asked.parts) > 0 {
+		err = &wrongUsage{fmt.Sprintf("%q stands behind no flag: a home stands behind --home, and the part behind -o", asked.parts[0])}
 	}
-	if err == nil && (len(asked.homes) != 1 || len(asked.parts) > 0) {
+	if err == nil && len(asked.homes) > 1 {
 		err = &wrongUsage{"a part is made of one --home"}
 	}
 	if err == nil {
 		err = asked.checkLooks()
+	}
+	if err == nil && len(asked.homes) == 0 {
+		err = asked.takeDefaultHome()
 	}
 	return asked, err
 }

@@ -23,13 +23,15 @@ func TestVersion(t *testing.T) {
 
 // Each wrong use is told with a reason.
 func TestReasonsOfUsage(t *testing.T) {
+	t.Setenv("HOME", t.TempDir())
 	for words, reason := range map[string]string{
 		"":                            "no command is given",
 		"now":                         `"now" is no command`,
 		"check":                       "no home and no part is given",
 		"check --lines --json x":      "choose one",
 		"check --nothing x":           "-nothing",
-		"part":                        "a part is made of one --home",
+		"part":                        "no Syncthing home is at ",
+		"part ~/laptop":               "stands behind no flag: a home stands behind --home, and the part behind -o",
 		"part --home x --home y":      "a part is made of one --home",
 		"check --jobs 0 x":            "--jobs is at least 1",
 		"check --leave-out much x":    `"much" is none of`,
