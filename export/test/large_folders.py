@@ -60,7 +60,7 @@ class LargeFolder(Exporting):
             self.assertLessEqual(len(certified.stdout.encode()), 64 * MEGA)
         ran = self.export("--bytes", "--into", str(room))
         self.assertEqual(ran.returncode, 2)
-        self.assertIn("file exists", ran.stderr)
+        self.assertIn("documents has an earlier export (cut-0001.json): name another directory", ran.stderr)
 
     def test_the_sum_of_the_answers(self):
         counts = f"folder {FOLDER}: 4 names, 0 deleted, 2 devices"

@@ -110,6 +110,31 @@ class Manners(unittest.TestCase):
             self.assertEqual((list(into.iterdir()), list(self.temporary.glob("syncthing-audit-*"))), ([], []))
             into.rmdir()
 
+    def test_a_signal_while_documents_are_exported_leaves_none(self):
+        endless, into = self.room / "device1" / "files" / "zz endless", self.temporary / "into"
+        with endless.open("wb") as file:
+            file.truncate(ENDLESS_BYTES)
+        self.addCleanup(endless.unlink)
+        process = self.start("export", *(word for home in self.homes for word in ("--home", home)), "--into", into, stderr=subprocess.DEVNULL)
+        wait_until("a document is written", (into / "cut-0001.json").exists)
+        process.send_signal(signal.SIGINT)
+        self.assertEqual(process.wait(SECONDS_TO_WAIT), 128 + signal.SIGINT)
+        self.assertEqual((list(into.iterdir()), list(self.temporary.glob("syncthing-audit-*"))), ([], []))
+
+    def test_a_refused_export_leaves_no_document(self):
+        """What is refused may stand behind names that have their document. Then the export may be made into the same directory."""
+        odd, into = self.room / "device1" / "files" / "zz pipe", self.temporary / "into"
+        os.mkfifo(odd)
+        self.addCleanup(odd.unlink)
+        export = [self.program, "export", *(word for home in self.homes for word in ("--home", home)), "--into", into]
+        ran = run(export)
+        self.assertEqual((ran.returncode, into.exists()), (2, False), ran.stderr)
+        self.assertEqual(run([*export, "--leave-out", "special"]).returncode, 0)
+        before = sorted(into.iterdir())
+        ran = run([*export, "--leave-out", "special"])
+        self.assertEqual((ran.returncode, sorted(into.iterdir())), (2, before), ran.stderr)
+        self.assertIn("into has an earlier export (cut-0001.json): name another directory, or take that away", ran.stderr)
+
     def test_a_signal_while_syncaudit_answers_ends_it_too(self):
         program, _ = self.waiting_auditor()
         process = self.start("check", *(word for home in self.homes for word in ("--home", home)), "--syncaudit", program)
@@ -137,7 +162,7 @@ class Manners(unittest.TestCase):
         self.assertIn("write one.part: no space left on device", ran.stderr)
 
     def test_documents_on_a_full_disk(self):
-        ran = self.on_a_full_disk("64k", f"{self.program} export {self.parts[0]} {self.parts[1]} --into documents; echo $?")
+        ran = self.on_a_full_disk("64k", f"{self.program} export {self.parts[0]} {self.parts[1]} --into documents; echo $?; ls -A")
         self.assertEqual(ran.stdout.split(), ["5"], ran.stderr)
         self.assertIn("no space left on device", ran.stderr)
 

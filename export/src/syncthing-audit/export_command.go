@@ -21,19 +21,26 @@ func runExport(words []string, output, log io.Writer) (int, error) {
 		return 0, err
 	}
 	defer opened.close()
+	to := &outlet{output: output, directory: asked.into}
 	if asked.into != "" {
 		if err := checkUnsynced(asked.into, opened.devices); err != nil {
 			return 0, err
 		}
+		if err := to.checkNew(); err != nil {
+			return 0, err
+		}
 	}
 	tellDevices(log, opened.devices)
-	to := &outlet{output: output, directory: asked.into}
 	answer, err := opened.audited(asked, log, func() (*finding.Answer, error) { return export(opened, asked, to) })
+	if err == nil {
+		report.Rest(log, answer)
+		err = to.end(answer, log)
+	}
 	if err != nil {
+		to.drop()
 		return 0, err
 	}
-	report.Rest(log, answer)
-	return statusDone, to.end(answer, log)
+	return statusDone, nil
 }
 
 // readExportOptions reads the words behind 'export'.

@@ -28,19 +28,17 @@ type exportedDocument struct {
 	Own          string `json:",omitempty"` // as join.Folder has it
 }
 
-// save writes what no document says.
-func (e *exported) save(directory string) error {
-	return writeNew(filepath.Join(directory, restName), func(file io.Writer) error {
-		to := bufio.NewWriter(file)
-		lines := json.NewEncoder(to)
-		if err := lines.Encode(e); err != nil {
-			return err
-		}
-		if err := e.Answer.WriteLists(lines); err != nil {
-			return err
-		}
-		return to.Flush()
-	})
+// write writes what no document says.
+func (e *exported) write(file io.Writer) error {
+	to := bufio.NewWriter(file)
+	lines := json.NewEncoder(to)
+	if err := lines.Encode(e); err != nil {
+		return err
+	}
+	if err := e.Answer.WriteLists(lines); err != nil {
+		return err
+	}
+	return to.Flush()
 }
 
 // readExported reads what an export left in a directory.

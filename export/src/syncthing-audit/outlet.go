@@ -6,9 +6,12 @@ import (
 	"io"
 	"os"
 	"path/filepath"
+	"strings"
 
 	"syncthing-audit/document"
 	"syncthing-audit/finding"
+	"syncthing-audit/leftover"
+	"syncthing-audit/shell"
 )
 
 // errSeveral says that the documents need a directory.
@@ -21,6 +24,23 @@ type outlet struct {
 	count     int
 	kept      []byte
 	written   []exportedDocument
+	files     []string
+}
+
+// checkNew says whether an earlier export stands in the directory, or answers to one: 'sum' would take these for the new documents'.
+func (o *outlet) checkNew() error {
+	for _, pattern := range []string{"cut-*.json", "cut-*.reply", restName} {
+		if there, _ := filepath.Glob(filepath.Join(globbed(o.directory), pattern)); len(there) > 0 {
+			return fmt.Errorf("refused: %s has an earlier export (%s): name another directory, or take that away", shell.Quoted(o.directory),
+				filepath.Base(there[0]))
+		}
+	}
+	return nil
+}
+
+// globbed gives a path as a pattern that fits it alone.
+func globbed(path string) string {
+	return strings.NewReplacer(`\`, `\\`, "*", `\*`, "?", `\?`, "[", `\[`).Replace(path)
 }
 
 // take is given each document.
@@ -38,7 +58,7 @@ func (o *outlet) take(one *document.Document) error {
 	}
 	name := fmt.Sprintf("cut-%04d.json", o.count)
 	o.written = append(o.written, exportedDocument{name, one.Folder, one.Own})
-	return writeNew(filepath.Join(o.directory, name), func(to io.Writer) error {
+	return o.writeNew(name, func(to io.Writer) error {
 		_, err := to.Write(one.Written)
 		return err
 	})
@@ -53,19 +73,35 @@ func (o *outlet) end(answer *finding.Answer, log io.Writer) error {
 		_, err := faulty{o.output}.Write(o.kept)
 		return err
 	}
+	if err := o.writeNew(restName, (&exported{answer, o.written}).write); err != nil {
+		return err
+	}
+	leftover.Keep(o.files)
 	fmt.Fprintf(log, "syncthing-audit: %s in %s\n", countOf(o.count, "document"), o.directory)
-	return (&exported{answer, o.written}).save(o.directory)
+	return nil
 }
 
-// writeNew writes a file that isn't there yet.
-func writeNew(path string, write func(io.Writer) error) error {
-	file, err := os.OpenFile(path, os.O_WRONLY|os.O_CREATE|os.O_EXCL, 0o666)
+// drop takes away what was written, and the directory if nothing else is there: without the rest the documents have no sum.
+func (o *outlet) drop() {
+	for _, path := range o.files {
+		leftover.Remove(path)
+	}
+	if len(o.files) > 0 {
+		os.Remove(o.directory)
+	}
+}
+
+// writeNew writes a file that isn't there yet, and that is gone in the end unless all are written.
+func (o *outlet) writeNew(name string, write func(io.Writer) error) error {
+	path := filepath.Join(o.directory, name)
+	file, err := leftover.New(path)
 	if errors.Is(err, os.ErrExist) {
 		return err
 	}
 	if err != nil {
 		return faultOf(err)
 	}
+	o.files = append(o.files, path)
 	if err := write(faulty{file}); err != nil {
 		file.Close()
 		return err

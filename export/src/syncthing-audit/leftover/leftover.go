@@ -43,6 +43,26 @@ func File(directory, pattern string) (*os.File, error) {
 	return file, err
 }
 
+// New makes a file at a path where nothing is yet, to be gone in the end unless it is kept.
+func New(path string) (*os.File, error) {
+	mutex.Lock()
+	defer mutex.Unlock()
+	file, err := os.OpenFile(path, os.O_WRONLY|os.O_CREATE|os.O_EXCL, 0o666)
+	if err == nil {
+		paths[path] = true
+	}
+	return file, err
+}
+
+// Keep has these files stay.
+func Keep(all []string) {
+	mutex.Lock()
+	defer mutex.Unlock()
+	for _, path := range all {
+		delete(paths, path)
+	}
+}
+
 // Run runs a program to its end.
 func Run(program *exec.Cmd) error {
 	mutex.Lock()
