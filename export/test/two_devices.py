@@ -12,6 +12,7 @@ import json
 import os
 import subprocess
 import tempfile
+import xml.etree.ElementTree as xml
 from contextlib import contextmanager
 from pathlib import Path
 
@@ -162,6 +163,26 @@ class TwoDevices(Answers, Exporting):
             self.stop()
             self.assertEqual(self.verdict(), self.differs())
         self.assertEqual(self.verdict(), "settled")
+
+    def test_what_is_paused_is_told(self):
+        """A folder that is paused on a device, and a device that another one has paused: they are in step by now, and exchange nothing."""
+        path = self.two.home / "config.xml"
+        before, tree = path.read_text(), xml.parse(path)
+        for paused in (tree.find("folder"), *[one for one in tree.getroot().findall("device") if one.get("id") == self.one.id]):
+            for old in paused.findall("paused"):
+                paused.remove(old)
+            xml.SubElement(paused, "paused").text = "true"
+        tree.write(path)
+        try:
+            status, text = self.answer()
+            member = [one for one in json.loads(self.answer("--json")[1])["folders"][0]["devices"] if one["device"] == self.two.id]
+        finally:
+            path.write_text(before)
+        self.assertEqual(status, 0)
+        self.assertIn(f"\npaused: folder {FOLDER} on {self.two.id[:7]}: it takes and sends nothing of it until it is resumed there\n", text)
+        self.assertIn(f"\npaused: device {self.one.id[:7]} on {self.two.id[:7]}: the two exchange nothing until it is resumed there\n", text)
+        self.assertEqual([(one["paused"], one["paused_devices"]) for one in member], [(True, [self.one.id])])
+        self.assertNotIn("paused: ", self.answer()[1])
 
     def test_an_edit_that_no_scan_has_seen(self):
         path = self.two.files / "text"

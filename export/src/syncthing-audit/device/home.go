@@ -133,6 +133,17 @@ func (h *Home) Sharing(folder config.FolderConfiguration) []part.Sharing {
 	return made
 }
 
+// pausedOf gives the devices with which a folder is shared, and which are paused here.
+func (h *Home) pausedOf(folder config.FolderConfiguration) []string {
+	var made []string
+	for _, one := range h.Config.Devices {
+		if one.Paused && one.DeviceID != h.ID && folder.SharedWith(one.DeviceID) {
+			made = append(made, one.DeviceID.String())
+		}
+	}
+	return made
+}
+
 // nameOf gives the name that this device has for another.
 func (h *Home) nameOf(id protocol.DeviceID) string {
 	for _, one := range h.Config.Devices {

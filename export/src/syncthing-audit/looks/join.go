@@ -85,7 +85,7 @@ func joinFolder(one, other *part.Folder) (*part.Folder, error) {
 		return nil, fmt.Errorf("folder %s: its configuration changed between the two looks: begin again", shell.Folder(one.ID, one.Label))
 	}
 	made := *one
-	made.Max = other.Max
+	made.Max, made.Paused, made.PausedDevices = other.Max, other.Paused, other.PausedDevices
 	made.Views = append([]part.View{}, one.Views...)
 	for _, view := range other.Views {
 		at := slices.IndexFunc(made.Views, func(had part.View) bool { return had.Device == view.Device })

@@ -73,6 +73,8 @@ type Folder struct {
 	ScansAttributes    bool      `json:"scans_attributes,omitempty"` // owners or extended ones, so it hashes files whose inode changed
 	Sharing            []Sharing `json:"sharing"`
 	Views              []View    `json:"views"`
+	Paused             bool      `json:"paused,omitempty"`         // the device neither takes nor sends anything of it
+	PausedDevices      []string  `json:"paused_devices,omitempty"` // others with which it shares the folder, and exchanges nothing
 }
 
 // Sharing is another device that the folder is shared with, by the device's own configuration.

@@ -76,12 +76,15 @@ type Member struct {
 	Device string `json:"device"`
 	Kind   string `json:"kind"`
 	Path   string `json:"path"`
+
+	Paused        bool     `json:"paused,omitempty"`
+	PausedDevices []string `json:"paused_devices,omitempty"` // others, by their ids
 }
 
 func memberOf(one join.Member) Member {
 	made := Member{Device: one.Head.Device, Kind: kindOf(one)}
 	if one.About != nil {
-		made.Path = one.About.Path
+		made.Path, made.Paused, made.PausedDevices = one.About.Path, one.About.Paused, one.About.PausedDevices
 	}
 	return made
 }

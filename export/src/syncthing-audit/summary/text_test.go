@@ -336,6 +336,16 @@ not compared: owners, extended attributes, old versions
 alone: docs is audited on one device, so there is nothing to compare it with
 not compared: owners, extended attributes, old versions
 `},
+	{"a folder that is paused, and a device", 3, func(folder *finding.Folder) {
+		folder.Members[0].About.Paused = true
+		folder.Members[1].About.PausedDevices = []string{laptop, phone}
+	}, `docs (Documents): in step and firm; 1,204 names (4 deleted), 335.2 MB hashed on laptop, phone, server
+
+paused: folder docs (Documents) on laptop: it takes and sends nothing of it until it is resumed there
+paused: device laptop on server: the two exchange nothing until it is resumed there
+paused: device phone on server: the two exchange nothing until it is resumed there
+not compared: owners, extended attributes, old versions
+`},
 	{"a device that shares it with nobody", 1, func(folder *finding.Folder) { folder.Own = laptop },
 		`docs (Documents): in step and firm; 1,204 names (4 deleted), 335.2 MB hashed on laptop
 
