@@ -143,6 +143,19 @@ cd "{room}/$machine/user" && HOME=$PWD PATH={programs}:$PATH exec sh -c "$*"
             self.assertIn(f"folder {FOLDER} is paused there, and Syncthing doesn't scan it: resume it", one.stderr)
         self.assert_no_look()
 
+    def test_a_folder_whose_disk_is_not_mounted_is_refused(self):
+        """It is told before any device hashes its files."""
+        marker = self.two.files / ".stfolder"
+        marker.rename(self.room / "away")
+        try:
+            ran = self.run_on()
+        finally:
+            (self.room / "away").rename(marker)
+        self.assertEqual((ran.returncode, ran.stdout), (2, ""))
+        self.assertIn(f"folder {FOLDER}: {self.two.files} has no .stfolder, by which Syncthing knows the folder: is its disk mounted?", ran.stderr)
+        self.assert_no_look()
+        self.assertEqual(self.run_on("--lines").stdout.splitlines()[0], "settled")
+
     def test_a_program_reads_the_same(self):
         ran = self.run_on("--json")
         read = json.loads(ran.stdout)

@@ -11,10 +11,11 @@ import (
 	"syncthing-audit/device"
 	"syncthing-audit/join"
 	"syncthing-audit/part"
+	"syncthing-audit/shell"
 )
 
 // tellAbout writes what a device is configured to share: no index and no file is read for that. 'run' asks it of all devices
-// before any of them hashes its files. A folder that is asked for needn't be there: another device may have it.
+// before any of them hashes its files, so a folder whose disk isn't mounted is refused by then. A folder that is asked for needn't be there: another device may have it.
 func tellAbout(asked options, write writing) error {
 	id, about, err := device.About(asked.homes[0])
 	if err != nil {
@@ -23,6 +24,11 @@ func tellAbout(asked options, write writing) error {
 	home := &device.Home{ID: id, Config: about}
 	if err := checkFolders(home, nil, io.Discard); err != nil {
 		return err
+	}
+	for _, one := range chosenOf(about, asked.folders) {
+		if err := device.CheckPath(one); err != nil {
+			return fmt.Errorf("%s: %w", asked.homes[0], shell.Labelled(err, one.ID, one.Label))
+		}
 	}
 	if asked.rescan {
 		if err := checkScannable(about, asked); err != nil {

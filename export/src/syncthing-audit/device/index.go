@@ -26,8 +26,8 @@ type Index struct {
 func (h *Home) Index(folder config.FolderConfiguration) (made *Index, err error) {
 	defer recovered(folder.ID, &err)
 	folder.CaseSensitiveFS = true // names come from the directory itself
-	if err := folder.CheckPath(); err != nil {
-		return nil, pathFault(folder, err)
+	if err := CheckPath(folder); err != nil {
+		return nil, err
 	}
 	directory, err := DirectoryOf(adapt.Filesystem(folder.Filesystem, nil).URI())
 	if err != nil {
@@ -42,6 +42,14 @@ func (h *Home) Index(folder config.FolderConfiguration) (made *Index, err error)
 		return nil, err
 	}
 	return &Index{folder, h, directory, files, snapshot}, nil
+}
+
+// CheckPath says what is wrong with a folder's directory: its disk isn't mounted, say.
+func CheckPath(folder config.FolderConfiguration) error {
+	if err := folder.CheckPath(); err != nil {
+		return pathFault(folder, err)
+	}
+	return nil
 }
 
 // pathFault says what is to be seen to where a folder's directory isn't as Syncthing wants it.
