@@ -38,17 +38,15 @@ func (p *printer) rest(s *Summary) {
 
 // own prints which folders are shared with nobody: no other device was asked about these.
 func (p *printer) own(s *Summary) {
-	folders, devices := []string{}, map[string][]string{}
+	own := places{}
 	for _, one := range s.Folders {
 		if one.Own {
-			name := shell.Folder(one.ID, one.Label)
-			folders = addOnce(folders, name)
-			devices[name] = append(devices[name], one.Devices[0].Device)
+			own.add(shell.Folder(one.ID, one.Label), one.Devices[0].Device)
 		}
 	}
-	for _, name := range folders {
-		p.line("shared with no device: %s on %s: what stands on the disk was compared with the device's own index alone", name, p.named.all(devices[name]))
-	}
+	own.each(p.named, func(folder, devices string) {
+		p.line("shared with no device: %s on %s: what stands on the disk was compared with the device's own index alone", folder, devices)
+	})
 }
 
 // mostAge is how long ago a device may have been read without that being told.
@@ -166,18 +164,11 @@ func (p *printer) kindsOf(one Names) string {
 
 // byDevices gives reasons as texts, each once with the devices at which it is.
 func (p *printer) byDevices(all []WhyLeft, text func(WhyLeft) string, say func(text, devices string) string) string {
-	devices, texts := map[string][]string{}, []string{}
+	reasons, words := places{}, []string{}
 	for _, one := range all {
-		next := text(one)
-		texts = addOnce(texts, next)
-		if one.Device != "" {
-			devices[next] = addOnce(devices[next], one.Device)
-		}
+		reasons.add(text(one), one.Device)
 	}
-	words := []string{}
-	for _, next := range texts {
-		words = append(words, say(next, p.named.all(devices[next])))
-	}
+	reasons.each(p.named, func(text, devices string) { words = append(words, say(text, devices)) })
 	return strings.Join(words, "; ")
 }
 

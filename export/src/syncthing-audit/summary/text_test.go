@@ -336,14 +336,14 @@ not compared: owners, extended attributes, old versions
 alone: docs is audited on one device, so there is nothing to compare it with
 not compared: owners, extended attributes, old versions
 `},
-	{"a folder that is paused, and a device", 3, func(folder *finding.Folder) {
-		folder.Members[0].About.Paused = true
-		folder.Members[1].About.PausedDevices = []string{laptop, phone}
+	{"a folder that is paused, and devices", 3, func(folder *finding.Folder) {
+		folder.Members[0].About.Paused, folder.Members[2].About.Paused = true, true
+		folder.Members[1].About.PausedDevices, folder.Members[2].About.PausedDevices = []string{laptop, phone}, []string{laptop}
 	}, `docs (Documents): in step and firm; 1,204 names (4 deleted), 335.2 MB hashed on laptop, phone, server
 
-paused: folder docs (Documents) on laptop: it takes and sends nothing of it until it is resumed there
-paused: device laptop on server: the two exchange nothing until it is resumed there
-paused: device phone on server: the two exchange nothing until it is resumed there
+paused: folder docs (Documents) on laptop, phone: nothing of it is taken or sent there until it is resumed
+paused: device laptop on phone, server: nothing is exchanged with it there until it is resumed
+paused: device phone on server: nothing is exchanged with it there until it is resumed
 not compared: owners, extended attributes, old versions
 `},
 	{"a device that shares it with nobody", 1, func(folder *finding.Folder) { folder.Own = laptop },

@@ -56,19 +56,14 @@ func (p *printer) otherNames(s *Summary) {
 
 // notAsked prints which folders of the devices weren't audited, or that this isn't known.
 func (p *printer) notAsked(s *Summary) {
-	folders, devices := []string{}, map[string][]string{}
+	folders, words := places{}, []string{}
 	for _, one := range s.NotAsked {
-		name := shell.Folder(one.Folder, one.Label)
-		folders = addOnce(folders, name)
-		devices[name] = addOnce(devices[name], one.Device)
+		folders.add(shell.Folder(one.Folder, one.Label), one.Device)
 	}
-	words := []string{}
-	for _, name := range folders {
-		words = append(words, name+" on "+p.named.all(devices[name]))
-	}
-	count := counted(int64(len(folders)), "folder", "folders")
+	folders.each(p.named, func(folder, devices string) { words = append(words, folder+" on "+devices) })
+	count := counted(int64(len(words)), "folder", "folders")
 	switch {
-	case len(folders) == 0:
+	case len(words) == 0:
 	case s.isByName:
 		p.line("not asked for: %s: %s", count, strings.Join(words, "; "))
 	default:
