@@ -205,6 +205,7 @@ class OwnFolders(Exporting):
                     wrong = [one for one in json.loads(self.told("check", *inputs, "--json")[1])["folders"] if one["names_wrong"]]
                     self.assertEqual([(one["id"], [at["device"] for at in one["devices"]], one["not_shared"]) for one in wrong],
                                      [("default", [device.id], True)])
+                    self.assertIn("'touch' the file there and let Syncthing scan: it records them.", " ".join(self.told("check", *inputs)[1].split()))
 
     def test_a_folder_that_is_shared_with_a_device_that_is_missing(self):
         """There is another device to compare it with, and that is told."""

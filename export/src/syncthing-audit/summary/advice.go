@@ -100,7 +100,8 @@ func adviceOfFault(one *Fault, file *File, named labels) string {
 			return "start Syncthing on " + at + " and 'Rescan': " + file.say("it stays there as a local addition", "they stay there as local additions") +
 				", which 'Revert Local Changes' would delete"
 		}
-		return "start Syncthing on " + at + " and 'Rescan': " + file.say("it then goes to all", "they then go to all")
+		return "start Syncthing on " + at + " and 'Rescan': " + file.spread(file.say("it then goes to all", "they then go to all"),
+			file.say("it is then recorded", "they are then recorded"))
 	case OnlySeen, NewerKnown:
 		return "start Syncthing on all of these devices and let them connect: they then tell each other what they have"
 	case OtherTime:
@@ -126,7 +127,7 @@ func spreads(one *Fault, file *File) string {
 	if one.Kind == receiveOnly {
 		return file.say(", a local addition", ", local additions")
 	}
-	return " and sends " + file.say("it", "them") + " to all"
+	return file.spread(" and sends "+file.say("it", "them")+" to all", " and records "+file.say("it", "them"))
 }
 
 func otherBytesAdvice(one *Fault, file *File, at string, named labels) string {
@@ -135,16 +136,16 @@ func otherBytesAdvice(one *Fault, file *File, at string, named labels) string {
 	case one.isSeen && one.Kind == receiveOnly:
 		mend = "before Syncthing scans there (the scan takes these bytes for a local change), "
 	case one.isSeen:
-		mend = "before Syncthing scans there (the scan sends these bytes to all), "
+		mend = "before Syncthing scans there (the scan " + file.spread("sends these bytes to all", "records these bytes") + "), "
 	case one.mayShow():
-		mend = "before Syncthing scans there (the scan may send these bytes to all), "
+		mend = "before Syncthing scans there (the scan may " + file.spread("send these bytes to all", "record these bytes") + "), "
 	}
 	mend += copying(one, file, named, overFile)
 	if one.Kind == receiveOnly || len(file.sendersOfOtherBytes()) > 1 {
 		return mend
 	}
 	return mend + ". If instead the bytes on " + at + " are the right ones, 'touch' the " + file.say("file", "files") +
-		" there and let Syncthing scan: it sends them to all"
+		" there and let Syncthing scan: it " + file.spread("sends them to all", "records them")
 }
 
 func changedAdvice(one *Fault, file *File, at string, named labels) string {
@@ -156,8 +157,9 @@ func changedAdvice(one *Fault, file *File, at string, named labels) string {
 	if one.Kind == receiveOnly {
 		return told + file.say("the change stays there as a local one", "the changes stay there as local ones") + ", which 'Revert Local Changes' takes back"
 	}
-	return told + file.say("the change then goes to all. If the change isn't wanted", "the changes then go to all. If they aren't wanted") +
-		", first " + copying(one, file, named, how)
+	told += file.spread(file.say("the change then goes to all", "the changes then go to all"),
+		file.say("the change is then recorded", "the changes are then recorded"))
+	return told + file.say(". If the change isn't wanted", ". If they aren't wanted") + ", first " + copying(one, file, named, how)
 }
 
 // isFileForFile says whether a file stands where a file is recorded.
@@ -177,8 +179,8 @@ func missingAdvice(one *Fault, file *File, at string, named labels) string {
 		return "see that the folder's disk is mounted on " + at + ". After a 'Rescan', 'Revert Local Changes' there brings " + it +
 			" back; it also deletes files that were added there"
 	}
-	return "see that the folder's disk is mounted on " + at + ", before Syncthing starts there: a scan takes " + it + " for deleted, and then all " +
-		"devices delete " + it + ". To keep " + it + ", first " + copying(one, file, named, toNothing)
+	return "see that the folder's disk is mounted on " + at + ", before Syncthing starts there: a scan takes " + it + " for deleted" +
+		file.spread(", and then all devices delete "+it, "") + ". To keep " + it + ", first " + copying(one, file, named, toNothing)
 }
 
 func behindAdvice(one *Fault, file *File, at string, named labels) string {

@@ -48,6 +48,23 @@ func TestAdvice(t *testing.T) {
 	}
 }
 
+// Where a device shares its folder with nobody, nobody is told that something goes to others.
+func TestAdviceInAFolderOfItsOwn(t *testing.T) {
+	for _, cause := range []Cause{OtherBytes, Changed, Missing, Back, NotScanned, Damaged} {
+		for _, isWide := range []bool{false, true} {
+			for _, isMany := range []bool{false, true} {
+				faults := faultsOf("send-receive", cause)
+				faults[0].isWide = isWide
+				modes := []Mode{{server, "0644", "0600"}}
+				told := strings.Join(adviceOf(&File{Faults: faults, Permissions: modes, isOwn: true, isMany: isMany}, labels{server: "server"}), ". ")
+				if strings.Contains(told, " all") || strings.Contains(told, "devices") {
+					t.Errorf("%s: %s", cause, told)
+				}
+			}
+		}
+	}
+}
+
 // Nobody is told to copy a symlink or over one as a file is copied: that would write into the file to which it leads.
 func TestAdviceOnOtherTypes(t *testing.T) {
 	cases := []struct {

@@ -24,6 +24,7 @@ type File struct {
 	hasDetails  bool
 	isMany      bool            // whether it stands for many names, which are told as one
 	areWide     map[string]bool // the devices whose scans look at owners or extended attributes, too
+	isOwn       bool            // whether the folder's one device shares it with nobody
 }
 
 // say gives what is said of one name, or of many where the file stands for these.
@@ -32,6 +33,14 @@ func (f *File) say(one, many string) string {
 		return many
 	}
 	return one
+}
+
+// spread gives what is said where a change goes to other devices, or where there is none to which it could go.
+func (f *File) spread(shared, own string) string {
+	if f.isOwn {
+		return own
+	}
+	return shared
 }
 
 // Follow is a reason of syncaudit that goes away with the faults.
@@ -49,7 +58,8 @@ type Mode struct {
 
 // fileOf gives what is to be told of a name.
 func fileOf(folder *finding.Folder, told *finding.Told) *File {
-	made := &File{Name: Text(told.Name), Faults: []Fault{}, Have: []string{}, Follows: []Follow{}, Permissions: []Mode{}, areWide: areWide(folder)}
+	made := &File{Name: Text(told.Name), Faults: []Fault{}, Have: []string{}, Follows: []Follow{}, Permissions: []Mode{}, areWide: areWide(folder),
+		isOwn: folder.Own != ""}
 	row := folder.Rows[told.Name]
 	switch {
 	case told.Unwon != nil:

@@ -24,7 +24,7 @@ func (p *printer) first(s *Summary) {
 		}
 	}
 	if len(both) > 0 {
-		p.line("first, on %s: do what is told above to be done before Syncthing starts or scans there; as it starts, it scans all folders", p.named.all(both))
+		p.line("first, on %s: do what the entries above say to do before Syncthing starts or scans there. As it starts, it scans all folders", p.named.all(both))
 	}
 }
 

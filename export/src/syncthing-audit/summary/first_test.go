@@ -19,7 +19,7 @@ func missing(folder *finding.Folder, name string, member int) {
 
 // Who is told to start Syncthing for one name is told what comes first, where a scan of that device would delete another one on all.
 func TestWhatComesFirst(t *testing.T) {
-	const told = "\nfirst, on server: do what is told above to be done before Syncthing starts or scans there; as it starts, it scans all folders\n"
+	const told = "\nfirst, on server: do what the entries above say to do before Syncthing starts or scans there. As it starts, it scans all folders\n"
 	fresh := func(folder *finding.Folder, member int) {
 		has := file(1, 1)
 		has.Own = nil

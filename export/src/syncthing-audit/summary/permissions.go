@@ -27,7 +27,7 @@ func permissionsAdvice(file *File, named labels) string {
 	}
 	for _, kind := range kinds {
 		words = append(words, "on "+named.all(strays[kind])+", 'chmod "+kind.Index+"' "+it+" if that is the right mode, before Syncthing scans there: "+
-			"the scan may send "+kind.Disk+" to all")
+			"the scan "+file.spread("may send "+kind.Disk+" to all", "records "+kind.Disk))
 	}
 	if len(indexes) > 1 {
 		words = append(words, "'chmod' "+it+" to the same mode on "+named.all(devices)+": where that changes a mode, the next scan may send it to all")
