@@ -15,7 +15,8 @@ import (
 )
 
 // tellAbout writes what a device is configured to share: no index and no file is read for that. 'run' asks it of all devices
-// before any of them hashes its files, so a folder whose disk isn't mounted is refused by then. A folder that is asked for needn't be there: another device may have it.
+// before any of them hashes its files, so a folder whose disk isn't mounted is refused by then. A folder that is asked for needn't be
+// there: another device may have it.
 func tellAbout(asked options, write writing) error {
 	id, about, err := device.About(asked.homes[0])
 	if err != nil {
