@@ -1,5 +1,5 @@
 -- Taking a request is the step of the table on the device.
-use Rattle.std.proofs.Common.{◌≡◌, Bool, true, false, ℕ, Option, Some, Result, Ok, Err, IfOk, inl, inr, refl, sym, ap, ◌∙◌}
+use Rattle.std.proofs.Common.{◌≡◌, Bool, true, false, ℕ, Option, Some, None, Result, Ok, Err, IfOk, IfSome, inl, inr, refl, sym, ap, subst, ◌∙◌}
 use Rattle.std.specs.FinMap.{get}
 use Rattle.bep_map.specs.NameMap.{ByName}
 use Rattle.bep_record.specs.declared.node.NodeParts.{NodeParts}
@@ -52,3 +52,15 @@ request_answered other failed full session request old new held response not_ful
   where
     acted : Peer → Acted
     acted peer = record { peer = peer; deed = deed_of (Answered response) }
+
+-- the node that was at hand is the one that is asked for
+pub seen_answers : (request : Request) (failed : Option ℕ) (there : Option NodeParts) (node : NodeParts) (response : Response) → failed ≡ None → Some node ≡ there →
+    Answers request None (Some node) response → Answers request failed there response
+seen_answers request failed there node response none is answers =
+    subst (λ (f : Option ℕ). Answers request f there response) (sym none) (subst (λ (n : Option NodeParts). Answers request None n response) is answers)
+
+-- what a folder has at hand stands in it
+pub hand_of : (folders : ByName Held) (folder : Folder) (name : FileName) (held : Held) (found : Option NodeParts) → get folders folder ≡ Some held →
+    IfSome found (λ node. node_at held.tables name ≡ Some node) → IfSome found (λ node. IsNodeAt folders folder name (Some node))
+hand_of folders folder name held (Some node) is at = (held, is, sym at)
+hand_of folders folder name held None is at = tt

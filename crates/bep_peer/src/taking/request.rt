@@ -1,5 +1,6 @@
 //! Taking a request for a block.
-ghost use Rattle.std.specs.Prelude.{◌≡◌, ◌↔◌, ◌⊎◌, false, Option, Some, None, Contains, IsSome, IsTrue, IfOk, IfErr, OnErr};
+ghost use Rattle.std.specs.Prelude.{◌≡◌, ◌↔◌, ◌⊎◌, false, Option, Some, None, Contains, IsSome, IsTrue, IfOk, IfErr, IfSome, OnErr};
+ghost use Rattle.std.specs.Option.{option_copied};
 ghost use Rattle.std.specs.FinMap as map;
 ghost use Rattle.bep_record.specs.declared.node.NodeParts.{NodeParts};
 ghost use Rattle.bep_store.specs.Sure.{NeverFails};
@@ -51,6 +52,9 @@ impl<S: Store> Peer<S> {
         if full {
             return Err(PeerError::Refused(Refusal::LinkFull));
         }
+        if let Some(node) = self.node_at_hand(&request.folder, &request.name) {
+            return Ok(Effect::Answered(answer_seen(self.alloc, request, node)?));
+        }
         let read = self.read(&request.folder, &request.name);
         Ok(Effect::Answered(answer_read(self.alloc, request, read)?))
     }
@@ -63,6 +67,16 @@ impl<S: Store> Peer<S> {
         match self.sessions.get(other) {
             Some(session) => session.cursor(folder).is_some(),
             None => false,
+        }
+    }
+
+    // The folder's node at the name, lent, where its store has it at hand. So a large file isn't copied for each of its blocks.
+    fn node_at_hand(&self, folder: &FolderName, name: &Name) -> Option<&Node>
+        ensures { IfSome (option_copied result) (λ node. IsNodeAt self.now.folders folder.now name.now (Some node)) }
+    {
+        match self.folders.get(folder) {
+            Some(replica) => replica.at_hand(name),
+            None => None,
         }
     }
 
@@ -119,6 +133,15 @@ fn failed_by(read: &Result<Option<Node>, FolderError>) -> Option<u32>
         Err(FolderError::StoreFault) => Some(1),
         _ => None,
     }
+}
+
+// The answer to a request whose node is at hand, or want of memory.
+fn answer_seen(alloc: Global, request: &Request, node: &Node) -> Result<Response, PeerError>
+    ensures ok { IfOk result (Answers request.now None (Some node.now)) }
+    ensures code { IfOk result (λ response. failure_of response.code ≡ None) }
+    ensures only { IfErr result (λ e. e ≡ Memory) }
+{
+    Ok(answer_to(alloc, request, Some(node))?)
 }
 
 // The answer to a request once its file was read, or want of memory.
