@@ -49,10 +49,19 @@ impl Batch {
         if !is_batch(records.as_slice()) {
             return Err(IndexError::BatchBad);
         }
+        Ok(Batch::of(records))
+    }
+
+    /// The batch of records that are known to be one, such as those that `Index::after` gives. It tests nothing: `new`
+    /// compares each name with each.
+    pub fn of(records: Vec<Record>) -> Self
+        requires { IsBatch records.items }
+        ensures { result ≡ records.items }
+    {
         all_are_good(records.as_slice());
-        Ok(Batch {
+        Batch {
             records: Items::new(records),
-        })
+        }
     }
 
     /// The records, in order.

@@ -1,13 +1,13 @@
-use Rattle.std.proofs.Common.{true≢false, sym, subst, ◌∙◌, arith}
+use Rattle.std.proofs.Common.{sym, subst, arith}
 use Rattle.bep_index.specs.declared.limits.TheConstants.{MAX_RECORDS}
 use Rattle.bep_index.specs.After.{IsAfter}
 use Rattle.bep_peer.proofs.sending.batches.next_batch.Goals as goal
 
-pub unreachable-requires : goal.unreachable-requires
-unreachable-requires c = true≢false (sym (c.in-Err.ensures.good.1 (c.in_ok-found.ensures.batch (omega arith))))
+pub of-requires : goal.of-requires
+of-requires c = c.in_ok-found.ensures.batch (omega arith)
 
 pub returns : goal.returns
 returns c =
     let records = c.args.index.now.records in
-    subst (λ sequence. IsAfter records sequence MAX_RECORDS c.in-Ok.batch) c.sent_up_to.ensures
-    (subst (IsAfter records c.sent_up_to.result MAX_RECORDS) (sym c.in-Ok.ensures.ok) c.in_ok-found.ensures.found)
+    subst (λ sequence. IsAfter records sequence MAX_RECORDS c.of.result) c.sent_up_to.ensures
+    (subst (IsAfter records c.sent_up_to.result MAX_RECORDS) (sym c.of.ensures) c.in_ok-found.ensures.found)
