@@ -130,13 +130,6 @@ copied_at {folder} {old} = either_way (IsCopied folder old) (λ none. tt) (λ ca
 abbrev pub FailsOnly : Result Held PeerError → Type 0
 FailsOnly result = IfErr result (λ e. (e ≡ Refused StoreFault) ⊎ (e ≡ Memory))
 
-pub copying_fails : {folder : Folder} {old new : Member} {result : Result Held PeerError} → IsSome (get old.folders folder) → AnswersAt DoesCopy folder old new result → FailsOnly result
-copying_fails {folder} {old} some = either_way (λ _ result. FailsOnly result) (λ none. absurd (let never = subst (λ o. IsSome o) none some in cc)) (λ call. at call.answer call.done.only)
-  where
-    at : (answer : Result Held FolderError) → IfErr answer (λ e. (e ≡ errors.StoreFault) ⊎ (e ≡ errors.Memory)) → FailsOnly (answer_of answer)
-    at (Ok copy) only = tt
-    at (Err error) only = ⊎_elim (λ fault. inl (ap error_of fault)) (λ memory. inr (ap error_of memory)) only
-
 pub copying_leaves : {folder : Folder} {old new : Member} {result : Result Held PeerError} → AnswersAt DoesCopy folder old new result → tables_of new ≡ tables_of old
 copying_leaves {folder} {old} = either_way (λ m _. tables_of m ≡ tables_of old) (λ none. refl) (λ call. same_tables old folder call.before call.after call.there call.done.same)
 

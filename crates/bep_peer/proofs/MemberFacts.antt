@@ -90,18 +90,3 @@ rose_here old new folder was now has changed failed =
         let found : Some failed.was ≡ Some failed.now = sym failed.before ∙ there.1 in
         let one : failed.was ≡ failed.now = cc in
         let rose = subst (λ (h : Held). h.faults < failed.now.faults) one failed.rose in absurd (omega arith)
-
--- where no folder changed, and nothing is told
-pub nothing_rose : (member : Member) → member.trace ≡ nothing_told → Remains member member
-nothing_rose member told = record {
-  number = refl;
-  linked = refl;
-  failed = (
-    λ some. absurd (let none = subst (λ t. IsSome t.failed) told some in cc),
-    λ failed. absurd (
-        let found : Some failed.was ≡ Some failed.now = sym failed.before ∙ failed.after in
-        let one : failed.was ≡ failed.now = cc in
-        let rose = subst (λ (h : Held). h.faults < failed.now.faults) one failed.rose in omega arith
-        ),
-  );
-}

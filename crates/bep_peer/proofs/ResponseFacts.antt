@@ -145,11 +145,6 @@ received_peer request bytes folders sessions (Some held) is =
     ∙ ap (λ (found : Option Replica). with_received request bytes found (peer_of sessions (tables_in folders)))
     (sym (get-tables folders request.folder ∙ ap (option_map (λ (held : Held). held.tables)) is))
 
-pub response_ignored : (other : Device) (session : Session) (response : Response) (member : Member) → asked_for response.id session.outstanding ≡ None →
-    Takes (ResponseRow other session response (tables_of member)) member member (Ok Taken)
-response_ignored other session response member none =
-    subst (λ (asked : Option Request). AskedRow other session response asked (tables_of member) (taken_by (tables_of member)) (Done Changed)) (sym none) (refl, refl)
-
 pub response_taken : (other : Device) (session : Session) (request : Request) (response : Response) (old new : Member) → asked_for response.id session.outstanding ≡ Some request →
     Brings request response old.folders new.folders → new.sessions ≡ insert old.sessions other (answered_by response.id session) →
     Takes (ResponseRow other session response (tables_of old)) old new (Ok Taken)

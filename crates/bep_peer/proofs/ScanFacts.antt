@@ -28,14 +28,6 @@ use Rattle.bep_peer.proofs.WithinFacts.{either_way, its_value, made_within, same
 
 -- ---- a commit
 
--- the commit keeps who shares the folder
-pub commit_keeps : (scan : Scanned) (before after : Held) (answer : Result Moved FolderError) → Commits scan before after answer → after.tables.others ≡ before.tables.others
-commit_keeps scan before after answer commits =
-    ⊎_elim
-    (λ made. makes_keeps (ScanRow before.device scan.name after.trace.failed) before after answer (scan_keeps before.device scan.name after.trace.failed before.tables) made)
-    (λ same. ap (λ (r : Replica). r.others) same)
-    (scanned_or_same scan before after answer commits)
-
 commits_at : (old : Member) (folder : Folder) (scan : Scanned) (before after : Held) (answer : Result Moved FolderError) → get old.folders folder ≡ Some before → before.device ≡ old.number → Commits scan before after answer → CommitsWithin folder scan old (with_folder old folder after) (answer_of answer)
 commits_at old folder scan before after answer is device commits = cases answer commits
   where
