@@ -23,7 +23,7 @@ use bep_folder::{Replica, ScanResult};
 use bep_index::{Batch, IndexId};
 use bep_record::{
     BASE_BLOCK_SIZE, BlockSize, DeviceId, Entry, FolderKind, FolderName, Items, Kind, Name, Node,
-    NodeParts, Record, Target, Vector,
+    NodeParts, Record, Target, Version,
 };
 use bep_store::MemStore;
 use std::alloc::Global;
@@ -86,10 +86,10 @@ fn fill(alloc: Global, replica: &mut Replica<MemStore>, bytes: &[u8]) -> Option<
 
 fn sent(alloc: Global, bytes: &[u8]) -> Option<Batch> {
     let modified_by = DeviceId::read(1)?;
-    let version = Vector::read(&[(1, 1)])?;
+    let version = Version::read(alloc, &[(1, 1)]).ok()??;
     let name = Name::read(alloc, b"whole").ok()?;
     let blocks = blocks(alloc, bytes, BlockSize::base()).ok()?;
-    let made = Record::read(Entry {
+    let entry = Entry {
         name,
         kind: Kind::File,
         size: bytes.len() as u64,
@@ -104,8 +104,9 @@ fn sent(alloc: Global, bytes: &[u8]) -> Option<Batch> {
         block_size: BASE_BLOCK_SIZE,
         blocks,
         target: Target::empty(alloc),
-    });
-    Batch::new(Vec::from_array(alloc, [made.ok()?]).ok()?).ok()
+    };
+    let record = Record::read(alloc, entry).ok()??;
+    Batch::new(Vec::from_array(alloc, [record]).ok()?).ok()
 }
 
 fn pull(alloc: Global, replica: &mut Replica<MemStore>, bytes: &[u8]) -> Option<()> {

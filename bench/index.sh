@@ -20,7 +20,7 @@ cat > src/main.rt <<PROGRAM
 #![tactic(auto)]
 
 use bep_index::{Batch, Index, IndexId, MAX_NAMES, MAX_RECORDS, View};
-use bep_record::{DeviceId, Entry, Items, Kind, Name, Record, Target, Vector};
+use bep_record::{DeviceId, Entry, Items, Kind, Name, Record, Target, Vector, Version};
 use std::alloc::Global;
 use std::io;
 use std::time::Instant;
@@ -29,7 +29,8 @@ fn deletion(alloc: Global, number: usize) -> Option<Record> {
     let name = format!(in alloc; "directory/file-{number}").ok()?;
     let name = Name::read(alloc, name.as_bytes()).ok()?;
     let modified_by = DeviceId::read(1)?;
-    Record::read(Entry {
+    let version = Version::of(alloc, &Vector::empty()).ok()?;
+    let entry = Entry {
         name,
         kind: Kind::File,
         size: 0,
@@ -39,13 +40,13 @@ fn deletion(alloc: Global, number: usize) -> Option<Record> {
         deleted: true,
         invalid: false,
         no_permissions: true,
-        version: Vector::empty(),
+        version,
         sequence: 0,
         block_size: 0,
         blocks: Items::new(Vec::new(alloc)),
         target: Target::empty(alloc),
-    })
-    .ok()
+    };
+    Record::read(alloc, entry).ok()?
 }
 
 fn deletions(alloc: Global) -> Option<Vec<Record>> {

@@ -12,7 +12,7 @@ use Rattle.bep_core.specs.declared.why.Why.{Why}
 use Rattle.bep_core.specs.declared.why.Why.TheVariants.{Memory}
 
 -- A step that tests all that may refuse it before it allocates anything. (The others read a store first, whose answer takes
--- memory, or take no memory at all; an override makes the new version first.)
+-- memory, or take no memory at all; an override makes the new record first.)
 abbrev pub TestsFirst : Step → Type 0
 TestsFirst (Edit device folder name node) = ⊥
 TestsFirst (Remove device folder name) = ⊥

@@ -32,16 +32,8 @@ fn put_record(records: &mut NameMap<Record>, alloc: Global, entry: Entry) -> Res
     ensures { OnOk result (records.new ≡ insert records.old entry.name entry) }
 {
     let name = entry.name.copy(alloc)?;
-    records.insert(name, record_of(entry))?;
+    records.insert(name, Record::of(alloc, entry)?)?;
     Ok(())
-}
-
-// The record that the entry is.
-pub(crate) fn record_of(entry: Entry) -> Record
-    requires { IsWellFormed entry }
-    ensures { result ≡ entry }
-{
-    Record::read(entry).unwrap()
 }
 
 // The records, as they stand.
@@ -54,7 +46,7 @@ pub(crate) fn records_as_listed(
 {
     let mut records = Vec::with_capacity(alloc, entries.as_slice().len())?;
     for entry in entries.into_vec() {
-        records.push(record_of(entry))?;
+        records.push(Record::of(alloc, entry)?)?;
     }
     Ok(Items::new(records))
 }

@@ -6,11 +6,11 @@ ghost use Rattle.bep_document.specs.Faultless.{IsFaultlessIndex, IsFaultlessShar
 ghost use Rattle.bep_cut_document.specs.Sorting.{in_order};
 ghost use Rattle.bep_cut_document.specs.Written.{IsWellFormedLink, has_point, view_written, share_written, folder_written, flight_written, link_written, row_written};
 
-use crate::records::{nodes_by_name, record_of, records_as_listed, records_by_name};
+use crate::records::{nodes_by_name, records_as_listed, records_by_name};
 use crate::sorting::{Ordered, place};
 use bep_document::{FlightParts, FolderParts, LinkParts, RowParts, ShareParts, ViewParts};
 use bep_model::{Flight, Row};
-use bep_record::Items;
+use bep_record::{Items, Record};
 use bep_tables::{LinkState, PeerView, Share, SharedFolder};
 use std::alloc::{AllocError, Global};
 
@@ -152,11 +152,11 @@ impl FromParts<RowParts> for Row {
 
     ghost made_of = { row_written };
 
-    fn from_parts(_alloc: Global, row: RowParts) -> Result<Self, AllocError> {
+    fn from_parts(alloc: Global, row: RowParts) -> Result<Self, AllocError> {
         Ok(Row {
             folder: row.folder,
             device: row.device,
-            entry: record_of(row.entry),
+            entry: Record::of(alloc, row.entry)?,
         })
     }
 }

@@ -1,5 +1,5 @@
 -- An override makes its row.
-use Rattle.std.proofs.Common.{◌≡◌, ◌⊎◌, ℕ, List, Option, Some, None, Result, Ok, Err, refl, sym, ap, subst, ◌∙◌, inl, inr}
+use Rattle.std.proofs.Common.{◌≡◌, ◌⊎◌, ℕ, List, Option, Some, None, Result, Ok, Err, IfOk, refl, sym, ap, subst, ◌∙◌, inl, inr}
 use Rattle.bep_record.specs.declared.entry.Entry.{Entry}
 use Rattle.bep_record.specs.declared.folder_kind.FolderKind.TheVariants.{SendOnly}
 use Rattle.bep_index.specs.Index.{IsSequenceFull, IsIndexFull}
@@ -23,10 +23,16 @@ overriding_named device name None chosen version named = refl
 overriding_named device name (Some own) chosen version named = named own refl
 
 -- it stands under the name
-pub wins_named : (device : Device) (name : FileName) (own : Option Entry) (chosen entry : Entry) →
+wins_named : (device : Device) (name : FileName) (own : Option Entry) (chosen entry : Entry) →
     ((one : Entry) → own ≡ Some one → one.name ≡ name) → WinsOver device name own chosen (Ok entry) → entry.name ≡ name
 wins_named device name own chosen entry named wins =
     ap (λ (e : Entry). e.name) wins.2.2 ∙ overriding_named device name own chosen wins.2.0 named
+
+-- and so it does where there is one
+pub winner_named : (device : Device) (name : FileName) (own : Option Entry) (chosen : Entry) (result : Result Entry FolderError) →
+    ((one : Entry) → own ≡ Some one → one.name ≡ name) → WinsOver device name own chosen result → IfOk result (λ entry. entry.name ≡ name)
+winner_named device name own chosen (Ok entry) named wins = wins_named device name own chosen entry named wins
+winner_named device name own chosen (Err error) named wins = tt
 
 -- ---- the row
 

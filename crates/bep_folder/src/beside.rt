@@ -21,6 +21,6 @@ pub(crate) fn version_of(own: Option<&Record>) -> Vector
 {
     match own {
         None => Vector::empty(),
-        Some(own) => own.entry().version.copy(),
+        Some(own) => own.entry().version.vector(),
     }
 }

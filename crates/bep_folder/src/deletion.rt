@@ -1,23 +1,23 @@
 //! Records of deletions.
-ghost use Rattle.std.specs.Prelude.{◌≡◌};
+ghost use Rattle.std.specs.Prelude.{◌≡◌, IfOk};
 ghost use Rattle.bep_machine.specs.Local.{deletion_of};
 
-use crate::record_of::record_of;
-use bep_record::{DeviceId, Entry, Items, Name, Record, Target, Vector};
-use std::alloc::Global;
+use bep_record::{DeviceId, Entry, Items, Name, Record, Target, Vector, Version};
+use std::alloc::{AllocError, Global};
 
-/// The device's deletion of the name, with this record's kind and time. Takes no memory.
+/// The device's deletion of the name, with this record's kind and time, or want of memory.
 pub(crate) fn deletion(
     alloc: Global,
     device: DeviceId,
     name: Name,
     old: &Record,
-    version: Vector,
-) -> Record
-    ensures { result ≡ deletion_of device name old.now version }
+    version: &Vector,
+) -> Result<Record, AllocError>
+    ensures { IfOk result (λ made. made ≡ deletion_of device name old.now version.now) }
 {
     let old = old.entry();
-    record_of(Entry {
+    let version = Version::of(alloc, version)?;
+    let entry = Entry {
         name,
         kind: old.kind,
         size: 0,
@@ -32,5 +32,6 @@ pub(crate) fn deletion(
         block_size: 0,
         blocks: Items::new(Vec::new(alloc)),
         target: Target::empty(alloc),
-    })
+    };
+    Record::of(alloc, entry)
 }

@@ -17,7 +17,6 @@ mod deletion;
 mod error;
 mod pull;
 mod reading;
-mod record_of;
 mod replica;
 mod resetting;
 mod scan;

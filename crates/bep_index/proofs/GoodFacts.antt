@@ -2,13 +2,12 @@
 use Rattle.std.proofs.Common.{◌≡◌, ◌∙◌, ℕ, Bool, true, false, cond, List, [], ◌∷◌, Option, Some, None, inl, inr, subst, sym, ⊎_elim}
 use Rattle.std.specs.Ordering.{nat_cmp, eq_by_cmp}
 use Rattle.std.specs.Cmp.Lexicographic.{slice_cmp, nat_list_cmp_total}
-use Rattle.std.specs.FinMap.{get, insert, remove, empty, get-remove}
+use Rattle.std.specs.FinMap.{get, insert, empty, get-remove}
 use Rattle.std.specs.List.{AllByRecursion}
 use Rattle.std.proofs.lemmas.Map.Lookups.{exact_bytes}
 use Rattle.bep_facts.specs.Maps.{found_after_insert, nothing_in_empty}
 use Rattle.bep_map.specs.NameMap.{ByName}
 use Rattle.bep_record.specs.declared.entry.Entry.{Entry}
-use Rattle.bep_index.specs.After.{IsAmong}
 use Rattle.bep_index.specs.Batch.{with_all}
 use Rattle.bep_index.specs.Change.{given_back}
 use Rattle.bep_index.specs.Good.{IsGood, IsGoodIfThere, AreGood, AllGood}

@@ -1,8 +1,8 @@
 -- Finite maps from names to entries, and lists of entries.
-use Rattle.std.proofs.Common.{◌≡◌, ◌⊎◌, inl, inr, ℕ, ◌+◌, ◌<◌, ◌≤◌, Bool, true, false, List, [], ◌∷◌, Contains, Some, None, cond, is_some, sym, ap, subst, ◌∙◌, ⊎_elim, arith}
+use Rattle.std.proofs.Common.{◌≡◌, ◌⊎◌, inl, inr, ℕ, ◌+◌, ◌<◌, ◌≤◌, Bool, true, false, List, [], ◌∷◌, Contains, Some, None, sym, ap, subst, ◌∙◌, ⊎_elim, arith}
 use Rattle.std.specs.Ordering.{nat_cmp, eq_by_cmp}
 use Rattle.std.specs.Cmp.Lexicographic.{slice_cmp, nat_list_cmp_total}
-use Rattle.std.specs.FinMap.{get, insert, len, len-insert}
+use Rattle.std.specs.FinMap.{get, insert, len}
 use Rattle.std.proofs.lemmas.Map.Lookups.{exact_bytes}
 use Rattle.std.proofs.lemmas.Cmp.{tied_itself}
 use Rattle.std.specs.Ordering.{is_eq}
@@ -30,10 +30,6 @@ pub clash : (n m : List ℕ) → n ≡ m → same_name n m ≡ false → ⊥
 clash n m q apart = different (sym apart ∙ ap (λ k. same_name k m) q ∙ same_name-itself m) where
   different : false ≡ true → ⊥
   different e = cc
-
--- how many names there are then
-pub len-insert_new : {V : Type 0} (m : ByName V) (n : List ℕ) (v : V) → get m n ≡ None → len (insert m n v) ≡ len m + 1
-len-insert_new m n v none = len-insert nat_list_cmp_total m n v ∙ ap (λ o. cond (is_some o) (len m) (len m + 1)) none
 
 pub len-insert_le : {V : Type 0} (m : ByName V) (n : List ℕ) (v : V) (most : ℕ) → len m ≤ most → (get m n ≡ None → len m + 1 ≤ most) → len (insert m n v) ≤ most
 len-insert_le = maps.len-insert_le nat_list_cmp_total

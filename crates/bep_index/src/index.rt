@@ -11,7 +11,6 @@ ghost use Rattle.bep_index.specs.Order.{in_order, count_up_to};
 ghost use Rattle.bep_index.specs.Change.{IsLastChange, taken_back};
 
 use crate::good::{old_is_good, record_is_good};
-use crate::number::renumber;
 use crate::records::Records;
 use crate::{IndexError, IndexId, MAX_NAMES, MAX_SEQUENCE, Undo};
 use bep_record::{Name, Record};
@@ -206,7 +205,7 @@ impl Index {
     {
         let name = self.copy_to_put(&entry.entry().name)?;
         let sequence = self.sequence + 1;
-        Ok((name, renumber(entry, sequence)))
+        Ok((name, entry.numbered(self.alloc, sequence)?))
     }
 
     // A copy of the name, for which there is room and a number. Refuses what `put` refuses.

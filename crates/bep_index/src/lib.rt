@@ -20,11 +20,9 @@ mod id;
 mod index;
 mod laws;
 mod limits;
-mod number;
 mod receiver;
 mod records;
 mod send;
-mod slot;
 mod view;
 
 pub use batch::Batch;

@@ -5,15 +5,15 @@ ghost use Rattle.std.specs.FinMap as map;
 ghost use Rattle.bep_index.specs.Batch.{HasNo, with_all};
 ghost use Rattle.bep_index.specs.Order.{AreInOrder, IsAt, IsLater, IsGivenBack, count_up_to, is_up_to, without, put_in, back_in};
 
-use crate::slot::Slot;
 use bep_record::{Name, Record};
 use indexmap::IndexMap;
 use std::alloc::{AllocError, Global};
 use std::marker::Model;
+use std::mem;
 
 /// Records by rising sequence, each of another name, by which it is found.
 pub struct Records {
-    entries: IndexMap<Name, Slot>,
+    entries: IndexMap<Name, Record>,
 }
 
 // By hand: a caller's proof then sees one call where it lets go of one, and not each field (docs/developing.md).
@@ -60,8 +60,7 @@ impl Records {
     pub(crate) fn get(&self, name: &Name) -> Option<&Record>
         ensures { option_copied result ≡ map.get (with_all map.empty self.now) name.now }
     {
-        let slot = self.entries.get(name)?;
-        Some(slot.record())
+        self.entries.get(name)
     }
 
     // The record at the place, from 0.
@@ -69,8 +68,8 @@ impl Records {
         ensures value { option_copied result ≡ slice_get self.now place }
         ensures in_order { AreInOrder self.now }
     {
-        let (_name, slot) = self.entries.get_index(place)?;
-        Some(slot.record())
+        let (_name, entry) = self.entries.get_index(place)?;
+        Some(entry)
     }
 
     // How many of the records have at most this sequence, found by halving.
@@ -156,8 +155,8 @@ impl Records {
         ensures ok { OnOk result (self.new ≡ self.old ++ entry ∷ []) }
         ensures err { OnErr result (self.new ≡ self.old) }
     {
-        let (key, slot) = slot_under_name(alloc, entry)?;
-        self.entries.insert(key, slot)?;
+        let key = entry.entry().name.copy(alloc)?;
+        self.entries.insert(key, entry)?;
         Ok(())
     }
 
@@ -169,7 +168,7 @@ impl Records {
         ensures old { Some result ≡ slice_get self.old place }
     {
         let last = self.len() - 1;
-        let old = self.entries[place].replace(entry);
+        let old = mem::replace(&mut self.entries[place], entry);
         self.entries.move_index(place, last);
         old
     }
@@ -193,19 +192,19 @@ impl Records {
     {
         let place = self.place_above(old.entry().sequence);
         let last = self.len() - 1;
-        drop(self.entries[last].replace(old));
+        self.entries[last] = old;
         self.entries.move_index(last, place);
     }
 
     // The records, in order.
-    fn as_slice(&self) -> &[Slot]
+    fn as_slice(&self) -> &[Record]
         ensures value { result.now ≡ self.now }
         ensures in_order { AreInOrder self.now }
     {
         self.entries.values().as_slice()
     }
 
-    // Equal records of their own, or want of memory.
+    // The same records, or want of memory.
     pub(crate) fn copy(&self, alloc: Global) -> Result<Self, AllocError>
         ensures { IfOk result (λ made. made ≡ self.now) }
     {
@@ -215,24 +214,14 @@ impl Records {
     }
 
     // Adds a copy of each of these, where there were no records.
-    fn add_copies(&mut self, alloc: Global, records: &[Slot]) -> Result<(), AllocError>
+    fn add_copies(&mut self, alloc: Global, records: &[Record]) -> Result<(), AllocError>
         requires none { self.old ≡ [] }
         requires in_order { AreInOrder records.now }
         ensures { OnOk result (self.new ≡ records.now) }
     {
-        for slot in records {
-            self.add(alloc, slot.record().copy(alloc)?)?;
+        for entry in records {
+            self.add(alloc, entry.copy(alloc)?)?;
         }
         Ok(())
     }
-}
-
-// The record in a slot, with a copy of its name before it.
-fn slot_under_name(alloc: Global, entry: Record) -> Result<(Name, Slot), AllocError>
-    ensures name { IfOk result (λ made. made.0 ≡ entry.name) }
-    ensures slot { IfOk result (λ made. made.1 ≡ entry) }
-{
-    let key = entry.entry().name.copy(alloc)?;
-    let slot = Slot::new(alloc, entry)?;
-    Ok((key, slot))
 }

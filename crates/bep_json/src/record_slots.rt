@@ -11,7 +11,7 @@ use crate::{
     DocVersion, Misread, Nanoseconds, Sequence, Slots, Taken, Told, Whole, both, due, due_or, fill,
     fill_leaf, fill_object,
 };
-use bep_record::{DeviceId, Entry, Items, Kind, Name, Target, Vector};
+use bep_record::{DeviceId, Entry, Items, Kind, Name, Target, Version};
 use bep_tree::{Reader, WalkError};
 use std::alloc::Global;
 
@@ -113,7 +113,7 @@ impl Slots for RecordSlots {
     }
 }
 
-// A record is made behind others, where it is to stand: it is large, and each result that it is part of would be a copy.
+// A record's fields are made behind others, where they are to stand: each result that they are part of would copy them.
 impl Taken for Entry {
     fn take(
         alloc: Global,
@@ -267,7 +267,7 @@ fn put_record_of(
     let (deleted, (invalid, (block_size, (hashes, target)))) = things;
     let blocks = blocks_of(alloc, size.bytes(), hashes.as_slice())?;
     let block_size = block_size.unwrap_or(default_block_size(kind, deleted));
-    let Some(version) = Vector::read(counters.as_slice()) else {
+    let Some(version) = Version::read(alloc, counters.as_slice())? else {
         return Ok(Some(Misread::Range));
     };
     records.push(Entry {

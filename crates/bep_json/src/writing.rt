@@ -14,7 +14,7 @@ ghost use Rattle.bep_json.specs.Written.{whole, signed, number_of, counter_writt
 
 use crate::added::{add_flag, add_number, add_signed, add_text, write_number, write_text};
 use crate::device_is_told;
-use bep_record::{Block, Entry, Kind, Name, Node, NodeParts, Record, Target, Vector};
+use bep_record::{Block, Entry, Kind, Name, Node, NodeParts, Record, Target, Version};
 use json::Writer;
 use std::alloc::{AllocError, Global};
 
@@ -109,7 +109,7 @@ fn target_is_kept(target: &Target)
 }
 
 // That a version vector is read again.
-fn version_is_told(version: &Vector)
+fn version_is_told(version: &Version)
     ensures { Says (is_list is_pair) read_version version.now (version_written version.now) }
 {
     version.counters();
@@ -164,7 +164,7 @@ pub fn write_hashes(alloc: Global, out: &mut Writer, blocks: &[Block]) -> Result
 }
 
 // Writes the counters, each a list of an id and its value.
-fn write_version(out: &mut Writer, version: &Vector) -> Result<(), AllocError>
+fn write_version(out: &mut Writer, version: &Version) -> Result<(), AllocError>
     ensures { OnOk result (Adds (version_written version.now) out.old out.new) }
 {
     out.begin_array()?;

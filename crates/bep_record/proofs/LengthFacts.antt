@@ -1,7 +1,7 @@
 -- The blocks that cut a file whole tell its length, whatever their size.
 use Rattle.std.proofs.Common.{◌≡◌, ℕ, ◌+◌, ◌-◌, ◌*◌, ◌/◌, ◌<◌, ◌≤◌, min, List, [], length, get_or, sym, ap, ◌∙◌, arith}
 use Rattle.std.proofs.Math.Nat.{div-mul-le_self, lt-div-mul-add}
-use Rattle.bep_record.specs.Block.{block_size_of, cut_at, block_count, CutWhole}
+use Rattle.bep_record.specs.Block.{block_size_of, CutWhole}
 use Rattle.bep_record.specs.Laws.{CutIsOfOneLength}
 use Rattle.bep_record.specs.declared.block.Block.{Block}
 use Rattle.bep_record.proofs.BlockSizeFacts.{some_bytes}

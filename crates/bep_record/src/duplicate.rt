@@ -4,9 +4,9 @@ ghost use Rattle.std.specs.Prelude.{◌≡◌, IfOk};
 use crate::{Items, Node, Record};
 use std::alloc::{AllocError, Global};
 
-/// What can be copied into memory of its own. Types that are `Copy` don't need it.
+/// What can be copied, where that may take memory. Types that are `Copy` don't need it.
 pub trait Duplicate: Drop {
-    /// An equal value of its own, or want of memory.
+    /// An equal value, or want of memory.
     fn duplicate(&self, alloc: Global) -> Result<Self, AllocError>
         ensures { IfOk result (λ made. made ≡ self.now) };
 }

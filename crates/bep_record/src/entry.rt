@@ -2,10 +2,10 @@
 ghost use Rattle.std.specs.Prelude.{◌≡◌, ◌↔◌, ◌≤◌, [], ◌∷◌, map, IsTrue, IfOk};
 ghost use Rattle.bep_record.specs.Block.{block_size_of};
 ghost use Rattle.bep_record.specs.declared.limits.TheConstants.{MAX_FILE_SIZE};
-ghost use Rattle.bep_record.specs.Entry.{HasNoBlocks, HasBlocks, HasBody, IsWellFormed, SameEntry};
+ghost use Rattle.bep_record.specs.Entry.{HasNoBlocks, HasBlocks, HasBody, IsWellFormed};
 
 use crate::limits::{HASH_OF_NOTHING, MAX_NANOSECONDS};
-use crate::{Block, BlockSize, DeviceId, Items, Kind, Name, Target, Vector, cut_whole};
+use crate::{Block, BlockSize, DeviceId, Items, Kind, Name, Target, Version, cut_whole};
 use std::alloc::{AllocError, Global};
 
 /// The fields of a record, well formed or not.
@@ -32,7 +32,7 @@ pub struct Entry {
     /// Permissions aren't recorded; always set.
     pub no_permissions: bool,
     /// The changes that the record knows.
-    pub version: Vector,
+    pub version: Version,
     /// The record's number in its index, which orders an index's changes.
     pub sequence: u64,
     /// The bytes in each block but the last; 0 without blocks.
@@ -80,7 +80,7 @@ impl Entry {
             deleted: self.deleted,
             invalid: self.invalid,
             no_permissions: self.no_permissions,
-            version: self.version.copy(),
+            version: self.version.copy(alloc)?,
             sequence: self.sequence,
             block_size: self.block_size,
             blocks: self.blocks.copy(alloc)?,

@@ -3,15 +3,17 @@
 //!
 //! ```rust
 //! // What a device that deleted the name puts into its index, in place of its own record.
-//! let mut entry = own.into_entry();
-//! entry.version.bump(device)?;
+//! let mut entry = own.entry().copy(alloc)?;
+//! let mut version = entry.version.vector();
+//! version.bump(device)?;
+//! entry.version = Version::of(alloc, &version)?;
 //! entry.modified_by = device;
 //! entry.deleted = true;
 //! entry.size = 0;
 //! entry.block_size = 0;
 //! entry.blocks = Items::new(Vec::new(alloc));
 //! entry.target = Target::empty(alloc);
-//! let deletion = Record::read(entry); // Err gives the fields back, where a deletion has a block or a target
+//! let deletion = Record::read(alloc, entry)?; // None where a deletion has a block or a target
 //! ```
 #![tactic(auto)]
 
@@ -36,6 +38,7 @@ mod same;
 mod target;
 mod text;
 mod vector;
+mod version;
 
 pub use block::{Block, BlockSize, cut_whole};
 pub use compare::is_clean;
@@ -61,3 +64,4 @@ pub use record::Record;
 pub use same::Same;
 pub use target::Target;
 pub use vector::{Order, Vector};
+pub use version::Version;

@@ -28,7 +28,7 @@ pub enum Order {
 /// The ids rise and aren't 0, the values are 1 to 9223372036854775807, and there are at most 16 counters. A missing
 /// counter counts as 0. A vector takes no memory from an allocator. BEP v1, 'Vector'; the limits are this project's
 /// profile.
-#[derive(Debug, Drop, PartialEq, Eq)]
+#[derive(Debug, Drop)]
 pub struct Vector {
     counters: ArrayVec<(u64, u64), 16>,
 }
@@ -42,13 +42,12 @@ impl Model for Vector {
     ghost view = { λ vector. vector.counters.items };
 
     ghost invariant = { λ vector. IsVersion vector.counters.items };
-
-    ghost inverse = { λ counters. record { counters = record { items = counters } } };
 }
 
 const GREATEST_COUNTER: u64 = 9_223_372_036_854_775_807;
 
-const MOST_COUNTERS: usize = 16;
+/// How many counters a vector may have.
+pub(crate) const MOST_COUNTERS: usize = 16;
 
 impl Vector {
     /// The vector with no counter.
@@ -90,44 +89,12 @@ impl Vector {
         counter_at(self.counters(), id.number())
     }
 
-    /// Whether each counter is at most the other vector's.
-    pub fn is_at_most(&self, other: &Vector) -> bool
-        ensures { IsTrue result ↔ IsAtMost self.now other.now }
-    {
-        is_at_most(self.counters(), other.counters())
-    }
-
-    /// Whether this vector is strictly below the other.
-    pub fn is_below(&self, other: &Vector) -> bool
-        ensures { IsTrue result ↔ IsBelow self.now other.now }
-    {
-        self.order(other) == Order::Below
-    }
-
     /// How this vector stands to the other.
     pub fn order(&self, other: &Vector) -> Order
         ensures order { IsOrder self.now other.now result }
         ensures equal { (result ≡ Order.Equal) ↔ (self.now ≡ other.now) }
     {
-        let own = self.counters();
-        let others = other.counters();
-        match (is_at_most(own, others), is_at_most(others, own)) {
-            (true, true) => Order::Equal,
-            (true, false) => Order::Below,
-            (false, true) => Order::Above,
-            (false, false) => Order::Concurrent,
-        }
-    }
-
-    /// An equal vector of its own.
-    pub fn copy(&self) -> Self
-        ensures { result ≡ self.now }
-    {
-        let mut counters = ArrayVec::new();
-        for counter in self.counters() {
-            counters.push(*counter);
-        }
-        Vector { counters }
+        order_of(self.counters(), other.counters())
     }
 
     /// Raises the counter of a device by 1, as a change made there does.
@@ -211,8 +178,8 @@ impl Vector {
     {}
 }
 
-// Whether the ids rise and aren't 0, and the values are in range.
-fn is_version(counters: &[(u64, u64)]) -> bool
+/// Whether the ids rise and aren't 0, and the values are in range.
+pub(crate) fn is_version(counters: &[(u64, u64)]) -> bool
     ensures { IsTrue result ↔ IsVersion counters.now }
 {
     let mut low = 0;
@@ -225,8 +192,8 @@ fn is_version(counters: &[(u64, u64)]) -> bool
     true
 }
 
-// The counter at this id, 0 where there is none.
-fn counter_at(counters: &[(u64, u64)], id: u64) -> u64
+/// The counter at this id, 0 where there is none.
+pub(crate) fn counter_at(counters: &[(u64, u64)], id: u64) -> u64
     ensures { result ≡ counter_of counters.now id }
 {
     for counter in counters {
@@ -237,8 +204,23 @@ fn counter_at(counters: &[(u64, u64)], id: u64) -> u64
     0
 }
 
-// Whether each counter of the first is at most that of the second.
-fn is_at_most(first: &[(u64, u64)], second: &[(u64, u64)]) -> bool
+/// How the first version vector stands to the second.
+pub(crate) fn order_of(first: &[(u64, u64)], second: &[(u64, u64)]) -> Order
+    requires first_version { IsVersion first.now }
+    requires second_version { IsVersion second.now }
+    ensures order { IsOrder first.now second.now result }
+    ensures equal { (result ≡ Order.Equal) ↔ (first.now ≡ second.now) }
+{
+    match (is_at_most(first, second), is_at_most(second, first)) {
+        (true, true) => Order::Equal,
+        (true, false) => Order::Below,
+        (false, true) => Order::Above,
+        (false, false) => Order::Concurrent,
+    }
+}
+
+/// Whether each counter of the first is at most that of the second.
+pub(crate) fn is_at_most(first: &[(u64, u64)], second: &[(u64, u64)]) -> bool
     requires { IsVersion first.now }
     ensures { IsTrue result ↔ IsAtMost first.now second.now }
 {

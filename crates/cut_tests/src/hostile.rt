@@ -4,14 +4,15 @@ use bep_index::Batch;
 use bep_links::{Announced, Code, Link, Message, Response, Side};
 use bep_machine::Moved;
 use bep_peer::{Peer, PeerError};
-use bep_record::{DeviceId, Entry, FolderName, Items, Kind, Record, Target, Vector};
+use bep_record::{DeviceId, Entry, FolderName, Items, Kind, Record, Target, Version};
 use bep_store::{FaultStore, MemStore};
 use std::alloc::Global;
 
 // The record of a directory of device 1, which has this sequence.
 fn record(alloc: Global, sequence: u64) -> Option<Record> {
-    let (modified_by, version) = (DeviceId::read(1)?, Vector::read(&[(1, 1)])?);
-    let made = Record::read(Entry {
+    let modified_by = DeviceId::read(1)?;
+    let version = Version::read(alloc, &[(1, 1)]).ok()??;
+    let entry = Entry {
         name: name(alloc, b'd')?,
         kind: Kind::Directory,
         size: 0,
@@ -26,8 +27,8 @@ fn record(alloc: Global, sequence: u64) -> Option<Record> {
         block_size: 0,
         blocks: Items::new(Vec::new(alloc)),
         target: Target::empty(alloc),
-    });
-    made.ok()
+    };
+    Record::read(alloc, entry).ok()?
 }
 
 fn batch(alloc: Global, sequence: u64) -> Option<Batch> {

@@ -13,9 +13,8 @@ ghost use Rattle.bep_folder.specs.inner.Ending.{HasRoom, LacksRoom};
 use crate::FolderError;
 use crate::beside::version_of;
 use crate::error::index_error;
-use crate::record_of::record_of;
 use bep_index::{Index, Undo};
-use bep_record::{Name, Record, Vector};
+use bep_record::{Name, Record, Vector, Version};
 use std::alloc::Global;
 
 // The merge of the own version and the record's. Refuses `TooManyCounters` where more than 16 devices have a counter in
@@ -27,7 +26,7 @@ pub(crate) fn merged(own: Option<&Record>, other: &Record) -> Result<Vector, Fol
     ensures only { IfErr result (λ e. e ≡ FolderError.TooManyCounters) }
 {
     let mut version = version_of(own);
-    match version.merge(&other.entry().version) {
+    match version.merge(&other.entry().version.vector()) {
         Ok(()) => Ok(version),
         Err(_) => Err(FolderError::TooManyCounters),
     }
@@ -45,10 +44,10 @@ pub(crate) fn adopted(
     ensures only { IfErr result (λ e. (e ≡ FolderError.TooManyCounters) ⊎ (e ≡ FolderError.Memory)) }
 {
     let version = merged(own, target)?;
-    let mut entry = target.copy(alloc)?.into_entry();
-    entry.version = version;
+    let mut entry = target.entry().copy(alloc)?;
+    entry.version = Version::of(alloc, &version)?;
     entry.invalid = false;
-    Ok(record_of(entry))
+    Ok(Record::of(alloc, entry)?)
 }
 
 // Puts the record that the target gives into the index, and answers how that is taken back.

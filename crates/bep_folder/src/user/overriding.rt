@@ -10,11 +10,10 @@ ghost use Rattle.bep_folder.specs.inner.Overriding.{Overrides, WinsOver};
 use crate::beside::version_of;
 use crate::deletion::deletion;
 use crate::pull::merged;
-use crate::record_of::record_of;
 use crate::scan::put_record;
 use crate::{FolderError, Replica};
 use bep_machine::Moved;
-use bep_record::{DeviceId, FolderKind, Name, Record, Vector};
+use bep_record::{DeviceId, FolderKind, Name, Record, Vector, Version};
 use bep_store::Store;
 use std::alloc::{AllocError, Global};
 
@@ -148,10 +147,10 @@ pub(crate) fn overriding(
     ensures { IfOk result (λ made. made ≡ overriding device name.now (option_copied own.entry) chosen.now version) }
 {
     let Some(own) = own else {
-        return Ok(deletion(alloc, device, name.copy(alloc)?, chosen, version));
+        return deletion(alloc, device, name.copy(alloc)?, chosen, &version);
     };
-    let mut entry = own.copy(alloc)?.into_entry();
+    let mut entry = own.entry().copy(alloc)?;
     entry.modified_by = device;
-    entry.version = version;
-    Ok(record_of(entry))
+    entry.version = Version::of(alloc, &version)?;
+    Record::of(alloc, entry)
 }

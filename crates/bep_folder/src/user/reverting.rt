@@ -86,7 +86,7 @@ fn give_up<S: Store>(
     if !own.clean(node) {
         return Err(FolderError::Unscanned);
     }
-    let gone = deletion(alloc, device, name.copy(alloc)?, own, Vector::empty());
+    let gone = deletion(alloc, device, name.copy(alloc)?, own, &Vector::empty())?;
     put_and_remove(index, store, name, gone, node)
 }
 

@@ -5,7 +5,7 @@ use bep_index::{Batch, IndexId};
 use bep_machine::Moved;
 use bep_record::{
     BASE_BLOCK_SIZE, BlockSize, DeviceId, Entry, FolderKind, FolderName, Items, Kind, Name, Node,
-    NodeParts, Record, Target, Vector,
+    NodeParts, Record, Target, Version,
 };
 use bep_store::{FaultStore, MemStore};
 use std::alloc::Global;
@@ -41,10 +41,11 @@ pub(crate) fn record(
     version: &[(u64, u64)],
     bytes: &[u8],
 ) -> Option<Record> {
-    let (modified_by, version) = (DeviceId::read(device)?, Vector::read(version)?);
+    let modified_by = DeviceId::read(device)?;
+    let version = Version::read(alloc, version).ok()??;
     let name = Name::read(alloc, b"notes.txt").ok()?;
     let blocks = blocks(alloc, bytes, BlockSize::base()).ok()?;
-    let made = Record::read(Entry {
+    let entry = Entry {
         name,
         kind: Kind::File,
         size: bytes.len() as u64,
@@ -59,8 +60,8 @@ pub(crate) fn record(
         block_size: BASE_BLOCK_SIZE,
         blocks,
         target: Target::empty(alloc),
-    });
-    made.ok()
+    };
+    Record::read(alloc, entry).ok()?
 }
 
 /// An Index of this one record.

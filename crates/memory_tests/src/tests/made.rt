@@ -3,7 +3,7 @@ use bep_blocks::blocks;
 use bep_index::Batch;
 use bep_record::{
     BASE_BLOCK_SIZE, BlockSize, DeviceId, Entry, FolderName, Items, Kind, Name, Node, NodeParts,
-    Record, Target, Vector,
+    Record, Target, Version,
 };
 use std::alloc::Global;
 
@@ -62,7 +62,8 @@ pub(crate) fn node(alloc: Global) -> Option<Node> {
 
 /// The fields of device 1's record of that file, under this sequence.
 pub(crate) fn entry(alloc: Global, sequence: u64) -> Option<Entry> {
-    let (modified_by, version) = (DeviceId::read(1)?, Vector::read(&[(1, 1)])?);
+    let modified_by = DeviceId::read(1)?;
+    let version = Version::read(alloc, &[(1, 1)]).ok()??;
     Some(Entry {
         name: name(alloc)?,
         kind: Kind::File,
@@ -83,7 +84,7 @@ pub(crate) fn entry(alloc: Global, sequence: u64) -> Option<Entry> {
 
 /// That record.
 pub(crate) fn record(alloc: Global, sequence: u64) -> Option<Record> {
-    Record::read(entry(alloc, sequence)?).ok()
+    Record::read(alloc, entry(alloc, sequence)?).ok()?
 }
 
 /// A batch of that record alone.

@@ -58,10 +58,10 @@ fn needs_go_by_the_folder_and_the_own_record(rt: HostRuntime) {
 
 // The record of this version, which its device made at this time.
 fn made_at(alloc: Global, counter: (u64, u64), modified_s: i64) -> Option<Record> {
-    let mut entry = record(alloc, version(counter))?.into_entry();
+    let mut entry = record(alloc, version(counter))?.into_entry(alloc).ok()?;
     entry.modified_s = modified_s;
     entry.modified_by = DeviceId::read(counter.0)?;
-    Record::read(entry).ok()
+    Record::read(alloc, entry).ok()?
 }
 
 // The place of device 9's choice among records of devices 2, 3 and 4.

@@ -1,5 +1,5 @@
 //! Records that the tests of several crates make.
-use bep_record::{DeviceId, Entry, Items, Kind, Name, Record, Target, Vector};
+use bep_record::{DeviceId, Entry, Items, Kind, Name, Record, Target, Version};
 use std::alloc::Global;
 
 /// What a test says of a directory, whose name has one letter; all else is the same in each.
@@ -14,7 +14,7 @@ pub struct Said {
 
 pub fn record(alloc: Global, said: Said) -> Option<Record> {
     let modified_by = DeviceId::read(1)?;
-    let version = Vector::read(&[said.counter])?;
+    let version = Version::read(alloc, &[said.counter]).ok()??;
     let name = Name::read(alloc, &[said.letter]).ok()?;
     let entry = Entry {
         name,
@@ -32,7 +32,7 @@ pub fn record(alloc: Global, said: Said) -> Option<Record> {
         blocks: Items::new(Vec::new(alloc)),
         target: Target::empty(alloc),
     };
-    Record::read(entry).ok()
+    Record::read(alloc, entry).ok()?
 }
 
 /// The directory of this letter under this sequence.

@@ -8,5 +8,6 @@ pub returns-in-Ok-clause-many : goal.returns-in-Ok-clause-many
 returns-in-Ok-clause-many c =
     let own : c.version_of-version.result ≡ version_of (option_copied c.args.own) = c.version_of-version.ensures in
     let other : c.entry.result.now ≡ c.args.other.now = c.entry.ensures.value in
-    let same : ids_in_either (version_of (option_copied c.args.own)) c.args.other.now.version ≡ ids_in_either c.version_of-version.result c.entry.result.now.version = cc in
+    let vector : c.vector.result ≡ c.entry.result.now.version = c.vector.ensures in
+    let same : ids_in_either (version_of (option_copied c.args.own)) c.args.other.now.version ≡ ids_in_either c.version_of-version.result c.vector.result = cc in
     (λ bad. absurd (cc), λ over. let bad = c.in-Ok.ensures.many.1 (subst (λ n. most_counters < n) same over) in absurd (cc))

@@ -5,7 +5,7 @@ use Rattle.bep_record.specs.declared.folder_kind.FolderKind.TheVariants.{SendOnl
 use Rattle.bep_machine.specs.Local.{IsOverridable}
 use Rattle.bep_machine.specs.Replica.{own_at}
 use Rattle.bep_folder.specs.Held.{Held}
-use Rattle.bep_folder.proofs.OverrideFacts.{overrides_chosen}
+use Rattle.bep_folder.proofs.OverrideFacts.{overrides_chosen, winner_named}
 use Rattle.bep_folder.proofs.replica.Replica.overriding_record.Goals as goal
 
 pub returns-in_default-clause-made : goal.returns-in_default-clause-made
@@ -32,3 +32,8 @@ returns-clause-made g c =
     let behind : IsOverridable (option_copied c.get-own.result) c.in-Some.chosen.now = search rules in
     overrides_chosen c.args.self.now.device c.self.inside.device c.args.name.now c.args.self.now.tables (option_copied c.get-own.result) c.in-Some.chosen.now c.winning.result
     (ap (λ (h : Held). h.device) c.self.view_is) own_is only c.in-Some.ensures.chosen behind c.winning.ensures
+
+pub returns-clause-named : goal.returns-clause-named
+returns-clause-named g c =
+    winner_named c.self.inside.device c.args.name.now (option_copied c.get-own.result) c.in-Some.chosen.now c.winning.result
+    (λ one is. (c.get-own.ensures.an_index.numbered c.args.name.now one (sym c.get-own.ensures.value ∙ is)).0) c.winning.ensures

@@ -1,7 +1,6 @@
-use Rattle.std.proofs.Common.{◌≡◌, Some, None, rules, subst}
+use Rattle.std.proofs.Common.{Some, rules, subst}
 use Rattle.bep_folder.specs.inner.Found.{Records}
 use Rattle.bep_folder.specs.Held.{Held}
-use Rattle.bep_machine.specs.Replica.{node_at}
 use Rattle.bep_folder.proofs.HeldFacts.{held_of}
 use Rattle.bep_folder.proofs.ScanFacts.{scanned_at_hand}
 use Rattle.bep_folder.proofs.replica.Replica.scan.Goals as goal

@@ -1,4 +1,4 @@
-use Rattle.std.proofs.Common.{◌≡◌, Err, ap, ◌∙◌}
+use Rattle.std.proofs.Common.{Err, ap, ◌∙◌}
 use Rattle.std.proofs.lemmas.Result.{err_from_is_err_and}
 use Rattle.bep_model.specs.Tables.{FileName}
 use Rattle.bep_folder.proofs.ScanFacts.{found_at, look_failed, scan_made}

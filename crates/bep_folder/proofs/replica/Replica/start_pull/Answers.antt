@@ -1,14 +1,13 @@
-use Rattle.std.proofs.Common.{◌≡◌, ◌∙◌, Err, refl, ap, sym, subst}
+use Rattle.std.proofs.Common.{◌∙◌, Err, refl, ap, subst}
 use Rattle.std.proofs.lemmas.Result.{err_from_is_err_and}
-use Rattle.bep_machine.specs.Pull.{StartPullRow, new_pull}
-use Rattle.bep_machine.specs.Replica.{Pull, with_pull}
+use Rattle.bep_machine.specs.Pull.{StartPullRow}
+use Rattle.bep_machine.specs.Replica.{with_pull}
 use Rattle.bep_folder.specs.Held.{Held}
 use Rattle.bep_folder.specs.Makes.{Makes}
 use Rattle.bep_folder.specs.inner.Start.{MayPull}
 use Rattle.bep_folder.specs.Views.{unchanged}
 use Rattle.bep_folder.proofs.FinishFacts.{makes_from}
 use Rattle.bep_folder.proofs.StartPullFacts.{begins, unrefused}
-use Rattle.bep_folder.proofs.replica.Replica.start_pull.Given.{Over}
 use Rattle.bep_folder.proofs.replica.Replica.start_pull.Goals as goal
 
 pub returns-in_err-target-clause-started : goal.returns-in_err-target-clause-started

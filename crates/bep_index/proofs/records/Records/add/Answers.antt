@@ -16,18 +16,17 @@ order : (c : goal.Joined-branch-3) → AreInOrder c.args.self.now
 order c = subst AreInOrder c.self.view_is c.self.invariant.1
 
 key : (c : goal.Joined-branch-3) → c.in_ok-key.key ≡ c.args.entry.name
-key c = c.in_ok-key.ensures.name
+key c = c.in_ok-key.ensures ∙ ap (λ (e : Entry). e.name) c.entry.ensures.value
 
 -- the entries are those before, and the new one
 entries : (c : goal.Joined-branch-3) → c.insert.new.self.entries ≡ named (c.args.self.now ++ c.args.entry ∷ [])
 entries c =
     c.in_ok-insert.ensures.entries
-    ∙ insert_entry-new (pointwise nat_eq) c.self.inside.entries c.in_ok-key.key c.in_ok-key.slot
+    ∙ insert_entry-new (pointwise nat_eq) c.self.inside.entries c.in_ok-key.key c.args.entry
     (ap (lookup (pointwise nat_eq c.in_ok-key.key)) (held c) ∙ get-records c.in_ok-key.key c.args.self.now (order c).names
     ∙ get-new c.in_ok-key.key c.args.self.now (subst (λ n. HasNo n c.args.self.now) (sym (key c)) c.requires.new))
-    ∙ ap (λ es. es ++ (c.in_ok-key.key, c.in_ok-key.slot) ∷ []) (held c)
-    ∙ ap (λ k. named c.args.self.now ++ (k, c.in_ok-key.slot) ∷ []) (key c)
-    ∙ ap (λ (e : Entry). named c.args.self.now ++ (c.args.entry.name, e) ∷ []) c.in_ok-key.ensures.slot
+    ∙ ap (λ es. es ++ (c.in_ok-key.key, c.args.entry) ∷ []) (held c)
+    ∙ ap (λ k. named c.args.self.now ++ (k, c.args.entry) ∷ []) (key c)
     ∙ sym (named-push c.args.self.now c.args.entry)
 
 pub invariant_of-self-2 : goal.invariant_of-self-2

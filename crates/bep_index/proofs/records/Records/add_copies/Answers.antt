@@ -4,24 +4,24 @@ use Rattle.bep_index.specs.Order.{IsLater}
 use Rattle.bep_index.proofs.PutFacts.{next_is_later, next_is_new, next_added}
 use Rattle.bep_index.proofs.records.Records.add_copies.Goals as goal
 
-copied : (c : goal.In_ok-copy) → c.in_ok-copy.field-0 ≡ c.slot-item.result
-copied c = c.in_ok-copy.ensures ∙ c.record.ensures
+copied : (c : goal.In_ok-copy) → c.in_ok-copy.field-0 ≡ c.entry-item.result
+copied c = c.in_ok-copy.ensures
 
 pub add-requires-clause-later : goal.add-requires-clause-later
 add-requires-clause-later c =
-    subst (λ e. IsLater c.loop-slot.self e) (sym (copied c))
-    (subst (λ es. IsLater es c.slot-item.result) (sym c.loop-slot.invariant)
-    (next_is_later c.args.records.now c.loop-slot.slot-index c.slot-item.result c.loop-slot-test.true c.slot-item.is c.requires.in_order))
+    subst (λ e. IsLater c.loop-entry.self e) (sym (copied c))
+    (subst (λ es. IsLater es c.entry-item.result) (sym c.loop-entry.invariant)
+    (next_is_later c.args.records.now c.loop-entry.entry-index c.entry-item.result c.loop-entry-test.true c.entry-item.is c.requires.in_order))
 
 pub add-requires-clause-new : goal.add-requires-clause-new
 add-requires-clause-new c =
-    subst (λ e. HasNo e.name c.loop-slot.self) (sym (copied c))
-    (subst (HasNo c.slot-item.result.name) (sym c.loop-slot.invariant)
-    (next_is_new c.args.records.now c.loop-slot.slot-index c.slot-item.result c.loop-slot-test.true c.slot-item.is c.requires.in_order))
+    subst (λ e. HasNo e.name c.loop-entry.self) (sym (copied c))
+    (subst (HasNo c.entry-item.result.name) (sym c.loop-entry.invariant)
+    (next_is_new c.args.records.now c.loop-entry.entry-index c.entry-item.result c.loop-entry-test.true c.entry-item.is c.requires.in_order))
 
-pub loop-slot-preserved : goal.loop-slot-preserved
-loop-slot-preserved c =
+pub loop-entry-preserved : goal.loop-entry-preserved
+loop-entry-preserved c =
     c.in_ok-add.ensures.ok
-    ∙ ap (λ e. c.loop-slot.self ++ e ∷ []) (c.in_ok-copy.ensures ∙ c.record.ensures)
-    ∙ ap (λ es. es ++ c.slot-item.result ∷ []) c.loop-slot.invariant
-    ∙ next_added c.args.records.now c.loop-slot.slot-index c.slot-item.result c.loop-slot-test.true c.slot-item.is c.requires.in_order
+    ∙ ap (λ e. c.loop-entry.self ++ e ∷ []) (c.in_ok-copy.ensures)
+    ∙ ap (λ es. es ++ c.entry-item.result ∷ []) c.loop-entry.invariant
+    ∙ next_added c.args.records.now c.loop-entry.entry-index c.entry-item.result c.loop-entry-test.true c.entry-item.is c.requires.in_order

@@ -10,9 +10,9 @@ use Rattle.bep_index.proofs.PutFacts.{AreInOrder-back}
 use Rattle.bep_index.proofs.records.Records.put_back.Goals as goal
 
 -- as many are there once the record is written
-many : (c : goal.After-move_index-arg-1) → length (set_value_at c.self.inside.entries.entries (c.len-last.result - 1) c.replace.new.self) ≡ length c.args.self.now
+many : (c : goal.After-move_index-arg-1) → length (set_value_at c.self.inside.entries.entries (c.len-last.result - 1) c.args.old) ≡ length c.args.self.now
 many c =
-    length-set_value_at c.self.inside.entries.entries (c.len-last.result - 1) c.replace.new.self ∙ ap length (c.self.invariant.0 ∙ ap named c.self.view_is)
+    length-set_value_at c.self.inside.entries.entries (c.len-last.result - 1) c.args.old ∙ ap length (c.self.invariant.0 ∙ ap named c.self.view_is)
     ∙ length-named c.args.self.now
 
 pub move_index-requires-clause-from_in_bounds : goal.move_index-requires-clause-from_in_bounds
@@ -40,7 +40,6 @@ entries c =
     let place = c.place_above-place.ensures.value ∙ ap (λ (e : Entry). count_up_to e.sequence c.args.self.now) c.entry.ensures.value in
     let had = c.len-last.ensures.value in
     c.move_index.ensures.entries
-    ∙ ap (λ w. move_index (set_value_at c.self.inside.entries.entries (c.len-last.result - 1) w) (c.len-last.result - 1) c.place_above-place.result) c.replace.ensures.new
     ∙ ap (λ es. move_index (set_value_at es (c.len-last.result - 1) c.args.old) (c.len-last.result - 1) c.place_above-place.result) (c.self.invariant.0 ∙ ap named c.self.view_is)
     ∙ ap (λ es. move_index (set_value_at (named es) (c.len-last.result - 1) c.args.old) (c.len-last.result - 1) c.place_above-place.result) c.requires.last.2
     ∙ moved_back c.requires.last.0 c.requires.last.1 c.args.old (c.len-last.result - 1) c.place_above-place.result

@@ -9,9 +9,9 @@ use Rattle.bep_index.proofs.PutFacts.{AreInOrder-put}
 use Rattle.bep_index.proofs.records.Records.renew.Goals as goal
 
 -- as many are there once the record is written
-many : (c : goal.After-move_index-arg-1) → length (set_value_at c.self.inside.entries.entries c.args.place c.replace-old.new.self) ≡ length c.args.self.now
+many : (c : goal.After-move_index-arg-1) → length (set_value_at c.self.inside.entries.entries c.args.place c.replace-old.new.dest) ≡ length c.args.self.now
 many c =
-    length-set_value_at c.self.inside.entries.entries c.args.place c.replace-old.new.self ∙ ap length (c.self.invariant.0 ∙ ap named c.self.view_is)
+    length-set_value_at c.self.inside.entries.entries c.args.place c.replace-old.new.dest ∙ ap length (c.self.invariant.0 ∙ ap named c.self.view_is)
     ∙ length-named c.args.self.now
 
 pub move_index-requires-clause-from_in_bounds : goal.move_index-requires-clause-from_in_bounds
@@ -33,7 +33,7 @@ entries c =
     let within = slice_get_within c.args.self.now c.args.place c.requires.there.entry c.requires.there.there in
     let had = c.len-last.ensures.value in
     c.move_index.ensures.entries
-    ∙ ap (λ w. move_index (set_value_at c.self.inside.entries.entries c.args.place w) c.args.place (c.len-last.result - 1)) c.replace-old.ensures.new
+    ∙ ap (λ w. move_index (set_value_at c.self.inside.entries.entries c.args.place w) c.args.place (c.len-last.result - 1)) c.replace-old.ensures.after
     ∙ ap (λ es. move_index (set_value_at es c.args.place c.args.entry) c.args.place (c.len-last.result - 1)) (c.self.invariant.0 ∙ ap named c.self.view_is)
     ∙ moved_last c.args.self.now c.args.place (c.len-last.result - 1) c.requires.there.entry c.args.entry c.len-last.ensures.in_order.names c.requires.there.there c.requires.there.named (omega arith)
 
