@@ -89,12 +89,15 @@ func adviceOfFault(one *Fault, file *File, named labels) string {
 	case Behind, Conflicting:
 		return behindAdvice(one, file, at, named)
 	case LocalChange:
+		if file.isOwn {
+			return "'Revert Local Changes' on " + at + file.say(" deletes the file", " deletes the files") + noOther
+		}
 		return "'Revert Local Changes' on " + at + " takes back what was changed there, for all such files of the folder: added files are " +
 			"deleted, so copy elsewhere what is to stay. To have " + file.say("the change", "the changes") + " everywhere, make the folder " +
 			"'Send & Receive' there"
 	case LocalAddition:
-		return "'Revert Local Changes' on " + at + " deletes what was added there: copy elsewhere first what is to stay. To have it everywhere, " +
-			"make the folder 'Send & Receive' there"
+		return "'Revert Local Changes' on " + at + " deletes what was added there: copy elsewhere first what is to stay. To have it " +
+			file.spread("everywhere", "recorded as any other file") + ", make the folder 'Send & Receive' there"
 	case NotScanned:
 		if one.Kind == receiveOnly {
 			return "start Syncthing on " + at + " and 'Rescan': " + file.say("it stays there as a local addition", "they stay there as local additions") +
@@ -107,7 +110,7 @@ func adviceOfFault(one *Fault, file *File, named labels) string {
 	case OtherTime:
 		if one.Kind == receiveOnly {
 			return "start Syncthing on " + at + " and 'Rescan': " + file.say("the time stays there as a local change", "the times stay there as local changes") +
-				", which 'Revert Local Changes' takes back"
+				file.revert()
 		}
 		return "start Syncthing on " + at + " and 'Rescan'"
 	case OtherBlocks:
@@ -155,11 +158,26 @@ func changedAdvice(one *Fault, file *File, at string, named labels) string {
 	}
 	told := "start Syncthing on " + at + " and 'Rescan': "
 	if one.Kind == receiveOnly {
-		return told + file.say("the change stays there as a local one", "the changes stay there as local ones") + ", which 'Revert Local Changes' takes back"
+		return told + file.say("the change stays there as a local one", "the changes stay there as local ones") + file.revert()
 	}
 	told += file.spread(file.say("the change then goes to all", "the changes then go to all"),
 		file.say("the change is then recorded", "the changes are then recorded"))
 	return told + file.say(". If the change isn't wanted", ". If they aren't wanted") + ", first " + copying(one, file, named, how)
+}
+
+// noOther says what follows from a device's sharing its folder with nobody.
+const noOther = ": no other device has the folder"
+
+// revert says what becomes of a local change of a device that only receives, once it is recorded. Syncthing gets back what another device
+// has. Where the device shares its folder with nobody, it takes what it has itself for added there.
+func (f *File) revert() string {
+	switch {
+	case f.isOwn:
+		return ". Don't 'Revert Local Changes' then: that deletes " + f.say("the file", "the files") + noOther
+	case len(f.Have) == 0:
+		return ", which 'Revert Local Changes' takes back only from a device that has the recorded bytes: no audited one has"
+	}
+	return ", which 'Revert Local Changes' takes back"
 }
 
 // isFileForFile says whether a file stands where a file is recorded.
@@ -175,6 +193,10 @@ func (f *Fault) types() string {
 
 func missingAdvice(one *Fault, file *File, at string, named labels) string {
 	it := file.say("it", "them")
+	if one.Kind == receiveOnly && len(file.Have) == 0 {
+		return "see that the folder's disk is mounted on " + at + ". 'Revert Local Changes' there doesn't bring " + it + " back: " +
+			copying(one, file, named, toNothing)
+	}
 	if one.Kind == receiveOnly {
 		return "see that the folder's disk is mounted on " + at + ". After a 'Rescan', 'Revert Local Changes' there brings " + it +
 			" back; it also deletes files that were added there"

@@ -1,6 +1,7 @@
 package summary
 
 import (
+	"regexp"
 	"strings"
 	"testing"
 )
@@ -60,6 +61,31 @@ func TestAdviceInAFolderOfItsOwn(t *testing.T) {
 				if strings.Contains(told, " all") || strings.Contains(told, "devices") {
 					t.Errorf("%s: %s", cause, told)
 				}
+			}
+		}
+	}
+}
+
+// Syncthing deletes what it reverts where no other device has it. Nobody is told that it brings something back there.
+func TestAdviceOnRevertingWhatNoOtherDeviceHas(t *testing.T) {
+	for _, one := range []struct {
+		cause      Cause
+		isOwn      bool
+		told, many string
+	}{
+		{Changed, true, "Don't 'Revert Local Changes' then: that deletes the file: no other device has the folder", "that deletes the files"},
+		{OtherTime, true, "Don't 'Revert Local Changes' then: that deletes the file: no other device has the folder", "that deletes the files"},
+		{LocalChange, true, "'Revert Local Changes' on server deletes the file: no other", "deletes the files"},
+		{LocalAddition, true, "To have it recorded", "To have it recorded"},
+		{Missing, true, "doesn't bring it back: look among old versions and backups for the recorded bytes", "doesn't bring them back"},
+		{Missing, false, "doesn't bring it back: look among old versions and backups for the recorded bytes", "doesn't bring them back"},
+		{Changed, false, "takes back only from a device that has the recorded bytes: no audited one has", "takes back only from"},
+	} {
+		for isMany, has := range map[bool]string{false: one.told, true: one.many} {
+			file := &File{Faults: faultsOf(receiveOnly, one.cause), isOwn: one.isOwn, isMany: isMany}
+			told := strings.Join(adviceOf(file, labels{server: "server"}), ". ")
+			if !strings.Contains(told, has) || strings.Contains(told, "everywhere") || regexp.MustCompile("takes back(,|$)|brings").MatchString(told) {
+				t.Errorf("%s: %s", one.cause, told)
 			}
 		}
 	}
@@ -140,7 +166,7 @@ func TestAdviceOnOtherBytes(t *testing.T) {
 		}
 	}
 	told := adviceOf(&File{Faults: faultsOf("send-receive", OtherBytes)}, labels{})
-	if !strings.Contains(told[0], "no audited device has the recorded bytes") {
+	if !strings.Contains(told[0], "look among old versions and backups for the recorded bytes, which no audited device has") {
 		t.Errorf("where no device has the bytes: %s", told)
 	}
 }
