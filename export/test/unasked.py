@@ -8,7 +8,7 @@ import gzip
 import json
 import xml.etree.ElementTree as xml
 
-from exporting import Exporting, main, run
+from exporting import Exporting, in_step, main, run
 from live_looks import rot
 from syncthing import FOLDER, Device
 
@@ -185,6 +185,31 @@ class OwnFolders(Exporting):
             for device in self.devices:
                 self.assertIn(f"\nnot shared: folder default on {self.number(device)}\n", text)
         self.assertEqual(self.told("run", *(device.home for device in self.devices), "--still", "0")[0], 0)
+
+    def test_a_folder_of_another_id_that_none_of_several_devices_shares(self):
+        """Syncthing draws such an id at random. So someone gave it to both devices, and may think that they share it."""
+        paths = [device.home / "config.xml" for device in self.devices]
+        before = [path.read_text() for path in paths]
+        try:
+            for path, text in zip(paths, before):
+                tree = xml.fromstring(text)
+                for one in [one for one in tree.findall("folder") if one.get("id") == FOLDER]:
+                    for other in one.findall("device"):
+                        if other.get("id") != self.devices[paths.index(path)].id:
+                            one.remove(other)
+                path.write_text(xml.tostring(tree, encoding="unicode"))
+            names = ", ".join(sorted(device.id[:7] for device in self.devices))
+            for inputs in self.inputs():
+                for words in ([], ["--folder", FOLDER]):
+                    status, text = self.told("check", *inputs, *words)
+                    self.assertEqual(status, 6, text)
+                    self.assertEqual(len([line for line in text.splitlines() if line.startswith(f"{FOLDER}: {in_step()} as far as audited")]), 2, text)
+                    self.assertIn(f"\nnot shared with one another: {FOLDER} on {names}: each has a folder of this id", text)
+            self.assertEqual(self.told("run", *(device.home for device in self.devices), "--still", "0", "--folder", FOLDER)[0], 6)
+            self.assertEqual(self.told("check", "--home", self.one.home, "--folder", FOLDER)[0], 0)
+        finally:
+            for path, text in zip(paths, before):
+                path.write_text(text)
 
     def test_the_sum_of_their_documents(self):
         into = self.room / "documents"
