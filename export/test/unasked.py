@@ -70,6 +70,17 @@ class OtherFolders(Exporting):
         self.assertEqual({line for line in lines if line.startswith("not asked for: ")},
                          {f"not asked for: folder {OTHER} on {self.number(device)}" for device in self.devices})
 
+    def test_documents_are_not_exported_into_a_folder_that_nobody_asked_for(self):
+        """Its marker may have another name, or be gone for now. The homes tell where it is."""
+        music = self.one.home.parent / OTHER
+        (music / ".stfolder").rename(self.room / "marker")
+        try:
+            ran = run([self.program, "export", *self.homes(), "--folder", FOLDER, "--into", music / "documents"])
+            self.assertEqual((ran.returncode, list(music.iterdir())), (2, []), ran.stderr)
+        finally:
+            (self.room / "marker").rename(music / ".stfolder")
+        self.assertIn(f"documents would be in folder {OTHER} ({LABEL}) of {self.one.home}, whose devices would all get the documents", ran.stderr)
+
     def test_one_part_is_without_a_folder(self):
         ran = self.check_parts([self.part(self.one), self.part(self.two, "--folder", FOLDER)])
         self.assertEqual((ran.returncode, ran.stdout), (2, ""))

@@ -23,7 +23,7 @@ func runExport(words []string, output, log io.Writer) (int, error) {
 	defer opened.close()
 	to := &outlet{output: output, directory: asked.into}
 	if asked.into != "" {
-		if err := checkUnsynced(asked.into, opened.devices); err != nil {
+		if err := checkUnsynced(asked.into, opened); err != nil {
 			return 0, err
 		}
 		if err := to.checkNew(); err != nil {
