@@ -252,6 +252,23 @@ class OwnFolders(Exporting):
         self.assertEqual(status, 6)
         self.assertIn(f"\nalone: {FOLDER} is audited on one device", text)
 
+    def test_a_folder_that_a_part_lacks_whose_device_shares_it(self):
+        """The other device doesn't say so: it shares its own with nobody."""
+        path = self.two.home / "config.xml"
+        before, tree = path.read_text(), xml.parse(path)
+        folder = [one for one in tree.getroot().findall("folder") if one.get("id") == "default"][0]
+        xml.SubElement(folder, "device", id=self.one.id)
+        tree.write(path)
+        try:
+            parts = [self.part(self.one), self.part(self.two, "--folder", FOLDER)]
+        finally:
+            path.write_text(before)
+        status, text = self.told("check", *parts, "--folder", "default")
+        self.assertEqual(status, 6, text)
+        self.assertRegex(text, f"\nleft out: default .* of {self.two.id}: its part is without the folder: make it without --folder, .*; device .* shares it with nobody")
+        status, text = self.told("check", self.part(self.one), self.part(self.two, "--folder", FOLDER))
+        self.assertEqual((status, "left out" in text), (0, False), text)
+
     def test_a_folder_that_only_others_share(self):
         """Someone may think that the device shares it, too."""
         path, third = self.two.home / "config.xml", Device(self.room, "third").id

@@ -170,15 +170,11 @@ func isBefore(one, other *Failure, order []string) bool {
 	return one.Device < other.Device
 }
 
-// byChance is the id of the folder that Syncthing makes on each device. Other ids it draws at random, so devices have one in common only
-// where a person gave it to them.
-const byChance = "default"
-
 // IsApart says whether several devices have a folder of this one's id, and each shares its own with nobody. Someone may think that they
 // share it with one another.
 func (a *Answer) IsApart(folder *Folder) bool {
 	for _, one := range a.Folders {
-		if folder.Own != "" && folder.ID != byChance && one.ID == folder.ID && one.Own != folder.Own {
+		if folder.Own != "" && folder.ID != join.ByChance && one.ID == folder.ID && one.Own != folder.Own {
 			return true
 		}
 	}
