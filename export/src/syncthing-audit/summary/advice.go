@@ -210,9 +210,11 @@ func behindAdvice(one *Fault, file *File, at string, named labels) string {
 	case one.Kind == sendOnly:
 		return at + " only sends: it doesn't take what others change. 'Override Changes' there undoes their changes on all devices, and deletes " +
 			"what they added; to take the changes, make the folder 'Send & Receive' there"
+	case one.Cause == Conflicting && one.Deletion:
+		return "start Syncthing on all of these devices: it keeps " + file.say("the file", "the files") + ", since a change goes before a deletion"
 	case one.Cause == Conflicting:
 		return "start Syncthing on all of these devices: it keeps one version" + file.say(", and the other one as a conflict copy",
-			" of each, and the others as conflict copies")
+			" of each, and the others as conflict copies") + ". Where the folder's 'Max Conflicts' is 0 it keeps no copy: save first what is to stay"
 	}
 	told := "let Syncthing run on " + at + " and on " + holders(file, named) + ", and let them finish. If it stays so, see whether a device " +
 		"or the folder is paused, whether they are connected, and whether a disk is full"

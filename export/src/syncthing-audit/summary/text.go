@@ -194,6 +194,8 @@ func (p *printer) wordsOf(one *Fault) string {
 		return "behind: hasn't deleted it yet"
 	case one.Cause == Behind && one.Recorded == nil:
 		return "behind: doesn't have it yet"
+	case one.Cause == Conflicting && one.Deletion:
+		return "in conflict: deleted it, and lacks a change of it"
 	case one.Cause == LocalChange && one.Deletion:
 		return "deleted on this receive-only device"
 	case one.Cause == Changed && one.Recorded != nil && one.Found != nil && one.Recorded.Type != one.Found.Type:

@@ -97,6 +97,36 @@ func TestManyChanges(t *testing.T) {
 	}
 }
 
+// So are many in conflict on one of three devices, of which another one is behind; where the device deleted them, that is told apart: of
+// these Syncthing makes no conflict copies.
+func TestManyConflicts(t *testing.T) {
+	answer := answerOf(3, func(folder *finding.Folder) {
+		other := func(one *part.Name) { one.Own.Version = [][2]uint64{{2, 1}} }
+		deleted := func(one *part.Name) { other(one); one.Own.Deleted, one.Own.Content, one.Disk = true, nil, nil }
+		for next := 0; next < 40; next++ {
+			fails(folder, fmt.Sprintf("c/%02d", next), []*part.Name{file(2, 1), with(file(1, 2), other), file(1, 3)}, "RecordDiffers 2", "RecordDiffers 3")
+			fails(folder, fmt.Sprintf("d/%02d", next), []*part.Name{file(2, 1), with(file(1, 2), deleted), file(1, 3)}, "RecordDiffers 2", "RecordDiffers 3")
+		}
+	})
+	var written strings.Builder
+	Of(answer).Print(&written, time.UTC, time.Time{})
+	text := written.String()
+	for _, told := range []string{`
+40 names in docs: 12.0 MB
+  phone: behind: hasn't taken what is newest
+  server: in conflict: has one change of it, and lacks another
+  the first: c/00 c/01 c/02 c/03 c/04, and 35 more (--lines has all)`, `it keeps one version of each, and the others as
+         conflict copies. Where the folder's 'Max Conflicts' is 0`, `
+40 names in docs: 12.0 MB
+  phone: behind: hasn't taken what is newest
+  server: in conflict: deleted it, and lacks a change of it
+  the first: d/00 d/01 d/02 d/03 d/04, and 35 more (--lines has all)`, "since a change"} {
+		if !strings.Contains(text, told) {
+			t.Errorf("this isn't told: %s\nbut:\n%s", told, text)
+		}
+	}
+}
+
 // So are many names that were changed on a receive-only device, and many that were added there; what was changed is told apart from
 // what was deleted.
 func TestManyLocalChanges(t *testing.T) {
