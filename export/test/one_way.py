@@ -72,6 +72,28 @@ class ReceiveOnly(Exporting):
             os.utime(path, ns=(times.st_atime_ns, times.st_mtime_ns))
 
 
+class OwnReceiveOnly(Exporting):
+    """A folder of a device that only receives, which the device shares with nobody any more."""
+
+    def test_reverting_deletes_what_no_other_device_has(self):
+        """Real Syncthing does what the answer says of it. So nobody is told that it brings something back."""
+        self.two.configure([self.two], kind="receiveonly")
+        (self.two.files / "text").write_text("my own")
+        (self.two.files / "empty").unlink()
+        ran = self.on_homes("check", [self.two.home], "--syncaudit", self.auditor)
+        self.assertEqual(ran.returncode, 1, ran.stderr)
+        told = " ".join(ran.stdout.split())
+        self.assertIn("Don't 'Revert Local Changes' then: that deletes the file: no other device has the folder.", told)
+        self.assertIn("'Revert Local Changes' there doesn't bring it back: look among old versions and backups", told)
+        self.two.start()
+        self.two.scan()
+        self.assertEqual((self.two.files / "text").read_text(), "my own")
+        self.two.api("POST", f"db/revert?folder={FOLDER}")
+        wait_until("the changed file is gone", lambda: not (self.two.files / "text").exists())
+        self.two.stop()
+        self.assertFalse((self.two.files / "empty").exists())
+
+
 class SendOnly(Exporting):
     """A device that only sends, and another that changed a file."""
 
