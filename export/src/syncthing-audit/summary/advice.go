@@ -193,13 +193,17 @@ func (f *Fault) types() string {
 
 func missingAdvice(one *Fault, file *File, at string, named labels) string {
 	it := file.say("it", "them")
-	if one.Kind == receiveOnly && len(file.Have) == 0 {
+	if one.Kind == receiveOnly && file.isOwn {
 		return "see that the folder's disk is mounted on " + at + ". 'Revert Local Changes' there doesn't bring " + it + " back: " +
 			copying(one, file, named, toNothing)
 	}
 	if one.Kind == receiveOnly {
+		from := ""
+		if len(file.Have) == 0 {
+			from = " only from a device that has the recorded bytes, and no audited one has"
+		}
 		return "see that the folder's disk is mounted on " + at + ". After a 'Rescan', 'Revert Local Changes' there brings " + it +
-			" back; it also deletes files that were added there"
+			" back" + from + "; it also deletes files that were added there"
 	}
 	return "see that the folder's disk is mounted on " + at + ", before Syncthing starts there: a scan takes " + it + " for deleted" +
 		file.spread(", and then all devices delete "+it, "") + ". To keep " + it + ", first " + copying(one, file, named, toNothing)

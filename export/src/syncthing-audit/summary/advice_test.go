@@ -78,13 +78,13 @@ func TestAdviceOnRevertingWhatNoOtherDeviceHas(t *testing.T) {
 		{LocalChange, true, "'Revert Local Changes' on server deletes the file: no other", "deletes the files"},
 		{LocalAddition, true, "To have it recorded", "To have it recorded"},
 		{Missing, true, "doesn't bring it back: look among old versions and backups for the recorded bytes", "doesn't bring them back"},
-		{Missing, false, "doesn't bring it back: look among old versions and backups for the recorded bytes", "doesn't bring them back"},
+		{Missing, false, "brings it back only from a device that has the recorded bytes, and no audited one has", "brings them back only from"},
 		{Changed, false, "takes back only from a device that has the recorded bytes: no audited one has", "takes back only from"},
 	} {
 		for isMany, has := range map[bool]string{false: one.told, true: one.many} {
 			file := &File{Faults: faultsOf(receiveOnly, one.cause), isOwn: one.isOwn, isMany: isMany}
 			told := strings.Join(adviceOf(file, labels{server: "server"}), ". ")
-			if !strings.Contains(told, has) || strings.Contains(told, "everywhere") || regexp.MustCompile("takes back(,|$)|brings").MatchString(told) {
+			if !strings.Contains(told, has) || strings.Contains(told, "everywhere") || regexp.MustCompile("takes back(,|$)|brings \\w+ back;").MatchString(told) {
 				t.Errorf("%s: %s", one.cause, told)
 			}
 		}
