@@ -80,7 +80,11 @@ func (p *printer) group(folder *Folder, one *Group) {
 		p.modes(one.Modes)
 	}
 	for _, device := range one.Devices {
-		p.line("  %s: %s", p.named.of(device), wordsOf[one.Cause])
+		words := wordsOf[one.Cause]
+		if one.Deleted {
+			words = "behind: hasn't deleted them yet"
+		}
+		p.line("  %s: %s", p.named.of(device), words)
 	}
 	first := []string{}
 	for _, name := range one.First {

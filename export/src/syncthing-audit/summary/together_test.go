@@ -97,6 +97,33 @@ func TestManyChanges(t *testing.T) {
 	}
 }
 
+// Of a device that is behind as a whole what it has still to delete is told apart: to let it finish deletes that there.
+func TestManyDeletions(t *testing.T) {
+	answer := answerOf(2, func(folder *finding.Folder) {
+		deleted := func(one *part.Name) { one.Own.Deleted, one.Own.Content, one.Disk = true, nil, nil }
+		for next := 0; next < 40; next++ {
+			fails(folder, fmt.Sprintf("c/%02d", next), []*part.Name{file(2, 1), file(1, 2)}, "RecordDiffers 2", "StoreDiffers 2")
+			fails(folder, fmt.Sprintf("d/%02d", next), []*part.Name{with(file(2, 1), deleted), file(1, 2)}, "RecordDiffers 2", "StoreDiffers 2")
+		}
+	})
+	made := Of(answer)
+	var written strings.Builder
+	made.Print(&written, time.UTC, time.Time{})
+	text := written.String()
+	for _, told := range []string{`
+  server: behind: hasn't taken what is newest
+  the first: c/00 c/01 c/02, and 37 more (--lines has all)`, `
+  server: behind: hasn't deleted them yet
+  the first: d/00 d/01 d/02, and 37 more (--lines has all)`, "'Ignore Delete' is set"} {
+		if strings.Count(text, told) != 1 {
+			t.Errorf("this isn't told once: %s\nbut:\n%s", told, text)
+		}
+	}
+	if groups := made.Folders[0].Groups; len(groups) != 2 || groups[0].Deleted || !groups[1].Deleted {
+		t.Error(groups)
+	}
+}
+
 // So are many in conflict on one of three devices, of which another one is behind; where the device deleted them, that is told apart: of
 // these Syncthing makes no conflict copies.
 func TestManyConflicts(t *testing.T) {
