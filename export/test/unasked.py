@@ -215,7 +215,8 @@ class OwnFolders(Exporting):
                     status, text = self.told("check", *inputs, *words)
                     self.assertEqual(status, 6, text)
                     self.assertEqual(len([line for line in text.splitlines() if line.startswith(f"{FOLDER}: {in_step()} as far as audited")]), 2, text)
-                    self.assertIn(f"\nnot shared with one another: {FOLDER} on {names}: each has a folder of this id", text)
+                    self.assertIn(f"\nnot shared with one another: {FOLDER} on {names}: each has a folder of this id, and shares it with no device. ", text)
+                    self.assertIn("alone, and not with what the others have\n", text)
             self.assertEqual(self.told("run", *(device.home for device in self.devices), "--still", "0", "--folder", FOLDER)[0], 6)
             self.assertEqual(self.told("check", "--home", self.one.home, "--folder", FOLDER)[0], 0)
         finally:

@@ -52,7 +52,7 @@ func (p *printer) own(s *Summary) {
 	})
 	apart.each(p.named, func(folder, devices string) {
 		p.line("not shared with one another: %s on %s: each has a folder of this id, and shares it with no device. What stands on its disk was "+
-			"compared with its own index alone: share the folder if it is to be one", folder, devices)
+			"compared with its own index alone, and not with what the others have", folder, devices)
 	})
 }
 
