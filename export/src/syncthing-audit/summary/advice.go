@@ -92,6 +92,11 @@ func adviceOfFault(one *Fault, file *File, named labels) string {
 		if file.isOwn {
 			return "'Revert Local Changes' on " + at + file.say(" deletes the file", " deletes the files") + noOther
 		}
+		if one.Due != nil && one.Due.Deleted {
+			it := file.say("it", "them")
+			return "'Revert Local Changes' on " + at + " deletes " + it + ", since the other devices have deleted " + it + ": copy elsewhere first what is " +
+				"to stay. To have " + it + " everywhere, make the folder 'Send & Receive' there"
+		}
 		return "'Revert Local Changes' on " + at + " takes back what was changed there, for all such files of the folder: added files are " +
 			"deleted, so copy elsewhere what is to stay. To have " + file.say("the change", "the changes") + " everywhere, make the folder " +
 			"'Send & Receive' there"
@@ -110,7 +115,7 @@ func adviceOfFault(one *Fault, file *File, named labels) string {
 	case OtherTime:
 		if one.Kind == receiveOnly {
 			return "start Syncthing on " + at + " and 'Rescan': " + file.say("the time stays there as a local change", "the times stay there as local changes") +
-				file.revert()
+				file.revert(one)
 		}
 		return "start Syncthing on " + at + " and 'Rescan'"
 	case OtherBlocks:
@@ -158,7 +163,7 @@ func changedAdvice(one *Fault, file *File, at string, named labels) string {
 	}
 	told := "start Syncthing on " + at + " and 'Rescan': "
 	if one.Kind == receiveOnly {
-		return told + file.say("the change stays there as a local one", "the changes stay there as local ones") + file.revert()
+		return told + file.say("the change stays there as a local one", "the changes stay there as local ones") + file.revert(one)
 	}
 	told += file.spread(file.say("the change then goes to all", "the changes then go to all"),
 		file.say("the change is then recorded", "the changes are then recorded"))
@@ -170,10 +175,12 @@ const noOther = ": no other device has the folder"
 
 // revert says what becomes of a local change of a device that only receives, once it is recorded. Syncthing gets back what another device
 // has. Where the device shares its folder with nobody, it takes what it has itself for added there.
-func (f *File) revert() string {
+func (f *File) revert(one *Fault) string {
 	switch {
 	case f.isOwn:
 		return ". Don't 'Revert Local Changes' then: that deletes " + f.say("the file", "the files") + noOther
+	case one.Due != nil && one.Due.Deleted:
+		return ". 'Revert Local Changes' then deletes " + f.say("the file", "the files") + ", since the other devices have deleted " + f.say("it", "them")
 	case len(f.Have) == 0:
 		return ", which 'Revert Local Changes' takes back only from a device that has the recorded bytes: no audited one has"
 	}

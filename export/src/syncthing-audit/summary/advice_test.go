@@ -91,6 +91,21 @@ func TestAdviceOnRevertingWhatNoOtherDeviceHas(t *testing.T) {
 	}
 }
 
+// Nor is anyone told so of what the other devices have deleted: to revert a change of that deletes it.
+func TestAdviceOnRevertingWhatOthersDeleted(t *testing.T) {
+	for cause, has := range map[Cause]string{
+		LocalChange: "'Revert Local Changes' on server deletes it, since the other devices have deleted it: copy elsewhere first what is to stay",
+		Changed:     "'Revert Local Changes' then deletes the file, since the other devices have deleted it",
+	} {
+		faults := faultsOf(receiveOnly, cause)
+		faults[0].Due = &State{Type: "file", Deleted: true}
+		told := strings.Join(adviceOf(&File{Faults: faults, Have: []string{laptop}}, labels{server: "server", laptop: "laptop"}), ". ")
+		if !strings.Contains(told, has) || strings.Contains(told, "takes back") {
+			t.Errorf("%s: %s", cause, told)
+		}
+	}
+}
+
 // Nobody is told to copy a symlink or over one as a file is copied: that would write into the file to which it leads.
 func TestAdviceOnOtherTypes(t *testing.T) {
 	cases := []struct {

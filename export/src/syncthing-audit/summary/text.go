@@ -202,6 +202,8 @@ func (p *printer) wordsOf(one *Fault) string {
 		return "in conflict: deleted it, and lacks a change of it"
 	case one.Cause == LocalChange && one.Deletion:
 		return "deleted on this receive-only device"
+	case one.Cause == LocalChange && one.Due != nil && one.Due.Deleted:
+		return "changed on this receive-only device, while the others have deleted it"
 	case one.Cause == Changed && one.Recorded != nil && one.Found != nil && one.Recorded.Type != one.Found.Type:
 		return fmt.Sprintf("a %s on the disk, recorded as a %s", one.Found.Type, one.Recorded.Type)
 	}

@@ -41,7 +41,7 @@ func (f *File) readKey() string {
 		if !readTogether[one.Cause] || one.isSeen {
 			return ""
 		}
-		key += fmt.Sprint(" ", one.Device, one.Cause, one.Deletion, one.types(), one.Recorded == nil)
+		key += fmt.Sprint(" ", one.Device, one.Cause, one.Deletion, one.types(), one.Recorded == nil, one.Due != nil && one.Due.Deleted)
 	}
 	return key
 }
