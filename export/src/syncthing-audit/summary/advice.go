@@ -108,6 +108,9 @@ func adviceOfFault(one *Fault, file *File, named labels) string {
 			return "start Syncthing on " + at + " and 'Rescan': " + file.say("it stays there as a local addition", "they stay there as local additions") +
 				", which 'Revert Local Changes' would delete"
 		}
+		if late := lateAdvice(one, file, at); late != "" {
+			return late
+		}
 		return "start Syncthing on " + at + " and 'Rescan': " + file.spread(file.say("it then goes to all", "they then go to all"),
 			file.say("it is then recorded", "they are then recorded"))
 	case OnlySeen, NewerKnown:
@@ -162,6 +165,9 @@ func changedAdvice(one *Fault, file *File, at string, named labels) string {
 		how = overFile
 	}
 	told := "start Syncthing on " + at + " and 'Rescan': "
+	if late := lateAdvice(one, file, at); late != "" {
+		return late
+	}
 	if one.Kind == receiveOnly {
 		return told + file.say("the change stays there as a local one", "the changes stay there as local ones") + file.revert(one)
 	}
@@ -224,8 +230,7 @@ func behindAdvice(one *Fault, file *File, at string, named labels) string {
 	case one.Cause == Conflicting && one.Deletion:
 		return "start Syncthing on all of these devices: it keeps " + file.say("the file", "the files") + ", since a change goes before a deletion"
 	case one.Cause == Conflicting:
-		return "start Syncthing on all of these devices: it keeps one version" + file.say(", and the other one as a conflict copy",
-			" of each, and the others as conflict copies") + ". Where the folder's 'Max Conflicts' is 0 it keeps no copy: save first what is to stay"
+		return "start Syncthing on all of these devices: " + file.conflicting()
 	}
 	told := "let Syncthing run on " + at + " and on " + holders(file, named) + ", and let them finish. If it stays so, see whether a device " +
 		"or the folder is paused, whether they are connected, and whether a disk is full"
@@ -233,6 +238,28 @@ func behindAdvice(one *Fault, file *File, at string, named labels) string {
 		told += "; or 'Ignore Delete' is set for the folder on " + at
 	}
 	return told
+}
+
+// conflicting says what Syncthing does with two changes of which neither is on top of the other.
+func (f *File) conflicting() string {
+	return "it keeps one version" + f.say(", and the other one as a conflict copy", " of each, and the others as conflict copies") +
+		". Where the folder's 'Max Conflicts' is 0 it keeps no copy: save first what is to stay"
+}
+
+// lateAdvice says what a scan does with what changed on the disk of a device that is behind with the same name; nothing where it isn't.
+func lateAdvice(one *Fault, file *File, at string) string {
+	for _, other := range file.Faults {
+		if other.Device != one.Device || other.Cause != Behind || one.Kind == receiveOnly || one.Kind == sendOnly {
+			continue
+		}
+		told := "start Syncthing on " + at + " and 'Rescan': "
+		if other.Deletion {
+			return told + file.say("the change goes before the deletion, and then to all. If it isn't wanted, first delete the file there",
+				"the changes go before the deletions, and then to all. If they aren't wanted, first delete the files there") + " while Syncthing is stopped"
+		}
+		return told + "what stands there is then in conflict with what the others have: " + file.conflicting()
+	}
+	return ""
 }
 
 // holders says on which devices that can be had which is due.

@@ -91,6 +91,23 @@ func TestAdviceOnRevertingWhatNoOtherDeviceHas(t *testing.T) {
 	}
 }
 
+// Where a device is behind with a name that changed on its disk, a scan doesn't just send the change to all: it is in conflict, or goes
+// before a deletion, of which nothing can be copied from elsewhere.
+func TestAdviceOnChangesOfADeviceThatIsBehind(t *testing.T) {
+	for _, cause := range []Cause{Changed, NotScanned} {
+		for _, isMany := range []bool{false, true} {
+			for isDeletion, has := range map[bool]string{false: "in conflict with what the others have: it keeps one version", true: "before the deletion"} {
+				faults := faultsOf("send-receive", Behind, cause)
+				faults[0].Deletion = isDeletion
+				told := strings.Join(adviceOf(&File{Faults: faults, Have: []string{laptop}, isMany: isMany}, labels{server: "server", laptop: "laptop"}), ". ")
+				if !strings.Contains(told, has) || strings.Contains(told, "copy it from") || strings.Contains(told, "copy them from") || strings.Contains(told, "then goes to all") {
+					t.Errorf("%s: %s", cause, told)
+				}
+			}
+		}
+	}
+}
+
 // Nor is anyone told so of what the other devices have deleted: to revert a change of that deletes it.
 func TestAdviceOnRevertingWhatOthersDeleted(t *testing.T) {
 	for cause, has := range map[Cause]string{
