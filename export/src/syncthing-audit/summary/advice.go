@@ -230,7 +230,7 @@ func behindAdvice(one *Fault, file *File, at string, named labels) string {
 	case one.Cause == Conflicting && one.Deletion:
 		return "start Syncthing on all of these devices: it keeps " + file.say("the file", "the files") + ", since a change goes before a deletion"
 	case one.Cause == Conflicting:
-		return "start Syncthing on all of these devices: " + file.conflicting()
+		return "start Syncthing on all of these devices: it " + file.conflicting()
 	}
 	told := "let Syncthing run on " + at + " and on " + holders(file, named) + ", and let them finish. If it stays so, see whether a device " +
 		"or the folder is paused, whether they are connected, and whether a disk is full"
@@ -242,7 +242,7 @@ func behindAdvice(one *Fault, file *File, at string, named labels) string {
 
 // conflicting says what Syncthing does with two changes of which neither is on top of the other.
 func (f *File) conflicting() string {
-	return "it keeps one version" + f.say(", and the other one as a conflict copy", " of each, and the others as conflict copies") +
+	return "keeps one version" + f.say(", and the other one as a conflict copy", " of each, and the others as conflict copies") +
 		". Where the folder's 'Max Conflicts' is 0 it keeps no copy: save first what is to stay"
 }
 
@@ -257,7 +257,7 @@ func lateAdvice(one *Fault, file *File, at string) string {
 			return told + file.say("the change goes before the deletion, and then to all. If it isn't wanted, first delete the file there",
 				"the changes go before the deletions, and then to all. If they aren't wanted, first delete the files there") + " while Syncthing is stopped"
 		}
-		return told + "what stands there is then in conflict with what the others have: " + file.conflicting()
+		return told + "what stands there is then in conflict with what the others have. Syncthing " + file.conflicting()
 	}
 	return ""
 }

@@ -96,7 +96,7 @@ func TestAdviceOnRevertingWhatNoOtherDeviceHas(t *testing.T) {
 func TestAdviceOnChangesOfADeviceThatIsBehind(t *testing.T) {
 	for _, cause := range []Cause{Changed, NotScanned} {
 		for _, isMany := range []bool{false, true} {
-			for isDeletion, has := range map[bool]string{false: "in conflict with what the others have: it keeps one version", true: "before the deletion"} {
+			for isDeletion, has := range map[bool]string{false: "in conflict with what the others have. Syncthing keeps one version", true: "before the deletion"} {
 				faults := faultsOf("send-receive", Behind, cause)
 				faults[0].Deletion = isDeletion
 				told := strings.Join(adviceOf(&File{Faults: faults, Have: []string{laptop}, isMany: isMany}, labels{server: "server", laptop: "laptop"}), ". ")
