@@ -135,6 +135,26 @@ class Manners(unittest.TestCase):
         self.assertEqual((ran.returncode, sorted(into.iterdir())), (2, before), ran.stderr)
         self.assertIn("into has an earlier export (cut-0001.json): name another directory, or take that away", ran.stderr)
 
+    def test_a_refused_export_leaves_a_directory_that_was_there(self):
+        """It may be one that others can't read."""
+        odd, into = self.room / "device1" / "files" / "zz pipe", self.temporary / "into"
+        os.mkfifo(odd)
+        self.addCleanup(odd.unlink)
+        into.mkdir(0o700)
+        ran = run([self.program, "export", *(word for home in self.homes for word in ("--home", home)), "--into", into])
+        self.assertEqual((ran.returncode, into.exists()), (2, True), ran.stderr)
+
+    def test_documents_go_into_directories_alone(self):
+        """What else is there is told before any file is hashed."""
+        into = self.temporary / "into"
+        for make, told in ((into.touch, "into is no directory: name one"), (lambda: into.symlink_to("nothing"), "into is a symlink to nothing: name a directory")):
+            make()
+            ran = run([self.program, "export", *self.parts, "--into", into])
+            into.unlink()
+            self.assertEqual(ran.returncode, 2, ran.stderr)
+            self.assertIn(told, ran.stderr)
+            self.assertNotIn("device", ran.stderr)
+
     def test_a_signal_while_syncaudit_answers_ends_it_too(self):
         program, _ = self.waiting_auditor()
         process = self.start("check", *(word for home in self.homes for word in ("--home", home)), "--syncaudit", program)

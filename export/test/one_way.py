@@ -72,6 +72,55 @@ class ReceiveOnly(Exporting):
             os.utime(path, ns=(times.st_atime_ns, times.st_mtime_ns))
 
 
+class ReceiveOnlyOfWhatIsDeleted(Exporting):
+    """A device that only receives changed a file, and the other one deleted it."""
+
+    kinds = {"two": "receiveonly"}
+
+    def test_reverting_deletes_it(self):
+        """Real Syncthing does what the answer says of it."""
+        self.two.start()
+        (self.two.files / "text").write_text("my own")
+        self.two.scan()
+        (self.one.files / "text").unlink()
+        self.one.start()
+        self.one.scan()
+        wait_until("the other device knows of the deletion", lambda: self.two.knows_all_of(self.one))
+        self.stop()
+        ran = self.on_homes("check", [device.home for device in self.devices], "--syncaudit", self.auditor)
+        self.assertEqual(ran.returncode, 1, ran.stderr)
+        told = " ".join(ran.stdout.split())
+        self.assertIn("changed on this receive-only device, while the others have deleted it", told)
+        self.assertIn(f"'Revert Local Changes' on {self.two.id[:7]} deletes it, since the other devices have deleted it: copy elsewhere first", told)
+        self.start()
+        wait_until("the devices are connected", lambda: self.two.knows_all_of(self.one))
+        self.two.api("POST", f"db/revert?folder={FOLDER}")
+        wait_until("the changed file is gone", lambda: not (self.two.files / "text").exists())
+        self.stop()
+
+
+class OwnReceiveOnly(Exporting):
+    """A folder of a device that only receives, which the device shares with nobody any more."""
+
+    def test_reverting_deletes_what_no_other_device_has(self):
+        """Real Syncthing does what the answer says of it. So nobody is told that it brings something back."""
+        self.two.configure([self.two], kind="receiveonly")
+        (self.two.files / "text").write_text("my own")
+        (self.two.files / "empty").unlink()
+        ran = self.on_homes("check", [self.two.home], "--syncaudit", self.auditor)
+        self.assertEqual(ran.returncode, 1, ran.stderr)
+        told = " ".join(ran.stdout.split())
+        self.assertIn("Don't 'Revert Local Changes' then: that deletes the file: no other device has the folder.", told)
+        self.assertIn("'Revert Local Changes' there doesn't bring it back: look among old versions and backups", told)
+        self.two.start()
+        self.two.scan()
+        self.assertEqual((self.two.files / "text").read_text(), "my own")
+        self.two.api("POST", f"db/revert?folder={FOLDER}")
+        wait_until("the changed file is gone", lambda: not (self.two.files / "text").exists())
+        self.two.stop()
+        self.assertFalse((self.two.files / "empty").exists())
+
+
 class SendOnly(Exporting):
     """A device that only sends, and another that changed a file."""
 

@@ -136,6 +136,13 @@ class TwoDevices(Answers, Exporting):
                 self.assertIn(told, ran.stderr)
                 self.assertIn("name a directory elsewhere", ran.stderr)
                 self.assertEqual((files_of(self.room), (other / "a").exists(), (self.one.files / "a").exists()), (before, False, False))
+        for path in (self.one.files / "shell.json", other / "shell.json"):
+            with path.open("wb") as file:
+                ran = subprocess.run([self.program, "export", *parts], stdout=file, stderr=subprocess.PIPE, text=True)
+            written = path.read_bytes()
+            path.unlink()
+            self.assertEqual((ran.returncode, written), (2, b""), ran.stderr)
+            self.assertIn("shell.json is there already, since the shell made it: take it away", ran.stderr)
         (self.one.files / ".stfolder").rename(self.room / "marker")
         try:
             ran = run([self.program, "export", *parts, "--into", self.one.files / "out"])

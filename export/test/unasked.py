@@ -8,7 +8,7 @@ import gzip
 import json
 import xml.etree.ElementTree as xml
 
-from exporting import Exporting, main, run
+from exporting import Exporting, in_step, main, run
 from live_looks import rot
 from syncthing import FOLDER, Device
 
@@ -69,6 +69,17 @@ class OtherFolders(Exporting):
         self.assertEqual(lines[0], "settled as far as audited")
         self.assertEqual({line for line in lines if line.startswith("not asked for: ")},
                          {f"not asked for: folder {OTHER} on {self.number(device)}" for device in self.devices})
+
+    def test_documents_are_not_exported_into_a_folder_that_nobody_asked_for(self):
+        """Its marker may have another name, or be gone for now. The homes tell where it is."""
+        music = self.one.home.parent / OTHER
+        (music / ".stfolder").rename(self.room / "marker")
+        try:
+            ran = run([self.program, "export", *self.homes(), "--folder", FOLDER, "--into", music / "documents"])
+            self.assertEqual((ran.returncode, list(music.iterdir())), (2, []), ran.stderr)
+        finally:
+            (self.room / "marker").rename(music / ".stfolder")
+        self.assertIn(f"documents would be in folder {OTHER} ({LABEL}) of {self.one.home}, whose devices would all get the documents", ran.stderr)
 
     def test_one_part_is_without_a_folder(self):
         ran = self.check_parts([self.part(self.one), self.part(self.two, "--folder", FOLDER)])
@@ -186,6 +197,32 @@ class OwnFolders(Exporting):
                 self.assertIn(f"\nnot shared: folder default on {self.number(device)}\n", text)
         self.assertEqual(self.told("run", *(device.home for device in self.devices), "--still", "0")[0], 0)
 
+    def test_a_folder_of_another_id_that_none_of_several_devices_shares(self):
+        """Syncthing draws such an id at random. So someone gave it to both devices, and may think that they share it."""
+        paths = [device.home / "config.xml" for device in self.devices]
+        before = [path.read_text() for path in paths]
+        try:
+            for path, text in zip(paths, before):
+                tree = xml.fromstring(text)
+                for one in [one for one in tree.findall("folder") if one.get("id") == FOLDER]:
+                    for other in one.findall("device"):
+                        if other.get("id") != self.devices[paths.index(path)].id:
+                            one.remove(other)
+                path.write_text(xml.tostring(tree, encoding="unicode"))
+            names = ", ".join(sorted(device.id[:7] for device in self.devices))
+            for inputs in self.inputs():
+                for words in ([], ["--folder", FOLDER]):
+                    status, text = self.told("check", *inputs, *words)
+                    self.assertEqual(status, 6, text)
+                    self.assertEqual(len([line for line in text.splitlines() if line.startswith(f"{FOLDER}: {in_step()} as far as audited")]), 2, text)
+                    self.assertIn(f"\nnot shared with one another: {FOLDER} on {names}: each has a folder of this id, and shares it with no device. ", text)
+                    self.assertIn("alone, and not with what the others have\n", text)
+            self.assertEqual(self.told("run", *(device.home for device in self.devices), "--still", "0", "--folder", FOLDER)[0], 6)
+            self.assertEqual(self.told("check", "--home", self.one.home, "--folder", FOLDER)[0], 0)
+        finally:
+            for path, text in zip(paths, before):
+                path.write_text(text)
+
     def test_the_sum_of_their_documents(self):
         into = self.room / "documents"
         self.assertEqual(run([self.program, "export", *self.inputs()[1], "--into", into]).returncode, 0)
@@ -215,6 +252,23 @@ class OwnFolders(Exporting):
         status, text = self.told("check", alone, "--leave-out", "absent")
         self.assertEqual(status, 6)
         self.assertIn(f"\nalone: {FOLDER} is audited on one device", text)
+
+    def test_a_folder_that_a_part_lacks_whose_device_shares_it(self):
+        """The other device doesn't say so: it shares its own with nobody."""
+        path = self.two.home / "config.xml"
+        before, tree = path.read_text(), xml.parse(path)
+        folder = [one for one in tree.getroot().findall("folder") if one.get("id") == "default"][0]
+        xml.SubElement(folder, "device", id=self.one.id)
+        tree.write(path)
+        try:
+            parts = [self.part(self.one), self.part(self.two, "--folder", FOLDER)]
+        finally:
+            path.write_text(before)
+        status, text = self.told("check", *parts, "--folder", "default")
+        self.assertEqual(status, 6, text)
+        self.assertRegex(text, f"\nleft out: default .* of {self.two.id}: its part is without the folder: make it without --folder, .*; device .* shares it with nobody")
+        status, text = self.told("check", self.part(self.one), self.part(self.two, "--folder", FOLDER))
+        self.assertEqual((status, "left out" in text), (0, False), text)
 
     def test_a_folder_that_only_others_share(self):
         """Someone may think that the device shares it, too."""

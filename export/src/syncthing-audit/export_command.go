@@ -2,12 +2,15 @@ package main
 
 import (
 	"flag"
+	"fmt"
 	"io"
+	"path/filepath"
 
 	"syncthing-audit/audit"
 	"syncthing-audit/finding"
 	"syncthing-audit/join"
 	"syncthing-audit/report"
+	"syncthing-audit/shell"
 )
 
 // runExport joins devices and writes their check documents.
@@ -22,13 +25,8 @@ func runExport(words []string, output, log io.Writer) (int, error) {
 	}
 	defer opened.close()
 	to := &outlet{output: output, directory: asked.into}
-	if asked.into != "" {
-		if err := checkUnsynced(asked.into, opened.devices); err != nil {
-			return 0, err
-		}
-		if err := to.checkNew(); err != nil {
-			return 0, err
-		}
+	if err := checkPlace(to, opened); err != nil {
+		return 0, err
 	}
 	tellDevices(log, opened.devices)
 	answer, err := opened.audited(asked, log, func() (*finding.Answer, error) { return export(opened, asked, to) })
@@ -41,6 +39,24 @@ func runExport(words []string, output, log io.Writer) (int, error) {
 		return 0, err
 	}
 	return statusDone, nil
+}
+
+// checkPlace says why documents can't be written where they are to go.
+func checkPlace(to *outlet, opened *inputs) error {
+	if to.directory != "" {
+		if err := checkUnsynced(to.directory, opened); err != nil {
+			return err
+		}
+		return to.checkNew()
+	}
+	path := fileOf(to.output)
+	if path == "" {
+		return nil
+	}
+	if err := checkUnsynced(filepath.Dir(path), opened); err != nil {
+		return fmt.Errorf("%w. %s is there already, since the shell made it: take it away", err, shell.Quoted(path))
+	}
+	return nil
 }
 
 // readExportOptions reads the words behind 'export'.

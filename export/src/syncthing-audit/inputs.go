@@ -19,6 +19,7 @@ import (
 // inputs are the homes and parts that are read, to be closed.
 type inputs struct {
 	devices []*join.Device
+	homes   []*device.Home
 	pool    *disk.Pool
 	work    work
 	closers []func()
@@ -89,6 +90,7 @@ func (i *inputs) open(asked options) error {
 		i.closers = append(i.closers, home.Close)
 		homes = append(homes, home)
 	}
+	i.homes = homes
 	if err := i.openParts(asked.parts); err != nil {
 		return err
 	}

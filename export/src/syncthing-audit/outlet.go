@@ -25,10 +25,20 @@ type outlet struct {
 	kept      []byte
 	written   []exportedDocument
 	files     []string
+	isMade    bool // whether the directory wasn't there before
 }
 
-// checkNew says whether an earlier export stands in the directory, or answers to one: 'sum' would take these for the new documents'.
+// checkNew says whether something else than a directory is there, or an earlier export stands in the directory, or answers to one: 'sum' would
+// take these for the new documents'.
 func (o *outlet) checkNew() error {
+	if there, err := os.Stat(o.directory); err == nil && !there.IsDir() {
+		return fmt.Errorf("refused: %s is no directory: name one", shell.Quoted(o.directory))
+	}
+	if _, err := os.Lstat(o.directory); err == nil {
+		if _, err := os.Stat(o.directory); os.IsNotExist(err) {
+			return fmt.Errorf("refused: %s is a symlink to nothing: name a directory", shell.Quoted(o.directory))
+		}
+	}
 	for _, pattern := range []string{"cut-*.json", "cut-*.reply", restName} {
 		if there, _ := filepath.Glob(filepath.Join(globbed(o.directory), pattern)); len(there) > 0 {
 			return fmt.Errorf("refused: %s has an earlier export (%s): name another directory, or take that away", shell.Quoted(o.directory),
@@ -52,6 +62,9 @@ func (o *outlet) take(one *document.Document) error {
 		}
 		o.kept = one.Written
 		return nil
+	}
+	if _, err := os.Stat(o.directory); os.IsNotExist(err) {
+		o.isMade = true
 	}
 	if err := os.MkdirAll(o.directory, 0o777); err != nil {
 		return faultOf(err)
@@ -81,12 +94,12 @@ func (o *outlet) end(answer *finding.Answer, log io.Writer) error {
 	return nil
 }
 
-// drop takes away what was written, and the directory if nothing else is there: without the rest the documents have no sum.
+// drop takes away what was written, and the directory if it was made for that and nothing else is there: without the rest the documents have no sum.
 func (o *outlet) drop() {
 	for _, path := range o.files {
 		leftover.Remove(path)
 	}
-	if len(o.files) > 0 {
+	if o.isMade {
 		os.Remove(o.directory)
 	}
 }

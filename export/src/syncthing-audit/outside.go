@@ -23,7 +23,7 @@ func checkOutside(path string, folders []config.FolderConfiguration) error {
 	}
 	for _, above := range upwards(filepath.Dir(real)) {
 		for _, one := range folders {
-			if one.Path != "" && isSame(above, adapt.Filesystem(one.Filesystem, nil).URI()) {
+			if isFolder(above, one) {
 				return fmt.Errorf("refused: %s would be in folder %s, whose devices would all get it: name a file elsewhere", shell.Quoted(path),
 					shell.Folder(one.ID, one.Label))
 			}
@@ -32,20 +32,32 @@ func checkOutside(path string, folders []config.FolderConfiguration) error {
 	return nil
 }
 
+// isFolder says whether this directory is that of a folder.
+func isFolder(directory string, one config.FolderConfiguration) bool {
+	return one.Path != "" && isSame(directory, adapt.Filesystem(one.Filesystem, nil).URI())
+}
+
 // marker is what Syncthing makes in the directory of each folder.
 const marker = ".stfolder"
 
 // checkUnsynced says whether documents would be written into a folder of Syncthing: all its devices would get them. It is a folder of
-// these devices, by what its directory is, or another one, by its marker.
-func checkUnsynced(directory string, devices []*join.Device) error {
+// these devices, by what its directory is, whether it is asked for or not, or another one, by its marker.
+func checkUnsynced(directory string, opened *inputs) error {
 	real, err := realOf(directory)
 	if err != nil {
 		return faultOf(err)
 	}
 	const why = "whose devices would all get the documents: name a directory elsewhere"
 	for _, above := range upwards(real) {
-		if one, folder := folderAt(above, devices); folder != nil {
+		if one, folder := folderAt(above, opened.devices); folder != nil {
 			return fmt.Errorf("refused: %s would be in folder %s of %s, %s", shell.Quoted(directory), shell.Folder(folder.ID, folder.Label), one.Called(), why)
+		}
+		for _, home := range opened.homes {
+			for _, one := range home.Config.Folders {
+				if isFolder(above, one) {
+					return fmt.Errorf("refused: %s would be in folder %s of %s, %s", shell.Quoted(directory), shell.Folder(one.ID, one.Label), home.Dir, why)
+				}
+			}
 		}
 		if _, err := os.Lstat(filepath.Join(above, marker)); err == nil {
 			return fmt.Errorf("refused: %s would be in the Syncthing folder %s (%s is there), %s", shell.Quoted(directory), shell.Quoted(above), marker, why)

@@ -114,9 +114,11 @@ func ReadConfig(dir string) (config.Configuration, error) {
 	return read, err
 }
 
-// IsHome says whether a directory is a home with an index, be it one that isn't read.
+// IsHome says whether a directory is a home with an index, be it one that isn't read. One that can't be looked at may be one: who reads it
+// is told why.
 func IsHome(dir string) bool {
-	return isThere(dir, databaseName+"/CURRENT") || isThere(dir, indexOfTwo)
+	_, err := os.Stat(filepath.Join(dir, databaseName, "CURRENT"))
+	return err == nil || !errors.Is(err, os.ErrNotExist) && !errors.Is(err, syscall.ENOTDIR) || isThere(dir, indexOfTwo)
 }
 
 // Name gives the device's name, as it is configured at itself.

@@ -117,3 +117,20 @@ func TestAHomeOfSyncthing2(t *testing.T) {
 		t.Error("it is taken for no home")
 	}
 }
+
+// A home that can't be looked at, for want of permission say, isn't said not to be there. Here it is a symlink to itself.
+func TestAHomeThatCannotBeLookedAt(t *testing.T) {
+	room := t.TempDir()
+	loop, file := filepath.Join(room, "loop"), filepath.Join(room, "file")
+	if err := os.Symlink(loop, loop); err != nil {
+		t.Fatal(err)
+	}
+	if err := os.WriteFile(file, nil, 0o600); err != nil {
+		t.Fatal(err)
+	}
+	for path, is := range map[string]bool{loop: true, file: false, filepath.Join(room, "none"): false, room: false} {
+		if IsHome(path) != is {
+			t.Errorf("%s: %v", path, !is)
+		}
+	}
+}

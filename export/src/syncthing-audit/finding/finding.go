@@ -170,10 +170,21 @@ func isBefore(one, other *Failure, order []string) bool {
 	return one.Device < other.Device
 }
 
+// IsApart says whether several devices have a folder of this one's id, and each shares its own with nobody. Someone may think that they
+// share it with one another.
+func (a *Answer) IsApart(folder *Folder) bool {
+	for _, one := range a.Folders {
+		if folder.Own != "" && folder.ID != join.ByChance && one.ID == folder.ID && one.Own != folder.Own {
+			return true
+		}
+	}
+	return false
+}
+
 // IsPart says whether something of the folder wasn't audited: a name, a device, or all other devices. Of one that its device shares with
-// nobody there is no other one.
+// nobody there is no other one, but where others have theirs of the same id.
 func (a *Answer) IsPart(folder *Folder) bool {
-	if len(folder.LeftOut) > 0 || (len(folder.Members) < 2 && folder.Own == "") || folder.Live.isPart() || (folder.Prefix() != "" && !a.ByNames) {
+	if a.IsApart(folder) || len(folder.LeftOut) > 0 || (len(folder.Members) < 2 && folder.Own == "") || folder.Live.isPart() || (folder.Prefix() != "" && !a.ByNames) {
 		return true
 	}
 	for _, one := range a.LeftOut {

@@ -16,6 +16,41 @@ func (f *Folder) split() []*Folder {
 	return made
 }
 
+// ByChance is the id of the folder that Syncthing makes on each device. Other ids it draws at random, so devices have one in common only
+// where a person gave it to them.
+const ByChance = "default"
+
+// checkOwn leaves out the devices whose parts are without a folder that others share with nobody, where they may have it: they may share it
+// with those.
+func (p *Plan) checkOwn(folder *Folder) {
+	for _, one := range p.Devices {
+		if folder.Own != "" && one.Head.Folder(folder.ID) == nil && one.mayShare(folder.ID) && !p.leavesOut(folder.ID, one.Head.Device) {
+			p.LeftOut = append(p.LeftOut, Refusal{part.Unshared, folder.ID, folder.Label, one.Head.Device, one.Head.Name,
+				one.whyWithout(folder.ID) + "; " + folder.Members[0].Label() + " shares it with nobody"})
+		}
+	}
+}
+
+// leavesOut says whether a device is left out of a folder already.
+func (p *Plan) leavesOut(folder, device string) bool {
+	for _, one := range p.LeftOut {
+		if one.Folder == folder && one.Device == device {
+			return true
+		}
+	}
+	return false
+}
+
+// mayShare says whether a device may share a folder that its part is without, as far as the part says that.
+func (d *Device) mayShare(folder string) bool {
+	for _, one := range d.Head.Others {
+		if one.ID == folder {
+			return len(one.Devices) > 0 || folder != ByChance
+		}
+	}
+	return d.Head.Others == nil
+}
+
 // checkApart takes out the devices whose folder has the id by chance, where others share theirs: Syncthing doesn't bring these together,
 // so they aren't compared. What stays is the folder of most devices that are here. A device that shares its folder with nobody is left
 // out. One that shares it with others is refused. Someone may think that these are one folder.

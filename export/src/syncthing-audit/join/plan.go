@@ -46,6 +46,7 @@ func NewPlan(devices []*Device, wanted []string) (*Plan, error) {
 	made := &Plan{Devices: devices, IsByName: len(wanted) > 0}
 	for _, id := range ids {
 		for _, folder := range made.foldersOf(id) {
+			made.checkOwn(folder)
 			if made.check(folder) {
 				made.Folders = append(made.Folders, folder)
 			}

@@ -126,6 +126,31 @@ func TestFoldersThatAreSharedWithNobody(t *testing.T) {
 	}
 }
 
+// A device that shares its folder with nobody doesn't know who shares it with that device. Where a part is without the folder, its device may.
+func TestAPartWithoutAFolderThatAnotherDeviceSharesWithNobody(t *testing.T) {
+	for _, one := range []struct {
+		id      string
+		others  []part.Other
+		refused string
+	}{
+		{"docs", []part.Other{{ID: "docs", Devices: []string{deviceID(1)}}}, "left-out:unshared"},
+		{"docs", []part.Other{{ID: "docs", Devices: []string{deviceID(9)}}}, "left-out:unshared"},
+		{"docs", []part.Other{{ID: "docs"}}, "left-out:unshared"},
+		{"docs", nil, "left-out:unshared"},
+		{"docs", []part.Other{{ID: "pics", Devices: []string{deviceID(1)}}}, ""},
+		{"docs", []part.Other{}, ""},
+		{"default", []part.Other{{ID: "default"}}, ""},
+		{"default", []part.Other{{ID: "default", Devices: []string{deviceID(1)}}}, "left-out:unshared"},
+	} {
+		devices := sharing(map[byte]string{1: "1", 2: "2", 3: "3"}, func(_ byte, folder *part.Folder) { folder.ID = one.id })
+		devices[1].Head.Folders[0].ID, devices[1].Head.Others = "music", one.others
+		plan, err := NewPlan(devices, []string{one.id})
+		if err != nil || refused(plan) != one.refused || len(plan.Folders) != 2 {
+			t.Errorf("%v: %q, %v", one.others, refused(plan), err)
+		}
+	}
+}
+
 // Whether a device doesn't share a folder, or its part is without it, is told as far as its part says that.
 func TestWhyAPartIsWithoutAFolder(t *testing.T) {
 	for told, others := range map[string][]part.Other{"it doesn't share the folder, or its part is without it; device ": nil, "it doesn't share the folder; device ": {},

@@ -29,6 +29,13 @@ func ownFolder(id string) *finding.Folder {
 	return made
 }
 
+// otherOwn gives another device's folder that it shares with nobody.
+func otherOwn(id string) *finding.Folder {
+	made := ownFolder(id)
+	made.Own = "B"
+	return made
+}
+
 func TestVerdicts(t *testing.T) {
 	differs := finding.Failure{Reason: "StoreDiffers", Name: "b", Device: 1}
 	unwon := finding.Failure{Reason: "NotWinner", Name: "z"}
@@ -42,6 +49,9 @@ func TestVerdicts(t *testing.T) {
 		{"all in step", finding.Answer{Folders: []*finding.Folder{folderOf("docs", 2)}}, "settled"},
 		{"a folder at one device alone", finding.Answer{Folders: []*finding.Folder{folderOf("docs", 2), folderOf("pics", 1)}}, "settled as far as audited"},
 		{"a folder that a device shares with nobody", finding.Answer{Folders: []*finding.Folder{folderOf("docs", 2), ownFolder("pics")}}, "settled"},
+		{"one of which each of two devices has its own", finding.Answer{Folders: []*finding.Folder{ownFolder("pics"), otherOwn("pics")}},
+			"settled as far as audited"},
+		{"so with the id that Syncthing gives on each", finding.Answer{Folders: []*finding.Folder{ownFolder("default"), otherOwn("default")}}, "settled"},
 		{"a name that was left out", finding.Answer{Folders: []*finding.Folder{left}}, "settled as far as audited"},
 		{"a device that was left out", finding.Answer{Folders: []*finding.Folder{folderOf("docs", 2)},
 			LeftOut: []finding.Refusal{{Kind: part.Absent, Folder: "docs"}}}, "settled as far as audited"},

@@ -89,16 +89,27 @@ func adviceOfFault(one *Fault, file *File, named labels) string {
 	case Behind, Conflicting:
 		return behindAdvice(one, file, at, named)
 	case LocalChange:
+		if file.isOwn {
+			return "'Revert Local Changes' on " + at + file.say(" deletes the file", " deletes the files") + noOther
+		}
+		if one.Due != nil && one.Due.Deleted {
+			it := file.say("it", "them")
+			return "'Revert Local Changes' on " + at + " deletes " + it + ", since the other devices have deleted " + it + ": copy elsewhere first what is " +
+				"to stay. To have " + it + " everywhere, make the folder 'Send & Receive' there"
+		}
 		return "'Revert Local Changes' on " + at + " takes back what was changed there, for all such files of the folder: added files are " +
 			"deleted, so copy elsewhere what is to stay. To have " + file.say("the change", "the changes") + " everywhere, make the folder " +
 			"'Send & Receive' there"
 	case LocalAddition:
-		return "'Revert Local Changes' on " + at + " deletes what was added there: copy elsewhere first what is to stay. To have it everywhere, " +
-			"make the folder 'Send & Receive' there"
+		return "'Revert Local Changes' on " + at + " deletes what was added there: copy elsewhere first what is to stay. To have it " +
+			file.spread("everywhere", "recorded as any other file") + ", make the folder 'Send & Receive' there"
 	case NotScanned:
 		if one.Kind == receiveOnly {
 			return "start Syncthing on " + at + " and 'Rescan': " + file.say("it stays there as a local addition", "they stay there as local additions") +
 				", which 'Revert Local Changes' would delete"
+		}
+		if late := lateAdvice(one, file, at); late != "" {
+			return late
 		}
 		return "start Syncthing on " + at + " and 'Rescan': " + file.spread(file.say("it then goes to all", "they then go to all"),
 			file.say("it is then recorded", "they are then recorded"))
@@ -107,7 +118,7 @@ func adviceOfFault(one *Fault, file *File, named labels) string {
 	case OtherTime:
 		if one.Kind == receiveOnly {
 			return "start Syncthing on " + at + " and 'Rescan': " + file.say("the time stays there as a local change", "the times stay there as local changes") +
-				", which 'Revert Local Changes' takes back"
+				file.revert(one)
 		}
 		return "start Syncthing on " + at + " and 'Rescan'"
 	case OtherBlocks:
@@ -154,12 +165,32 @@ func changedAdvice(one *Fault, file *File, at string, named labels) string {
 		how = overFile
 	}
 	told := "start Syncthing on " + at + " and 'Rescan': "
+	if late := lateAdvice(one, file, at); late != "" {
+		return late
+	}
 	if one.Kind == receiveOnly {
-		return told + file.say("the change stays there as a local one", "the changes stay there as local ones") + ", which 'Revert Local Changes' takes back"
+		return told + file.say("the change stays there as a local one", "the changes stay there as local ones") + file.revert(one)
 	}
 	told += file.spread(file.say("the change then goes to all", "the changes then go to all"),
 		file.say("the change is then recorded", "the changes are then recorded"))
 	return told + file.say(". If the change isn't wanted", ". If they aren't wanted") + ", first " + copying(one, file, named, how)
+}
+
+// noOther says what follows from a device's sharing its folder with nobody.
+const noOther = ": no other device has the folder"
+
+// revert says what becomes of a local change of a device that only receives, once it is recorded. Syncthing gets back what another device
+// has. Where the device shares its folder with nobody, it takes what it has itself for added there.
+func (f *File) revert(one *Fault) string {
+	switch {
+	case f.isOwn:
+		return ". Don't 'Revert Local Changes' then: that deletes " + f.say("the file", "the files") + noOther
+	case one.Due != nil && one.Due.Deleted:
+		return ". 'Revert Local Changes' then deletes " + f.say("the file", "the files") + ", since the other devices have deleted " + f.say("it", "them")
+	case len(f.Have) == 0:
+		return ", which 'Revert Local Changes' takes back only from a device that has the recorded bytes: no audited one has"
+	}
+	return ", which 'Revert Local Changes' takes back"
 }
 
 // isFileForFile says whether a file stands where a file is recorded.
@@ -175,9 +206,17 @@ func (f *Fault) types() string {
 
 func missingAdvice(one *Fault, file *File, at string, named labels) string {
 	it := file.say("it", "them")
+	if one.Kind == receiveOnly && file.isOwn {
+		return "see that the folder's disk is mounted on " + at + ". 'Revert Local Changes' there doesn't bring " + it + " back: " +
+			copying(one, file, named, toNothing)
+	}
 	if one.Kind == receiveOnly {
+		from := ""
+		if len(file.Have) == 0 {
+			from = " only from a device that has the recorded bytes, and no audited one has"
+		}
 		return "see that the folder's disk is mounted on " + at + ". After a 'Rescan', 'Revert Local Changes' there brings " + it +
-			" back; it also deletes files that were added there"
+			" back" + from + "; it also deletes files that were added there"
 	}
 	return "see that the folder's disk is mounted on " + at + ", before Syncthing starts there: a scan takes " + it + " for deleted" +
 		file.spread(", and then all devices delete "+it, "") + ". To keep " + it + ", first " + copying(one, file, named, toNothing)
@@ -188,9 +227,10 @@ func behindAdvice(one *Fault, file *File, at string, named labels) string {
 	case one.Kind == sendOnly:
 		return at + " only sends: it doesn't take what others change. 'Override Changes' there undoes their changes on all devices, and deletes " +
 			"what they added; to take the changes, make the folder 'Send & Receive' there"
+	case one.Cause == Conflicting && one.Deletion:
+		return "start Syncthing on all of these devices: it keeps " + file.say("the file", "the files") + ", since a change goes before a deletion"
 	case one.Cause == Conflicting:
-		return "start Syncthing on all of these devices: it keeps one version" + file.say(", and the other one as a conflict copy",
-			" of each, and the others as conflict copies")
+		return "start Syncthing on all of these devices: it " + file.conflicting()
 	}
 	told := "let Syncthing run on " + at + " and on " + holders(file, named) + ", and let them finish. If it stays so, see whether a device " +
 		"or the folder is paused, whether they are connected, and whether a disk is full"
@@ -198,6 +238,28 @@ func behindAdvice(one *Fault, file *File, at string, named labels) string {
 		told += "; or 'Ignore Delete' is set for the folder on " + at
 	}
 	return told
+}
+
+// conflicting says what Syncthing does with two changes of which neither is on top of the other.
+func (f *File) conflicting() string {
+	return "keeps one version" + f.say(", and the other one as a conflict copy", " of each, and the others as conflict copies") +
+		". Where the folder's 'Max Conflicts' is 0 it keeps no copy: save first what is to stay"
+}
+
+// lateAdvice says what a scan does with what changed on the disk of a device that is behind with the same name; nothing where it isn't.
+func lateAdvice(one *Fault, file *File, at string) string {
+	for _, other := range file.Faults {
+		if other.Device != one.Device || other.Cause != Behind || one.Kind == receiveOnly || one.Kind == sendOnly {
+			continue
+		}
+		told := "start Syncthing on " + at + " and 'Rescan': "
+		if other.Deletion {
+			return told + file.say("the change goes before the deletion, and then to all. If it isn't wanted, first delete the file there",
+				"the changes go before the deletions, and then to all. If they aren't wanted, first delete the files there") + " while Syncthing is stopped"
+		}
+		return told + "what stands there is then in conflict with what the others have. Syncthing " + file.conflicting()
+	}
+	return ""
 }
 
 // holders says on which devices that can be had which is due.

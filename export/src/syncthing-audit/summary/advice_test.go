@@ -1,6 +1,7 @@
 package summary
 
 import (
+	"regexp"
 	"strings"
 	"testing"
 )
@@ -61,6 +62,63 @@ func TestAdviceInAFolderOfItsOwn(t *testing.T) {
 					t.Errorf("%s: %s", cause, told)
 				}
 			}
+		}
+	}
+}
+
+// Syncthing deletes what it reverts where no other device has it. Nobody is told that it brings something back there.
+func TestAdviceOnRevertingWhatNoOtherDeviceHas(t *testing.T) {
+	for _, one := range []struct {
+		cause      Cause
+		isOwn      bool
+		told, many string
+	}{
+		{Changed, true, "Don't 'Revert Local Changes' then: that deletes the file: no other device has the folder", "that deletes the files"},
+		{OtherTime, true, "Don't 'Revert Local Changes' then: that deletes the file: no other device has the folder", "that deletes the files"},
+		{LocalChange, true, "'Revert Local Changes' on server deletes the file: no other", "deletes the files"},
+		{LocalAddition, true, "To have it recorded", "To have it recorded"},
+		{Missing, true, "doesn't bring it back: look among old versions and backups for the recorded bytes", "doesn't bring them back"},
+		{Missing, false, "brings it back only from a device that has the recorded bytes, and no audited one has", "brings them back only from"},
+		{Changed, false, "takes back only from a device that has the recorded bytes: no audited one has", "takes back only from"},
+	} {
+		for isMany, has := range map[bool]string{false: one.told, true: one.many} {
+			file := &File{Faults: faultsOf(receiveOnly, one.cause), isOwn: one.isOwn, isMany: isMany}
+			told := strings.Join(adviceOf(file, labels{server: "server"}), ". ")
+			if !strings.Contains(told, has) || strings.Contains(told, "everywhere") || regexp.MustCompile("takes back(,|$)|brings \\w+ back;").MatchString(told) {
+				t.Errorf("%s: %s", one.cause, told)
+			}
+		}
+	}
+}
+
+// Where a device is behind with a name that changed on its disk, a scan doesn't just send the change to all: it is in conflict, or goes
+// before a deletion, of which nothing can be copied from elsewhere.
+func TestAdviceOnChangesOfADeviceThatIsBehind(t *testing.T) {
+	for _, cause := range []Cause{Changed, NotScanned} {
+		for _, isMany := range []bool{false, true} {
+			for isDeletion, has := range map[bool]string{false: "in conflict with what the others have. Syncthing keeps one version", true: "before the deletion"} {
+				faults := faultsOf("send-receive", Behind, cause)
+				faults[0].Deletion = isDeletion
+				told := strings.Join(adviceOf(&File{Faults: faults, Have: []string{laptop}, isMany: isMany}, labels{server: "server", laptop: "laptop"}), ". ")
+				if !strings.Contains(told, has) || strings.Contains(told, "copy it from") || strings.Contains(told, "copy them from") || strings.Contains(told, "then goes to all") {
+					t.Errorf("%s: %s", cause, told)
+				}
+			}
+		}
+	}
+}
+
+// Nor is anyone told so of what the other devices have deleted: to revert a change of that deletes it.
+func TestAdviceOnRevertingWhatOthersDeleted(t *testing.T) {
+	for cause, has := range map[Cause]string{
+		LocalChange: "'Revert Local Changes' on server deletes it, since the other devices have deleted it: copy elsewhere first what is to stay",
+		Changed:     "'Revert Local Changes' then deletes the file, since the other devices have deleted it",
+	} {
+		faults := faultsOf(receiveOnly, cause)
+		faults[0].Due = &State{Type: "file", Deleted: true}
+		told := strings.Join(adviceOf(&File{Faults: faults, Have: []string{laptop}}, labels{server: "server", laptop: "laptop"}), ". ")
+		if !strings.Contains(told, has) || strings.Contains(told, "takes back") {
+			t.Errorf("%s: %s", cause, told)
 		}
 	}
 }
@@ -140,7 +198,7 @@ func TestAdviceOnOtherBytes(t *testing.T) {
 		}
 	}
 	told := adviceOf(&File{Faults: faultsOf("send-receive", OtherBytes)}, labels{})
-	if !strings.Contains(told[0], "no audited device has the recorded bytes") {
+	if !strings.Contains(told[0], "look among old versions and backups for the recorded bytes, which no audited device has") {
 		t.Errorf("where no device has the bytes: %s", told)
 	}
 }

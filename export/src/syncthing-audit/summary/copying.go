@@ -18,7 +18,7 @@ func copying(one *Fault, file *File, named labels, to way) string {
 	}
 	at := named.of(one.Device)
 	if len(file.Have) == 0 {
-		return "no audited device has the recorded bytes: look among old versions and backups, and copy them to " + at + file.manner(one, to)
+		return "look among old versions and backups for the recorded bytes, which no audited device has, and copy them to " + at + file.manner(one, to)
 	}
 	from := file.sourceFor(one)
 	told := "copy " + what + " from " + named.of(from) + " to " + at + file.manner(one, to)

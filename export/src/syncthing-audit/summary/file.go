@@ -259,7 +259,8 @@ func (r *reader) add(member int, cause Cause) {
 			made.Blocks, made.contents = blocksOf(at), at.Disk.Contents
 		}
 	}
-	made.Deletion = cause == Behind && made.Due != nil && made.Due.Deleted || cause == LocalChange && made.Recorded != nil && made.Recorded.Deleted
+	made.Deletion = cause == Behind && made.Due != nil && made.Due.Deleted ||
+		(cause == LocalChange || cause == Conflicting) && made.Recorded != nil && made.Recorded.Deleted
 	made.ends = endsOf(&made, r.at(member), r.winner)
 	r.file.Faults = append(r.file.Faults, made)
 }

@@ -19,6 +19,7 @@ type Group struct {
 	Cause   Cause    `json:"cause"`
 	Devices []string `json:"devices"`
 	Names   int64    `json:"names"`
+	Deleted bool     `json:"deletion,omitempty"` // whether what the devices are behind with is a deletion
 	Bytes   int64    `json:"bytes"`
 	Unsized int64    `json:"names_without_details"` // whose bytes aren't known
 	First   []Text   `json:"first_names"`
@@ -41,6 +42,9 @@ func keyOf(file *File) string {
 			return ""
 		}
 		key += " " + one.Device
+		if one.Cause == Behind && one.Deletion {
+			key += " deletion"
+		}
 	}
 	return key + " of " + strings.Join(file.Have, " ")
 }
@@ -138,6 +142,7 @@ func (a *alike) groupOf(named labels) *Group {
 	made.Advice = adviceOf(same, named)
 	if len(first.Faults) > 0 {
 		made.Cause = first.Faults[0].Cause
+		made.Deleted = made.Cause == Behind && first.Faults[0].Deletion
 	}
 	for _, one := range first.Faults {
 		made.Devices = append(made.Devices, one.Device)
@@ -152,7 +157,7 @@ func (a *alike) groupOf(named labels) *Group {
 func withoutDetails(faults []Fault) []Fault {
 	made := []Fault{}
 	for _, one := range faults {
-		made = append(made, Fault{Device: one.Device, Cause: one.Cause, Kind: one.Kind, isWide: one.isWide})
+		made = append(made, Fault{Device: one.Device, Cause: one.Cause, Kind: one.Kind, Deletion: one.Deletion, isWide: one.isWide})
 	}
 	return made
 }

@@ -38,14 +38,21 @@ func (p *printer) rest(s *Summary) {
 
 // own prints which folders are shared with nobody: no other device was asked about these.
 func (p *printer) own(s *Summary) {
-	own := places{}
+	own, apart := places{}, places{}
 	for _, one := range s.Folders {
-		if one.Own {
+		switch {
+		case one.isApart:
+			apart.add(one.ID, one.Devices[0].Device)
+		case one.Own:
 			own.add(shell.Folder(one.ID, one.Label), one.Devices[0].Device)
 		}
 	}
 	own.each(p.named, func(folder, devices string) {
 		p.line("shared with no device: %s on %s: what stands on the disk was compared with the device's own index alone", folder, devices)
+	})
+	apart.each(p.named, func(folder, devices string) {
+		p.line("not shared with one another: %s on %s: each has a folder of this id, and shares it with no device. What stands on its disk was "+
+			"compared with its own index alone, and not with what the others have", folder, devices)
 	})
 }
 

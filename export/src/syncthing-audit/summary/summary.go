@@ -65,7 +65,8 @@ type Folder struct {
 	More    Count    `json:"conflict_copies_unlisted"`
 	Ignored Count    `json:"ignored"`
 	Own     bool     `json:"not_shared,omitempty"` // its one device shares it with nobody: it was compared with that one's own index
-	Live    *Live    `json:"live,omitempty"`       // of devices that were looked at while they ran
+	isApart bool     // whether other devices have theirs of this id, which they share with nobody, too
+	Live    *Live    `json:"live,omitempty"` // of devices that were looked at while they ran
 	Firm    Firm     `json:"firm"`
 	Loose   int64    `json:"names_not_firm"` // that keep a folder in step from being firm
 	NotFirm []Loose  `json:"not_firm"`       // the first of these names
@@ -185,7 +186,7 @@ func verdictOf(answer *finding.Answer) string {
 
 // folderOf gives the summary of a folder.
 func folderOf(answer *finding.Answer, from *finding.Folder, named labels) *Folder {
-	made := &Folder{ID: from.ID, Label: from.Label, Own: from.Own != "", Verdict: InStep, Names: from.Names, Deleted: from.Deleted, Going: from.Deleting, Bytes: from.Bytes,
+	made := &Folder{ID: from.ID, Label: from.Label, Own: from.Own != "", isApart: answer.IsApart(from), Verdict: InStep, Names: from.Names, Deleted: from.Deleted, Going: from.Deleting, Bytes: from.Bytes,
 		Devices: []Member{}, Files: []*File{}, Groups: []*Group{}, Copies: []Copy{}, LeftOut: []Names{}, Ignored: Count(from.Outside), MoreOut: Count(from.Unlisted.LeftOut), More: Count(from.Unlisted.Conflicts)}
 	switch {
 	case from.HasFailures():

@@ -80,7 +80,11 @@ func (p *printer) group(folder *Folder, one *Group) {
 		p.modes(one.Modes)
 	}
 	for _, device := range one.Devices {
-		p.line("  %s: %s", p.named.of(device), wordsOf[one.Cause])
+		words := wordsOf[one.Cause]
+		if one.Deleted {
+			words = "behind: hasn't deleted them yet"
+		}
+		p.line("  %s: %s", p.named.of(device), words)
 	}
 	first := []string{}
 	for _, name := range one.First {
@@ -194,8 +198,12 @@ func (p *printer) wordsOf(one *Fault) string {
 		return "behind: hasn't deleted it yet"
 	case one.Cause == Behind && one.Recorded == nil:
 		return "behind: doesn't have it yet"
+	case one.Cause == Conflicting && one.Deletion:
+		return "in conflict: deleted it, and lacks a change of it"
 	case one.Cause == LocalChange && one.Deletion:
 		return "deleted on this receive-only device"
+	case one.Cause == LocalChange && one.Due != nil && one.Due.Deleted:
+		return "changed on this receive-only device, while the others have deleted it"
 	case one.Cause == Changed && one.Recorded != nil && one.Found != nil && one.Recorded.Type != one.Found.Type:
 		return fmt.Sprintf("a %s on the disk, recorded as a %s", one.Found.Type, one.Recorded.Type)
 	}

@@ -97,6 +97,63 @@ func TestManyChanges(t *testing.T) {
 	}
 }
 
+// Of a device that is behind as a whole what it has still to delete is told apart: to let it finish deletes that there.
+func TestManyDeletions(t *testing.T) {
+	answer := answerOf(2, func(folder *finding.Folder) {
+		deleted := func(one *part.Name) { one.Own.Deleted, one.Own.Content, one.Disk = true, nil, nil }
+		for next := 0; next < 40; next++ {
+			fails(folder, fmt.Sprintf("c/%02d", next), []*part.Name{file(2, 1), file(1, 2)}, "RecordDiffers 2", "StoreDiffers 2")
+			fails(folder, fmt.Sprintf("d/%02d", next), []*part.Name{with(file(2, 1), deleted), file(1, 2)}, "RecordDiffers 2", "StoreDiffers 2")
+		}
+	})
+	made := Of(answer)
+	var written strings.Builder
+	made.Print(&written, time.UTC, time.Time{})
+	text := written.String()
+	for _, told := range []string{`
+  server: behind: hasn't taken what is newest
+  the first: c/00 c/01 c/02, and 37 more (--lines has all)`, `
+  server: behind: hasn't deleted them yet
+  the first: d/00 d/01 d/02, and 37 more (--lines has all)`, "'Ignore Delete' is set"} {
+		if strings.Count(text, told) != 1 {
+			t.Errorf("this isn't told once: %s\nbut:\n%s", told, text)
+		}
+	}
+	if groups := made.Folders[0].Groups; len(groups) != 2 || groups[0].Deleted || !groups[1].Deleted {
+		t.Error(groups)
+	}
+}
+
+// So are many in conflict on one of three devices, of which another one is behind; where the device deleted them, that is told apart: of
+// these Syncthing makes no conflict copies.
+func TestManyConflicts(t *testing.T) {
+	answer := answerOf(3, func(folder *finding.Folder) {
+		other := func(one *part.Name) { one.Own.Version = [][2]uint64{{2, 1}} }
+		deleted := func(one *part.Name) { other(one); one.Own.Deleted, one.Own.Content, one.Disk = true, nil, nil }
+		for next := 0; next < 40; next++ {
+			fails(folder, fmt.Sprintf("c/%02d", next), []*part.Name{file(2, 1), with(file(1, 2), other), file(1, 3)}, "RecordDiffers 2", "RecordDiffers 3")
+			fails(folder, fmt.Sprintf("d/%02d", next), []*part.Name{file(2, 1), with(file(1, 2), deleted), file(1, 3)}, "RecordDiffers 2", "RecordDiffers 3")
+		}
+	})
+	var written strings.Builder
+	Of(answer).Print(&written, time.UTC, time.Time{})
+	text := written.String()
+	for _, told := range []string{`
+40 names in docs: 12.0 MB
+  phone: behind: hasn't taken what is newest
+  server: in conflict: has one change of it, and lacks another
+  the first: c/00 c/01 c/02 c/03 c/04, and 35 more (--lines has all)`, `it keeps one version of each, and the others as
+         conflict copies. Where the folder's 'Max Conflicts' is 0`, `
+40 names in docs: 12.0 MB
+  phone: behind: hasn't taken what is newest
+  server: in conflict: deleted it, and lacks a change of it
+  the first: d/00 d/01 d/02 d/03 d/04, and 35 more (--lines has all)`, "since a change"} {
+		if !strings.Contains(text, told) {
+			t.Errorf("this isn't told: %s\nbut:\n%s", told, text)
+		}
+	}
+}
+
 // So are many names that were changed on a receive-only device, and many that were added there; what was changed is told apart from
 // what was deleted.
 func TestManyLocalChanges(t *testing.T) {
