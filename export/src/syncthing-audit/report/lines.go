@@ -66,14 +66,22 @@ func Rest(to io.Writer, answer *finding.Answer) {
 		leftOut(to, folder)
 	}
 	for _, folder := range answer.Folders {
-		if folder.Own != "" {
-			fmt.Fprintf(to, "not shared: folder %s on %d\n", folder.ID, folder.Members[0].Number)
-		}
+		own(to, answer, folder)
 	}
 	for _, one := range answer.LeftOut {
 		fmt.Fprintf(to, "left out: folder %s, device %s: %s\n", one.Folder, one.Device, one.Why)
 	}
 	unasked(to, answer)
+}
+
+// own prints of a folder that its device shares with nobody that this is so, and whether other devices have theirs of the same id.
+func own(to io.Writer, answer *finding.Answer, folder *finding.Folder) {
+	switch {
+	case answer.IsApart(folder):
+		fmt.Fprintf(to, "not shared with one another: folder %s on %d\n", folder.ID, folder.Members[0].Number)
+	case folder.Own != "":
+		fmt.Fprintf(to, "not shared: folder %s on %d\n", folder.ID, folder.Members[0].Number)
+	}
 }
 
 // unasked prints which folders of the devices and which names of a folder weren't audited, since nobody asked for them, or that this

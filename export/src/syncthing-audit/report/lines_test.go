@@ -106,6 +106,20 @@ func TestManyRefusalsAlike(t *testing.T) {
 	}
 }
 
+// The lines say why an answer about folders that devices share with nobody is one as far as audited.
+func TestLinesOfFoldersThatAreNotShared(t *testing.T) {
+	for id, expected := range map[string]string{
+		"pics":    "\nnot shared with one another: folder pics on 1\nnot shared with one another: folder pics on 1\n",
+		"default": "\nnot shared: folder default on 1\nnot shared: folder default on 1\n",
+	} {
+		var written strings.Builder
+		Lines(&written, &finding.Answer{Folders: []*finding.Folder{ownFolder(id), otherOwn(id)}})
+		if !strings.Contains(written.String(), expected) {
+			t.Errorf("%s: %q has no %q", id, written.String(), expected)
+		}
+	}
+}
+
 func TestLines(t *testing.T) {
 	folder := folderOf("docs", 2)
 	folder.Unwon.Add(finding.Unwon{Name: "new file", At: []finding.Cause{{Member: 1, Kind: finding.Unscanned}}})
