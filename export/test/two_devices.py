@@ -18,7 +18,7 @@ from pathlib import Path
 
 from answers import Answers
 from exporting import Exporting, main, run
-from syncthing import FOLDER, files_of, version_of, wait_until, wait_until_in_step
+from syncthing import FOLDER, files_of, version_of, wait_until_in_step
 
 
 class TwoDevices(Answers, Exporting):
@@ -374,31 +374,6 @@ class TwoDevices(Answers, Exporting):
             ran = self.check_parts([path, self.part(self.two)])
             self.assertEqual((ran.returncode, ran.stdout), (2, ""))
             self.assertIn("broken.part", ran.stderr)
-
-
-class Conflict(Exporting):
-    """Both devices changed one file while they were off."""
-
-    def test_a_resolved_conflict_is_settled_with_its_copy(self):
-        (self.one.files / "text").write_text("changed on one")
-        (self.two.files / "text").write_text("changed on two")
-        self.assertEqual(self.verdict("--names", "text")[:25], "not settled: StoreDiffers")
-        self.start()
-        wait_until("both devices have the conflict copy", self.have_copies)
-        wait_until_in_step(self.one, self.two)
-        self.stop()
-        self.assertEqual(self.verdict("--names", "text"), "settled")
-        document = self.document("--names", "text")
-        for share in document["cut"]["folders"][0]["devices"]:
-            texts = {one["name"][:18]: one["text"] for one in share["store"]}
-            self.assertEqual(sorted(texts), ["text", "text.sync-conflict"])
-            self.assertEqual(sorted(texts.values()), ["changed on one", "changed on two"])
-
-    def have_copies(self):
-        """Whether both devices hold a conflict copy, after a scan of each."""
-        self.one.scan()
-        self.two.scan()
-        return all(list(device.files.glob("text.sync-conflict-*")) for device in (self.one, self.two))
 
 
 if __name__ == "__main__":

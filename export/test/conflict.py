@@ -1,0 +1,39 @@
+#!/usr/bin/env python3
+"""The audit of two real Syncthing devices on loopback that both changed one file.
+
+    export/test/conflict.py
+
+It installs nothing, and says what is missing.
+"""
+
+from exporting import Exporting, main
+from syncthing import wait_until, wait_until_in_step
+
+
+class Conflict(Exporting):
+    """Both devices changed one file while they were off."""
+
+    def test_a_resolved_conflict_is_settled_with_its_copy(self):
+        (self.one.files / "text").write_text("changed on one")
+        (self.two.files / "text").write_text("changed on two")
+        self.assertEqual(self.verdict("--names", "text")[:25], "not settled: StoreDiffers")
+        self.start()
+        wait_until("both devices have the conflict copy", self.have_copies)
+        wait_until_in_step(self.one, self.two)
+        self.stop()
+        self.assertEqual(self.verdict("--names", "text"), "settled")
+        document = self.document("--names", "text")
+        for share in document["cut"]["folders"][0]["devices"]:
+            texts = {one["name"][:18]: one["text"] for one in share["store"]}
+            self.assertEqual(sorted(texts), ["text", "text.sync-conflict"])
+            self.assertEqual(sorted(texts.values()), ["changed on one", "changed on two"])
+
+    def have_copies(self):
+        """Whether both devices hold a conflict copy, after a scan of each."""
+        self.one.scan()
+        self.two.scan()
+        return all(list(device.files.glob("text.sync-conflict-*")) for device in (self.one, self.two))
+
+
+if __name__ == "__main__":
+    main()
