@@ -54,8 +54,21 @@ pub(crate) fn report_on<'a>(
     ensures { IfOk result (λ answer. IsReport cut.now certificate.now answer.0 answer.1.items) }
 {
     let table = Table::of(alloc, cut)?;
-    let verdict = check_grouped(cut, &table, certificate);
-    report_of(alloc, cut, &table, &verdict)
+    report_by(alloc, cut, &table, certificate)
+}
+
+/// The same by the cut's table.
+pub(crate) fn report_by(
+    alloc: Global,
+    cut: &Cut,
+    table: &Table<'_>,
+    certificate: &Certificate,
+) -> Result<(Outcome, Vec<u8>), AllocError>
+    requires { IsGrouped (cut_listed cut.now) table.now }
+    ensures { IfOk result (λ answer. IsReport cut.now certificate.now answer.0 answer.1.items) }
+{
+    let verdict = check_grouped(cut, table, certificate);
+    report_of(alloc, cut, table, &verdict)
 }
 
 // The outcome of the verdict, and the report.

@@ -1,6 +1,7 @@
 //! A check document's audit where firm is asked for.
 ghost use Rattle.std.specs.Prelude.{◌≡◌, IfOk};
 ghost use Rattle.bep_report.specs.Report.{firm_report_text};
+ghost use Rattle.bep_tables.specs.Listed.{IsGrouped, cut_listed};
 ghost use Rattle.bep_answer.specs.Firm.{IsFirmAnswerOfBytes, IsFirmReport};
 ghost use Rattle.bep_audit.specs.Loose.{firm_shown};
 ghost use Rattle.bep_answer.specs.Firm as spec;
@@ -9,11 +10,11 @@ ghost use Rattle.bep_answer.specs.Beside.{TellsOfCheck};
 use crate::exchanging::{Answer, Question};
 use crate::outcome::Firmness;
 use crate::refusing::{fault_line, hint_for};
-use bep_audit::{Certificate, FirmVerdict, firm_verdict};
+use bep_audit::{Certificate, FirmVerdict, firm_verdict_grouped};
 use bep_cut_document::{DocError, read_check};
 use bep_hints::Expected;
-use bep_report::push_firm_report;
-use bep_tables::Cut;
+use bep_report::push_firm_report_by;
+use bep_tables::{Cut, Table};
 use std::alloc::{AllocError, Global};
 
 /// Whether the document's cut is firm under its certificate: the report, and where the document is refused, a hint on
@@ -52,23 +53,37 @@ pub(crate) fn report_on<'a>(
 ) -> Result<(Firmness, Vec<u8>), AllocError>
     ensures { IfOk result (λ answer. IsFirmReport cut.now certificate.now answer.0 answer.1.items) }
 {
-    match firm_verdict(alloc, cut, certificate) {
-        Ok(verdict) => report_of(alloc, cut, &verdict),
-        Err(_) => Err(AllocError),
-    }
+    let table = Table::of(alloc, cut)?;
+    report_by(alloc, cut, &table, certificate)
+}
+
+/// The same by the cut's table.
+pub(crate) fn report_by(
+    alloc: Global,
+    cut: &Cut,
+    table: &Table<'_>,
+    certificate: &Certificate,
+) -> Result<(Firmness, Vec<u8>), AllocError>
+    requires { IsGrouped (cut_listed cut.now) table.now }
+    ensures { IfOk result (λ answer. IsFirmReport cut.now certificate.now answer.0 answer.1.items) }
+{
+    let verdict = firm_verdict_grouped(cut, table, certificate);
+    report_of(alloc, cut, table, &verdict)
 }
 
 // The outcome of the verdict, and the report.
 fn report_of(
     alloc: Global,
     cut: &Cut,
+    table: &Table<'_>,
     verdict: &FirmVerdict<'_>,
 ) -> Result<(Firmness, Vec<u8>), AllocError>
+    requires { IsGrouped (cut_listed cut.now) table.now }
     ensures outcome { IfOk result (λ answer. answer.0 ≡ spec.firmness_of (firm_shown verdict.now)) }
     ensures text { IfOk result (λ answer. answer.1.items ≡ firm_report_text cut.now (firm_shown verdict.now)) }
 {
     let mut text = Vec::new(alloc);
-    push_firm_report(alloc, &mut text, cut, verdict)?;
+    push_firm_report_by(alloc, &mut text, cut, table, verdict)?;
     Ok((firmness_of(verdict), text))
 }
 

@@ -4,6 +4,7 @@ ghost use Rattle.bep_model.specs.declared.reason.Reason.TheVariants.{NotWinner};
 ghost use Rattle.bep_model.specs.FirmVerdict.{Unsettled};
 ghost use Rattle.bep_model.specs.Verdict.{Not};
 ghost use Rattle.bep_report.specs.Report.{firm_report_text, report_text};
+ghost use Rattle.bep_tables.specs.Listed.{IsGrouped, cut_listed};
 ghost use Rattle.bep_answer.specs.Beside.{TellsOfCut};
 ghost use Rattle.bep_answer.specs.UnderWinners.{IsAnswerUnderWinnersOfBytes, IsFirmAnswerUnderWinnersOfBytes, IsFirmReportUnder, IsReportUnder, IsReportUnderWinners};
 
@@ -11,13 +12,13 @@ use crate::exchanging::{Answer, Question};
 use crate::outcome::{Firmness, Outcome};
 use crate::refusing::{fault_line, hint_for, refusal};
 use crate::{check, firm};
-use bep_audit::{Certificate, CertifyError, FirmVerdict, Verdict, certify};
+use bep_audit::{Certificate, CertifyError, FirmVerdict, Verdict, certify_grouped};
 use bep_cut_document::{DocError, read_cut};
 use bep_hints::Expected;
 use bep_model::Reason;
 use bep_record::{FolderName, Name};
-use bep_report::{push_firm_report, push_report};
-use bep_tables::Cut;
+use bep_report::{push_firm_report_by, push_report_by};
+use bep_tables::{Cut, Table};
 use std::alloc::{AllocError, Global};
 
 /// Whether the document's cut is settled under the list of its names' winners: the report, and where the document is
@@ -91,13 +92,14 @@ pub fn audit_under_winners(
 ) -> Result<(Outcome, Vec<u8>, Option<Certificate>), AllocError>
     ensures { IfOk result (λ told. IsReportUnder cut.now told.2 told.0 told.1.items) }
 {
-    match certify(alloc, cut) {
+    let table = Table::of(alloc, cut)?;
+    match certify_grouped(alloc, cut, &table) {
         Ok(certificate) => {
-            let (outcome, report) = check::report_on(alloc, cut, &certificate)?;
+            let (outcome, report) = check::report_by(alloc, cut, &table, &certificate)?;
             Ok((outcome, report, Some(certificate)))
         }
         Err(CertifyError::NoWinner(folder, name)) => {
-            let report = report_without(alloc, cut, &folder, &name)?;
+            let report = report_without(alloc, cut, &table, &folder, &name)?;
             Ok((Outcome::NotSettled, report, None))
         }
         Err(CertifyError::Memory) => Err(AllocError),
@@ -108,14 +110,16 @@ pub fn audit_under_winners(
 fn report_without<'a>(
     alloc: Global,
     cut: &Cut,
+    table: &Table<'_>,
     folder: &'a FolderName,
     name: &'a Name,
 ) -> Result<Vec<u8>, AllocError>
+    requires { IsGrouped (cut_listed cut.now) table.now }
     ensures { IfOk result (λ report. report.items ≡ report_text cut.now (Not NotWinner folder.now name.now None)) }
 {
     let verdict = Verdict::Not(Reason::NotWinner, folder, name, None);
     let mut report = Vec::new(alloc);
-    push_report(alloc, &mut report, cut, &verdict)?;
+    push_report_by(alloc, &mut report, cut, table, &verdict)?;
     Ok(report)
 }
 
@@ -123,10 +127,11 @@ fn report_without<'a>(
 fn firm_under_winners(alloc: Global, cut: &Cut) -> Result<(Firmness, Vec<u8>), AllocError>
     ensures { IfOk result (λ answer. IsFirmReportUnder cut.now answer.0 answer.1.items) }
 {
-    match certify(alloc, cut) {
-        Ok(certificate) => firm::report_on(alloc, cut, &certificate),
+    let table = Table::of(alloc, cut)?;
+    match certify_grouped(alloc, cut, &table) {
+        Ok(certificate) => firm::report_by(alloc, cut, &table, &certificate),
         Err(CertifyError::NoWinner(folder, name)) => {
-            let report = firm_report_without(alloc, cut, &folder, &name)?;
+            let report = firm_report_without(alloc, cut, &table, &folder, &name)?;
             Ok((Firmness::NotFirm, report))
         }
         Err(CertifyError::Memory) => Err(AllocError),
@@ -137,13 +142,15 @@ fn firm_under_winners(alloc: Global, cut: &Cut) -> Result<(Firmness, Vec<u8>), A
 fn firm_report_without<'a>(
     alloc: Global,
     cut: &Cut,
+    table: &Table<'_>,
     folder: &'a FolderName,
     name: &'a Name,
 ) -> Result<Vec<u8>, AllocError>
+    requires { IsGrouped (cut_listed cut.now) table.now }
     ensures { IfOk result (λ report. report.items ≡ firm_report_text cut.now (Unsettled NotWinner folder.now name.now None)) }
 {
     let verdict = FirmVerdict::Unsettled(Reason::NotWinner, folder, name, None);
     let mut report = Vec::new(alloc);
-    push_firm_report(alloc, &mut report, cut, &verdict)?;
+    push_firm_report_by(alloc, &mut report, cut, table, &verdict)?;
     Ok(report)
 }

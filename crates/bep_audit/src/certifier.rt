@@ -28,9 +28,26 @@ pub fn certify(alloc: Global, cut: &Cut) -> Result<Certificate, CertifyError>
     ensures no_winner { IfErr result (TellsOfFirst (tables_of cut.now)) }
     ensures never_settled { IfErr result (TellsOf (λ _. IsNeverSettled (tables_of cut.now))) }
 {
+    let table = Table::of(alloc, cut)?;
+    certify_grouped(alloc, cut, &table)
+}
+
+/// The same by the cut's table.
+pub fn certify_grouped(
+    alloc: Global,
+    cut: &Cut,
+    table: &Table<'_>,
+) -> Result<Certificate, CertifyError>
+    requires { IsGrouped (cut_listed cut.now) table.now }
+    ensures winners { IfOk result (IsListOfWinners (tables_of cut.now)) }
+    ensures settled_if_any { IfOk result (IsSettledIfAny (tables_of cut.now)) }
+
+    ensures no_winner { IfErr result (TellsOfFirst (tables_of cut.now)) }
+    ensures never_settled { IfErr result (TellsOf (λ _. IsNeverSettled (tables_of cut.now))) }
+{
     certificate_is_unique();
     winners_or_first_without();
-    let (certificate, without) = winners(alloc, cut)?;
+    let (certificate, without) = winners_grouped(alloc, cut, table)?;
     match without.as_slice() {
         [] => Ok(certificate),
         [first, ..] => {
@@ -48,6 +65,18 @@ pub fn winners<'a>(alloc: Global, cut: &'a Cut) -> Result<(Certificate, Vec<Spot
     ensures { IfOk result (λ found. AreWinners (tables_of cut.now) found.0 (map place_shown found.1.items)) }
 {
     let table = Table::of(alloc, cut)?;
+    winners_grouped(alloc, cut, &table)
+}
+
+// The same by the cut's table.
+fn winners_grouped<'a>(
+    alloc: Global,
+    cut: &Cut,
+    table: &Table<'a>,
+) -> Result<(Certificate, Vec<Spot<'a>>), AllocError>
+    requires { IsGrouped (cut_listed cut.now) table.now }
+    ensures { IfOk result (λ found. AreWinners (tables_of cut.now) found.0 (map place_shown found.1.items)) }
+{
     let (rows, without) = winners_among(alloc, cut, table.entries())?;
     Ok((Certificate::of(rows), without))
 }
@@ -55,7 +84,7 @@ pub fn winners<'a>(alloc: Global, cut: &'a Cut) -> Result<(Certificate, Vec<Spot
 // The rows and the places of all known names of the table.
 fn winners_among<'a>(
     alloc: Global,
-    cut: &'a Cut,
+    cut: &Cut,
     table: &[TableEntry<'a>],
 ) -> Result<(Vec<Row>, Vec<Spot<'a>>), AllocError>
     requires { IsGrouped (cut_listed cut.now) table.now }
@@ -77,7 +106,7 @@ fn winners_among<'a>(
 // Adds the row of the name, whose entries these are, if it is known, or its place where it has no winner.
 fn add_name<'a>(
     alloc: Global,
-    cut: &'a Cut,
+    cut: &Cut,
     group: &[TableEntry<'a>],
     folder: &'a FolderName,
     name: &'a Name,

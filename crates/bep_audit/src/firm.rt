@@ -5,14 +5,14 @@ ghost use Rattle.bep_model.specs.FirmVerdict.{IsFirmVerdict};
 ghost use Rattle.bep_model.specs.Settled.{IsSettled, Rise, key_of};
 ghost use Rattle.bep_machine.specs.FreeLaws.{FirmStaysPut};
 ghost use Rattle.bep_tables.specs.Cut.{tables_of};
-ghost use Rattle.bep_tables.specs.Listed.{listed};
+ghost use Rattle.bep_tables.specs.Listed.{IsGrouped, cut_listed, listed};
 ghost use Rattle.bep_audit.specs.declared.firm.FirmVerdict.TheVariants.{Firm};
 ghost use Rattle.bep_audit.specs.Loose.{loose_cmp, loose_shown, firm_shown, asked_by, AsksVersion, AsksEntry, AsksEntries, MeetsFirm, EntriesAreAsked};
 ghost use Rattle.bep_audit.specs.Loose as spec;
 ghost use Rattle.bep_audit.specs.inner.Search.{FindsFirst};
 
 use crate::loose::{Looseness, precedes};
-use crate::{Certificate, Verdict, check, compare_row, find_row};
+use crate::{Certificate, Verdict, check_grouped, compare_row, find_row};
 use bep_machine::firm_stays_put;
 use bep_model::{FirmReason, Reason, Row, firm_is_faultless, firm_stays_firm};
 use bep_record::{DeviceId, FolderName, Name, Record};
@@ -46,36 +46,51 @@ pub fn firm_verdict<'a>(
     ensures stays_firm { IfOk result (λ verdict. verdict ≡ Firm → StaysFirm (tables_of cut.now) certificate.now) }
     ensures stays_put { IfOk result (λ verdict. verdict ≡ Firm → FirmStaysPut (tables_of cut.now) certificate.now) }
 {
-    match check(alloc, cut, certificate) {
-        Ok(Verdict::Settled) => firm_or_loose(alloc, cut, certificate),
-        Ok(Verdict::Not(reason, folder, name, device)) => Ok(FirmVerdict::Unsettled(
-            reason, folder, name, device,
-        )),
-        Err(error) => Err(error),
+    let table = Table::of(alloc, cut)?;
+    Ok(firm_verdict_grouped(cut, &table, certificate))
+}
+
+/// The same by the cut's table. It takes no memory.
+pub fn firm_verdict_grouped<'a>(
+    cut: &'a Cut,
+    table: &Table<'a>,
+    certificate: &'a Certificate,
+) -> FirmVerdict<'a>
+    requires { IsGrouped (cut_listed cut.now) table.now }
+    ensures verdict { IsFirmVerdict (tables_of cut.now) certificate.now (firm_shown result) }
+    ensures firm { (result ≡ Firm) ↔ IsFirm (tables_of cut.now) certificate.now }
+    ensures stays_firm { result ≡ Firm → StaysFirm (tables_of cut.now) certificate.now }
+    ensures stays_put { result ≡ Firm → FirmStaysPut (tables_of cut.now) certificate.now }
+{
+    match check_grouped(cut, table, certificate) {
+        Verdict::Settled => firm_or_loose(cut, table, certificate),
+        Verdict::Not(reason, folder, name, device) => {
+            FirmVerdict::Unsettled(reason, folder, name, device)
+        }
     }
 }
 
 // What it answers of a settled cut.
 fn firm_or_loose<'a>(
-    alloc: Global,
     cut: &'a Cut,
+    table: &Table<'a>,
     certificate: &'a Certificate,
-) -> Result<FirmVerdict<'a>, AllocError>
-    requires { IsSettled (tables_of cut.now) certificate.now }
-    ensures verdict { IfOk result (λ verdict. IsFirmVerdict (tables_of cut.now) certificate.now (firm_shown verdict)) }
-    ensures firm { IfOk result (λ verdict. (verdict ≡ Firm) ↔ IsFirm (tables_of cut.now) certificate.now) }
-    ensures stays_firm { IfOk result (λ verdict. verdict ≡ Firm → StaysFirm (tables_of cut.now) certificate.now) }
-    ensures stays_put { IfOk result (λ verdict. verdict ≡ Firm → FirmStaysPut (tables_of cut.now) certificate.now) }
+) -> FirmVerdict<'a>
+    requires table { IsGrouped (cut_listed cut.now) table.now }
+    requires settled { IsSettled (tables_of cut.now) certificate.now }
+    ensures verdict { IsFirmVerdict (tables_of cut.now) certificate.now (firm_shown result) }
+    ensures firm { (result ≡ Firm) ↔ IsFirm (tables_of cut.now) certificate.now }
+    ensures stays_firm { result ≡ Firm → StaysFirm (tables_of cut.now) certificate.now }
+    ensures stays_put { result ≡ Firm → FirmStaysPut (tables_of cut.now) certificate.now }
 {
     firm_is_faultless();
     firm_stays_firm();
     firm_stays_put();
     entries_are_held();
     cut.is_a_cut();
-    let table = Table::of(alloc, cut)?;
     match least_loose(certificate.rows(), table.entries()) {
-        None => Ok(FirmVerdict::Firm),
-        Some(one) => Ok(FirmVerdict::Loose(one.reason, one.folder, one.name, one.device)),
+        None => FirmVerdict::Firm,
+        Some(one) => FirmVerdict::Loose(one.reason, one.folder, one.name, one.device),
     }
 }
 

@@ -37,12 +37,15 @@ mod walk;
 mod winner;
 
 pub use bep_model::{FirmReason, Reason};
-pub use certifier::{certify, winners};
+pub use certifier::{certify, certify_grouped, winners};
 pub use checkers::{REASONS, check, check_grouped, check_plain};
 pub use error::CertifyError;
 pub use failing::meets_asked;
 pub use failure::Failure;
-pub use firm::{FirmVerdict, entries_are_asked, firm_verdict, loosening_of, meets_row, meets_rows};
+pub use firm::{
+    FirmVerdict, entries_are_asked, firm_verdict, firm_verdict_grouped, loosening_of, meets_row,
+    meets_rows,
+};
 pub use group::{group_says, has_known, meets_beside};
 pub use known::is_known;
 pub use loose::Looseness;

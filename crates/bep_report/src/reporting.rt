@@ -61,9 +61,23 @@ pub fn push_firm_report(
     ensures { AppendsWhole result text.old.items text.new.items (firm_report_text cut.now (firm_shown verdict.now)) }
 {
     let table = Table::of(alloc, cut)?;
+    push_firm_report_by(alloc, text, cut, &table, verdict)
+}
+
+/// The same by the cut's table.
+pub fn push_firm_report_by(
+    alloc: Global,
+    text: &mut Vec<u8>,
+    cut: &Cut,
+    table: &Table<'_>,
+    verdict: &FirmVerdict<'_>,
+) -> Result<(), AllocError>
+    requires { IsGrouped (cut_listed cut.now) table.now }
+    ensures { AppendsWhole result text.old.items text.new.items (firm_report_text cut.now (firm_shown verdict.now)) }
+{
     let len = text.len();
     push_firm_verdict(text, verdict)?;
-    let pushed = push_folders(alloc, text, cut, &table, cut.folders());
+    let pushed = push_folders(alloc, text, cut, table, cut.folders());
     or_as_before(text, len, pushed)
 }
 

@@ -1,5 +1,5 @@
 -- What groups of entries hold after one more entry.
-use Rattle.std.proofs.Common.{◌≡◌, ◌≢◌, ◌⊎◌, ◌≤◌, ◌<◌, ◌+◌, ◌-◌, ℕ, Bool, true, false, cond, List, [], ◌∷◌, ◌++◌, Option, Some, None, length, get_or, set, map, filter, refl, sym, ap, subst, ◌∙◌, ⊎_elim, arith, get_or-set_same, get_or-set_other, length-append}
+use Rattle.std.proofs.Common.{◌≡◌, ◌≢◌, ◌≤◌, ◌<◌, ◌+◌, ◌-◌, ℕ, true, false, cond, List, [], ◌∷◌, ◌++◌, Option, Some, None, length, get_or, set, refl, sym, ap, subst, ◌∙◌, ⊎_elim, arith, get_or-set_same, get_or-set_other, length-append}
 use Rattle.std.specs.Ordering.{is_eq}
 use Rattle.std.specs.Cmp.{Equal-is}
 use Rattle.std.specs.BTreeMap.{is_at}
@@ -14,7 +14,7 @@ use Rattle.bep_model.specs.Settled.{key_cmp}
 use Rattle.bep_tables.specs.declared.table.entry.TableEntry.{TableEntry}
 use Rattle.bep_tables.specs.Listed.{Listed, key_at, listed, is_of, group_of}
 use Rattle.bep_tables.specs.inner.TableOrder.{entry_cmp}
-use Rattle.bep_tables.specs.inner.Groups.{AreFull, AreGroups, begins_with, key_in, place_in}
+use Rattle.bep_tables.specs.inner.Groups.{AreGroups, begins_with, key_in, place_in}
 
 -- ---- folders and names
 

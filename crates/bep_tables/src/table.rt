@@ -36,7 +36,7 @@ impl<'a> Table<'a> {
     pub fn of(alloc: Global, cut: &'a Cut) -> Result<Table<'a>, AllocError>
         ensures { IfOk result (IsGrouped (cut_listed cut.now)) }
     {
-        let mut list = Vec::new(alloc);
+        let mut list = Vec::with_capacity(alloc, listing::most_entries(cut))?;
         listing::add_cut(&mut list, cut)?;
         let count = list.len();
         let groups = Groups::of(alloc, list.as_slice())?;

@@ -3,14 +3,19 @@ use Rattle.std.specs.Prelude.{◌≡◌, ◌<◌, ℕ, Bool, true, false, List, 
 use Rattle.std.specs.BTreeMap.{is_at}
 use Rattle.std.specs.List.{flat_map}
 use Rattle.std.specs.Map.{lookup}
-use Rattle.bep_model.specs.Tables.{Folder, FileName}
+use Rattle.bep_model.specs.Tables.{Device, Folder, FileName}
+use Rattle.bep_tables.specs.declared.table.entry.Held.{Held}
 use Rattle.bep_tables.specs.declared.table.entry.TableEntry.{TableEntry}
-use Rattle.bep_tables.specs.Listed.{Listed, key_at, listed, is_of, group_of}
+use Rattle.bep_tables.specs.Listed.{Listed, key_at, listed_at, held, listed, is_of, group_of}
 use Rattle.bep_tables.specs.inner.TableOrder.{entry_cmp}
 
 -- the folder and the name of a lent entry
 abbrev pub key_in : TableEntry → Folder × FileName
 key_in one = key_at (listed one)
+
+-- what another device, or the same one, has of the entry's folder and name
+abbrev pub alike : TableEntry → Device × Held → Listed
+alike one other = listed_at one.folder.now one.name.now other.0 (held other.1)
 
 -- where the group of the entry's folder and name stands, by these pairs of an entry and a place
 abbrev pub place_in : List (TableEntry × ℕ) → TableEntry → Option ℕ

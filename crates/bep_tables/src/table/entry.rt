@@ -5,7 +5,7 @@ ghost use Rattle.std.specs.Cmp.{partial_equiv_from_equiv, eq_by_cmp_equiv, parti
 ghost use Rattle.std.specs.Cmp.Rules.{comparing};
 ghost use Rattle.std.proofs.Common.{rules};
 ghost use Rattle.bep_model.specs.Settled.{key_cmp};
-ghost use Rattle.bep_tables.specs.Listed.{listed, key_at};
+ghost use Rattle.bep_tables.specs.Listed.{held, listed, key_at};
 ghost use Rattle.bep_tables.specs.inner.TableOrder.{entry_cmp, entry_total};
 
 use bep_record::{DeviceId, FolderName, Name, Node, Record};
@@ -48,6 +48,18 @@ pub struct TableEntry<'a> {
     pub held: Held<'a>,
 }
 
+impl<'a> Held<'a> {
+    // The same once more.
+    pub(crate) fn again(&self) -> Held<'a>
+        ensures { held result ≡ held self.now }
+    {
+        match *self {
+            Held::Record(source, found) => Held::Record(source, found),
+            Held::Node(node) => Held::Node(node),
+        }
+    }
+}
+
 impl<'a> TableEntry<'a> {
     /// How the entry's folder and name compare with these.
     pub fn compare(&self, folder: &FolderName, name: &Name) -> Ordering
@@ -64,10 +76,7 @@ impl<'a> TableEntry<'a> {
             folder: self.folder,
             name: self.name,
             device: self.device,
-            held: match self.held {
-                Held::Record(source, found) => Held::Record(source, found),
-                Held::Node(node) => Held::Node(node),
-            },
+            held: self.held.again(),
         }
     }
 }

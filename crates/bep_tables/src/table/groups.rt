@@ -1,45 +1,52 @@
 //! Entries put together by their folders and names.
-ghost use Rattle.std.specs.Prelude.{◌≡◌, ◌++◌, ◌∷◌, [], IfOk, OnOk, List, get_or, map};
+ghost use Rattle.std.specs.Prelude.{◌≡◌, ◌++◌, ◌∷◌, [], true, IfOk, OnOk, List, get_or, map};
 ghost use Rattle.bep_tables.specs.declared.table.entry.TableEntry.{TableEntry};
 ghost use Rattle.bep_tables.specs.Listed.{IsGrouped, Listed, listed};
 ghost use Rattle.bep_tables.specs.inner.Groups.{AreFull, AreGroups, begins_with, entries_by, key_in, place_in};
 
-use super::TableEntry;
+use super::{Held, TableEntry};
+use bep_record::DeviceId;
 use std::alloc::{AllocError, Global};
 use std::collections::BTreeMap;
 use std::marker::Model;
 
-// The entries of one folder and name, in the order in which they came.
+// The entries of one folder and name, in the order in which they came. The folder and the name stand once, with the first
+// entry: a cut may have very many entries of one name.
 #[derive(Drop)]
 struct Group<'a> {
-    entries: Vec<TableEntry<'a>>,
+    first: TableEntry<'a>,
+    others: Vec<(DeviceId, Held<'a>)>,
 }
 
 impl<'a> Model for Group<'a> {
-    ghost use Rattle.std.specs.Prelude.{List, map};
+    ghost use Rattle.std.specs.Prelude.{List, ◌∷◌, map};
     ghost use Rattle.bep_tables.specs.Listed.{Listed, listed};
+    ghost use Rattle.bep_tables.specs.inner.Groups.{alike};
 
     ghost Value = { List Listed };
 
-    ghost view = { λ group. map listed group.entries.items };
+    ghost view = { λ group. listed group.first ∷ map (alike group.first) group.others.items };
 }
 
 impl<'a> Group<'a> {
-    // The group without entries.
-    fn new(alloc: Global) -> Self
-        ensures { result ≡ [] }
+    // The group of this entry.
+    fn of(alloc: Global, entry: &TableEntry<'a>) -> Self
+        ensures { result ≡ listed entry.now ∷ [] }
     {
         Group {
-            entries: Vec::new(alloc),
+            first: entry.again(),
+            others: Vec::new(alloc),
         }
     }
 
-    // Adds an entry behind the others.
+    // Adds an entry of the group's folder and name behind the others.
     fn push(&mut self, entry: &TableEntry<'a>) -> Result<(), AllocError>
+        requires { begins_with (key_in entry.now) self.old ≡ true }
         ensures { OnOk result (self.new ≡ self.old ++ listed entry.now ∷ []) }
     {
-        self.entries.reserve(1)?;
-        self.entries.push_reserved(entry.again());
+        self.others.reserve(1)?;
+        self.others
+            .push_reserved((entry.device, entry.held.again()));
         Ok(())
     }
 
@@ -47,10 +54,26 @@ impl<'a> Group<'a> {
     fn begins_as(&self, entry: &TableEntry<'_>) -> bool
         ensures { result ≡ begins_with (key_in entry.now) self.now }
     {
-        match self.entries.as_slice() {
-            [] => false,
-            [first, ..] => first.compare(entry.folder, entry.name).is_eq(),
+        self.first.compare(entry.folder, entry.name).is_eq()
+    }
+
+    // Adds the entries behind those of the list.
+    fn add_to(&self, list: &mut Vec<TableEntry<'a>>) -> Result<(), AllocError>
+        ensures { OnOk result (map listed list.new.items ≡ map listed list.old.items ++ self.now) }
+    {
+        let first = &self.first;
+        list.reserve(1)?;
+        list.push_reserved(first.again());
+        for other in self.others.as_slice() {
+            list.reserve(1)?;
+            list.push_reserved(TableEntry {
+                folder: first.folder,
+                name: first.name,
+                device: other.0,
+                held: other.1.again(),
+            });
         }
+        Ok(())
     }
 }
 
@@ -93,8 +116,7 @@ impl<'a> Groups<'a> {
             }
             None => {
                 let place = self.groups.len();
-                let mut group = Group::new(alloc);
-                group.push(entry)?;
+                let group = Group::of(alloc, entry);
                 match self.places.insert(entry.again(), place) {
                     Ok(_) => {}
                     Err(_) => return Err(AllocError),
@@ -142,19 +164,8 @@ impl<'a> Groups<'a> {
     {
         let mut entries = Vec::with_capacity(alloc, count)?;
         for (_first, place) in self.places.iter() {
-            add_group(&mut entries, &self.groups[*place])?;
+            self.groups[*place].add_to(&mut entries)?;
         }
         Ok(entries)
     }
-}
-
-// Adds the entries of the group.
-fn add_group<'a>(list: &mut Vec<TableEntry<'a>>, group: &Group<'a>) -> Result<(), AllocError>
-    ensures { OnOk result (map listed list.new.items ≡ map listed list.old.items ++ group.now) }
-{
-    for entry in group.entries.as_slice() {
-        list.reserve(1)?;
-        list.push_reserved(entry.again());
-    }
-    Ok(())
 }

@@ -9,6 +9,41 @@ use bep_map::NameMap;
 use bep_record::{DeviceId, FolderName, Name, Node, Record};
 use std::alloc::AllocError;
 
+// How many entries the cut has at most: an invalid record that a device has from elsewhere gives none. It says how much room
+// their list wants, so nothing rests on it.
+pub(crate) fn most_entries(cut: &Cut) -> usize {
+    let mut most: usize = 0;
+    for held in cut.folders() {
+        for share in held.shares.as_slice() {
+            most = most.saturating_add(entries_of(share));
+        }
+    }
+    for link in cut.links() {
+        most = most.saturating_add(records_in(link.to_a.as_slice()));
+        most = most.saturating_add(records_in(link.to_b.as_slice()));
+    }
+    most
+}
+
+// How many of them are a device's.
+fn entries_of(share: &Share) -> usize {
+    let mut most = share.own.len().saturating_add(share.store.len());
+    most = most.saturating_add(share.pulls.len());
+    for view in share.views.as_slice() {
+        most = most.saturating_add(view.records.len());
+    }
+    most
+}
+
+// How many records these messages have.
+fn records_in(flights: &[Flight]) -> usize {
+    let mut most: usize = 0;
+    for flight in flights {
+        most = most.saturating_add(flight.records.as_slice().len());
+    }
+    most
+}
+
 // Adds all entries of the cut.
 #[tactic(auto, unfolding(crate::specs::Listed::cut_listed))]
 pub(crate) fn add_cut<'a>(list: &mut Vec<TableEntry<'a>>, cut: &'a Cut) -> Result<(), AllocError>

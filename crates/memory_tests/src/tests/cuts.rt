@@ -1,6 +1,6 @@
 //! `bep_model`, `bep_tables`, `bep_cut_document` and `bep_audit`.
 use super::made::{CHECK, docs, record};
-use bep_audit::winners;
+use bep_audit::{certify_grouped, winners};
 use bep_cut_document::{CutValue, DocVersion, check_document, read_check, read_cut};
 use bep_model::Row;
 use bep_record::DeviceId;
@@ -24,10 +24,11 @@ fn documents(alloc: Global) -> Option<[bool; 2]> {
 fn tables(alloc: Global) -> Option<[bool; 3]> {
     let (_, cut) = read_cut(alloc, CHECK.as_bytes()).ok()?;
     let folder = docs(alloc)?;
+    let table = Table::of(alloc, &cut).ok()?;
     Some([
         Cut::known_names(&cut, alloc, &folder).is_ok(),
-        Table::of(alloc, &cut).is_ok(),
         winners(alloc, &cut).is_ok(),
+        certify_grouped(alloc, &cut, &table).is_ok(),
     ])
 }
 

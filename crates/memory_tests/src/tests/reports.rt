@@ -3,7 +3,8 @@ use super::made::CHECK;
 use bep_audit::{Certificate, FirmVerdict, Verdict, certify, check, firm_verdict};
 use bep_cut_document::read_cut;
 use bep_report::{
-    push_certificate, push_firm_report, push_report, push_report_by, read_document, write_all,
+    push_certificate, push_firm_report, push_firm_report_by, push_report, push_report_by,
+    read_document, write_all,
 };
 use bep_tables::{Cut, Table};
 use std::alloc::Global;
@@ -43,6 +44,19 @@ fn firm(alloc: Global, cut: &Cut, rows: &Certificate, text: &mut Vec<u8>) -> boo
 
 fn is_firmly_told(alloc: Global, cut: &Cut, verdict: &FirmVerdict<'_>, text: &mut Vec<u8>) -> bool {
     push_firm_report(alloc, text, cut, verdict).is_ok()
+        && is_firmly_told_by_table(alloc, cut, verdict, text)
+}
+
+fn is_firmly_told_by_table(
+    alloc: Global,
+    cut: &Cut,
+    verdict: &FirmVerdict<'_>,
+    text: &mut Vec<u8>,
+) -> bool {
+    match Table::of(alloc, cut) {
+        Ok(table) => push_firm_report_by(alloc, text, cut, &table, verdict).is_ok(),
+        Err(_) => false,
+    }
 }
 
 fn reported(alloc: Global, text: &mut Vec<u8>) -> Option<[bool; 3]> {

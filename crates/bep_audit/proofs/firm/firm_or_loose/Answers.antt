@@ -6,9 +6,9 @@ use Rattle.bep_audit.proofs.firm.firm_or_loose.Goals as goal
 
 pub returns-in-None-clause-verdict : goal.returns-in-None-clause-verdict
 returns-in-None-clause-verdict c =
-    none_is_firm c.entries_are_held.ensures.held c.entries_are_held.ensures.shares c.args.cut.now c.is_a_cut.ensures c.in_ok-table.table c.in_ok-table.ensures c.args.certificate.now
-    c.firm_is_faultless.ensures c.requires
-    (found_in c.args.certificate.now c.rows.result.now c.in_ok-table.table c.entries.result.now None (option_map loose_shown c.least_loose.result)
+    none_is_firm c.entries_are_held.ensures.held c.entries_are_held.ensures.shares c.args.cut.now c.is_a_cut.ensures c.args.table.now c.requires.table c.args.certificate.now
+    c.firm_is_faultless.ensures c.requires.settled
+    (found_in c.args.certificate.now c.rows.result.now c.args.table.now c.entries.result.now None (option_map loose_shown c.least_loose.result)
     c.rows.ensures c.entries.ensures (ap (option_map loose_shown) c.in-None.is) c.least_loose.ensures)
 
 pub returns-in-None-clause-firm : goal.returns-in-None-clause-firm
@@ -20,22 +20,22 @@ returns-in-None-clause-stays_firm c = λ _. c.firm_stays_firm.ensures (tables_of
 pub returns-in-None-clause-stays_put : goal.returns-in-None-clause-stays_put
 returns-in-None-clause-stays_put c = λ _. c.firm_stays_put.ensures (tables_of c.args.cut.now) c.args.certificate.now (returns-in-None-clause-verdict c)
 
-pub returns-clause-verdict : goal.returns-clause-verdict
-returns-clause-verdict c = (
-  c.requires,
-  least_is_loose c.entries_are_held.ensures.held c.entries_are_held.ensures.shares c.args.cut.now c.is_a_cut.ensures c.in_ok-table.table c.in_ok-table.ensures c.args.certificate.now
+pub returns-in-Some-clause-verdict : goal.returns-in-Some-clause-verdict
+returns-in-Some-clause-verdict c = (
+  c.requires.settled,
+  least_is_loose c.entries_are_held.ensures.held c.entries_are_held.ensures.shares c.args.cut.now c.is_a_cut.ensures c.args.table.now c.requires.table c.args.certificate.now
       (loose_shown c.in-Some.one)
-      (found_in c.args.certificate.now c.rows.result.now c.in_ok-table.table c.entries.result.now (Some (loose_shown c.in-Some.one)) (option_map loose_shown c.least_loose.result)
+      (found_in c.args.certificate.now c.rows.result.now c.args.table.now c.entries.result.now (Some (loose_shown c.in-Some.one)) (option_map loose_shown c.least_loose.result)
       c.rows.ensures c.entries.ensures (ap (option_map loose_shown) c.in-Some.is) c.least_loose.ensures),
 )
 
-pub returns-clause-firm : goal.returns-clause-firm
-returns-clause-firm c = (
+pub returns-in-Some-clause-firm : goal.returns-in-Some-clause-firm
+returns-in-Some-clause-firm c = (
   λ e. absurd (cc),
   λ firm. absurd
-      (loose_is_not_firm c.entries_are_held.ensures.held c.entries_are_held.ensures.shares c.args.cut.now c.is_a_cut.ensures c.in_ok-table.table c.in_ok-table.ensures c.args.certificate.now
+      (loose_is_not_firm c.entries_are_held.ensures.held c.entries_are_held.ensures.shares c.args.cut.now c.is_a_cut.ensures c.args.table.now c.requires.table c.args.certificate.now
       c.firm_is_faultless.ensures (loose_shown c.in-Some.one)
-      (found_in c.args.certificate.now c.rows.result.now c.in_ok-table.table c.entries.result.now (Some (loose_shown c.in-Some.one)) (option_map loose_shown c.least_loose.result)
+      (found_in c.args.certificate.now c.rows.result.now c.args.table.now c.entries.result.now (Some (loose_shown c.in-Some.one)) (option_map loose_shown c.least_loose.result)
       c.rows.ensures c.entries.ensures (ap (option_map loose_shown) c.in-Some.is) c.least_loose.ensures)
       firm),
 )

@@ -1,4 +1,4 @@
-use Rattle.std.proofs.Common.{◌∙◌, refl, true≢false, sym}
+use Rattle.std.proofs.Common.{refl, true≢false, sym}
 use Rattle.bep_tables.specs.Listed.{listed}
 use Rattle.bep_audit.proofs.LooseFacts.{met_without_row, met_beside_one}
 use Rattle.bep_audit.proofs.firm.meets_rows.Goals as goal

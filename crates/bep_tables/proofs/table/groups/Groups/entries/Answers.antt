@@ -32,7 +32,7 @@ loop-first-preserved c =
     let member = subst (λ l. Contains l pair) (sym c.in-Some.ensures.steps) (Contains-first pair c.next.new.self) in
     let below = (c.requires.filled c.in-Some._first.now c.in-Some.place.now (c.loop-first.invariant.1 pair member)).0 in
     let group = get_or_read groups c.in-Some.place.now c.index.result.now below c.index.ensures [] in (
-      ap (λ l. l ++ entries_by groups c.next.new.self) c.in_ok-add_group.ensures
+      ap (λ l. l ++ entries_by groups c.next.new.self) c.in_ok-add_to.ensures
           ∙ ap (λ l. (before ++ l) ++ entries_by groups c.next.new.self) group
           ∙ append_assoc before (get_or groups c.in-Some.place.now []) (entries_by groups c.next.new.self)
           ∙ ap (λ l. before ++ entries_by groups l) (sym c.in-Some.ensures.steps)

@@ -1,4 +1,4 @@
-use Rattle.std.proofs.Common.{List, map, sym, ap, subst, arith}
+use Rattle.std.proofs.Common.{List, map, sym, subst, arith}
 use Rattle.bep_model.specs.Tables.{Folder, FileName}
 use Rattle.bep_model.specs.WithoutWinner.{IsFirstWithoutWinner}
 use Rattle.bep_tables.specs.Cut.{tables_of}
@@ -7,7 +7,7 @@ use Rattle.bep_audit.specs.Certifier.{AreWinners}
 use Rattle.bep_audit.specs.Shown.{place_shown}
 use Rattle.bep_audit.proofs.CertifierFacts.{settled_if_any, never_settled}
 use Rattle.bep_audit.proofs.WonWalk.{all_won_lent, first_unwon_lent}
-use Rattle.bep_audit.proofs.certifier.certify.Goals as goal
+use Rattle.bep_audit.proofs.certifier.certify_grouped.Goals as goal
 
 pub returns-in-empty-clause-winners : goal.returns-in-empty-clause-winners
 returns-in-empty-clause-winners c =
