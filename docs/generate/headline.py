@@ -5,10 +5,10 @@ from reading import Specs, clause
 INTRODUCTION = """# What the headlines rest on
 
 [trust.md](../trust.md#the-headlines) says what the two headlines mean. This page has each definition on which their words
-rest, from the clause downwards, as the imports of the files have it. A reader who believes these, and the plain types of
-`src/` named below each table, need believe nothing else of this repository: the gate checks the proofs. The definitions also
-use words of the kit, its standard library and its `sha2`. Lines are those of the definitions named, without comments and
-imports.
+rest, from the clause downwards, as the imports of the files have it. Who believes these, and the plain types of `src/` named
+below each table, needs to believe nothing else of this repository: the gate checks the proofs. The definitions also use words
+of the kit, its standard library and its `sha2`; these and all else that is trusted stand in
+[trust.md](../trust.md#what-is-trusted). Lines are those of the definitions named, without comments and imports.
 """
 
 FULL = [
