@@ -10,6 +10,7 @@ import (
 	"runtime"
 	"strings"
 
+	"syncthing-audit/choice"
 	"syncthing-audit/part"
 )
 
@@ -18,7 +19,7 @@ type options struct {
 	homes      []string
 	parts      []string
 	folders    []string
-	names      string
+	names      choice.Names
 	leaveOut   map[string]bool
 	bytes      bool
 	lines      bool
@@ -136,7 +137,7 @@ func readOptions(name string, words []string, flagsOf func(*flag.FlagSet, *optio
 	flags.Usage = func() {}
 	flags.Var((*list)(&read.homes), "home", "")
 	flags.Var((*list)(&read.folders), "folder", "")
-	flags.StringVar(&read.names, "names", "", "")
+	flags.StringVar(&read.names.Prefix, "names", "", "")
 	flags.IntVar(&read.jobs, "jobs", runtime.NumCPU(), "")
 	flagsOf(flags, &read)
 	for {

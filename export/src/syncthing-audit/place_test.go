@@ -5,6 +5,8 @@ import (
 	"path/filepath"
 	"strings"
 	"testing"
+
+	"syncthing-audit/shell"
 )
 
 // A place is a machine where a colon stands before any slash, and its command is one word for the shell there.
@@ -24,10 +26,10 @@ func TestPlaces(t *testing.T) {
 			t.Fatal(err)
 		}
 		places[0].self, places[0].ssh = "here", []string{"ssh", places[0].host}
-		if places[0].host != one.host || places[0].home != one.home || quotedWords(places[0].end(asked)) != one.command {
-			t.Errorf("%s: %+v, %s", one.word, *places[0], quotedWords(places[0].end(asked)))
+		if places[0].host != one.host || places[0].home != one.home || shell.Words(places[0].end(asked)) != one.command {
+			t.Errorf("%s: %+v, %s", one.word, *places[0], shell.Words(places[0].end(asked)))
 		}
-		if begin := quotedWords(places[0].begin(asked)); !strings.Contains(begin, "nice -n 19 ") || !strings.Contains(begin, " part --begin ") {
+		if begin := shell.Words(places[0].begin(asked)); !strings.Contains(begin, "nice -n 19 ") || !strings.Contains(begin, " part --begin ") {
 			t.Errorf("%s begins with %s", one.word, begin)
 		}
 		asked.remote, asked.dryRun = "", true

@@ -8,6 +8,7 @@ import (
 
 	"github.com/syncthing/syncthing/lib/protocol"
 	"syncthing-audit/looks"
+	"syncthing-audit/shell"
 )
 
 // Two homes of one machine have files of their own.
@@ -21,7 +22,7 @@ func TestLabels(t *testing.T) {
 // What was asked of the run is asked of its last command.
 func TestLastCommandOfTheRecipe(t *testing.T) {
 	asked := options{folders: []string{"docs", "a b"}, leaveOut: map[string]bool{"special": true, "absent": true}, json: true, program: "audit"}
-	made := quotedWords((&place{self: "here"}).check(asked))
+	made := shell.Words((&place{self: "here"}).check(asked))
 	if made != "here check --folder docs --folder 'a b' --leave-out special --leave-out absent --json --syncaudit audit" {
 		t.Error(made)
 	}

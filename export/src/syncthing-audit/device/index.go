@@ -10,6 +10,7 @@ import (
 	"github.com/syncthing/syncthing/lib/fs"
 	"github.com/syncthing/syncthing/lib/protocol"
 	"syncthing-audit/adapt"
+	"syncthing-audit/choice"
 	"syncthing-audit/part"
 )
 
@@ -128,18 +129,18 @@ func kindOf(kind config.FolderType) string {
 	}
 }
 
-// Own gives the device's own entries whose names begin so, rising by name.
-func (i *Index) Own(prefix string, take func(Entry) bool) error {
-	return i.entries(protocol.LocalDeviceID, prefix, i.Max(), ownEntry, take)
+// Own gives the device's own entries of these names, rising by name.
+func (i *Index) Own(names choice.Names, take func(Entry) bool) error {
+	return i.entries(protocol.LocalDeviceID, names, i.Max(), ownEntry, take)
 }
 
 // View gives the entries that the device knows of another one, rising by name.
-func (i *Index) View(of part.View, prefix string, take func(Entry) bool) error {
+func (i *Index) View(of part.View, names choice.Names, take func(Entry) bool) error {
 	id, err := protocol.DeviceIDFromString(of.Device)
 	if err != nil {
 		return err
 	}
-	return i.entries(id, prefix, of.Max, viewedEntry, take)
+	return i.entries(id, names, of.Max, viewedEntry, take)
 }
 
 // viewedEntry reads another device's entry. Of what that device ignores it tells neither size nor blocks.
@@ -151,11 +152,11 @@ func viewedEntry(entry protocol.FileInfo) Entry {
 }
 
 // entries reads what the index has of one device.
-func (i *Index) entries(of protocol.DeviceID, prefix string, greatest int64, read func(protocol.FileInfo) Entry, take func(Entry) bool) (err error) {
+func (i *Index) entries(of protocol.DeviceID, names choice.Names, greatest int64, read func(protocol.FileInfo) Entry, take func(Entry) bool) (err error) {
 	defer recovered(i.Config.ID, &err)
 	adapt.Have(i.snapshot.WithHave, of, func(entry protocol.FileInfo) bool {
-		if !strings.HasPrefix(entry.Name, prefix) {
-			return entry.Name < prefix
+		if !names.Has(i.Config.ID, entry.Name) {
+			return !names.IsPast(entry.Name)
 		}
 		made := read(entry)
 		if made.Record != nil && (entry.Sequence < 1 || entry.Sequence > greatest) {

@@ -8,22 +8,8 @@ import (
 	"testing"
 
 	"github.com/syncthing/syncthing/lib/fs"
+	"syncthing-audit/choice"
 )
-
-func TestMayHold(t *testing.T) {
-	cases := []struct {
-		directory, prefix string
-		may               bool
-	}{
-		{"a", "", true}, {"a", "a/b", true}, {"a", "a", true}, {"a/b", "a/", true}, {"ab", "a", true},
-		{"a", "ab", false}, {"b", "a/b", false},
-	}
-	for _, one := range cases {
-		if mayHold(one.directory, one.prefix) != one.may {
-			t.Errorf("%q below %q: expected %v", one.prefix, one.directory, one.may)
-		}
-	}
-}
 
 // Names come in the order of their bytes, as they do in an index, though what stands below a directory then isn't next to
 // it.
@@ -44,7 +30,7 @@ func TestOrderOfNames(t *testing.T) {
 	sort.Strings(names)
 	for _, prefix := range []string{"", "a/", "a/b", "b"} {
 		var found, expected []string
-		walker := &Walker{Disk: fs.NewFilesystem(fs.FilesystemTypeBasic, room), Prefix: prefix, Take: func(one Found) error {
+		walker := &Walker{Disk: fs.NewFilesystem(fs.FilesystemTypeBasic, room), Names: choice.Names{Prefix: prefix}, Take: func(one Found) error {
 			found = append(found, one.Name)
 			return nil
 		}}

@@ -7,6 +7,7 @@ import (
 	"time"
 
 	"github.com/syncthing/syncthing/lib/protocol"
+	"syncthing-audit/choice"
 )
 
 // Version is the version of the format.
@@ -42,15 +43,15 @@ const KindEncrypted = "encrypted"
 
 // Head says whose part it is and what it holds.
 type Head struct {
-	Version int       `json:"version"`
-	Device  string    `json:"device"`              // its id
-	Name    string    `json:"name"`                // as it is configured at itself
-	Runs    string    `json:"syncthing,omitempty"` // the version of Syncthing that was started there last
-	Made    time.Time `json:"made"`
-	Prefix  string    `json:"prefix,omitempty"` // only names that begin so were read
-	Folders []Folder  `json:"folders"`          // rising by id
-	Look    *Look     `json:"look,omitempty"`   // of a device that may run
-	Others  []Other   `json:"other_folders"`    // rising by id; nothing where an older program made the part, which doesn't say
+	Version      int       `json:"version"`
+	Device       string    `json:"device"`              // its id
+	Name         string    `json:"name"`                // as it is configured at itself
+	Runs         string    `json:"syncthing,omitempty"` // the version of Syncthing that was started there last
+	Made         time.Time `json:"made"`
+	choice.Names           // those that were read
+	Folders      []Folder  `json:"folders"`        // rising by id
+	Look         *Look     `json:"look,omitempty"` // of a device that may run
+	Others       []Other   `json:"other_folders"`  // rising by id; nothing where an older program made the part, which doesn't say
 }
 
 // Other is a folder that the device has by its configuration, and that its part hasn't, since it wasn't asked for.

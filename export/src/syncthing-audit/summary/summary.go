@@ -5,6 +5,7 @@ package summary
 import (
 	"time"
 
+	"syncthing-audit/choice"
 	"syncthing-audit/finding"
 	"syncthing-audit/join"
 	"syncthing-audit/shell"
@@ -44,6 +45,7 @@ type Device struct {
 	Runs string    `json:"syncthing,omitempty"` // the version that was started there last
 
 	Prefix Text `json:"names_that_begin,omitempty"` // only these were read
+	asked  choice.Names
 }
 
 // Folder is what was found in a folder.
@@ -134,9 +136,10 @@ var notCompared = []string{"owners", "extended attributes", "old versions"}
 func Of(answer *finding.Answer) *Summary {
 	made := &Summary{Version: Version, Verdict: verdictOf(answer), Firm: answer.HowFirm(), Devices: []Device{}, Folders: []*Folder{}, LeftOut: []LeftOut{},
 		NotAsked: notAsked(answer), NotTold: notTold(answer), NotCompared: notCompared, isByName: answer.IsByName, byNames: answer.ByNames}
-	prefixes := prefixesOf(answer)
+	asked := askedOf(answer)
 	for _, one := range answer.Devices {
-		made.Devices = append(made.Devices, Device{one.ID, one.Name, one.Made, one.From, one.Runs, prefixes[one.ID]})
+		names := asked[one.ID]
+		made.Devices = append(made.Devices, Device{one.ID, one.Name, one.Made, one.From, one.Runs, Text(names.Prefix), names})
 	}
 	named := made.labels()
 	for _, one := range answer.Folders {
@@ -226,12 +229,12 @@ func namesOf(folder *finding.Folder, one *finding.LeftOut) Names {
 	return made
 }
 
-// prefixesOf gives, for each device of which not all names were read, how those begin that were.
-func prefixesOf(answer *finding.Answer) map[string]Text {
-	made := map[string]Text{}
+// askedOf gives, for each device, which names were read of it.
+func askedOf(answer *finding.Answer) map[string]choice.Names {
+	made := map[string]choice.Names{}
 	for _, folder := range answer.Folders {
 		for _, one := range folder.Members {
-			made[one.Head.Device] = Text(one.Head.Prefix)
+			made[one.Head.Device] = one.Head.Names
 		}
 	}
 	return made

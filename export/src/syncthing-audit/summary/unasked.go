@@ -37,18 +37,17 @@ func notTold(answer *finding.Answer) []string {
 	return made
 }
 
-// otherNames prints that only names which begin so were audited: all parts have the same.
+// otherNames prints which names weren't audited, where some weren't asked for: all parts have the same.
 func (p *printer) otherNames(s *Summary) {
 	for _, one := range s.Devices {
-		begin := shell.Quoted(string(one.Prefix))
 		switch {
-		case one.Prefix == "":
+		case one.asked.IsAll():
 			continue
 		case s.byNames:
-			p.line("not asked for: names that don't begin with %s", begin)
+			p.line("not asked for: %s", one.asked.Others())
 		default:
-			p.line("not audited: names that don't begin with %s; no part has them", begin)
-			p.advice([]string{"make the parts without --names; or say by --names " + begin + " that only these are to be audited"})
+			p.line("not audited: %s; no part has them", one.asked.Others())
+			p.advice([]string{"make the parts without --names; or say by " + one.asked.Command() + " that only these are to be audited"})
 		}
 		return
 	}
