@@ -6,6 +6,7 @@ import (
 	"strings"
 	"testing"
 
+	"syncthing-audit/choice"
 	"syncthing-audit/shell"
 )
 
@@ -35,6 +36,16 @@ func TestPlaces(t *testing.T) {
 		asked.remote, asked.dryRun = "", true
 		if begin := places[0].begin(asked); places[0].home == "" && begin[len(begin)-1] != usual {
 			t.Errorf("%s begins with %s, where nothing says how the program is called", one.word, begin)
+		}
+	}
+}
+
+// The question and both looks are of the names that are asked for: a program that knows no slice refuses the question.
+func TestPlacesOfASlice(t *testing.T) {
+	one, asked := &place{host: "laptop", ssh: []string{"ssh"}}, options{names: choice.Names{Prefix: "a b", Slice: 3, Slices: 7}, remote: "audit"}
+	for _, words := range [][]string{one.about(asked), one.begin(asked), one.end(asked)} {
+		if command := words[len(words)-1]; !strings.HasSuffix(command, " --names 'a b' --slice 3/7 -o -") {
+			t.Error(command)
 		}
 	}
 }

@@ -97,12 +97,18 @@ func (i *Index) Check() error {
 // Bytes gives the bytes of all files that the device's own index has.
 func (i *Index) Bytes() int64 { return i.snapshot.LocalSize().Bytes }
 
+// names gives how many names the device's own index has, by its counts.
+func (i *Index) names() int64 {
+	size := i.snapshot.LocalSize()
+	return int64(size.Files) + int64(size.Directories) + int64(size.Symlinks) + int64(size.Deleted)
+}
+
 // Folder gives what a part's head says of the folder. A view that was never filled isn't told.
 func (i *Index) Folder() part.Folder {
 	made := part.Folder{ID: i.Config.ID, Label: i.Config.Label, Kind: kindOf(i.Config.Type), Path: adapt.Filesystem(i.Config.Filesystem, nil).URI(),
 		Directory: i.directory, IndexID: uint64(i.files.IndexID(protocol.LocalDeviceID)), Max: i.Max(),
 		IgnoresPermissions: i.Config.IgnorePerms, ScansAttributes: i.home.attributes[i.Config.ID], Sharing: i.home.Sharing(i.Config), Views: []part.View{},
-		Paused: i.Config.Paused, PausedDevices: i.home.pausedOf(i.Config)}
+		Paused: i.Config.Paused, PausedDevices: i.home.pausedOf(i.Config), Indexed: i.names()}
 	for _, other := range i.Config.Devices {
 		if other.DeviceID == i.home.ID {
 			continue

@@ -204,6 +204,9 @@ func (f *Folder) Asked() choice.Names {
 	return f.Members[0].Head.Names
 }
 
+// IsOfSlice says whether names of one slice alone were audited.
+func (a *Answer) IsOfSlice() bool { return len(a.Folders) > 0 && a.Folders[0].Asked().IsOfSlice() }
+
 // IsPartial says whether something wasn't audited.
 func (a *Answer) IsPartial() bool {
 	for _, one := range a.Folders {

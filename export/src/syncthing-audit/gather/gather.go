@@ -39,11 +39,9 @@ type Device struct {
 
 // Head gives the head of the device's part.
 func (d *Device) Head() *part.Head {
-	made := &part.Head{Version: part.Version, Device: d.ID, Name: d.Name, Runs: d.Runs, Made: time.Now().UTC().Truncate(time.Second),
+	made := &part.Head{Device: d.ID, Name: d.Name, Runs: d.Runs, Made: time.Now().UTC().Truncate(time.Second),
 		Names: d.Names, Folders: []part.Folder{}, Look: d.Look, Others: append([]part.Other{}, d.Others...)}
-	if d.Look != nil {
-		made.Version = part.VersionOfLooks
-	}
+	made.Version = made.DueVersion()
 	for _, one := range d.Folders {
 		made.Folders = append(made.Folders, one.Folder())
 	}

@@ -79,8 +79,8 @@ func checkDevices(devices []*Device) error {
 			return fmt.Errorf("refused: %s and %s are of one device number, %d", one.From, other.From, one.Number)
 		}
 		if one.Head.Names != other.Head.Names {
-			return fmt.Errorf("refused: %s has %s, and %s has %s: make all parts with the same --names",
-				one.From, one.Head.Names.Words(), other.From, other.Head.Names.Words())
+			return fmt.Errorf("refused: %s has %s, and %s has %s: make all parts with the same %s",
+				one.From, one.Head.Names.Words(), other.From, other.Head.Names.Words(), one.Head.Unlike(other.Head.Names))
 		}
 	}
 	return nil

@@ -50,7 +50,8 @@ func Join(first, second part.Stream) (*Stream, error) {
 	case one.Look.Home != other.Look.Home:
 		return nil, fmt.Errorf("the first look is at another home than the second one")
 	case one.Names != other.Names:
-		return nil, fmt.Errorf("the first look is at %s, and the second one at %s: make both with the same --names", one.Names.Words(), other.Names.Words())
+		return nil, fmt.Errorf("the first look is at %s, and the second one at %s: make both with the same %s", one.Names.Words(), other.Names.Words(),
+			one.Unlike(other.Names))
 	case len(one.Folders) != len(other.Folders):
 		return nil, fmt.Errorf("the two looks are at other folders: make both with the same --folder")
 	}

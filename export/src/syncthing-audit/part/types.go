@@ -10,12 +10,6 @@ import (
 	"syncthing-audit/choice"
 )
 
-// Version is the version of the format.
-const Version = 1
-
-// VersionOfLooks is the version of a part of one of two looks, which says nothing by itself.
-const VersionOfLooks = 2
-
 // Kinds of what a check document can't say, in the words of --leave-out.
 const (
 	Ignored    = "ignored"    // .stignore ignores the name
@@ -76,6 +70,7 @@ type Folder struct {
 	Views              []View    `json:"views"`
 	Paused             bool      `json:"paused,omitempty"`         // the device neither takes nor sends anything of it
 	PausedDevices      []string  `json:"paused_devices,omitempty"` // others with which it shares the folder, and exchanges nothing
+	Indexed            int64     `json:"indexed,omitempty"`        // how many names the device's own index has, whichever were asked for
 }
 
 // Sharing is another device that the folder is shared with, by the device's own configuration.

@@ -99,6 +99,9 @@ func unasked(to io.Writer, answer *finding.Answer) {
 		if begin := folder.Asked().Prefix; begin != "" {
 			fmt.Fprintf(to, "not asked for: names of %s that don't begin with %s\n", folder.ID, ask.Printed(begin))
 		}
+		if asked := folder.Asked(); asked.IsOfSlice() {
+			fmt.Fprintf(to, "not asked for: names of %s outside %s\n", folder.ID, asked.SliceWords())
+		}
 	}
 }
 

@@ -44,8 +44,22 @@ type Device struct {
 	From string    `json:"from"`
 	Runs string    `json:"syncthing,omitempty"` // the version that was started there last
 
-	Prefix Text `json:"names_that_begin,omitempty"` // only these were read
+	Prefix Text   `json:"names_that_begin,omitempty"` // only these were read
+	Slice  *Slice `json:"slice,omitempty"`            // only these were read
 	asked  choice.Names
+}
+
+// Slice says of which slice names are, and of how many.
+type Slice struct {
+	Number int `json:"number"`
+	Of     int `json:"of"`
+}
+
+func sliceOf(names choice.Names) *Slice {
+	if !names.IsOfSlice() {
+		return nil
+	}
+	return &Slice{names.Slice, names.Slices}
 }
 
 // Folder is what was found in a folder.
@@ -80,6 +94,7 @@ type Member struct {
 	Kind   string `json:"kind"`
 	Path   string `json:"path"`
 
+	Indexed       int64    `json:"names_in_index,omitempty"` // whichever were asked for
 	Paused        bool     `json:"paused,omitempty"`
 	PausedDevices []string `json:"paused_devices,omitempty"` // others, by their ids
 }
@@ -87,7 +102,7 @@ type Member struct {
 func memberOf(one join.Member) Member {
 	made := Member{Device: one.Head.Device, Kind: kindOf(one)}
 	if one.About != nil {
-		made.Path, made.Paused, made.PausedDevices = one.About.Path, one.About.Paused, one.About.PausedDevices
+		made.Path, made.Indexed, made.Paused, made.PausedDevices = one.About.Path, one.About.Indexed, one.About.Paused, one.About.PausedDevices
 	}
 	return made
 }
@@ -139,7 +154,7 @@ func Of(answer *finding.Answer) *Summary {
 	asked := askedOf(answer)
 	for _, one := range answer.Devices {
 		names := asked[one.ID]
-		made.Devices = append(made.Devices, Device{one.ID, one.Name, one.Made, one.From, one.Runs, Text(names.Prefix), names})
+		made.Devices = append(made.Devices, Device{one.ID, one.Name, one.Made, one.From, one.Runs, Text(names.Prefix), sliceOf(names), names})
 	}
 	named := made.labels()
 	for _, one := range answer.Folders {

@@ -3,6 +3,7 @@ package summary
 import (
 	"strings"
 
+	"syncthing-audit/choice"
 	"syncthing-audit/finding"
 	"syncthing-audit/shell"
 )
@@ -44,13 +45,32 @@ func (p *printer) otherNames(s *Summary) {
 		case one.asked.IsAll():
 			continue
 		case s.byNames:
-			p.line("not asked for: %s", one.asked.Others())
+			p.line("not asked for: %s%s", one.asked.Others(), s.ofAll(one.asked))
 		default:
-			p.line("not audited: %s; no part has them", one.asked.Others())
-			p.advice([]string{"make the parts without --names; or say by " + one.asked.Command() + " that only these are to be audited"})
+			p.line("not audited: %s; no part has them%s", one.asked.Others(), s.ofAll(one.asked))
+			p.advice([]string{"make the parts without " + one.asked.Unlike(choice.Names{}) + "; or say by " + one.asked.Command() +
+				" that only these are to be audited"})
 		}
 		return
 	}
+}
+
+// ofAll says, where a slice was asked for, how many names there are in all.
+func (s *Summary) ofAll(asked choice.Names) string {
+	total := int64(0)
+	for _, folder := range s.Folders {
+		most := int64(0)
+		for _, one := range folder.Devices {
+			if one.Indexed > most {
+				most = one.Indexed
+			}
+		}
+		total += most
+	}
+	if !asked.IsOfSlice() || total == 0 {
+		return ""
+	}
+	return " (in all: " + counted(total, "name", "names") + ", by each folder's fullest index)"
 }
 
 // notAsked prints which folders of the devices weren't audited, or that this isn't known.
