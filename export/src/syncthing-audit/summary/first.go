@@ -18,10 +18,18 @@ func (p *printer) first(s *Summary) {
 			}
 		}
 	}
+	unseen := []string{}
 	for _, one := range s.Devices {
-		if loses[one.ID] && starts[one.ID] {
+		switch {
+		case loses[one.ID] && starts[one.ID]:
 			both = append(both, one.ID)
+		case starts[one.ID] && !one.asked.IsAll():
+			unseen = append(unseen, one.ID)
 		}
+	}
+	if len(unseen) > 0 {
+		p.line("before a start, on %s: names that weren't asked for may be missing there. As Syncthing starts, it scans all folders, and takes "+
+			"them for deleted", p.named.all(unseen))
 	}
 	if len(both) > 0 {
 		p.line("first, on %s: do what the entries above say to do before Syncthing starts or scans there. As it starts, it scans all folders", p.named.all(both))
