@@ -62,15 +62,17 @@ func TestWhatIsNotKnownBeforeAStart(t *testing.T) {
 	for _, one := range []struct {
 		asked     choice.Names
 		isToStart bool
+		live      *finding.Live
 		told      bool
 	}{
-		{choice.Names{}, true, false}, {choice.Names{Prefix: "a"}, true, true}, {choice.Names{Slice: 3, Slices: 7}, true, true},
-		{choice.Names{Slice: 3, Slices: 7}, false, false},
+		{choice.Names{}, true, nil, false}, {choice.Names{Prefix: "a"}, true, nil, true}, {choice.Names{Slice: 3, Slices: 7}, true, nil, true},
+		{choice.Names{Slice: 3, Slices: 7}, false, nil, false}, {choice.Names{Slice: 3, Slices: 7}, true, &finding.Live{}, false},
 	} {
 		answer := answerOf(2, func(folder *finding.Folder) {
 			for _, member := range folder.Members {
 				member.Head.Names = one.asked
 			}
+			folder.Live = one.live
 			if one.isToStart {
 				fresh(folder, 1)
 			}
