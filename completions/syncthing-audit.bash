@@ -4,10 +4,10 @@
 # The flags of each command.
 _syncthing_audit_flags() {
   case $1 in
-    part) echo '--home --folder --names --jobs --about --begin --end --tokens --heed-input --rescan --leave-out -o --help' ;;
-    run) echo '--folder --names --jobs --leave-out --lines --json --syncaudit --still --rescan --remote-program --dry-run --help' ;;
-    check) echo '--home --folder --names --jobs --leave-out --bytes --lines --json --syncaudit --help' ;;
-    export) echo '--home --folder --names --jobs --leave-out --bytes --into --help' ;;
+    part) echo '--home --folder --names --slice --jobs --about --begin --end --tokens --heed-input --rescan --leave-out -o --help' ;;
+    run) echo '--folder --names --slice --jobs --leave-out --lines --json --syncaudit --still --rescan --remote-program --dry-run --help' ;;
+    check) echo '--home --folder --names --slice --jobs --leave-out --bytes --lines --json --syncaudit --help' ;;
+    export) echo '--home --folder --names --slice --jobs --leave-out --bytes --into --help' ;;
     sum) echo '--lines --json --help' ;;
   esac
 }
@@ -33,7 +33,7 @@ _syncthing_audit() {
     --home | --into) mapfile -t COMPREPLY < <(compgen -d -- "$word") ;;
     --syncaudit | --tokens | -o) mapfile -t COMPREPLY < <(compgen -f -- "$word") ;;
     --leave-out) mapfile -t COMPREPLY < <(_syncthing_audit_kinds "$word") ;;
-    --folder | --names | --jobs | --still | --remote-program) ;;
+    --folder | --names | --slice | --jobs | --still | --remote-program) ;;
     *)
       if [[ $word == -* ]]; then
         mapfile -t COMPREPLY < <(compgen -W "$(_syncthing_audit_flags "$command")" -- "$word")

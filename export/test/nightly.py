@@ -5,16 +5,21 @@ Homes and indexes are written by Syncthing's own packages, and no device runs.
     export/test/nightly.py
 """
 
+import gzip
+import hashlib
+import json
 import os
 import re
 import shutil
 import socket
 import subprocess
 import tempfile
+import time
 import unittest
 from importlib.machinery import SourceFileLoader
 from pathlib import Path
 from types import ModuleType
+from unittest import mock
 
 from exporting import PROGRAM, auditor, built, in_step, is_over, main, run
 from large_folders import rot
@@ -44,8 +49,17 @@ cat >> "$(dirname "$0")/mails"
 '''
 
 
-class Nightly(unittest.TestCase):
+def loaded():
+    """The script as a module."""
+    loader, nightly = SourceFileLoader("nightly", f"{CONTRIB / PROGRAM}-nightly"), ModuleType("nightly")
+    exec(loader.source_to_code(loader.get_data(loader.path), loader.path), nightly.__dict__)
+    return nightly
+
+
+class Audited(unittest.TestCase):
     """Two devices in step, the first of which audits; each case has a user's home of its own."""
+
+    FILES = 20
 
     @classmethod
     def setUpClass(cls):
@@ -55,7 +69,7 @@ class Nightly(unittest.TestCase):
         cls.addClassCleanup(room.cleanup)
         cls.room = Path(room.name)
         cls.programs = built(cls.room)
-        run([cls.programs / "sample", "--files", "20", "--bytes", "100", cls.room / "made"], check=True)
+        run([cls.programs / "sample", "--files", str(cls.FILES), "--bytes", "100", cls.room / "made"], check=True)
         cls.homes = [cls.room / "made" / f"device{number}" / "home" for number in (1, 2)]
 
     def setUp(self):
@@ -73,9 +87,9 @@ class Nightly(unittest.TestCase):
         (self.tools / PROGRAM).symlink_to(self.programs / PROGRAM)
         (self.tools / "running").touch()
 
-    def part_of_the_other(self):
+    def part_of_the_other(self, *words):
         """Has the second device's part come."""
-        run([self.programs / PROGRAM, "part", "--home", self.homes[1], "-o", self.parts / "other.part"], check=True)
+        run([self.programs / PROGRAM, "part", "--home", self.homes[1], "-o", self.parts / "other.part", *words], check=True)
 
     def service(self, **settings):
         """The command of the unit, and what systemd would put into its environment, %h being the user's home."""
@@ -95,6 +109,11 @@ class Nightly(unittest.TestCase):
         """What a stand-in noted."""
         path = self.tools / name
         return path.read_text() if path.exists() else ""
+
+
+
+class Nightly(Audited):
+    """All names each night."""
 
     def test_in_step(self):
         self.part_of_the_other()
@@ -124,9 +143,7 @@ class Nightly(unittest.TestCase):
 
     def test_folders_of_one_id_have_one_metric(self):
         """Each device may have a folder of its own under the same id. Prometheus takes no file with two values of one metric."""
-        loader, nightly = SourceFileLoader("nightly", f"{CONTRIB / PROGRAM}-nightly"), ModuleType("nightly")
-        exec(loader.source_to_code(loader.get_data(loader.path), loader.path), nightly.__dict__)
-        told = nightly.metrics(1, [{"id": "default", "names": 2, "names_wrong": 1}, {"id": "default", "names": 3, "names_wrong": 0}], [])
+        told = loaded().metrics(1, [{"id": "default", "names": 2, "names_wrong": 1}, {"id": "default", "names": 3, "names_wrong": 0}], [])
         self.assertEqual([line for line in told.splitlines() if "default" in line],
                          ['syncthing_audit_names_wrong{folder="default"} 1', 'syncthing_audit_names{folder="default"} 5'])
 
@@ -213,6 +230,112 @@ class Nightly(unittest.TestCase):
         ran = subprocess.run(["systemd-analyze", "--user", "verify", "--man=no", *units.iterdir()], capture_output=True, text=True,
                              env={"HOME": str(self.user), "PATH": os.environ["PATH"], "XDG_RUNTIME_DIR": str(self.user)})
         self.assertEqual((ran.returncode, ran.stderr), (0, ""))
+
+
+class NightlySlices(Audited):
+    """One of seven slices each night."""
+
+    FILES = 60  # some of each slice
+    SLICES = 7
+    DAY = 86400
+
+    def setUp(self):
+        super().setUp()
+        # The next slice is due half a day from now.
+        self.hour = (time.gmtime().tm_hour + 12) % 24
+        self.due = int((time.time() - 3600 * self.hour) // self.DAY) % self.SLICES + 1
+        self.settings = {"SLICES": str(self.SLICES), "SLICE_HOUR": str(self.hour)}
+
+    def slice_of(self, name):
+        """The slice of a name, as export/README.md has it."""
+        return 1 + int.from_bytes(hashlib.sha256(b"docs\0" + name.encode()).digest()[:8], "big") % self.SLICES
+
+    def names(self, is_due):
+        """The files of the slice that is due, or of the others."""
+        return [name for name in (f"00000/{number:02}.bin" for number in range(self.FILES)) if (self.slice_of(name) == self.due) == is_due]
+
+    def words(self, number):
+        """The flag for a slice."""
+        return "--slice", f"{number}/{self.SLICES}"
+
+    def test_the_slice_that_is_due(self):
+        """Rot outside it isn't seen, and the answer says that the names there weren't asked for. The metrics are those of the slice."""
+        self.part_of_the_other(*self.words(self.due))
+        undo = rot(self.room / "made/device1/files" / self.names(False)[0], 5)
+        try:
+            status, text = self.run_service(**self.settings)
+        finally:
+            undo()
+        self.assertEqual((status, self.told("mails")), (0, ""), text)
+        self.assertIn(f"\nnot asked for: names outside slice {self.due} of 7 (in all: {self.FILES + 1} names, by each folder's fullest index)\n", text)
+        named = f'folder="docs",slice="{self.due}/7"'
+        count = sum(self.slice_of(name) == self.due for name in ["00000", *self.names(True)])
+        for line in ("syncthing_audit_status 0", f"syncthing_audit_names_wrong{{{named}}} 0", f"syncthing_audit_names{{{named}}} {count}",
+                     f'syncthing_audit_slice{{of="7"}} {self.due}'):
+            self.assertIn(line, self.metrics.read_text().splitlines())
+
+    def test_the_mail_says_which_slice_it_is_of(self):
+        self.part_of_the_other(*self.words(self.due))
+        undo = rot(self.room / "made/device1/files" / self.names(True)[0], 5)
+        try:
+            status, _ = self.run_service(**self.settings)
+        finally:
+            undo()
+        self.assertEqual(status, 1)
+        mail = self.told("mails")
+        self.assertIn(f"\nSubject: syncthing-audit on {socket.gethostname()}: NOT in step, slice {self.due} of 7\n", mail)
+        self.assertIn(f"\n{self.names(True)[0]}  (in docs, 100 bytes)\n  device1: other bytes on the disk", mail)
+        self.assertIn(f'syncthing_audit_names_wrong{{folder="docs",slice="{self.due}/7"}} 1\n', self.metrics.read_text())
+
+    def test_a_part_of_another_slice(self):
+        """It isn't audited with this device's: both slices are told, and what to do. So it is where a device has no slices, or others."""
+        other = self.due % self.SLICES + 1
+        for words, has in ((self.words(other), f"slice {other} of 7"), ((), "all names"), (("--slice", "1/6"), "slice 1 of 6")):
+            self.part_of_the_other(*words)
+            status, text = self.run_service(**self.settings)
+            self.assertEqual(status, 2)
+            self.assertIn(f"the part of device2 has {has}, and not slice {self.due} of 7: {self.parts / 'other.part'}\n", text)
+            self.assertIn("SLICES and SLICE_HOUR are to be the same on all devices", text)
+            self.assertRegex(text, rf"refused: .*other\.part has {has}( of all names)?: make it anew with --slice {self.due}/7\n")
+            self.assertIn(f": no answer, status 2, slice {self.due} of 7\n", self.told("mails"))
+            self.assertNotIn("syncthing_audit_names", self.metrics.read_text())
+        self.part_of_the_other(*self.words(self.due))
+        status, text = self.run_service()
+        self.assertEqual(status, 2)
+        self.assertIn(f"the part of device2 has slice {self.due} of 7, and not all names: ", text)
+
+    def test_a_part_that_is_sent(self):
+        """It is of the slice that is due."""
+        there = self.user / "there.part"
+        self.assertEqual(self.run_service(SEND=f'cp "$PART" {there}', **self.settings)[0], 0)
+        with gzip.open(there, "rt") as part:
+            head = json.loads(part.readline())
+        self.assertEqual((head["slice"], head["slices"]), (self.due, self.SLICES))
+
+    def test_settings_that_are_wrong(self):
+        """They are mailed, and Syncthing isn't stopped for them."""
+        for settings in ({"SLICES": "many"}, {"SLICES": "0"}, {"SLICES": "367"}, {"SLICES": "7", "SLICE_HOUR": "24"}):
+            status, text = self.run_service(**settings)
+            self.assertEqual((status, text), (2, "SLICES is a number from 1 to 366, and SLICE_HOUR one from 0 to 23\n"))
+        self.assertIn(": no audit\n", self.told("mails"))
+        self.assertEqual(self.told("asked"), "")
+
+    def test_which_slice_is_due(self):
+        """Seven days in a row have all of seven slices, the next one each day, from SLICE_HOUR on in UTC, whatever the time zone is."""
+        nightly, midnight = loaded(), 20000 * self.DAY
+        self.addCleanup(time.tzset)
+        for zone in ("UTC", "NZST-12", "PST8"):
+            for hour in (0, 12):
+                with mock.patch.dict(os.environ, {"SLICES": "7", "SLICE_HOUR": str(hour), "TZ": zone}):
+                    time.tzset()
+                    begin = midnight + hour * 3600
+                    due = [nightly.due_slice(begin + day * self.DAY + after) for day in range(7) for after in (0, self.DAY - 1)]
+                # 20000 is 1 more than a multiple of 7.
+                self.assertEqual([one.number for one in due], [2, 2, 3, 3, 4, 4, 5, 5, 6, 6, 7, 7, 1, 1], f"{zone} {hour}")
+                self.assertEqual(due[0].words(), ["--slice", "2/7"])
+        for settings in ({}, {"SLICES": "", "SLICE_HOUR": ""}, {"SLICES": "1"}):
+            with mock.patch.dict(os.environ, settings):
+                self.assertEqual(nightly.due_slice(midnight).words(), [])
 
 
 if __name__ == "__main__":

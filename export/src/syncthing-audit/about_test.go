@@ -4,12 +4,16 @@ import (
 	"encoding/json"
 	"errors"
 	"fmt"
+	"io"
+	"os"
+	"path/filepath"
 	"strings"
 	"testing"
 
 	"github.com/syncthing/syncthing/lib/config"
 	"github.com/syncthing/syncthing/lib/protocol"
 	"syncthing-audit/audit"
+	"syncthing-audit/choice"
 	"syncthing-audit/device"
 	"syncthing-audit/join"
 	"syncthing-audit/part"
@@ -78,6 +82,36 @@ func saying(t *testing.T, number byte, about config.Configuration) *join.Device 
 		t.Fatal(read, err)
 	}
 	return read
+}
+
+// A program elsewhere that knows no slice is refused before any file is hashed. One that doesn't know the question is refused, too, where
+// a slice is asked for; without one it makes its look all the same.
+func TestProgramsThatKnowNoSlice(t *testing.T) {
+	room := t.TempDir()
+	for at, one := range []struct {
+		says    string
+		slices  int
+		refused bool
+		isOlder bool
+	}{
+		{"there is no flag --slice", 7, true, false}, {"flag provided but not defined: -about", 7, true, true},
+		{"flag provided but not defined: -about", 0, false, true}, {"no home is at ~", 7, true, false},
+	} {
+		self := filepath.Join(room, fmt.Sprint("audit", at))
+		if err := os.WriteFile(self, []byte("#!/bin/sh\necho 'syncthing-audit: "+one.says+"' >&2\nexit 3\n"), 0o700); err != nil {
+			t.Fatal(err)
+		}
+		asked := &place{given: "laptop:", self: self}
+		run := &running{asked: options{names: choice.Names{Slice: one.slices / 2, Slices: one.slices}}, places: []*place{asked}, room: t.TempDir(), log: io.Discard}
+		err := run.about(0)
+		const told = "refused: laptop: the syncthing-audit there is older, and has no --slice: bring it to the version here, "
+		if (err != nil) != one.refused || asked.isOlder != one.isOlder {
+			t.Errorf("%s: %v, %v", one.says, err, asked.isOlder)
+		}
+		if err != nil && strings.HasPrefix(err.Error(), told) == (at == 3) {
+			t.Errorf("%s: %v", one.says, err)
+		}
+	}
 }
 
 // What something else prints isn't taken for what a device says.

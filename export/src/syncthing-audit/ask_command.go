@@ -85,14 +85,19 @@ func (r *running) checkChosen() error {
 	return nil
 }
 
-// about asks a device. A program of 0.8.0 or before doesn't know the question.
+// about asks a device. A program of 0.8.0 or before doesn't know the question, and one of 0.10.0 or before no slice.
 func (r *running) about(at int) error {
 	one := r.places[at]
 	told, err := one.run(one.about(r.asked), strings.NewReader(""), r.file(at, "about"))
 	var ended *exec.ExitError
-	if errors.As(err, &ended) && ended.ExitCode() == statusUsage && strings.Contains(err.Error(), "-about") {
-		one.isOlder = true
-		return nil
+	if errors.As(err, &ended) && ended.ExitCode() == statusUsage {
+		one.isOlder = strings.Contains(err.Error(), "-about")
+		if r.asked.names.IsOfSlice() && (one.isOlder || strings.Contains(err.Error(), "no flag --slice")) {
+			return fmt.Errorf("refused: %s: the syncthing-audit there is older, and has no --slice: bring it to the version here, %s", one.called(), version)
+		}
+		if one.isOlder {
+			return nil
+		}
 	}
 	r.retell(at, told)
 	return err

@@ -18,7 +18,8 @@ const restName = "rest.jsonl"
 
 // exported is what an export into a directory leaves there beside the documents.
 type exported struct {
-	Answer    *finding.Answer
+	Answer    *finding.Answer `json:",omitempty"`
+	OfSlice   *finding.Answer `json:",omitempty"` // in its place where it is of one slice: a 'sum' that doesn't know of slices refuses it
 	Documents []exportedDocument
 }
 
@@ -32,7 +33,11 @@ type exportedDocument struct {
 func (e *exported) write(file io.Writer) error {
 	to := bufio.NewWriter(file)
 	lines := json.NewEncoder(to)
-	if err := lines.Encode(e); err != nil {
+	first := *e
+	if e.Answer.IsOfSlice() {
+		first.Answer, first.OfSlice = nil, e.Answer
+	}
+	if err := lines.Encode(first); err != nil {
 		return err
 	}
 	if err := e.Answer.WriteLists(lines); err != nil {
@@ -60,6 +65,9 @@ func readExported(directory string) (*exported, error) {
 func (e *exported) readFrom(lines *json.Decoder) error {
 	if err := lines.Decode(e); err != nil {
 		return err
+	}
+	if e.OfSlice != nil {
+		e.Answer, e.OfSlice = e.OfSlice, nil
 	}
 	if e.Answer == nil {
 		return errors.New("it has no answer")

@@ -7,6 +7,8 @@ import (
 	"regexp"
 	"strings"
 	"testing"
+
+	"syncthing-audit/choice"
 )
 
 // exportedPart exports a part, has its one document answered as settled, and gives the directory.
@@ -54,6 +56,33 @@ func TestWhatAnExportLeft(t *testing.T) {
 	status := run([]string{"sum", t.TempDir()}, io.Discard, &log)
 	if status != statusRefused || !strings.Contains(log.String(), "refused: 'export --into' fills a directory for 'sum': open ") {
 		t.Errorf("a directory without an export: status %d, and %q", status, log.String())
+	}
+}
+
+// What was exported of one slice is summed up as far as that goes. A 'sum' of 0.10.0 or before would take it for all: it finds no answer.
+func TestAnExportOfASlice(t *testing.T) {
+	room := t.TempDir()
+	one := aPartOf(t, choice.Names{Slice: 3, Slices: 7})
+	if status := run([]string{"export", "--into", room, one}, io.Discard, io.Discard); status != statusDone {
+		t.Fatalf("the export has status %d", status)
+	}
+	reply := []byte("settled\nfolder docs: 1 names, 0 deleted, 1 devices\n")
+	if err := os.WriteFile(filepath.Join(room, "cut-0001.reply"), reply, 0o600); err != nil {
+		t.Fatal(err)
+	}
+	text, err := os.ReadFile(filepath.Join(room, restName))
+	if err != nil || strings.Contains(string(text), `{"Answer":`) {
+		t.Errorf("%v: an older program reads %s", err, text)
+	}
+	var output strings.Builder
+	if status := run([]string{"sum", room}, &output, io.Discard); status != statusPartial || !strings.Contains(output.String(), "not audited: names outside slice 3 of 7") {
+		t.Errorf("%d:\n%s", status, output.String())
+	}
+	output.Reset()
+	room = t.TempDir()
+	if status := run([]string{"export", "--slice", "4/7", "--into", room, one}, io.Discard, &output); status != statusRefused ||
+		!strings.Contains(output.String(), "has slice 3 of 7 of all names: make it anew with --slice 4/7") {
+		t.Errorf("%d:\n%s", status, output.String())
 	}
 }
 

@@ -16,6 +16,7 @@ import (
 	"github.com/syncthing/syncthing/lib/ignore"
 	"github.com/syncthing/syncthing/lib/protocol"
 	"syncthing-audit/ask"
+	"syncthing-audit/choice"
 	"syncthing-audit/device"
 	"syncthing-audit/disk"
 	"syncthing-audit/finding"
@@ -49,11 +50,11 @@ func (d *drawn) Patterns() (*ignore.Matcher, error) { return ignore.New(d.Disk()
 func (d *drawn) Check() error                       { return nil }
 func (d *drawn) Max() int64                         { return d.about.Max }
 
-func (d *drawn) Own(_ string, take func(device.Entry) bool) error {
+func (d *drawn) Own(_ choice.Names, take func(device.Entry) bool) error {
 	return give(d.own, take)
 }
 
-func (d *drawn) View(of part.View, _ string, take func(device.Entry) bool) error {
+func (d *drawn) View(of part.View, _ choice.Names, take func(device.Entry) bool) error {
 	return give(d.views[of.Device], take)
 }
 

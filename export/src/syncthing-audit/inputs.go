@@ -7,6 +7,7 @@ import (
 
 	"golang.org/x/exp/slices"
 	"syncthing-audit/audit"
+	"syncthing-audit/choice"
 	"syncthing-audit/device"
 	"syncthing-audit/disk"
 	"syncthing-audit/finding"
@@ -34,7 +35,7 @@ func (i *inputs) skip() {
 
 // auditOptions say how what was opened is audited.
 func (i *inputs) auditOptions(asked options) audit.Options {
-	return audit.Options{LeaveOut: asked.leaveOut, WithBytes: asked.bytes, ByNames: asked.names != "", Refused: i.skip, Joined: &i.work.joined}
+	return audit.Options{LeaveOut: asked.leaveOut, WithBytes: asked.bytes, ByNames: !asked.names.IsAll(), Refused: i.skip, Joined: &i.work.joined}
 }
 
 // startProgress begins to tell how far the work is; what it gives ends that.
@@ -42,7 +43,7 @@ func (i *inputs) startProgress(log io.Writer, asked options) func() {
 	if i.pool != nil {
 		i.work.hashed = i.pool.Hashed
 	}
-	if asked.names != "" {
+	if !asked.names.IsAll() {
 		i.work.toHash = 0
 	}
 	return startProgress(log, &i.work)
@@ -146,10 +147,10 @@ func (i *inputs) checkInParts(labels map[string]string, wanted []string) error {
 }
 
 // checkNames says whether a part has other names than those that were asked for; without a word it is asked for what parts have.
-func (i *inputs) checkNames(wanted string) error {
+func (i *inputs) checkNames(wanted choice.Names) error {
 	for _, read := range i.devices {
-		if has := string(read.Head.Prefix); wanted != "" && has != wanted {
-			return fmt.Errorf("refused: %s has %s: make it anew with --names %s", read.From, join.Names(has), shell.Quoted(wanted))
+		if has := read.Head.Names; !wanted.IsAll() && has != wanted {
+			return fmt.Errorf("refused: %s has %s: make it anew with %s", read.From, has.Words(), wanted.Command())
 		}
 	}
 	return nil
@@ -168,7 +169,7 @@ func (i *inputs) openParts(paths []string) error {
 
 // deviceOf opens the indexes of a home's folders: those that are wanted, or all.
 func (i *inputs) deviceOf(home *device.Home, asked options) (*gather.Device, error) {
-	made := &gather.Device{ID: home.ID.String(), Name: home.Name(), Runs: home.Syncthing, Prefix: asked.names, Bytes: asked.bytes, Pool: i.pool,
+	made := &gather.Device{ID: home.ID.String(), Name: home.Name(), Runs: home.Syncthing, Names: asked.names, Bytes: asked.bytes, Pool: i.pool,
 		Others: othersOf(home, asked.folders)}
 	folders := chosenOf(home.Config, asked.folders)
 	sort.Slice(folders, func(a, b int) bool { return folders[a].ID < folders[b].ID })

@@ -10,6 +10,7 @@ import (
 	"runtime"
 	"strings"
 
+	"syncthing-audit/choice"
 	"syncthing-audit/part"
 )
 
@@ -18,7 +19,7 @@ type options struct {
 	homes      []string
 	parts      []string
 	folders    []string
-	names      string
+	names      choice.Names
 	leaveOut   map[string]bool
 	bytes      bool
 	lines      bool
@@ -40,7 +41,7 @@ type options struct {
 	hasJobs    bool // whether they were asked for
 }
 
-var usage = fmt.Sprintf(`usage: syncthing-audit part [--home DIR] [--folder ID ..] [--names PREFIX] -o FILE
+var usage = fmt.Sprintf(`usage: syncthing-audit part [--home DIR] [--folder ID ..] [--names PREFIX] [--slice K/N] -o FILE
        syncthing-audit check [--home DIR ..] [PART ..] [--folder ID ..]
        syncthing-audit run [MACHINE:[DIR] | DIR ..] [--folder ID ..]
        syncthing-audit part (--begin [--rescan] | --end --tokens FILE ..) [--home DIR] [--folder ID ..] -o FILE
@@ -64,6 +65,8 @@ Says whether Syncthing devices are in step, and where they aren't, which device 
   --folder ID          only this folder (may be given more than once; all folders if it isn't). part takes those that its device has,
                        and tells which it hasn't
   --names PREFIX       only names that begin with these bytes
+  --slice K/N          only names of slice K of N, as 3/7, of at most %d: so that a slow disk is read in N parts. A name's slice is the
+                       same on all devices and for ever, so slices 1/N to N/N have each name once
   --about              of part: what the device is configured to share, as JSON; 'run' asks that of all before it looks.
                        With --rescan it refuses what can't be scanned
   --begin              first look at a device that may run; writes a token to standard output, or error where the part is there
@@ -88,7 +91,7 @@ Says whether Syncthing devices are in step, and where they aren't, which device 
 Exit status: 0 in step, firm or not, or written; 1 not in step; 2 refused; 3 usage; 4 syncaudit is out of memory; 5 what was asked for
 can't be written, or syncaudit has a read or write fault; 6 in step as far as audited: something was left out, or folders or
 names weren't asked for; 127 syncaudit can't be run.
-`, strings.Join(part.Kinds, ","), runtime.NumCPU())
+`, choice.MostSlices, strings.Join(part.Kinds, ","), runtime.NumCPU())
 
 // list is a flag that may be given more than once.
 type list []string
@@ -136,7 +139,8 @@ func readOptions(name string, words []string, flagsOf func(*flag.FlagSet, *optio
 	flags.Usage = func() {}
 	flags.Var((*list)(&read.homes), "home", "")
 	flags.Var((*list)(&read.folders), "folder", "")
-	flags.StringVar(&read.names, "names", "", "")
+	flags.StringVar(&read.names.Prefix, "names", "", "")
+	flags.Var(choice.SliceFlag{Names: &read.names}, "slice", "")
 	flags.IntVar(&read.jobs, "jobs", runtime.NumCPU(), "")
 	flagsOf(flags, &read)
 	for {

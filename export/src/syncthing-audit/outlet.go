@@ -86,7 +86,7 @@ func (o *outlet) end(answer *finding.Answer, log io.Writer) error {
 		_, err := faulty{o.output}.Write(o.kept)
 		return err
 	}
-	if err := o.writeNew(restName, (&exported{answer, o.written}).write); err != nil {
+	if err := o.writeNew(restName, (&exported{Answer: answer, Documents: o.written}).write); err != nil {
 		return err
 	}
 	leftover.Keep(o.files)

@@ -12,7 +12,6 @@ import (
 	"syncthing-audit/gather"
 	"syncthing-audit/join"
 	"syncthing-audit/part"
-	"syncthing-audit/shell"
 )
 
 // runPart writes a device's part.
@@ -176,8 +175,8 @@ func writeLines(to, log io.Writer, read *gather.Device, through func(part.Sink) 
 	if err != nil {
 		return err
 	}
-	if names == 0 && read.Prefix != "" {
-		fmt.Fprintf(log, "syncthing-audit: no name here begins with %s, on the disk or in the index: the part has none\n", shell.Quoted(read.Prefix))
+	if names == 0 && !read.Names.IsAll() {
+		fmt.Fprintf(log, "syncthing-audit: %s, on the disk or in the index: the part has none\n", read.Names.None(" here"))
 	}
 	if damaged > 0 {
 		fmt.Fprintf(log, "syncthing-audit: the disk here fails to give what it has of %s: see the system's log; 'check' tells which these are\n",

@@ -128,10 +128,7 @@ func (p *place) chosen(asked options) []string {
 	for _, one := range folders {
 		words = append(words, "--folder", one)
 	}
-	if asked.names != "" {
-		words = append(words, "--names", asked.names)
-	}
-	return append(words, "-o", "-")
+	return append(append(words, asked.names.Flags()...), "-o", "-")
 }
 
 // words gives a command, behind other words. Here it is this program. Elsewhere ssh runs it, as one word for the shell
@@ -144,7 +141,7 @@ func (p *place) words(before, words []string, asked options) []string {
 	if remote == "" {
 		remote, path = usualProgram, pathOfUsers
 	}
-	command := path + quotedWords(append(append(before[:len(before):len(before)], remote), words...))
+	command := path + shell.Words(append(append(before[:len(before):len(before)], remote), words...))
 	return append(p.ssh[:len(p.ssh):len(p.ssh)], command)
 }
 
@@ -190,7 +187,7 @@ func (p *place) whereIs(ended *exec.ExitError) string {
 	case ended.ExitCode() == ask.StatusCannotRun:
 		return ". Is syncthing-audit installed there? --remote-program says how it is called"
 	case ended.ExitCode() == statusOfSSH:
-		return ". See that the machine is on and that " + quotedWords([]string{"ssh", p.host, "true"}) + " needs no answer; or audit the other " +
+		return ". See that the machine is on and that " + shell.Words([]string{"ssh", p.host, "true"}) + " needs no answer; or audit the other " +
 			"devices without it, with --leave-out " + part.Absent
 	}
 	return ""
@@ -202,7 +199,7 @@ func (p *place) hint(err error) error {
 		return err
 	}
 	return fmt.Errorf("%w: the shell there may print something as it starts, by its .bashrc say, which goes before the part: %s is to print nothing",
-		err, quotedWords([]string{"ssh", p.host, "true"}))
+		err, shell.Words([]string{"ssh", p.host, "true"}))
 }
 
 // headOf reads the head of a part.

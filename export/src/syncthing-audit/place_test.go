@@ -5,6 +5,9 @@ import (
 	"path/filepath"
 	"strings"
 	"testing"
+
+	"syncthing-audit/choice"
+	"syncthing-audit/shell"
 )
 
 // A place is a machine where a colon stands before any slash, and its command is one word for the shell there.
@@ -24,15 +27,25 @@ func TestPlaces(t *testing.T) {
 			t.Fatal(err)
 		}
 		places[0].self, places[0].ssh = "here", []string{"ssh", places[0].host}
-		if places[0].host != one.host || places[0].home != one.home || quotedWords(places[0].end(asked)) != one.command {
-			t.Errorf("%s: %+v, %s", one.word, *places[0], quotedWords(places[0].end(asked)))
+		if places[0].host != one.host || places[0].home != one.home || shell.Words(places[0].end(asked)) != one.command {
+			t.Errorf("%s: %+v, %s", one.word, *places[0], shell.Words(places[0].end(asked)))
 		}
-		if begin := quotedWords(places[0].begin(asked)); !strings.Contains(begin, "nice -n 19 ") || !strings.Contains(begin, " part --begin ") {
+		if begin := shell.Words(places[0].begin(asked)); !strings.Contains(begin, "nice -n 19 ") || !strings.Contains(begin, " part --begin ") {
 			t.Errorf("%s begins with %s", one.word, begin)
 		}
 		asked.remote, asked.dryRun = "", true
 		if begin := places[0].begin(asked); places[0].home == "" && begin[len(begin)-1] != usual {
 			t.Errorf("%s begins with %s, where nothing says how the program is called", one.word, begin)
+		}
+	}
+}
+
+// The question and both looks are of the names that are asked for: a program that knows no slice refuses the question.
+func TestPlacesOfASlice(t *testing.T) {
+	one, asked := &place{host: "laptop", ssh: []string{"ssh"}}, options{names: choice.Names{Prefix: "a b", Slice: 3, Slices: 7}, remote: "audit"}
+	for _, words := range [][]string{one.about(asked), one.begin(asked), one.end(asked)} {
+		if command := words[len(words)-1]; !strings.HasSuffix(command, " --names 'a b' --slice 3/7 -o -") {
+			t.Error(command)
 		}
 	}
 }

@@ -26,15 +26,15 @@ func tellCommands(output io.Writer, places []*place, asked options) {
 	fmt.Fprintln(output, "# 'run' asks first what each device shares (part --about), and refuses by that before any file is hashed. Here 'check' does, at the end.")
 	fmt.Fprintln(output, "# The first looks, at once or one after another. Each tells its token on standard error.")
 	for at, one := range places {
-		fmt.Fprintf(output, "%s < /dev/null > %s 2> %s\n", quotedWords(one.begin(asked)), shell.Quoted(labels[at]+".begin"), shell.Quoted(labels[at]+".log"))
+		fmt.Fprintf(output, "%s < /dev/null > %s 2> %s\n", shell.Words(one.begin(asked)), shell.Quoted(labels[at]+".begin"), shell.Quoted(labels[at]+".log"))
 	}
 	fmt.Fprintf(output, "# Once all are over: the tokens of all, one on a line.\ngrep -hE %s %s > tokens\nsleep %g\n", shell.Word(tokenLine), named(".log"), asked.still)
 	fmt.Fprintln(output, "# The second looks. A device doesn't know whose looks are asked for, so each goes on without the tokens of others (--leave-out\n"+
 		"# absent). 'check' refuses where a device, or a token of one, is missing.")
 	for at, one := range places {
-		fmt.Fprintf(output, "%s < tokens > %s\n", quotedWords(one.end(asked)), shell.Quoted(labels[at]+".end"))
+		fmt.Fprintf(output, "%s < tokens > %s\n", shell.Words(one.end(asked)), shell.Quoted(labels[at]+".end"))
 	}
-	fmt.Fprintf(output, "%s %s %s\n", quotedWords(places[0].check(asked)), named(".begin"), named(".end"))
+	fmt.Fprintf(output, "%s %s %s\n", shell.Words(places[0].check(asked)), named(".begin"), named(".end"))
 }
 
 // check gives the command that joins all looks, but for their parts.
@@ -43,9 +43,7 @@ func (p *place) check(asked options) []string {
 	for _, one := range asked.folders {
 		words = append(words, "--folder", one)
 	}
-	if asked.names != "" {
-		words = append(words, "--names", asked.names)
-	}
+	words = append(words, asked.names.Flags()...)
 	for _, kind := range part.Kinds {
 		if asked.leaveOut[kind] {
 			words = append(words, "--leave-out", kind)
@@ -73,13 +71,4 @@ func labelsOf(places []*place) []string {
 		made = append(made, label)
 	}
 	return made
-}
-
-// quotedWords gives a command as a shell reads it.
-func quotedWords(words []string) string {
-	made := []string{}
-	for _, one := range words {
-		made = append(made, shell.Word(one))
-	}
-	return strings.Join(made, " ")
 }

@@ -7,7 +7,9 @@ import (
 	"testing"
 
 	"github.com/syncthing/syncthing/lib/protocol"
+	"syncthing-audit/choice"
 	"syncthing-audit/looks"
+	"syncthing-audit/shell"
 )
 
 // Two homes of one machine have files of their own.
@@ -20,9 +22,9 @@ func TestLabels(t *testing.T) {
 
 // What was asked of the run is asked of its last command.
 func TestLastCommandOfTheRecipe(t *testing.T) {
-	asked := options{folders: []string{"docs", "a b"}, leaveOut: map[string]bool{"special": true, "absent": true}, json: true, program: "audit"}
-	made := quotedWords((&place{self: "here"}).check(asked))
-	if made != "here check --folder docs --folder 'a b' --leave-out special --leave-out absent --json --syncaudit audit" {
+	asked := options{folders: []string{"docs", "a b"}, names: choice.Names{Prefix: "x", Slice: 3, Slices: 7}, leaveOut: map[string]bool{"special": true, "absent": true}, json: true, program: "audit"}
+	made := shell.Words((&place{self: "here"}).check(asked))
+	if made != "here check --folder docs --folder 'a b' --names x --slice 3/7 --leave-out special --leave-out absent --json --syncaudit audit" {
 		t.Error(made)
 	}
 }

@@ -12,12 +12,16 @@ import (
 
 	"github.com/syncthing/syncthing/lib/config"
 	"github.com/syncthing/syncthing/lib/protocol"
+	"syncthing-audit/choice"
 	"syncthing-audit/device"
 	"syncthing-audit/part"
 )
 
 // aPart writes the part of a device whose folder, docs, has one file, and gives its path.
-func aPart(t *testing.T) string {
+func aPart(t *testing.T) string { return aPartOf(t, choice.Names{}) }
+
+// aPartOf writes the same part as one of these names.
+func aPartOf(t *testing.T, names choice.Names) string {
 	path := filepath.Join(t.TempDir(), "one.part")
 	file, err := os.Create(path)
 	if err != nil {
@@ -25,8 +29,9 @@ func aPart(t *testing.T) string {
 	}
 	defer file.Close()
 	id := protocol.DeviceID(sha256.Sum256(nil)).String()
-	head := &part.Head{Version: part.Version, Device: id, Made: time.Unix(0, 0).UTC(), Folders: []part.Folder{{ID: "docs",
+	head := &part.Head{Names: names, Device: id, Made: time.Unix(0, 0).UTC(), Folders: []part.Folder{{ID: "docs",
 		Kind: "send-receive", Directory: id, IndexID: 1, Max: 1}}, Others: []part.Other{}}
+	head.Version = head.DueVersion()
 	content := part.Content{Size: 5, BlockSize: protocol.MinBlockSize, Hash: part.Hash{1}}
 	to, err := part.NewWriter(file, head)
 	for _, line := range []part.Line{{Begin: &part.Begin{Folder: "docs"}},

@@ -22,8 +22,8 @@ func runSum(words []string, output, log io.Writer) (int, error) {
 	if err == nil && (len(asked.parts) != 1 || len(asked.homes) > 0) {
 		err = &wrongUsage{"'sum' has one directory, to which documents were exported"}
 	}
-	if err == nil && (len(asked.folders) > 0 || asked.names != "") {
-		err = &wrongUsage{"'sum' is of all that was exported: --folder and --names are for 'export'"}
+	if err == nil && (len(asked.folders) > 0 || !asked.names.IsAll()) {
+		err = &wrongUsage{"'sum' is of all that was exported: --folder, --names and --slice are for 'export'"}
 	}
 	if err == nil {
 		err = asked.checkForm()

@@ -17,6 +17,12 @@ func TestWrongFlags(t *testing.T) {
 		"check --leave-out all x":   "invalid value \"all\" for flag --leave-out: \"all\" is none of ",
 		"check --lines=often x":     "invalid boolean value \"often\" for --lines: ",
 		"check --folder  x":         "invalid value \"\" for flag --folder: empty",
+		"part -o x --slice 0/7":     "invalid value \"0/7\" for flag --slice: a slice is K/N",
+		"check --slice 8/7 x":       "invalid value \"8/7\" for flag --slice: there is no slice 8 of 7",
+		"run x: --slice 3":          "invalid value \"3\" for flag --slice: a slice is K/N",
+		"export --slice a/b x":      "invalid value \"a/b\" for flag --slice: a slice is K/N",
+		"part --begin --slice 1/0":  "invalid value \"1/0\" for flag --slice: a slice is K/N",
+		"part --end --slice":        "--slice needs a word behind it",
 		"part --home a --jobs none": "invalid value \"none\" for flag --jobs: ",
 	} {
 		var log strings.Builder

@@ -125,8 +125,8 @@ func (c *collector) checkSomething() error {
 		return nothingIsStill(moving)
 	}
 	for _, one := range c.plan.Devices {
-		if one.Head.Prefix != "" && c.names == 0 {
-			return fmt.Errorf("refused: no name begins with %s", shell.Quoted(string(one.Head.Prefix)))
+		if !one.Head.Names.IsAll() && c.names == 0 {
+			return fmt.Errorf("refused: %s", one.Head.Names.None(""))
 		}
 	}
 	return ErrNothing

@@ -10,6 +10,7 @@ import (
 	"github.com/syncthing/syncthing/lib/fs"
 	"github.com/syncthing/syncthing/lib/protocol"
 	"syncthing-audit/adapt"
+	"syncthing-audit/choice"
 	"syncthing-audit/part"
 )
 
@@ -96,12 +97,18 @@ func (i *Index) Check() error {
 // Bytes gives the bytes of all files that the device's own index has.
 func (i *Index) Bytes() int64 { return i.snapshot.LocalSize().Bytes }
 
+// names gives how many names the device's own index has, by its counts.
+func (i *Index) names() int64 {
+	size := i.snapshot.LocalSize()
+	return int64(size.Files) + int64(size.Directories) + int64(size.Symlinks) + int64(size.Deleted)
+}
+
 // Folder gives what a part's head says of the folder. A view that was never filled isn't told.
 func (i *Index) Folder() part.Folder {
 	made := part.Folder{ID: i.Config.ID, Label: i.Config.Label, Kind: kindOf(i.Config.Type), Path: adapt.Filesystem(i.Config.Filesystem, nil).URI(),
 		Directory: i.directory, IndexID: uint64(i.files.IndexID(protocol.LocalDeviceID)), Max: i.Max(),
 		IgnoresPermissions: i.Config.IgnorePerms, ScansAttributes: i.home.attributes[i.Config.ID], Sharing: i.home.Sharing(i.Config), Views: []part.View{},
-		Paused: i.Config.Paused, PausedDevices: i.home.pausedOf(i.Config)}
+		Paused: i.Config.Paused, PausedDevices: i.home.pausedOf(i.Config), Indexed: i.names()}
 	for _, other := range i.Config.Devices {
 		if other.DeviceID == i.home.ID {
 			continue
@@ -128,18 +135,18 @@ func kindOf(kind config.FolderType) string {
 	}
 }
 
-// Own gives the device's own entries whose names begin so, rising by name.
-func (i *Index) Own(prefix string, take func(Entry) bool) error {
-	return i.entries(protocol.LocalDeviceID, prefix, i.Max(), ownEntry, take)
+// Own gives the device's own entries of these names, rising by name.
+func (i *Index) Own(names choice.Names, take func(Entry) bool) error {
+	return i.entries(protocol.LocalDeviceID, names, i.Max(), ownEntry, take)
 }
 
 // View gives the entries that the device knows of another one, rising by name.
-func (i *Index) View(of part.View, prefix string, take func(Entry) bool) error {
+func (i *Index) View(of part.View, names choice.Names, take func(Entry) bool) error {
 	id, err := protocol.DeviceIDFromString(of.Device)
 	if err != nil {
 		return err
 	}
-	return i.entries(id, prefix, of.Max, viewedEntry, take)
+	return i.entries(id, names, of.Max, viewedEntry, take)
 }
 
 // viewedEntry reads another device's entry. Of what that device ignores it tells neither size nor blocks.
@@ -151,11 +158,11 @@ func viewedEntry(entry protocol.FileInfo) Entry {
 }
 
 // entries reads what the index has of one device.
-func (i *Index) entries(of protocol.DeviceID, prefix string, greatest int64, read func(protocol.FileInfo) Entry, take func(Entry) bool) (err error) {
+func (i *Index) entries(of protocol.DeviceID, names choice.Names, greatest int64, read func(protocol.FileInfo) Entry, take func(Entry) bool) (err error) {
 	defer recovered(i.Config.ID, &err)
 	adapt.Have(i.snapshot.WithHave, of, func(entry protocol.FileInfo) bool {
-		if !strings.HasPrefix(entry.Name, prefix) {
-			return entry.Name < prefix
+		if !names.Has(i.Config.ID, entry.Name) {
+			return !names.IsPast(entry.Name)
 		}
 		made := read(entry)
 		if made.Record != nil && (entry.Sequence < 1 || entry.Sequence > greatest) {

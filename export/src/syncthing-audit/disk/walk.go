@@ -6,10 +6,10 @@ import (
 	"path"
 	"path/filepath"
 	"sort"
-	"strings"
 
 	"github.com/syncthing/syncthing/lib/fs"
 	"github.com/syncthing/syncthing/lib/protocol"
+	"syncthing-audit/choice"
 	"syncthing-audit/limits"
 	"syncthing-audit/part"
 )
@@ -25,7 +25,8 @@ type Found struct {
 // Walker reads the nodes of a folder, without the bytes of files.
 type Walker struct {
 	Disk   fs.Filesystem // gives times as Syncthing sees them
-	Prefix string        // only names that begin so are read
+	Folder string        // its id
+	Names  choice.Names  // those that are read
 	Stamps bool          // stand in the nodes, too
 	Take   func(Found) error
 }
@@ -89,18 +90,12 @@ func (w *Walker) visit(name string) (bool, error) {
 	if err != nil {
 		return false, w.Take(Found{Name: name, Out: outOf("it", err)})
 	}
-	if strings.HasPrefix(name, w.Prefix) && !fs.IsTemporary(name) {
+	if w.Names.Has(w.Folder, name) && !fs.IsTemporary(name) {
 		if err := w.Take(w.found(name, info)); err != nil {
 			return false, err
 		}
 	}
-	return info.IsDir() && mayHold(name, w.Prefix), nil
-}
-
-// mayHold says whether names below a directory may begin with the prefix.
-func mayHold(directory, prefix string) bool {
-	below := directory + "/"
-	return strings.HasPrefix(below, prefix) || strings.HasPrefix(prefix, below)
+	return info.IsDir() && w.Names.MayHold(name), nil
 }
 
 // found reads a node, and says why a document has none such.

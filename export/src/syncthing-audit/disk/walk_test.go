@@ -8,22 +8,8 @@ import (
 	"testing"
 
 	"github.com/syncthing/syncthing/lib/fs"
+	"syncthing-audit/choice"
 )
-
-func TestMayHold(t *testing.T) {
-	cases := []struct {
-		directory, prefix string
-		may               bool
-	}{
-		{"a", "", true}, {"a", "a/b", true}, {"a", "a", true}, {"a/b", "a/", true}, {"ab", "a", true},
-		{"a", "ab", false}, {"b", "a/b", false},
-	}
-	for _, one := range cases {
-		if mayHold(one.directory, one.prefix) != one.may {
-			t.Errorf("%q below %q: expected %v", one.prefix, one.directory, one.may)
-		}
-	}
-}
 
 // Names come in the order of their bytes, as they do in an index, though what stands below a directory then isn't next to
 // it.
@@ -44,7 +30,7 @@ func TestOrderOfNames(t *testing.T) {
 	sort.Strings(names)
 	for _, prefix := range []string{"", "a/", "a/b", "b"} {
 		var found, expected []string
-		walker := &Walker{Disk: fs.NewFilesystem(fs.FilesystemTypeBasic, room), Prefix: prefix, Take: func(one Found) error {
+		walker := &Walker{Disk: fs.NewFilesystem(fs.FilesystemTypeBasic, room), Names: choice.Names{Prefix: prefix}, Take: func(one Found) error {
 			found = append(found, one.Name)
 			return nil
 		}}
@@ -60,4 +46,55 @@ func TestOrderOfNames(t *testing.T) {
 			t.Errorf("%q: %q, not %q", prefix, found, expected)
 		}
 	}
+	checkSlices(t, room, names)
 }
+
+// checkSlices says whether the slices of a directory have each of these names once. A name is found, too, where the directories above it
+// are of other slices.
+func checkSlices(t *testing.T, room string, names []string) {
+	const slices = 5
+	var all []string
+	for slice := 1; slice <= slices; slice++ {
+		asked := choice.Names{Slice: slice, Slices: slices}
+		walker := &Walker{Disk: fs.NewFilesystem(fs.FilesystemTypeBasic, room), Folder: "docs", Names: asked, Take: func(one Found) error {
+			if !asked.Has("docs", one.Name) || one.Node == nil {
+				t.Errorf("slice %d has %q: %+v", slice, one.Name, one.Node)
+			}
+			all = append(all, one.Name)
+			return nil
+		}}
+		if err := walker.Walk(); err != nil {
+			t.Fatal(err)
+		}
+	}
+	sort.Strings(all)
+	if !reflect.DeepEqual(all, names) {
+		t.Errorf("all slices: %q, not %q", all, names)
+	}
+}
+
+// A directory that can't be read stands in each slice: which of the names below it are of which isn't known.
+func TestADirectoryThatCannotBeReadIsInEachSlice(t *testing.T) {
+	room := t.TempDir()
+	if err := os.WriteFile(filepath.Join(room, "a"), nil, 0o600); err != nil {
+		t.Fatal(err)
+	}
+	for slice := 1; slice <= 3; slice++ {
+		var found []string
+		walker := &Walker{Disk: unlisted{fs.NewFilesystem(fs.FilesystemTypeBasic, room)}, Folder: "docs", Names: choice.Names{Slice: slice, Slices: 3},
+			Take: func(one Found) error {
+				if one.Out != nil && one.Out.Below {
+					found = append(found, one.Name)
+				}
+				return nil
+			}}
+		if err := walker.walk("sub"); err != nil || !reflect.DeepEqual(found, []string{"sub/"}) {
+			t.Errorf("slice %d: %q, %v", slice, found, err)
+		}
+	}
+}
+
+// unlisted is a disk whose directories can't be listed.
+type unlisted struct{ fs.Filesystem }
+
+func (unlisted) DirNames(string) ([]string, error) { return nil, os.ErrPermission }

@@ -5,6 +5,7 @@ import (
 	"time"
 
 	"golang.org/x/exp/slices"
+	"syncthing-audit/choice"
 	"syncthing-audit/join"
 	"syncthing-audit/spill"
 )
@@ -184,7 +185,7 @@ func (a *Answer) IsApart(folder *Folder) bool {
 // IsPart says whether something of the folder wasn't audited: a name, a device, or all other devices. Of one that its device shares with
 // nobody there is no other one, but where others have theirs of the same id.
 func (a *Answer) IsPart(folder *Folder) bool {
-	if a.IsApart(folder) || len(folder.LeftOut) > 0 || (len(folder.Members) < 2 && folder.Own == "") || folder.Live.isPart() || (folder.Prefix() != "" && !a.ByNames) {
+	if a.IsApart(folder) || len(folder.LeftOut) > 0 || (len(folder.Members) < 2 && folder.Own == "") || folder.Live.isPart() || (!folder.Asked().IsAll() && !a.ByNames) {
 		return true
 	}
 	for _, one := range a.LeftOut {
@@ -195,13 +196,16 @@ func (a *Answer) IsPart(folder *Folder) bool {
 	return false
 }
 
-// Prefix gives how the names begin that were read of the folder; parts of a folder that were made with others aren't joined.
-func (f *Folder) Prefix() string {
+// Asked says which names were read of the folder; parts of a folder that were made with others aren't joined.
+func (f *Folder) Asked() choice.Names {
 	if len(f.Members) == 0 {
-		return ""
+		return choice.Names{}
 	}
-	return f.Members[0].Head.Prefix
+	return f.Members[0].Head.Names
 }
+
+// IsOfSlice says whether names of one slice alone were audited.
+func (a *Answer) IsOfSlice() bool { return len(a.Folders) > 0 && a.Folders[0].Asked().IsOfSlice() }
 
 // IsPartial says whether something wasn't audited.
 func (a *Answer) IsPartial() bool {

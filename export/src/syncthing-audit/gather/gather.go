@@ -7,6 +7,7 @@ import (
 
 	"github.com/syncthing/syncthing/lib/fs"
 	"github.com/syncthing/syncthing/lib/ignore"
+	"syncthing-audit/choice"
 	"syncthing-audit/device"
 	"syncthing-audit/disk"
 	"syncthing-audit/part"
@@ -18,8 +19,8 @@ type Folder interface {
 	Folder() part.Folder
 	Disk() fs.Filesystem
 	Patterns() (*ignore.Matcher, error)
-	Own(prefix string, take func(device.Entry) bool) error
-	View(of part.View, prefix string, take func(device.Entry) bool) error
+	Own(names choice.Names, take func(device.Entry) bool) error
+	View(of part.View, names choice.Names, take func(device.Entry) bool) error
 	Max() int64   // the greatest sequence of the device's own index, now
 	Check() error // whether the index is still the one that is read
 }
@@ -29,8 +30,8 @@ type Device struct {
 	ID, Name string
 	Runs     string   // the version of Syncthing that was started there last
 	Folders  []Folder // rising by id
-	Prefix   string   // only names that begin so
-	Bytes    bool     // the bytes of files, too, in memory alone
+	Names    choice.Names
+	Bytes    bool // the bytes of files, too, in memory alone
 	Pool     *disk.Pool
 	Look     *part.Look // of a device that may run
 	Others   []part.Other
@@ -38,11 +39,9 @@ type Device struct {
 
 // Head gives the head of the device's part.
 func (d *Device) Head() *part.Head {
-	made := &part.Head{Version: part.Version, Device: d.ID, Name: d.Name, Runs: d.Runs, Made: time.Now().UTC().Truncate(time.Second),
-		Prefix: d.Prefix, Folders: []part.Folder{}, Look: d.Look, Others: append([]part.Other{}, d.Others...)}
-	if d.Look != nil {
-		made.Version = part.VersionOfLooks
-	}
+	made := &part.Head{Device: d.ID, Name: d.Name, Runs: d.Runs, Made: time.Now().UTC().Truncate(time.Second),
+		Names: d.Names, Folders: []part.Folder{}, Look: d.Look, Others: append([]part.Other{}, d.Others...)}
+	made.Version = made.DueVersion()
 	for _, one := range d.Folders {
 		made.Folders = append(made.Folders, one.Folder())
 	}

@@ -18,7 +18,7 @@ func (d *Device) isSecondLook() bool { return d.Look != nil && d.Look.IsSecond()
 
 // walker gives what walks a folder's directory.
 func (d *Device) walker(folder Folder) *disk.Walker {
-	return &disk.Walker{Disk: folder.Disk(), Prefix: d.Prefix, Stamps: d.Look != nil}
+	return &disk.Walker{Disk: folder.Disk(), Folder: folder.Folder().ID, Names: d.Names, Stamps: d.Look != nil}
 }
 
 // Glance is what stood on a device's disk at one look, before its files are hashed. It has each name with its mark, in a

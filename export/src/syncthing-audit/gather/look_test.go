@@ -8,6 +8,7 @@ import (
 
 	"github.com/syncthing/syncthing/lib/fs"
 	"github.com/syncthing/syncthing/lib/ignore"
+	"syncthing-audit/choice"
 	"syncthing-audit/device"
 	"syncthing-audit/disk"
 	"syncthing-audit/part"
@@ -22,10 +23,10 @@ func (d directory) Patterns() (*ignore.Matcher, error) {
 	patterns := ignore.New(d.Disk())
 	return patterns, patterns.Parse(strings.NewReader("*.log"), ".stignore")
 }
-func (d directory) Own(string, func(device.Entry) bool) error             { return nil }
-func (d directory) View(part.View, string, func(device.Entry) bool) error { return nil }
-func (d directory) Max() int64                                            { return 0 }
-func (d directory) Check() error                                          { return nil }
+func (d directory) Own(choice.Names, func(device.Entry) bool) error             { return nil }
+func (d directory) View(part.View, choice.Names, func(device.Entry) bool) error { return nil }
+func (d directory) Max() int64                                                  { return 0 }
+func (d directory) Check() error                                                { return nil }
 
 // aDirectory makes a directory with some names.
 func aDirectory(t *testing.T) string {

@@ -34,10 +34,10 @@ var errStopped = errors.New("stopped")
 // newMerge begins to read a folder.
 func newMerge(of *Device, folder Folder, about *part.Folder, patterns *ignore.Matcher, to *queue) *merge {
 	made := &merge{device: of, patterns: patterns, to: to, walker: of.walker(folder)}
-	made.own = pull(func(take func(device.Entry) bool) error { return folder.Own(of.Prefix, take) })
+	made.own = pull(func(take func(device.Entry) bool) error { return folder.Own(of.Names, take) })
 	for _, view := range about.Views {
 		view := view
-		made.views = append(made.views, pull(func(take func(device.Entry) bool) error { return folder.View(view, of.Prefix, take) }))
+		made.views = append(made.views, pull(func(take func(device.Entry) bool) error { return folder.View(view, of.Names, take) }))
 	}
 	made.nodes = pull(func(take func(disk.Found) bool) error {
 		made.walker.Take = func(one disk.Found) error {

@@ -7,7 +7,6 @@ import (
 	"golang.org/x/exp/slices"
 	"syncthing-audit/limits"
 	"syncthing-audit/part"
-	"syncthing-audit/shell"
 )
 
 // Refusal is why something isn't audited. One of a kind can be left out on request; one without a kind can't.
@@ -79,20 +78,12 @@ func checkDevices(devices []*Device) error {
 		if one.Number == other.Number {
 			return fmt.Errorf("refused: %s and %s are of one device number, %d", one.From, other.From, one.Number)
 		}
-		if one.Head.Prefix != other.Head.Prefix {
-			return fmt.Errorf("refused: %s has %s, and %s has %s: make all parts with the same --names",
-				one.From, Names(one.Head.Prefix), other.From, Names(other.Head.Prefix))
+		if one.Head.Names != other.Head.Names {
+			return fmt.Errorf("refused: %s has %s, and %s has %s: make all parts with the same %s",
+				one.From, one.Head.Names.Words(), other.From, other.Head.Names.Words(), one.Head.Unlike(other.Head.Names))
 		}
 	}
 	return nil
-}
-
-// Names says which names were read, by how they begin.
-func Names(prefix string) string {
-	if prefix == "" {
-		return "all names"
-	}
-	return "the names that begin with " + shell.Quoted(prefix)
 }
 
 // chosen gives the ids of the folders to audit, rising.

@@ -6,6 +6,7 @@ import (
 	"testing"
 
 	"github.com/syncthing/syncthing/lib/protocol"
+	"syncthing-audit/choice"
 	"syncthing-audit/part"
 )
 
@@ -203,5 +204,14 @@ func TestPartsThatDoNotGoTogether(t *testing.T) {
 	other[0].Head.Prefix = "a"
 	if _, err := NewPlan(append(one, other...), nil); err == nil {
 		t.Error("the parts have other names")
+	}
+	one[0].Head.Names, other[0].Head.Names = choice.Names{Slice: 3, Slices: 7}, choice.Names{Slice: 4, Slices: 7}
+	_, err = NewPlan(append(one, other...), nil)
+	if err == nil || err.Error() != "refused: 1 has slice 3 of 7 of all names, and 2 has slice 4 of 7 of all names: make all parts with the same --slice" {
+		t.Errorf("the parts are of two slices: %v", err)
+	}
+	other[0].Head.Names = one[0].Head.Names
+	if _, err = NewPlan(append(one, other...), nil); err != nil {
+		t.Errorf("the parts are of one slice: %v", err)
 	}
 }

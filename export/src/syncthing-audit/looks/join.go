@@ -49,8 +49,9 @@ func Join(first, second part.Stream) (*Stream, error) {
 		return nil, fmt.Errorf("its second look has no token of this first look: make the second one anew")
 	case one.Look.Home != other.Look.Home:
 		return nil, fmt.Errorf("the first look is at another home than the second one")
-	case one.Prefix != other.Prefix:
-		return nil, fmt.Errorf("the two looks are at names with other beginnings: make both with the same --names")
+	case one.Names != other.Names:
+		return nil, fmt.Errorf("the first look is at %s, and the second one at %s: make both with the same %s", one.Names.Words(), other.Names.Words(),
+			one.Unlike(other.Names))
 	case len(one.Folders) != len(other.Folders):
 		return nil, fmt.Errorf("the two looks are at other folders: make both with the same --folder")
 	}

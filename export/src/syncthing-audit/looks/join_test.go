@@ -9,6 +9,7 @@ import (
 	"time"
 
 	"github.com/syncthing/syncthing/lib/protocol"
+	"syncthing-audit/choice"
 	"syncthing-audit/part"
 )
 
@@ -228,6 +229,10 @@ func TestLooksThatAreRefused(t *testing.T) {
 		{"the token of another look", func(_, second *part.Head) { second.Look.After[here] = "ff" + id[2:] }},
 		{"another home", func(_, second *part.Head) { second.Look.Home = "copy" }},
 		{"other names", func(_, second *part.Head) { second.Prefix = "a" }},
+		{"another slice", func(first, second *part.Head) {
+			first.Names, second.Names = choice.Names{Slice: 1, Slices: 7}, choice.Names{Slice: 2, Slices: 7}
+		}},
+		{"a slice, and all names", func(first, _ *part.Head) { first.Names = choice.Names{Slice: 1, Slices: 7} }},
 		{"no folder", func(_, second *part.Head) { second.Folders = nil }},
 		{"another folder", func(_, second *part.Head) { second.Folders[0].ID = "pics" }},
 		{"a new index", func(_, second *part.Head) { second.Folders[0].IndexID++ }},
@@ -242,6 +247,22 @@ func TestLooksThatAreRefused(t *testing.T) {
 		if _, err := Join(first, second); err == nil {
 			t.Errorf("%s: they were joined", one.why)
 		}
+	}
+}
+
+// Both looks are at one slice, and what they are joined to is of that. Who looked at two slices is told both.
+func TestLooksAtASlice(t *testing.T) {
+	first, second := firstLook(), secondLook()
+	first.head.Names, second.head.Names = choice.Names{Slice: 1, Slices: 7}, choice.Names{Slice: 1, Slices: 7}
+	made, err := Join(first, second)
+	if err != nil || made.Head().Names != first.head.Names {
+		t.Error(err)
+	}
+	second.head.Names.Slice = 2
+	_, err = Join(first, second)
+	const told = "the first look is at slice 1 of 7 of all names, and the second one at slice 2 of 7 of all names: make both with the same --slice"
+	if err == nil || err.Error() != told {
+		t.Error(err)
 	}
 }
 

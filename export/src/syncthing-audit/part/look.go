@@ -34,14 +34,7 @@ func (l *Look) IsSecond() bool { return l.ID == "" && l.After != nil }
 
 // checkLook says why a look is none.
 func checkLook(head *Head) error {
-	switch {
-	case head.Look == nil && head.Version != Version:
-		return fmt.Errorf("the part has version %d; without a look it is %d", head.Version, Version)
-	case head.Look == nil:
-		return nil
-	case head.Version != VersionOfLooks:
-		return fmt.Errorf("the part has version %d; with a look it is %d", head.Version, VersionOfLooks)
-	case head.Look.Home == "" || head.Look.IsFirst() == head.Look.IsSecond():
+	if head.Look != nil && (head.Look.Home == "" || head.Look.IsFirst() == head.Look.IsSecond()) {
 		return errors.New("the part's look is none")
 	}
 	return nil

@@ -14,11 +14,14 @@ import (
 
 // checkHead says why a part's head is none.
 func checkHead(head *Head) error {
-	if head.Version != Version && head.Version != VersionOfLooks {
-		return fmt.Errorf("the part has version %d; this program reads versions %d and %d", head.Version, Version, VersionOfLooks)
+	if err := checkVersionOf(head); err != nil {
+		return err
 	}
 	if err := checkLook(head); err != nil {
 		return err
+	}
+	if err := head.Names.Check(); err != nil {
+		return fmt.Errorf("the part's names are none: %w", err)
 	}
 	if Number(head.Device) == 0 {
 		return fmt.Errorf("the part's device %q is no device id", head.Device)
@@ -57,8 +60,8 @@ func checkFolder(one *Folder) error {
 	default:
 		return fmt.Errorf("its kind is %q", one.Kind)
 	}
-	if one.IndexID == 0 || one.Max < 0 {
-		return errors.New("its index has no id, or a greatest sequence below 0")
+	if one.IndexID == 0 || one.Max < 0 || one.Indexed < 0 {
+		return errors.New("its index has no id, or a greatest sequence or a count below 0")
 	}
 	seen := map[string]bool{}
 	for _, of := range one.Views {

@@ -7,13 +7,8 @@ import (
 	"time"
 
 	"github.com/syncthing/syncthing/lib/protocol"
+	"syncthing-audit/choice"
 )
-
-// Version is the version of the format.
-const Version = 1
-
-// VersionOfLooks is the version of a part of one of two looks, which says nothing by itself.
-const VersionOfLooks = 2
 
 // Kinds of what a check document can't say, in the words of --leave-out.
 const (
@@ -42,15 +37,15 @@ const KindEncrypted = "encrypted"
 
 // Head says whose part it is and what it holds.
 type Head struct {
-	Version int       `json:"version"`
-	Device  string    `json:"device"`              // its id
-	Name    string    `json:"name"`                // as it is configured at itself
-	Runs    string    `json:"syncthing,omitempty"` // the version of Syncthing that was started there last
-	Made    time.Time `json:"made"`
-	Prefix  string    `json:"prefix,omitempty"` // only names that begin so were read
-	Folders []Folder  `json:"folders"`          // rising by id
-	Look    *Look     `json:"look,omitempty"`   // of a device that may run
-	Others  []Other   `json:"other_folders"`    // rising by id; nothing where an older program made the part, which doesn't say
+	Version      int       `json:"version"`
+	Device       string    `json:"device"`              // its id
+	Name         string    `json:"name"`                // as it is configured at itself
+	Runs         string    `json:"syncthing,omitempty"` // the version of Syncthing that was started there last
+	Made         time.Time `json:"made"`
+	choice.Names           // those that were read
+	Folders      []Folder  `json:"folders"`        // rising by id
+	Look         *Look     `json:"look,omitempty"` // of a device that may run
+	Others       []Other   `json:"other_folders"`  // rising by id; nothing where an older program made the part, which doesn't say
 }
 
 // Other is a folder that the device has by its configuration, and that its part hasn't, since it wasn't asked for.
@@ -75,6 +70,7 @@ type Folder struct {
 	Views              []View    `json:"views"`
 	Paused             bool      `json:"paused,omitempty"`         // the device neither takes nor sends anything of it
 	PausedDevices      []string  `json:"paused_devices,omitempty"` // others with which it shares the folder, and exchanges nothing
+	Indexed            int64     `json:"indexed,omitempty"`        // how many names the device's own index has, whichever were asked for
 }
 
 // Sharing is another device that the folder is shared with, by the device's own configuration.

@@ -96,8 +96,11 @@ func unasked(to io.Writer, answer *finding.Answer) {
 		}
 	}
 	for _, folder := range answer.Folders {
-		if begin := folder.Prefix(); begin != "" {
+		if begin := folder.Asked().Prefix; begin != "" {
 			fmt.Fprintf(to, "not asked for: names of %s that don't begin with %s\n", folder.ID, ask.Printed(begin))
+		}
+		if asked := folder.Asked(); asked.IsOfSlice() {
+			fmt.Fprintf(to, "not asked for: names of %s outside %s\n", folder.ID, asked.SliceWords())
 		}
 	}
 }

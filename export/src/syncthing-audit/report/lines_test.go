@@ -5,6 +5,7 @@ import (
 	"strings"
 	"testing"
 
+	"syncthing-audit/choice"
 	"syncthing-audit/finding"
 	"syncthing-audit/join"
 	"syncthing-audit/part"
@@ -184,20 +185,23 @@ func TestLinesOfOtherFolders(t *testing.T) {
 	}
 }
 
-// Parts that were made with --names have no others. Who answers without it didn't choose these, so that isn't settled.
+// Parts that were made with --names or --slice have no others. Who answers without it didn't choose these, so that isn't settled.
 func TestLinesOfOtherNames(t *testing.T) {
-	folder := folderOf("docs", 2)
-	for _, one := range folder.Members {
-		one.Head.Prefix = "a b"
-	}
-	answer := &finding.Answer{Folders: []*finding.Folder{folder}}
-	for _, verdict := range []string{"settled as far as audited", "settled"} {
-		var written strings.Builder
-		Lines(&written, answer)
-		if written.String() != verdict+"\nfolder docs: 2 names, 0 deleted, 2 devices\nfirm: docs\nnot asked for: names of docs that don't begin with a\\x20b\n" {
-			t.Errorf("%s", written.String())
+	const begun, sliced = "not asked for: names of docs that don't begin with a\\x20b\n", "not asked for: names of docs outside slice 3 of 7\n"
+	for told, asked := range map[string]choice.Names{begun: {Prefix: "a b"}, sliced: {Slice: 3, Slices: 7}, begun + sliced: {Prefix: "a b", Slice: 3, Slices: 7}} {
+		folder := folderOf("docs", 2)
+		for _, one := range folder.Members {
+			one.Head.Names = asked
 		}
-		answer.ByNames = true
+		answer := &finding.Answer{Folders: []*finding.Folder{folder}}
+		for _, verdict := range []string{"settled as far as audited", "settled"} {
+			var written strings.Builder
+			Lines(&written, answer)
+			if written.String() != verdict+"\nfolder docs: 2 names, 0 deleted, 2 devices\nfirm: docs\n"+told {
+				t.Errorf("%s", written.String())
+			}
+			answer.ByNames = true
+		}
 	}
 }
 

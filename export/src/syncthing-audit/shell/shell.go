@@ -51,6 +51,15 @@ func Word(text string) string {
 	return Quoted(text)
 }
 
+// Words gives a command.
+func Words(words []string) string {
+	made := []string{}
+	for _, one := range words {
+		made = append(made, Word(one))
+	}
+	return strings.Join(made, " ")
+}
+
 // isPlain says whether a text needs no quotes. One that begins with a dash or a tilde does.
 func isPlain(name string) bool {
 	for place, one := range name {

@@ -6,6 +6,7 @@ import (
 	"testing"
 	"time"
 
+	"syncthing-audit/choice"
 	"syncthing-audit/finding"
 	"syncthing-audit/part"
 )
@@ -17,14 +18,16 @@ func missing(folder *finding.Folder, name string, member int) {
 	fails(folder, name, row, fmt.Sprint("StoreDiffers ", member+1))
 }
 
+// fresh has a file that no scan has seen on a device's disk.
+func fresh(folder *finding.Folder, member int) {
+	has := file(1, 1)
+	has.Own = nil
+	unwon(folder, "new", member, finding.Unscanned, has)
+}
+
 // Who is told to start Syncthing for one name is told what comes first, where a scan of that device would delete another one on all.
 func TestWhatComesFirst(t *testing.T) {
 	const told = "\nfirst, on server: do what the entries above say to do before Syncthing starts or scans there. As it starts, it scans all folders\n"
-	fresh := func(folder *finding.Folder, member int) {
-		has := file(1, 1)
-		has.Own = nil
-		unwon(folder, "new", member, finding.Unscanned, has)
-	}
 	for why, one := range map[string]struct {
 		fill func(*finding.Folder)
 		told bool
@@ -49,6 +52,35 @@ func TestWhatComesFirst(t *testing.T) {
 		Of(answerOf(2, one.fill)).Print(&written, time.UTC, time.Time{})
 		if strings.Contains(written.String(), told) != one.told || strings.Contains(written.String(), "first, on") != one.told {
 			t.Errorf("%s:\n%s", why, written.String())
+		}
+	}
+}
+
+// Who asked for some names alone doesn't know what is missing of the others, which a start would have deleted.
+func TestWhatIsNotKnownBeforeAStart(t *testing.T) {
+	const told = "before a start, on server: names that weren't asked for may be missing there. "
+	for _, one := range []struct {
+		asked     choice.Names
+		isToStart bool
+		live      *finding.Live
+		told      bool
+	}{
+		{choice.Names{}, true, nil, false}, {choice.Names{Prefix: "a"}, true, nil, true}, {choice.Names{Slice: 3, Slices: 7}, true, nil, true},
+		{choice.Names{Slice: 3, Slices: 7}, false, nil, false}, {choice.Names{Slice: 3, Slices: 7}, true, &finding.Live{}, false},
+	} {
+		answer := answerOf(2, func(folder *finding.Folder) {
+			for _, member := range folder.Members {
+				member.Head.Names = one.asked
+			}
+			folder.Live = one.live
+			if one.isToStart {
+				fresh(folder, 1)
+			}
+		})
+		var written strings.Builder
+		Of(answer).Print(&written, time.UTC, time.Time{})
+		if strings.Contains(written.String(), told) != one.told {
+			t.Errorf("%+v:\n%s", one.asked, written.String())
 		}
 	}
 }

@@ -7,6 +7,7 @@ import (
 	"strings"
 	"testing"
 
+	"syncthing-audit/choice"
 	"syncthing-audit/finding"
 	"syncthing-audit/part"
 )
@@ -30,7 +31,8 @@ func full(folder *finding.Folder) {
 	folder.Permissions.Add(finding.Permissions{Name: "rotten", At: []finding.Bits{{Has: true, Index: 0o644, OnDisk: true, Disk: 0o600}, {}}})
 	folder.Conflicts = []finding.Conflict{{Name: "a.sync-conflict-20261126-170000.txt", Bytes: 1}}
 	folder.LeftOut = []*finding.LeftOut{{Name: "odd\xff", Names: 1, Why: []finding.Reason{{Member: -1, Kind: part.Large, Why: "large"}, {Member: 0, Kind: part.OddName}}}}
-	folder.Members[0].Head.Prefix = "a"
+	folder.Members[0].Head.Names = choice.Names{Prefix: "a", Slice: 3, Slices: 7}
+	folder.Members[0].About.Indexed = 1001
 }
 
 // What is written is what the schema says, and what the schema says is looked at: a document of other words is none.

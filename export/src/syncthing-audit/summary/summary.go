@@ -5,6 +5,7 @@ package summary
 import (
 	"time"
 
+	"syncthing-audit/choice"
 	"syncthing-audit/finding"
 	"syncthing-audit/join"
 	"syncthing-audit/shell"
@@ -43,7 +44,22 @@ type Device struct {
 	From string    `json:"from"`
 	Runs string    `json:"syncthing,omitempty"` // the version that was started there last
 
-	Prefix Text `json:"names_that_begin,omitempty"` // only these were read
+	Prefix Text   `json:"names_that_begin,omitempty"` // only these were read
+	Slice  *Slice `json:"slice,omitempty"`            // only these were read
+	asked  choice.Names
+}
+
+// Slice says of which slice names are, and of how many.
+type Slice struct {
+	Number int `json:"number"`
+	Of     int `json:"of"`
+}
+
+func sliceOf(names choice.Names) *Slice {
+	if !names.IsOfSlice() {
+		return nil
+	}
+	return &Slice{names.Slice, names.Slices}
 }
 
 // Folder is what was found in a folder.
@@ -78,6 +94,7 @@ type Member struct {
 	Kind   string `json:"kind"`
 	Path   string `json:"path"`
 
+	Indexed       int64    `json:"names_in_index,omitempty"` // whichever were asked for
 	Paused        bool     `json:"paused,omitempty"`
 	PausedDevices []string `json:"paused_devices,omitempty"` // others, by their ids
 }
@@ -85,7 +102,7 @@ type Member struct {
 func memberOf(one join.Member) Member {
 	made := Member{Device: one.Head.Device, Kind: kindOf(one)}
 	if one.About != nil {
-		made.Path, made.Paused, made.PausedDevices = one.About.Path, one.About.Paused, one.About.PausedDevices
+		made.Path, made.Indexed, made.Paused, made.PausedDevices = one.About.Path, one.About.Indexed, one.About.Paused, one.About.PausedDevices
 	}
 	return made
 }
@@ -134,9 +151,10 @@ var notCompared = []string{"owners", "extended attributes", "old versions"}
 func Of(answer *finding.Answer) *Summary {
 	made := &Summary{Version: Version, Verdict: verdictOf(answer), Firm: answer.HowFirm(), Devices: []Device{}, Folders: []*Folder{}, LeftOut: []LeftOut{},
 		NotAsked: notAsked(answer), NotTold: notTold(answer), NotCompared: notCompared, isByName: answer.IsByName, byNames: answer.ByNames}
-	prefixes := prefixesOf(answer)
+	asked := askedOf(answer)
 	for _, one := range answer.Devices {
-		made.Devices = append(made.Devices, Device{one.ID, one.Name, one.Made, one.From, one.Runs, prefixes[one.ID]})
+		names := asked[one.ID]
+		made.Devices = append(made.Devices, Device{one.ID, one.Name, one.Made, one.From, one.Runs, Text(names.Prefix), sliceOf(names), names})
 	}
 	named := made.labels()
 	for _, one := range answer.Folders {
@@ -226,12 +244,12 @@ func namesOf(folder *finding.Folder, one *finding.LeftOut) Names {
 	return made
 }
 
-// prefixesOf gives, for each device of which not all names were read, how those begin that were.
-func prefixesOf(answer *finding.Answer) map[string]Text {
-	made := map[string]Text{}
+// askedOf gives, for each device, which names were read of it.
+func askedOf(answer *finding.Answer) map[string]choice.Names {
+	made := map[string]choice.Names{}
 	for _, folder := range answer.Folders {
 		for _, one := range folder.Members {
-			made[one.Head.Device] = Text(one.Head.Prefix)
+			made[one.Head.Device] = one.Head.Names
 		}
 	}
 	return made

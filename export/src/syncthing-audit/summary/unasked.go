@@ -3,6 +3,7 @@ package summary
 import (
 	"strings"
 
+	"syncthing-audit/choice"
 	"syncthing-audit/finding"
 	"syncthing-audit/shell"
 )
@@ -37,21 +38,39 @@ func notTold(answer *finding.Answer) []string {
 	return made
 }
 
-// otherNames prints that only names which begin so were audited: all parts have the same.
+// otherNames prints which names weren't audited, where some weren't asked for: all parts have the same.
 func (p *printer) otherNames(s *Summary) {
 	for _, one := range s.Devices {
-		begin := shell.Quoted(string(one.Prefix))
 		switch {
-		case one.Prefix == "":
+		case one.asked.IsAll():
 			continue
 		case s.byNames:
-			p.line("not asked for: names that don't begin with %s", begin)
+			p.line("not asked for: %s%s", one.asked.Others(), s.ofAll(one.asked))
 		default:
-			p.line("not audited: names that don't begin with %s; no part has them", begin)
-			p.advice([]string{"make the parts without --names; or say by --names " + begin + " that only these are to be audited"})
+			p.line("not audited: %s; no part has them%s", one.asked.Others(), s.ofAll(one.asked))
+			p.advice([]string{"make the parts without " + one.asked.Unlike(choice.Names{}) + "; or say by " + one.asked.Command() +
+				" that only these are to be audited"})
 		}
 		return
 	}
+}
+
+// ofAll says, where a slice was asked for, how many names there are in all.
+func (s *Summary) ofAll(asked choice.Names) string {
+	total := int64(0)
+	for _, folder := range s.Folders {
+		most := int64(0)
+		for _, one := range folder.Devices {
+			if one.Indexed > most {
+				most = one.Indexed
+			}
+		}
+		total += most
+	}
+	if !asked.IsOfSlice() || total == 0 {
+		return ""
+	}
+	return " (in all: " + counted(total, "name", "names") + ", by each folder's fullest index)"
 }
 
 // notAsked prints which folders of the devices weren't audited, or that this isn't known.

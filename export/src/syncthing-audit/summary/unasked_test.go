@@ -5,6 +5,7 @@ import (
 	"testing"
 	"time"
 
+	"syncthing-audit/choice"
 	"syncthing-audit/finding"
 )
 
@@ -49,20 +50,32 @@ func TestFoldersThatWereNotAudited(t *testing.T) {
 	}
 }
 
-// Of parts that were made with --names it is told which names they have. Who answers without it didn't choose these.
+// Of parts that were made with --names or --slice it is told which names they have, and of a slice how many there are in all, as far as
+// the parts tell it. Who answers without the flags didn't choose these.
 func TestNamesThatWereNotAudited(t *testing.T) {
+	begun, sliced, both := choice.Names{Prefix: "a b"}, choice.Names{Slice: 3, Slices: 7}, choice.Names{Prefix: "a b", Slice: 3, Slices: 7}
 	for _, one := range []struct {
+		asked         choice.Names
+		indexed       int64
 		byNames       bool
 		verdict, told string
 	}{
-		{false, AsFar, "not audited: names that don't begin with 'a b'; no part has them\n" +
+		{begun, 1001, false, AsFar, "not audited: names that don't begin with 'a b'; no part has them\n" +
 			"  to do: make the parts without --names; or say by --names 'a b' that only these are to be audited.\n"},
-		{true, InStep, "not asked for: names that don't begin with 'a b'\n"},
+		{begun, 1001, true, InStep, "not asked for: names that don't begin with 'a b'\n"},
+		{sliced, 1001, false, AsFar, "not audited: names outside slice 3 of 7; no part has them (in all: 1,001 names, by each folder's fullest index)\n" +
+			"  to do: make the parts without --slice; or say by --slice 3/7 that only these are to be audited.\n"},
+		{sliced, 1, true, InStep, "not asked for: names outside slice 3 of 7 (in all: 1 name, by each folder's fullest index)\n"},
+		{sliced, 0, true, InStep, "not asked for: names outside slice 3 of 7\n"},
+		{both, 0, false, AsFar, "not audited: names that don't begin with 'a b', and names outside slice 3 of 7; no part has them\n" +
+			"  to do: make the parts without --names and --slice; or say by --names 'a b' --slice 3/7 that only\n" +
+			"         these are to be audited.\n"},
 	} {
 		answer := answerOf(2, func(folder *finding.Folder) {
 			for _, member := range folder.Members {
-				member.Head.Prefix = "a b"
+				member.Head.Names = one.asked
 			}
+			folder.Members[1].About.Indexed = one.indexed
 		})
 		answer.ByNames = one.byNames
 		var written strings.Builder
