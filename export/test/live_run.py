@@ -189,7 +189,7 @@ cd "{room}/$machine/user" && HOME=$PWD PATH={programs}:$PATH exec sh -c "$*"
     def test_a_machine_that_does_not_answer(self):
         ran = self.run_at(["one:", "off:"])
         self.assertEqual((ran.returncode, ran.stdout), (2, ""))
-        self.assertIn("off: its command ended with exit status 255: ssh: connect to host off", ran.stderr)
+        self.assertEqual(ran.stderr.count("off: its command ended with exit status 255: ssh: connect to host off"), 1, ran.stderr)
         self.assert_no_look()
 
     def test_a_machine_without_the_program(self):
