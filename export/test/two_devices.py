@@ -197,7 +197,7 @@ class TwoDevices(Answers, Exporting):
         finally:
             path.write_text(before)
         self.assertEqual(status, 0)
-        self.assertIn(f"\npaused: folder {FOLDER} on {self.two.id[:7]}: nothing of it is taken or sent there until it is resumed\n", text)
+        self.assertIn(f"\npaused: folder {FOLDER} on {self.two.id[:7]}: nothing of it is scanned, taken or sent there until it is resumed\n", text)
         self.assertIn(f"\npaused: device {self.one.id[:7]} on {self.two.id[:7]}: nothing is exchanged with it there until it is resumed\n", text)
         self.assertEqual([(one["paused"], one["paused_devices"]) for one in member], [(True, [self.one.id])])
         self.assertNotIn("paused: ", self.answer()[1])

@@ -180,9 +180,9 @@ a  (in docs, 300.0 kB)
 a  (in docs, 300.0 kB)
   server: in conflict: has one change of it, and lacks another
   as recorded on: laptop
-  to do: start Syncthing on all of these devices: it keeps one version, and the other one as a
-         conflict copy. Where the folder's 'Max Conflicts' is 0 it keeps no copy: save first what is
-         to stay.
+  to do: start Syncthing on all of these devices: it keeps the one that was modified later, and the
+         other one as a conflict copy. Where the folder's 'Max Conflicts' is 0 it keeps no copy:
+         save first what is to stay.
 ` + lastLine},
 	{"a device that is behind, and what others still see of it", 3, func(folder *finding.Folder) {
 		old := with(file(1, 2), func(one *part.Name) { one.Own.ModifiedS = started - 60; one.Disk.ModifiedS = started - 60 })
@@ -342,7 +342,7 @@ not compared: owners, extended attributes, old versions
 		folder.Members[1].About.PausedDevices, folder.Members[2].About.PausedDevices = []string{laptop, phone}, []string{laptop}
 	}, `docs (Documents): in step and firm; 1,204 names (4 deleted), 335.2 MB hashed on laptop, phone, server
 
-paused: folder docs (Documents) on laptop, phone: nothing of it is taken or sent there until it is resumed
+paused: folder docs (Documents) on laptop, phone: nothing of it is scanned, taken or sent there until it is resumed
 paused: device laptop on phone, server: nothing is exchanged with it there until it is resumed
 paused: device phone on server: nothing is exchanged with it there until it is resumed
 not compared: owners, extended attributes, old versions
