@@ -52,7 +52,7 @@ func Join(first, second part.Stream) (*Stream, error) {
 	case one.Prefix != other.Prefix:
 		return nil, fmt.Errorf("the two looks are at names with other beginnings: make both with the same --names")
 	case len(one.Folders) != len(other.Folders):
-		return nil, fmt.Errorf("the two looks are at other folders: make both with the same --folder")
+		return nil, fmt.Errorf("the two looks are at other folders: make both with the same --folder, and mount or take away no folder's disk meanwhile")
 	}
 	made := &Stream{first: &reading{Stream: first}, second: &reading{Stream: second}, folder: -1}
 	head := *one
@@ -74,7 +74,7 @@ func Join(first, second part.Stream) (*Stream, error) {
 func joinFolder(one, other *part.Folder) (*part.Folder, error) {
 	switch {
 	case one.ID != other.ID:
-		return nil, fmt.Errorf("the two looks are at other folders: make both with the same --folder")
+		return nil, fmt.Errorf("the two looks are at other folders: make both with the same --folder, and mount or take away no folder's disk meanwhile")
 	case one.IndexID != other.IndexID:
 		return nil, fmt.Errorf("folder %s: its index was made anew between the two looks: begin again", shell.Folder(one.ID, one.Label))
 	case one.Max > other.Max:
