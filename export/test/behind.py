@@ -19,7 +19,7 @@ class Behind(Exporting):
     """The second device was off while the first one changed files; what stands on its disk was changed, too."""
 
     kind = "sendreceive"
-    texts = ("lost", "own", "touched", "back", "written", "dropped", "kept")
+    texts = ("lost", "own", "touched", "back", "written", "dropped", "kept", "copied")
 
     @classmethod
     def synchronise(cls):
@@ -52,8 +52,9 @@ class Behind(Exporting):
     @classmethod
     def change_one(cls):
         """What the first device records while the second one is off."""
-        for name in ("lost", "own", "touched", "back", "written", "folder/lost"):
+        for name in ("lost", "own", "touched", "back", "written", "folder/lost", "copied", "seeded"):
             cls.put(cls.one, name, NEW, -500)
+        (cls.one.files / "directory").mkdir()
         (cls.one.files / "empty").chmod(0o700)
         (cls.one.files / "dropped").unlink()
         cls.record(cls.one)
@@ -72,6 +73,9 @@ class Behind(Exporting):
             os.utime(cls.two.files / name, (cls.now, cls.now))
         cls.put(cls.two, "back", "back", -600)
         cls.put(cls.two, "written", "written", -10)
+        cls.put(cls.two, "copied", NEW, -400)
+        cls.put(cls.two, "seeded", NEW, -600)
+        (cls.two.files / "directory").mkdir()
 
     @classmethod
     def record(cls, device):
@@ -92,6 +96,11 @@ class Behind(Exporting):
             self.assertIn(text, self.told[name])
         for text in ("all devices delete", "goes to all"):
             self.assertNotIn(text, self.told[name])
+
+    def assert_told_of_the_same(self):
+        """What someone copied by hand is no conflict."""
+        for name in ("copied", "seeded", "directory"):
+            self.assert_told(name, "what stands there is what the others have, so nothing is copied, and no conflict copy is made")
 
     def run_both(self, are_through):
         """Has both devices run until something holds of them, and they have scanned again."""
@@ -123,6 +132,7 @@ class BehindAndSends(Behind):
         self.assert_told("own", brings, f"What {two} recorded last of it no other device has")
         for name in ("touched", "back", "written"):
             self.assert_told(name, "Syncthing keeps the one that was modified later, and the other one as a conflict copy")
+        self.assert_told_of_the_same()
         self.assertIn("the change goes before the deletion, and then to all", self.told["dropped"])
         self.assertIn("and then all devices delete it", self.told["kept"])
         self.run_both(lambda: all((device.files / "touched").is_file() and (device.files / "touched").read_text() == OLD for device in self.devices))
@@ -130,7 +140,7 @@ class BehindAndSends(Behind):
         self.stop()
         for device in self.devices:
             self.assert_texts(device, lost=[NEW], folder_lost=[NEW], own=[NEW], touched=[OLD, NEW], back=[NEW, "back"],
-                              written=["written", NEW], dropped=[OLD], kept=[])
+                              written=["written", NEW], dropped=[OLD], kept=[], copied=[NEW], seeded=[NEW])
             self.assertTrue((device.files / "empty").is_dir())
         self.assertEqual(self.verdict(), "settled")
 
@@ -146,12 +156,13 @@ class BehindAndReceives(Behind):
             self.assertNotIn("Revert", self.told[name])
         for name in ("touched", "back", "written"):
             self.assert_told(name, "Syncthing then takes what the others have, and keeps what stands there as a conflict copy, a local addition")
+        self.assert_told_of_the_same()
         self.run_both(lambda: self.texts_of(self.two).get(("written", False)) == NEW)
         wait_until("all is taken", lambda: self.two.api("GET", "db/status?folder=docs")["needTotalItems"] == 0)
         self.stop()
         self.assert_texts(self.one, lost=[NEW], folder_lost=[NEW], own=[NEW], touched=[NEW], back=[NEW], written=[NEW], dropped=[], kept=[OLD])
         self.assert_texts(self.two, lost=[NEW], folder_lost=[NEW], own=[NEW], touched=[NEW, OLD], back=[NEW, "back"],
-                          written=[NEW, "written"], dropped=[OLD], kept=[])
+                          written=[NEW, "written"], dropped=[OLD], kept=[], copied=[NEW], seeded=[NEW])
 
 
 class BehindAndOnlySends(Behind):
@@ -165,8 +176,10 @@ class BehindAndOnlySends(Behind):
             self.assert_told(name, "the other devices keep it. 'Override Changes' there would then delete it on all devices")
         for name in ("touched", "back", "written"):
             self.assert_told(name, "Syncthing keeps the one that was modified later, and the other one as a conflict copy")
+        self.assert_told_of_the_same()
         self.run_both(lambda: self.texts_of(self.one).get(("written", False)) == "written")
-        self.assert_texts(self.one, lost=[NEW], folder_lost=[NEW], own=[NEW], touched=[OLD, NEW], back=[NEW], written=["written", NEW], dropped=[OLD], kept=[])
+        self.assert_texts(self.one, lost=[NEW], folder_lost=[NEW], own=[NEW], touched=[OLD, NEW], back=[NEW], written=["written", NEW],
+                          dropped=[OLD], kept=[], copied=[NEW], seeded=[NEW])
         self.two.api("POST", "db/override?folder=docs")
         wait_until("what is missing there is gone", lambda: not any((self.one.files / name).exists() for name in ("lost", "folder/lost", "own")))
         self.stop()

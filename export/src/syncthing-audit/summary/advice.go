@@ -188,6 +188,8 @@ func otherBytesAdvice(one *Fault, file *File, at string, named labels) string {
 		mend = "before Syncthing scans there (the scan takes these bytes for a local change), "
 	case one.isSeen:
 		mend = "before Syncthing scans there (the scan " + file.spread("sends these bytes to all", "records these bytes") + "), "
+	case one.Kind == sendOnly && file.lacks(one.Device):
+		mend = "before 'Override Changes' there (it " + file.spread("sends these bytes to all", "records these bytes") + "), "
 	case one.isAsked:
 		mend = "before Syncthing starts there (once a device asks it for " + file.say("the file, it hashes it anew and sends these bytes to all",
 			"one of the files, it hashes that anew and sends its bytes to all") + "), "
@@ -281,7 +283,7 @@ func behindAdvice(one *Fault, file *File, at string, named labels) string {
 		return "start Syncthing on all of these devices: it " + file.conflicting()
 	}
 	told := "let Syncthing run on " + at + " and on " + holders(file, named) + ", and let them finish. If it stays so, see whether a device " +
-		"or the folder is paused, whether they are connected, and whether a disk is full"
+		"or the folder is paused, whether they are connected, whether a disk is full, and whether Syncthing's page lists 'Failed Items'"
 	if one.Deletion {
 		told += "; or 'Ignore Delete' is set for the folder on " + at
 	}

@@ -45,6 +45,7 @@ type Fault struct {
 	contents []part.Content
 	ends     ends
 	late     late // what others have and the device's own version lacks
+	isDue    bool // what stands on the disk is what is due, whatever the device recorded
 	isAlone  bool // of Missing: the device recorded a change that no other one has
 	isAsked  bool // another device will ask for the file there
 	isSeen   bool // by the next scan, since the mode isn't as recorded

@@ -260,7 +260,7 @@ func (r *reader) add(member int, cause Cause) {
 		if cause == OtherBytes || cause == Changed {
 			made.Blocks, made.contents = blocksOf(at), at.Disk.Contents
 		}
-		made.late, made.isAlone = r.lateAt(member), cause == Missing && r.isAlone(member)
+		made.late, made.isAlone, made.isDue = r.lateAt(member), cause == Missing && r.isAlone(member), isSame(at.Disk, r.winner)
 	}
 	made.Deletion = cause == Behind && made.Due != nil && made.Due.Deleted ||
 		(cause == LocalChange || cause == Conflicting) && made.Recorded != nil && made.Recorded.Deleted

@@ -1,6 +1,9 @@
 package summary
 
-import "syncthing-audit/part"
+import (
+	"golang.org/x/exp/slices"
+	"syncthing-audit/part"
+)
 
 // late is what other devices have of a name that a device's own version lacks. Whatever a scan finds at that device is then in conflict with it.
 type late int
@@ -43,6 +46,14 @@ func (r *reader) isAlone(member int) bool {
 	return true
 }
 
+// isSame says whether what stands on a disk is what a record says, whatever the times.
+func isSame(disk *part.Node, due *part.Record) bool {
+	if disk == nil || due == nil || due.Deleted || disk.Type != due.Type || disk.Target != due.Target {
+		return false
+	}
+	return due.Content == nil || slices.Contains(disk.Contents, *due.Content)
+}
+
 // conflicting says what Syncthing does with two changes of which neither is on top of the other.
 func (f *File) conflicting() string {
 	return "keeps the one " + f.say("that was modified later, and the other one as a conflict copy", "of each that was modified later, and the others as conflict copies") + noCopies
@@ -58,6 +69,8 @@ func lateAdvice(one *Fault, file *File, at string) string {
 	switch {
 	case one.late == notLate || one.late == lateDeletion && (one.Kind == receiveOnly || one.Cause == Back):
 		return ""
+	case one.late == lateChange && one.isDue:
+		return told + "what stands there is what the others have, so nothing is copied, and no conflict copy is made"
 	case one.late == lateDeletion:
 		return told + file.say("the change goes before the deletion, and then to all. If it isn't wanted, first delete the file there",
 			"the changes go before the deletions, and then to all. If they aren't wanted, first delete the files there") + " while Syncthing is stopped"

@@ -24,6 +24,14 @@ var (
 	written = func(one *part.Name) { rotten(one); touched(one) }
 )
 
+// copied gives what a device has whose disk has another one's file, in place of what it recorded.
+func copied(one, other *part.Name) *part.Name {
+	one.Disk = other.Disk
+	one.Disk.ModifiedS = later
+	one.Disk.Differ = &part.Differ{Count: 1, Ranges: [][2]int64{{0, 0}}}
+	return one
+}
+
 // deletedAfter gives what a device has of a file that it deleted on top of the first version.
 func deletedAfter() *part.Name {
 	made := with(file(2, 1), again)
@@ -65,8 +73,13 @@ var behindAndMore = []struct {
 		"takes what the others have, and keeps what stands there as a conflict copy, a local addition", "Revert"},
 	{"changed twice", "", []*part.Name{changedAt(1, 1), with(changedAt(2, 1), written)}, "RecordDiffers 1,StoreDiffers 2",
 		"is then in conflict with what the others have", "goes to all"},
+	{"the same, copied there by hand", "", []*part.Name{file(2, 2), copied(file(1, 1), file(2, 2))}, "RecordDiffers 2,StoreUnclean 2",
+		"what stands there is what the others have, so nothing is copied, and no conflict copy is made", "in conflict"},
+	{"the same, in no index", "", []*part.Name{file(2, 2), {Disk: file(2, 2).Disk}}, "RecordMissing 2,StoreUnclean 2",
+		"what stands there is what the others have, so nothing is copied, and no conflict copy is made", "in conflict"},
+	{"another one, in no index", "", []*part.Name{file(2, 2), {Disk: file(2, 3).Disk}}, "RecordMissing 2,StoreDiffers 2", "is then in conflict with what the others have", "so nothing"},
 	{"other bytes on a device that only sends", sendOnly, []*part.Name{file(2, 2), with(file(1, 1), rotten)}, "RecordDiffers 2,StoreDiffers 2",
-		"Syncthing won't repair it", "conflict"},
+		"before 'Override Changes' there (it sends these bytes to all), copy it", "conflict"},
 }
 
 // Where others have what a device's version lacks, nobody is told that what a scan finds there just goes to all. The disk comes first.

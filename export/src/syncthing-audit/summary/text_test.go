@@ -160,8 +160,9 @@ a  (in docs, 300.0 kB)
   server: behind: hasn't deleted it yet (since 2020-09-13 12:27:40 UTC)
   as recorded on: laptop
   to do: let Syncthing run on server and on laptop, and let them finish. If it stays so, see whether
-         a device or the folder is paused, whether they are connected, and whether a disk is full;
-         or 'Ignore Delete' is set for the folder on server.
+         a device or the folder is paused, whether they are connected, whether a disk is full, and
+         whether Syncthing's page lists 'Failed Items'; or 'Ignore Delete' is set for the folder on
+         server.
 ` + lastLine},
 	{"a missing file", 2, func(folder *finding.Folder) {
 		fails(folder, "a", []*part.Name{file(1, 1), with(file(1, 1), func(one *part.Name) { one.Disk = nil })}, "StoreDiffers 2")
@@ -194,8 +195,8 @@ a  (in docs, 300.0 kB)
   as recorded on: laptop, phone
   so phone can still take another version of it, until that is mended
   to do: let Syncthing run on server and on one of laptop, phone, and let them finish. If it stays
-         so, see whether a device or the folder is paused, whether they are connected, and whether a
-         disk is full.
+         so, see whether a device or the folder is paused, whether they are connected, whether a
+         disk is full, and whether Syncthing's page lists 'Failed Items'.
 ` + lastLine},
 	{"a device that is behind as a whole", 2, func(folder *finding.Folder) {
 		for next := 0; next < 7; next++ {
@@ -212,7 +213,8 @@ a  (in docs, 300.0 kB)
   the first: 'photo 0' 'photo 1' 'photo 2', and 4 more (--lines has all)
   as recorded on: laptop
   to do: let Syncthing run on server and on laptop, and let them finish. If it stays so, see whether
-         a device or the folder is paused, whether they are connected, and whether a disk is full.
+         a device or the folder is paused, whether they are connected, whether a disk is full, and
+         whether Syncthing's page lists 'Failed Items'.
 ` + lastLine},
 	{"a file that was added on a receive-only device", 2, func(folder *finding.Folder) {
 		folder.Members[1].About.Kind = "receive-only"
