@@ -110,7 +110,7 @@ cd "{room}/$machine/user" && HOME=$PWD PATH={programs}:$PATH exec sh -c "$*"
             ran = self.run_on("--lines")
             self.assertEqual((ran.returncode, self.moving(ran.stdout.splitlines())), (6, {"late"}), ran.stderr)
             ran = self.run_on("--rescan", "--lines")
-            self.assertIn(ran.returncode, (1, 6), ran.stderr)
+            self.assertIn(ran.returncode, (0, 1, 6), ran.stderr)
             wait_until_in_step(*self.devices)
             ran = self.run_on("--lines")
             self.assertEqual((ran.returncode, ran.stdout.splitlines()[1]), (0, f"folder {FOLDER}: 7 names, 1 deleted, 3 devices"), ran.stderr)
