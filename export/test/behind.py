@@ -19,7 +19,7 @@ class Behind(Exporting):
     """The second device was off while the first one changed files; what stands on its disk was changed, too."""
 
     kind = "sendreceive"
-    texts = ("lost", "own", "touched", "back", "written", "dropped", "kept", "copied")
+    texts = ("lost", "own", "touched", "back", "written", "dropped", "kept", "copied", "rotten")
 
     @classmethod
     def synchronise(cls):
@@ -52,7 +52,7 @@ class Behind(Exporting):
     @classmethod
     def change_one(cls):
         """What the first device records while the second one is off."""
-        for name in ("lost", "own", "touched", "back", "written", "folder/lost", "copied", "seeded"):
+        for name in ("lost", "own", "touched", "back", "written", "folder/lost", "copied", "seeded", "rotten"):
             cls.put(cls.one, name, NEW, -500)
         (cls.one.files / "directory").mkdir()
         (cls.one.files / "empty").chmod(0o700)
@@ -73,6 +73,7 @@ class Behind(Exporting):
             os.utime(cls.two.files / name, (cls.now, cls.now))
         cls.put(cls.two, "back", "back", -600)
         cls.put(cls.two, "written", "written", -10)
+        cls.put(cls.two, "rotten", OLD.upper(), -1000)
         cls.put(cls.two, "copied", NEW, -400)
         cls.put(cls.two, "seeded", NEW, -600)
         (cls.two.files / "directory").mkdir()
@@ -133,6 +134,7 @@ class BehindAndSends(Behind):
         for name in ("touched", "back", "written"):
             self.assert_told(name, "Syncthing keeps the one that was modified later, and the other one as a conflict copy")
         self.assert_told_of_the_same()
+        self.assert_told("rotten", f"once {two} takes what is newest, these bytes are gone, without a conflict copy: copy elsewhere first")
         self.assertIn("the change goes before the deletion, and then to all", self.told["dropped"])
         self.assertIn("and then all devices delete it", self.told["kept"])
         self.run_both(lambda: all((device.files / "touched").is_file() and (device.files / "touched").read_text() == OLD for device in self.devices))
@@ -140,7 +142,7 @@ class BehindAndSends(Behind):
         self.stop()
         for device in self.devices:
             self.assert_texts(device, lost=[NEW], folder_lost=[NEW], own=[NEW], touched=[OLD, NEW], back=[NEW, "back"],
-                              written=["written", NEW], dropped=[OLD], kept=[], copied=[NEW], seeded=[NEW])
+                              written=["written", NEW], dropped=[OLD], kept=[], copied=[NEW], seeded=[NEW], rotten=[NEW])
             self.assertTrue((device.files / "empty").is_dir())
         self.assertEqual(self.verdict(), "settled")
 

@@ -35,7 +35,7 @@ func adviceOf(file *File, named labels) []string {
 	for _, isTaking := range []bool{false, true} {
 		for next := range file.Faults {
 			one := &file.Faults[next]
-			if (one.Cause == Behind || one.Cause == Conflicting) == isTaking && !isReplaced(one, file) {
+			if (one.Cause == Behind || one.Cause == Conflicting) == isTaking {
 				made = addOnce(made, adviceOfFault(one, file, named))
 			}
 		}
@@ -50,6 +50,7 @@ func adviceOf(file *File, named labels) []string {
 }
 
 // isReplaced says whether a device's other bytes go away by themselves, once it takes what it is behind with: where no scan sees them before.
+// Syncthing keeps no copy of them then.
 func isReplaced(one *Fault, file *File) bool {
 	if one.Cause != OtherBytes || one.Kind == sendOnly || one.isSeen || one.mayShow() {
 		return false
@@ -181,6 +182,9 @@ func otherTimeAdvice(one *Fault, file *File, at string) string {
 func otherBytesAdvice(one *Fault, file *File, at string, named labels) string {
 	if late := lateAdvice(one, file, at); late != "" && (one.isSeen || one.mayShow()) {
 		return late
+	}
+	if isReplaced(one, file) {
+		return "once " + at + " takes what is newest, these bytes are gone, without a conflict copy: copy elsewhere first what is to stay"
 	}
 	mend := file.say("Syncthing won't repair it: ", "Syncthing won't repair them: ")
 	switch {

@@ -102,7 +102,7 @@ func TestDisksOfDevicesThatAreBehind(t *testing.T) {
 
 // Other bytes that a scan sees are in conflict with what the others have; those that none sees are replaced.
 func TestOtherBytesOfADeviceThatIsBehind(t *testing.T) {
-	for isSeen, has := range map[bool]string{true: "is then in conflict with what the others have", false: "let Syncthing run on server and on laptop"} {
+	for isSeen, has := range map[bool]string{true: "is then in conflict with what the others have", false: "once server takes what is newest, these bytes are gone, without a conflict copy"} {
 		faults := faultsOf("send-receive", OtherBytes, Behind)
 		faults[0].late, faults[0].isSeen = lateChange, isSeen
 		told := adviceOf(&File{Faults: faults, Have: []string{laptop}}, labels{server: "server", laptop: "laptop"})
