@@ -111,7 +111,8 @@ class Manners(unittest.TestCase):
             into.rmdir()
 
     def test_a_signal_while_documents_are_exported_leaves_none(self):
-        endless, into = self.room / "device1" / "files" / "zz endless", self.temporary / "into"
+        """Nor does it leave the directories that were made for them."""
+        endless, into = self.room / "device1" / "files" / "zz endless", self.temporary / "above" / "into"
         with endless.open("wb") as file:
             file.truncate(ENDLESS_BYTES)
         self.addCleanup(endless.unlink)
@@ -119,7 +120,7 @@ class Manners(unittest.TestCase):
         wait_until("a document is written", (into / "cut-0001.json").exists)
         process.send_signal(signal.SIGINT)
         self.assertEqual(process.wait(SECONDS_TO_WAIT), 128 + signal.SIGINT)
-        self.assertEqual((list(into.iterdir()), list(self.temporary.glob("syncthing-audit-*"))), ([], []))
+        self.assertEqual(list(self.temporary.iterdir()), [])
 
     def test_a_refused_export_leaves_no_document(self):
         """What is refused may stand behind names that have their document. Then the export may be made into the same directory."""

@@ -7,7 +7,7 @@
 import os
 
 from exporting import Exporting, main
-from syncthing import FOLDER, wait_until
+from syncthing import FOLDER, wait_until, wait_until_in_step
 
 
 class ReceiveOnly(Exporting):
@@ -119,6 +119,64 @@ class OwnReceiveOnly(Exporting):
         wait_until("the changed file is gone", lambda: not (self.two.files / "text").exists())
         self.two.stop()
         self.assertFalse((self.two.files / "empty").exists())
+
+
+class OwnReceiveOnlyWithAFile(Exporting):
+    """A file that no scan has seen, in a folder that a device only receives and shares with nobody."""
+
+    def test_only_another_kind_brings_it_into_step(self):
+        """After a scan it is an addition, as the answer says; once the folder sends, too, it is as any other file."""
+        self.two.configure([self.two], kind="receiveonly")
+        (self.two.files / "new").write_text("new")
+        told = f"make the folder 'Send & Receive' on {self.two.id[:7]} and 'Rescan': it is then recorded. While the folder only receives, a scan takes it"
+        self.assertIn(told, self.told())
+        self.scan()
+        self.assertIn("added on this receive-only device", self.told())
+        self.two.configure([self.two])
+        self.scan()
+        ran = self.check_homes([self.two.home])
+        self.assertEqual((ran.returncode, ran.stdout.splitlines()[0]), (0, "settled"), ran.stderr)
+
+    def told(self):
+        """What a person reads, in one line."""
+        ran = self.on_homes("check", [self.two.home], "--syncaudit", self.auditor)
+        self.assertEqual(ran.returncode, 1, ran.stderr)
+        return " ".join(ran.stdout.split())
+
+    def scan(self):
+        """Has the device scan by itself."""
+        self.two.start()
+        self.two.scan()
+        self.two.stop()
+
+
+class ReceiveOnlyThatIsToSend(Exporting):
+    """Local changes of a device that only receives, whose folder is made to send, too."""
+
+    kinds = {"two": "receiveonly"}
+
+    def test_the_later_one_stays(self):
+        """That a change and what the others have are in conflict then is what the answer says. A deletion goes to all."""
+        for name, seconds in (("text", -1000), ("empty", 1000)):
+            path = self.two.files / name
+            path.write_text("local")
+            os.utime(path, (path.stat().st_mtime + seconds,) * 2)
+        (self.two.files / "link").unlink()
+        self.start()
+        self.two.scan()
+        wait_until("the other device knows of the changes", lambda: self.one.knows_all_of(self.two))
+        self.stop()
+        told = " ".join(self.on_homes("check", [device.home for device in self.devices], "--syncaudit", self.auditor).stdout.split())
+        self.assertEqual(told.count("it is then in conflict with what the others have. Syncthing keeps the one that was modified later"), 2)
+        self.two.configure(self.devices)
+        self.start()
+        self.two.scan()
+        wait_until("the copies are on both", lambda: all(len(list(device.files.glob("*.sync-conflict-*"))) == 2 for device in self.devices))
+        wait_until_in_step(self.one, self.two)
+        self.stop()
+        for device in self.devices:
+            self.assertEqual([(device.files / name).read_text() for name in ("text", "empty")], ["hello", "local"])
+            self.assertFalse((device.files / "link").is_symlink())
 
 
 class SendOnly(Exporting):

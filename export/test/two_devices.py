@@ -102,6 +102,17 @@ class TwoDevices(Answers, Exporting):
         self.assertEqual(ran.returncode, 3)
         self.assertIn(f"no Syncthing home is at {user}/.config/syncthing or {user}/.local/state/syncthing: --home names it", ran.stderr)
 
+    def test_a_part_in_a_folder_of_another_home_is_refused(self):
+        """The marker shows it, whichever way the part goes there."""
+        path = self.two.files / "folder" / "one.part"
+        for words in (("-o", path), ("--begin", "-o", path), ()):
+            with (self.room / "output" if words else path).open("wb") as file:
+                ran = subprocess.run([self.program, "part", "--home", self.one.home, *words], stdout=file, stderr=subprocess.PIPE, text=True)
+            left = [one.name for one in path.parent.iterdir()]
+            path.unlink(missing_ok=True)
+            self.assertEqual((ran.returncode, sorted(left)), (2, ["large"] if words else ["large", "one.part"]), ran.stderr)
+            self.assertIn(f"one.part would be in the Syncthing folder {self.two.files} (.stfolder is there), whose devices would all get it", ran.stderr)
+
     def test_a_part_that_a_shell_writes_into_a_folder_is_refused(self):
         """It would be found there. That is so by another path of the folder, too, and not of a file beside the folder."""
         beside, link = self.one.home.parent / "beside.part", self.one.home.parent / "link"
@@ -186,7 +197,7 @@ class TwoDevices(Answers, Exporting):
         finally:
             path.write_text(before)
         self.assertEqual(status, 0)
-        self.assertIn(f"\npaused: folder {FOLDER} on {self.two.id[:7]}: nothing of it is taken or sent there until it is resumed\n", text)
+        self.assertIn(f"\npaused: folder {FOLDER} on {self.two.id[:7]}: nothing of it is scanned, taken or sent there until it is resumed\n", text)
         self.assertIn(f"\npaused: device {self.one.id[:7]} on {self.two.id[:7]}: nothing is exchanged with it there until it is resumed\n", text)
         self.assertEqual([(one["paused"], one["paused_devices"]) for one in member], [(True, [self.one.id])])
         self.assertNotIn("paused: ", self.answer()[1])

@@ -149,6 +149,90 @@ class OtherFolders(Exporting):
             self.assertEqual((ran.returncode, [line for line in ran.stdout.splitlines() if line.startswith("not asked")]), (0, told), ran.stderr)
 
 
+class AwayFolders(Exporting):
+    """Two devices in step, that share a second folder, too. On the second device it is paused, and its disk is away."""
+
+    @classmethod
+    def configure(cls):
+        super().configure()
+        for device in cls.devices:
+            add_folder(device, OTHER, LABEL)
+            (device.home.parent / OTHER / "song").mkdir()
+
+    @classmethod
+    def setUpClass(cls):
+        super().setUpClass()
+        cls.files = cls.two.home.parent / OTHER
+        cls.files.rename(cls.files.with_name("away"))
+        cls.pause(cls.two, True)
+
+    @classmethod
+    def pause(cls, device, is_paused):
+        """Has the second folder paused on a device, or not."""
+        path = device.home / "config.xml"
+        tree = xml.parse(path)
+        folder = next(one for one in tree.getroot().findall("folder") if one.get("id") == OTHER)
+        folder.find("paused").text = str(is_paused).lower()
+        tree.write(path)
+
+    def assert_left_out_there(self, ran):
+        """The other folder is audited, and what isn't there is told."""
+        self.assertEqual(ran.returncode, 6, ran.stderr)
+        told = f"left out: {OTHER} ({LABEL}) of {self.two.id}: it is paused there, and there is no {self.files}: mount its disk, and audit again\n"
+        self.assertEqual(ran.stdout.count(told), 1, ran.stdout)
+        self.assertRegex(ran.stdout, rf"(?m)^{FOLDER}: {in_step()}[;,] ")
+        self.assertNotIn("not audited:", ran.stdout)
+
+    def test_it_is_left_out_and_told(self):
+        """So it is by a part of each device, and by two looks at each."""
+        parts = [self.part(device) for device in self.devices]
+        ran = run([self.program, "part", "--home", self.two.home, "-o", parts[1]])
+        self.assertEqual((ran.returncode, ran.stderr.count(f"the part is without folder {OTHER} ({LABEL}): it is paused there")), (0, 1), ran.stderr)
+        homes = [device.home for device in self.devices]
+        for words in (("check", *parts), ("check", "--home", homes[0], "--home", homes[1]), ("run", *homes, "--still", "0")):
+            self.assert_left_out_there(run([self.program, *words, "--syncaudit", self.auditor]))
+        ran = run([self.program, "check", *parts, "--json", "--syncaudit", self.auditor])
+        read = json.loads(ran.stdout)
+        self.assertEqual((read["verdict"], read["not_asked"], [(one["folder"], one["kind"]) for one in read["left_out"]]),
+                         ("in-step-as-far-as-audited", [], [(OTHER, "absent")]))
+
+    def test_it_is_asked_for(self):
+        """Who names it is told that it isn't there. Who names others isn't."""
+        ran = run([self.program, "part", "--home", self.two.home, "--folder", OTHER, "-o", self.room / "none.part"])
+        self.assertEqual((ran.returncode, (self.room / "none.part").exists()), (2, False))
+        self.assertIn(f"there is no {self.files}: is its disk mounted?", ran.stderr)
+        parts = [self.part(device) for device in self.devices]
+        for folder, status, verdict, count in ((OTHER, 6, "settled as far as audited", 1), (FOLDER, 0, "settled", 0)):
+            ran = self.check_parts(parts, "--folder", folder)
+            self.assertEqual((ran.returncode, ran.stdout.splitlines()[0], ran.stdout.count("it is paused there, and there is no")), (status, verdict, count))
+
+    def test_it_is_not_paused(self):
+        """Syncthing stops such a folder with an error, so it is refused."""
+        self.pause(self.two, False)
+        try:
+            ran = run([self.program, "run", self.one.home, self.two.home, "--still", "0", "--syncaudit", self.auditor])
+        finally:
+            self.pause(self.two, True)
+        self.assertEqual((ran.returncode, ran.stdout), (2, ""))
+        self.assertIn(f"there is no {self.files}: is its disk mounted?", ran.stderr)
+
+    def test_both_have_it_away(self):
+        """No device has anything of the folder then. That is told of each."""
+        files = self.one.home.parent / OTHER
+        files.rename(files.with_name("away"))
+        self.pause(self.one, True)
+        try:
+            ran = self.on_homes("check", [device.home for device in self.devices], "--syncaudit", self.auditor)
+            asked = self.check_parts([self.part(device) for device in self.devices], "--folder", OTHER)
+        finally:
+            files.with_name("away").rename(files)
+            self.pause(self.one, False)
+        self.assertEqual((asked.returncode, asked.stdout), (2, ""))
+        self.assertRegex(asked.stderr, f"no part has folder {OTHER} .*: it is paused there, and there is no")
+        self.assert_left_out_there(ran)
+        self.assertEqual(ran.stdout.count(f"left out: {OTHER} ({LABEL}) of "), 2)
+
+
 class OwnFolders(Exporting):
     """Two devices in step, each of which has a folder `default` that it shares with nobody, as a new Syncthing has. These are two folders,
     of which nothing can be out of step with another device."""

@@ -7,7 +7,6 @@ import (
 	"sort"
 
 	"github.com/syncthing/syncthing/lib/config"
-	"golang.org/x/exp/slices"
 	"syncthing-audit/device"
 	"syncthing-audit/join"
 	"syncthing-audit/part"
@@ -52,11 +51,11 @@ func aboutOf(home *device.Home, wanted []string) *part.Head {
 	return made
 }
 
-// othersOf gives the folders of a device that aren't asked for, rising.
+// othersOf gives the folders of a device that aren't asked for or are away, rising.
 func othersOf(home *device.Home, wanted []string) []part.Other {
 	made := []part.Other{}
 	for _, one := range home.Config.Folders {
-		if len(wanted) > 0 && !slices.Contains(wanted, one.ID) {
+		if !isChosen(one, wanted) {
 			made = append(made, otherOf(home, one))
 		}
 	}
@@ -66,7 +65,7 @@ func othersOf(home *device.Home, wanted []string) []part.Other {
 
 // otherOf gives what a part says of a folder that it hasn't.
 func otherOf(home *device.Home, one config.FolderConfiguration) part.Other {
-	made := part.Other{ID: one.ID, Label: one.Label, Devices: []string{}}
+	made := part.Other{ID: one.ID, Label: one.Label, Devices: []string{}, Away: device.Away(one)}
 	for _, other := range home.Sharing(one) {
 		made.Devices = append(made.Devices, other.Device)
 	}

@@ -78,7 +78,7 @@ func (p *place) choose(said *join.Device) {
 // checkChosen refuses a device that has none of the wanted folders.
 func (r *running) checkChosen() error {
 	for _, one := range r.places {
-		if len(one.folders) == 0 {
+		if len(r.asked.folders) > 0 && len(one.folders) == 0 {
 			return fmt.Errorf("refused: %s has none of the folders that are asked for: run this without it", one.called())
 		}
 	}

@@ -137,10 +137,15 @@ func (i *inputs) labels(homes []*device.Home) map[string]string {
 func (i *inputs) checkInParts(labels map[string]string, wanted []string) error {
 	for _, read := range i.devices {
 		for _, one := range read.Head.Others {
-			if _, there := labels[one.ID]; !there && slices.Contains(wanted, one.ID) {
-				return fmt.Errorf("refused: no part has folder %s, which %s has: make the parts without --folder, or with it for this one, too",
-					shell.Folder(one.ID, one.Label), read.Label())
+			_, there := labels[one.ID]
+			if there || !slices.Contains(wanted, one.ID) {
+				continue
 			}
+			if one.Away != "" {
+				return fmt.Errorf("refused: no part has folder %s; of %s: %s", shell.Folder(one.ID, one.Label), read.Label(), join.WhyAway(one))
+			}
+			return fmt.Errorf("refused: no part has folder %s, which %s has: make the parts without --folder, or with it for this one, too",
+				shell.Folder(one.ID, one.Label), read.Label())
 		}
 	}
 	return nil

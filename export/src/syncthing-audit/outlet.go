@@ -25,7 +25,6 @@ type outlet struct {
 	kept      []byte
 	written   []exportedDocument
 	files     []string
-	isMade    bool // whether the directory wasn't there before
 }
 
 // checkNew says whether something else than a directory is there, or an earlier export stands in the directory, or answers to one: 'sum' would
@@ -63,10 +62,7 @@ func (o *outlet) take(one *document.Document) error {
 		o.kept = one.Written
 		return nil
 	}
-	if _, err := os.Stat(o.directory); os.IsNotExist(err) {
-		o.isMade = true
-	}
-	if err := os.MkdirAll(o.directory, 0o777); err != nil {
+	if err := leftover.At(o.directory); err != nil {
 		return faultOf(err)
 	}
 	name := fmt.Sprintf("cut-%04d.json", o.count)
@@ -94,14 +90,13 @@ func (o *outlet) end(answer *finding.Answer, log io.Writer) error {
 	return nil
 }
 
-// drop takes away what was written, and the directory if it was made for that and nothing else is there: without the rest the documents have no sum.
+// drop takes away what was written, and the directories that were made for that if nothing else is there: without the rest the documents have
+// no sum.
 func (o *outlet) drop() {
 	for _, path := range o.files {
 		leftover.Remove(path)
 	}
-	if o.isMade {
-		os.Remove(o.directory)
-	}
+	leftover.RemoveMade()
 }
 
 // writeNew writes a file that isn't there yet, and that is gone in the end unless all are written.

@@ -14,22 +14,26 @@ import (
 	"syncthing-audit/shell"
 )
 
-// checkOutside says whether a part would be written into a folder of the device: it would be found there, and sent to others. The
-// directories above it are compared with the folder's by what they are, and not by their paths, of which there may be several.
+// checkOutside says whether a part would be written into a folder of Syncthing: it would be found there, and sent to others. It is one of these
+// folders of the device, or another one.
 func checkOutside(path string, folders []config.FolderConfiguration) error {
 	real, err := realOf(path)
 	if err != nil {
 		return err
 	}
-	for _, above := range upwards(filepath.Dir(real)) {
-		for _, one := range folders {
-			if isFolder(above, one) {
-				return fmt.Errorf("refused: %s would be in folder %s, whose devices would all get it: name a file elsewhere", shell.Quoted(path),
-					shell.Folder(one.ID, one.Label))
-			}
+	return checkAbove(path, filepath.Dir(real), "whose devices would all get it: name a file elsewhere", func(above string) string {
+		return folderOf(above, folders)
+	})
+}
+
+// folderOf gives the folder whose directory this is, of these; nothing where it is none of them.
+func folderOf(directory string, folders []config.FolderConfiguration) string {
+	for _, one := range folders {
+		if isFolder(directory, one) {
+			return shell.Folder(one.ID, one.Label)
 		}
 	}
-	return nil
+	return ""
 }
 
 // isFolder says whether this directory is that of a folder.
@@ -41,26 +45,34 @@ func isFolder(directory string, one config.FolderConfiguration) bool {
 const marker = ".stfolder"
 
 // checkUnsynced says whether documents would be written into a folder of Syncthing: all its devices would get them. It is a folder of
-// these devices, by what its directory is, whether it is asked for or not, or another one, by its marker.
+// these devices, whether it is asked for or not, or another one.
 func checkUnsynced(directory string, opened *inputs) error {
 	real, err := realOf(directory)
 	if err != nil {
 		return faultOf(err)
 	}
-	const why = "whose devices would all get the documents: name a directory elsewhere"
-	for _, above := range upwards(real) {
+	return checkAbove(directory, real, "whose devices would all get the documents: name a directory elsewhere", func(above string) string {
 		if one, folder := folderAt(above, opened.devices); folder != nil {
-			return fmt.Errorf("refused: %s would be in folder %s of %s, %s", shell.Quoted(directory), shell.Folder(folder.ID, folder.Label), one.Called(), why)
+			return shell.Folder(folder.ID, folder.Label) + " of " + one.Called()
 		}
 		for _, home := range opened.homes {
-			for _, one := range home.Config.Folders {
-				if isFolder(above, one) {
-					return fmt.Errorf("refused: %s would be in folder %s of %s, %s", shell.Quoted(directory), shell.Folder(one.ID, one.Label), home.Dir, why)
-				}
+			if folder := folderOf(above, home.Config.Folders); folder != "" {
+				return folder + " of " + home.Dir
 			}
 		}
+		return ""
+	})
+}
+
+// checkAbove says whether what would be at a path would be in a folder of Syncthing: this directory or one above it is a folder's. Those that
+// are known are told by what their directories are, and not by their paths, of which there may be several; others by their markers.
+func checkAbove(path, directory, why string, known func(directory string) string) error {
+	for _, above := range upwards(directory) {
+		if folder := known(above); folder != "" {
+			return fmt.Errorf("refused: %s would be in folder %s, %s", shell.Quoted(path), folder, why)
+		}
 		if _, err := os.Lstat(filepath.Join(above, marker)); err == nil {
-			return fmt.Errorf("refused: %s would be in the Syncthing folder %s (%s is there), %s", shell.Quoted(directory), shell.Quoted(above), marker, why)
+			return fmt.Errorf("refused: %s would be in the Syncthing folder %s (%s is there), %s", shell.Quoted(path), shell.Quoted(above), marker, why)
 		}
 	}
 	return nil

@@ -12,6 +12,7 @@ import (
 	"syncthing-audit/gather"
 	"syncthing-audit/join"
 	"syncthing-audit/part"
+	"syncthing-audit/shell"
 )
 
 // runPart writes a device's part.
@@ -78,6 +79,11 @@ func onePart(asked options, write writing, log io.Writer) error {
 		return err
 	}
 	defer from.close()
+	for _, one := range from.read.Others {
+		if len(asked.folders) == 0 {
+			fmt.Fprintf(log, "syncthing-audit: the part is without folder %s: %s\n", shell.Folder(one.ID, one.Label), join.WhyAway(one))
+		}
+	}
 	defer from.startProgress(log, asked)()
 	return write(func(to io.Writer) error { return writeLines(to, log, from.read, asTheyAre) })
 }

@@ -38,13 +38,21 @@ func checkScannable(about config.Configuration, asked options) error {
 	return nil
 }
 
-// chosenOf gives the folders that are asked for, or all.
+// chosenOf gives the folders that are asked for, or all but those that are away.
 func chosenOf(about config.Configuration, wanted []string) []config.FolderConfiguration {
 	made := []config.FolderConfiguration{}
 	for _, one := range about.Folders {
-		if len(wanted) == 0 || slices.Contains(wanted, one.ID) {
+		if isChosen(one, wanted) {
 			made = append(made, one)
 		}
 	}
 	return made
+}
+
+// isChosen says whether a folder is asked for. Where none is named, those are passed over that are paused and whose directories aren't there.
+func isChosen(one config.FolderConfiguration, wanted []string) bool {
+	if len(wanted) == 0 {
+		return device.Away(one) == ""
+	}
+	return slices.Contains(wanted, one.ID)
 }

@@ -129,7 +129,8 @@ func (r *running) look() error {
 	return r.all("second look", r.end)
 }
 
-// all does something at all places at once, tells which ones are awaited, and gives the first error by their order.
+// all does something at all places at once, tells which ones are awaited, and gives the error that isn't told yet; one that says that it was
+// told where it was.
 func (r *running) all(what string, do func(at int) error) error {
 	errs := make([]error, len(r.places))
 	ended := make(chan int)
@@ -139,17 +140,12 @@ func (r *running) all(what string, do func(at int) error) error {
 			ended <- at
 		}(at)
 	}
-	r.await(what, ended, errs)
-	for _, err := range errs {
-		if err != nil {
-			return err
-		}
-	}
-	return nil
+	return r.await(what, ended, errs)
 }
 
-// await waits until all places have ended. A place that failed is told at once: there will be no answer.
-func (r *running) await(what string, ended <-chan int, errs []error) {
+// await waits until all places have ended. A place that failed is told at once: there will be no answer. The last one is the error.
+func (r *running) await(what string, ended <-chan int, errs []error) error {
+	var failed error
 	began, next := time.Now(), r.patience
 	isOver := make([]bool, len(r.places))
 	told := time.NewTimer(next)
@@ -159,8 +155,11 @@ func (r *running) await(what string, ended <-chan int, errs []error) {
 		case at := <-ended:
 			isOver[at] = true
 			left--
-			if errs[at] != nil && left > 0 {
+			if errs[at] != nil && left == 0 {
+				failed = errs[at]
+			} else if errs[at] != nil {
 				r.tellFailed(what, errs[at])
+				failed = errTold
 			}
 		case <-told.C:
 			next *= 2
@@ -168,13 +167,14 @@ func (r *running) await(what string, ended <-chan int, errs []error) {
 			r.tellAwaited(what, time.Since(began), isOver)
 		}
 	}
+	return failed
 }
 
 // tellFailed tells that there will be no answer, while other places are awaited.
 func (r *running) tellFailed(what string, err error) {
 	r.mutex.Lock()
 	defer r.mutex.Unlock()
-	fmt.Fprintf(r.log, "syncthing-audit: %s: %v. There will be no answer; the other looks are awaited, Ctrl-C ends them\n", what, err)
+	fmt.Fprintf(r.log, "syncthing-audit: %s: %v. There will be no answer; the other devices are awaited, Ctrl-C ends that\n", what, err)
 }
 
 // tellAwaited tells which places haven't ended.

@@ -62,26 +62,32 @@ func TestWhoIsAwaited(t *testing.T) {
 	}
 }
 
-// A place that fails is told while the others are awaited, which may take hours; the last one is told by the error alone.
+// A place that fails is told while the others are awaited, which may take hours; the last one is told by the error alone. Each is told once.
 func TestWhoFails(t *testing.T) {
-	for last, expected := range map[int]string{
-		0: "",
-		1: "syncthing-audit: first look: off. There will be no answer; the other looks are awaited, Ctrl-C ends them\n",
+	const off = "syncthing-audit: first look: off. There will be no answer; the other devices are awaited, Ctrl-C ends that\n"
+	for _, one := range []struct {
+		last           int // of the two places
+		errs           []error
+		log, told, why string
+	}{
+		{0, []error{errors.New("off"), nil}, "", "off", "the last one fails"},
+		{1, []error{errors.New("off"), nil}, off, errTold.Error(), "the first one fails"},
+		{1, []error{errors.New("off"), errors.New("lost")}, off, "lost", "both fail"},
 	} {
 		var log strings.Builder
 		isOver := make(chan bool)
 		run := &running{places: []*place{{given: "off:"}, {given: "on:"}}, log: &log, patience: time.Hour}
 		err := run.all("first look", func(at int) error {
-			if at != last {
+			if at != one.last {
 				defer close(isOver)
 			} else {
 				<-isOver
 				time.Sleep(50 * time.Millisecond) // until the other one is heard of
 			}
-			return []error{errors.New("off"), nil}[at]
+			return one.errs[at]
 		})
-		if err == nil || log.String() != expected {
-			t.Errorf("%v, %q", err, log.String())
+		if err == nil || err.Error() != one.told || log.String() != one.log {
+			t.Errorf("%s: %v, %q", one.why, err, log.String())
 		}
 	}
 }

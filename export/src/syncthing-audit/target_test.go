@@ -96,13 +96,14 @@ func TestWhatCameMeanwhileStays(t *testing.T) {
 	}
 }
 
-// A part isn't written into a folder of the device, by whatever way that is named.
+// A part isn't written into a folder of the device, by whatever way that is named, nor into another one with Syncthing's marker.
 func TestAPartStaysOutsideTheFolders(t *testing.T) {
 	dir := t.TempDir()
 	at := func(name string) string { return filepath.Join(dir, name) }
-	for _, one := range []string{"docs", "docs/below", "docs-parts"} {
+	for _, one := range []string{"docs", "docs/below", "docs-parts", "other", "other/.stfolder", "other/below"} {
 		os.Mkdir(at(one), 0o755)
 	}
+	os.Symlink("other/below", at("away"))
 	os.Symlink("docs", at("link"))
 	os.WriteFile(at("docs/old"), nil, 0o644)
 	os.Symlink("docs/old", at("pointing"))
@@ -111,6 +112,12 @@ func TestAPartStaysOutsideTheFolders(t *testing.T) {
 		"docs-parts/new": false, "new": false} {
 		err := checkOutside(at(name), folders)
 		if (err != nil) != isIn || isIn && !strings.Contains(err.Error(), "would be in folder docs") {
+			t.Errorf("%s: %v", name, err)
+		}
+	}
+	for _, name := range []string{"other/new", "other/below/new", "away/new"} {
+		err := checkOutside(at(name), folders)
+		if err == nil || !strings.Contains(err.Error(), "/other (.stfolder is there), whose devices would all get it: name a file elsewhere") {
 			t.Errorf("%s: %v", name, err)
 		}
 	}

@@ -14,7 +14,7 @@ func unaskedOf(plan *join.Plan, device *join.Device) []finding.Unasked {
 	}
 	var made []finding.Unasked
 	for _, one := range device.Head.Others {
-		if !told[one.ID] && len(one.Devices) > 0 {
+		if !told[one.ID] && len(one.Devices) > 0 && !plan.IsLeftOut(one.ID, device.Head.Device) {
 			made = append(made, finding.Unasked{ID: one.ID, Label: one.Label})
 		}
 	}

@@ -53,20 +53,41 @@ func CheckPath(folder config.FolderConfiguration) error {
 	return nil
 }
 
-// pathFault says what is to be seen to where a folder's directory isn't as Syncthing wants it.
-func pathFault(folder config.FolderConfiguration, err error) error {
+// Away says of a paused folder that its directory isn't there, since its disk was taken away, say; nothing where it is, or where the folder
+// isn't paused: Syncthing stops it then, and tells so.
+func Away(folder config.FolderConfiguration) string {
+	if !folder.Paused {
+		return ""
+	}
+	return lacking(folder, folder.CheckPath())
+}
+
+// lacking says what isn't there of a folder's directory by what Syncthing says of it; nothing where that says something else.
+func lacking(folder config.FolderConfiguration, err error) string {
 	path := adapt.Filesystem(folder.Filesystem, nil).URI()
 	if strings.HasPrefix(folder.Path, "~") {
 		path += " (" + folder.Path + " in config.xml, and ~ is that of the user who runs this)"
 	}
 	switch {
 	case errors.Is(err, config.ErrMarkerMissing):
-		return fmt.Errorf("folder %s: %s has no %s, by which Syncthing knows the folder: is its disk mounted? Without it Syncthing stops "+
-			"the folder, too. --folder chooses other folders", folder.ID, path, folder.MarkerName)
+		return fmt.Sprintf("%s has no %s, by which Syncthing knows the folder", path, folder.MarkerName)
 	case errors.Is(err, config.ErrPathMissing):
-		return fmt.Errorf("folder %s: there is no %s: is its disk mounted? --folder chooses other folders", folder.ID, path)
+		return "there is no " + path
 	}
-	return fmt.Errorf("folder %s: %s: %w", folder.ID, path, err)
+	return ""
+}
+
+// pathFault says what is to be seen to where a folder's directory isn't as Syncthing wants it.
+func pathFault(folder config.FolderConfiguration, err error) error {
+	what := lacking(folder, err)
+	if what == "" {
+		return fmt.Errorf("folder %s: %s: %w", folder.ID, adapt.Filesystem(folder.Filesystem, nil).URI(), err)
+	}
+	what += ": is its disk mounted? "
+	if errors.Is(err, config.ErrMarkerMissing) {
+		what += "Without it Syncthing stops the folder, too. "
+	}
+	return fmt.Errorf("folder %s: %s--folder chooses other folders", folder.ID, what)
 }
 
 // recovered makes an error of what Syncthing's packages panic with, such as a list of blocks that the index lacks.

@@ -24,15 +24,15 @@ const ByChance = "default"
 // with those.
 func (p *Plan) checkOwn(folder *Folder) {
 	for _, one := range p.Devices {
-		if folder.Own != "" && one.Head.Folder(folder.ID) == nil && one.mayShare(folder.ID) && !p.leavesOut(folder.ID, one.Head.Device) {
+		if folder.Own != "" && one.Head.Folder(folder.ID) == nil && one.mayShare(folder.ID) && !p.IsLeftOut(folder.ID, one.Head.Device) {
 			p.LeftOut = append(p.LeftOut, Refusal{part.Unshared, folder.ID, folder.Label, one.Head.Device, one.Head.Name,
 				one.whyWithout(folder.ID) + "; " + folder.Members[0].Label() + " shares it with nobody"})
 		}
 	}
 }
 
-// leavesOut says whether a device is left out of a folder already.
-func (p *Plan) leavesOut(folder, device string) bool {
+// IsLeftOut says whether a device is left out of a folder without being asked for.
+func (p *Plan) IsLeftOut(folder, device string) bool {
 	for _, one := range p.LeftOut {
 		if one.Folder == folder && one.Device == device {
 			return true

@@ -43,6 +43,7 @@ func NewPlan(devices []*Device, wanted []string) (*Plan, error) {
 		return nil, err
 	}
 	made := &Plan{Devices: devices, IsByName: len(wanted) > 0}
+	made.leaveOutAway(wanted)
 	for _, id := range ids {
 		for _, folder := range made.foldersOf(id) {
 			made.checkOwn(folder)
@@ -173,6 +174,7 @@ func (p *Plan) checkSharing(folder *Folder) bool {
 		for _, other := range one.About.Sharing {
 			at := folder.Member(other.Device)
 			switch {
+			case at < 0 && p.IsLeftOut(folder.ID, other.Device):
 			case at >= 0 && !sharesWith(folder.Members[at].About, one.Head.Device):
 				isShared = false
 				p.refuse(part.Unshared, folder, other.Device, other.Name, "it doesn't share the folder with "+one.Label()+", which shares it with this one")

@@ -6,6 +6,7 @@ import (
 	"os"
 	"os/exec"
 	"os/signal"
+	"path/filepath"
 	"sync"
 	"syscall"
 
@@ -15,6 +16,7 @@ import (
 var (
 	mutex     sync.Mutex
 	paths     = map[string]bool{}
+	made      []string // directories at paths that were asked for, each behind the one above it
 	processes = map[*os.Process]bool{}
 )
 
@@ -54,13 +56,55 @@ func New(path string) (*os.File, error) {
 	return file, err
 }
 
-// Keep has these files stay.
+// At makes a directory at a path, with those above it that aren't there. Those that it makes are gone in the end unless they are kept, or
+// something is in them.
+func At(path string) error {
+	mutex.Lock()
+	defer mutex.Unlock()
+	return makeAt(path)
+}
+
+// makeAt makes a directory, those above it first.
+func makeAt(path string) error {
+	err := os.Mkdir(path, 0o777)
+	if above := filepath.Dir(path); os.IsNotExist(err) && above != path {
+		if err := makeAt(above); err != nil {
+			return err
+		}
+		err = os.Mkdir(path, 0o777)
+	}
+	if about, there := os.Stat(path); os.IsExist(err) && there == nil && about.IsDir() {
+		return nil
+	}
+	if err == nil {
+		made = append(made, path)
+	}
+	return err
+}
+
+// Keep has these files stay, and the directories that were made at paths.
 func Keep(all []string) {
 	mutex.Lock()
 	defer mutex.Unlock()
+	made = nil
 	for _, path := range all {
 		delete(paths, path)
 	}
+}
+
+// RemoveMade takes away the directories that were made at paths, but for those in which something is.
+func RemoveMade() {
+	mutex.Lock()
+	defer mutex.Unlock()
+	removeMade()
+}
+
+// removeMade takes them away, each before the one above it.
+func removeMade() {
+	for place := len(made) - 1; place >= 0; place-- {
+		os.Remove(made[place])
+	}
+	made = nil
 }
 
 // Run runs a program to its end.
@@ -133,4 +177,5 @@ func removeAll() {
 			os.RemoveAll(path)
 		}
 	}
+	removeMade()
 }

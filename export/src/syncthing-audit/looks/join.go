@@ -53,7 +53,7 @@ func Join(first, second part.Stream) (*Stream, error) {
 		return nil, fmt.Errorf("the first look is at %s, and the second one at %s: make both with the same %s", one.Names.Words(), other.Names.Words(),
 			one.Unlike(other.Names))
 	case len(one.Folders) != len(other.Folders):
-		return nil, fmt.Errorf("the two looks are at other folders: make both with the same --folder")
+		return nil, fmt.Errorf("the two looks are at other folders: make both with the same --folder, and mount or take away no folder's disk meanwhile")
 	}
 	made := &Stream{first: &reading{Stream: first}, second: &reading{Stream: second}, folder: -1}
 	head := *one
@@ -75,7 +75,7 @@ func Join(first, second part.Stream) (*Stream, error) {
 func joinFolder(one, other *part.Folder) (*part.Folder, error) {
 	switch {
 	case one.ID != other.ID:
-		return nil, fmt.Errorf("the two looks are at other folders: make both with the same --folder")
+		return nil, fmt.Errorf("the two looks are at other folders: make both with the same --folder, and mount or take away no folder's disk meanwhile")
 	case one.IndexID != other.IndexID:
 		return nil, fmt.Errorf("folder %s: its index was made anew between the two looks: begin again", shell.Folder(one.ID, one.Label))
 	case one.Max > other.Max:

@@ -48,11 +48,12 @@ type Head struct {
 	Others       []Other   `json:"other_folders"`  // rising by id; nothing where an older program made the part, which doesn't say
 }
 
-// Other is a folder that the device has by its configuration, and that its part hasn't, since it wasn't asked for.
+// Other is a folder that the device has by its configuration, and that its part hasn't, since it wasn't asked for or isn't there.
 type Other struct {
 	ID      string   `json:"id"`
 	Label   string   `json:"label,omitempty"`
-	Devices []string `json:"devices"` // others that it is shared with
+	Devices []string `json:"devices"`        // others that it is shared with
+	Away    string   `json:"away,omitempty"` // it is paused, and its directory isn't there: in words
 }
 
 // Folder is a folder at the device.

@@ -28,14 +28,17 @@ func (l labels) all(ids []string) string {
 	return strings.Join(names, ", ")
 }
 
-// adviceOf says what to do about a name, each thing once.
+// adviceOf says what to do about a name, each thing once. What concerns a disk comes before what asks to start Syncthing for a device to take
+// something.
 func adviceOf(file *File, named labels) []string {
 	made := []string{}
-	for next := range file.Faults {
-		if isReplaced(&file.Faults[next], file) {
-			continue
+	for _, isTaking := range []bool{false, true} {
+		for next := range file.Faults {
+			one := &file.Faults[next]
+			if (one.Cause == Behind || one.Cause == Conflicting) == isTaking {
+				made = addOnce(made, adviceOfFault(one, file, named))
+			}
 		}
-		made = addOnce(made, adviceOfFault(&file.Faults[next], file, named))
 	}
 	if senders := file.sendersOfOtherBytes(); len(senders) > 1 {
 		made = append(made, touchAdvice(file, senders, named))
@@ -46,9 +49,10 @@ func adviceOf(file *File, named labels) []string {
 	return made
 }
 
-// isReplaced says whether a device's other bytes go away by themselves, once it takes what it is behind with.
+// isReplaced says whether a device's other bytes go away by themselves, once it takes what it is behind with: where no scan sees them before.
+// Syncthing keeps no copy of them then.
 func isReplaced(one *Fault, file *File) bool {
-	if one.Cause != OtherBytes {
+	if one.Cause != OtherBytes || one.Kind == sendOnly || one.isSeen || one.mayShow() {
 		return false
 	}
 	for _, other := range file.Faults {
@@ -84,43 +88,24 @@ func adviceOfFault(one *Fault, file *File, named labels) string {
 	case Missing:
 		return missingAdvice(one, file, at, named)
 	case Back:
+		if told := lateAdvice(one, file, at); told != "" {
+			return told
+		}
 		return file.say("to have it gone, delete it", "to have them gone, delete them") + " on " + at + " before Syncthing scans there: a scan takes " +
 			file.say("it for a new file", "them for new files") + spreads(one, file)
 	case Behind, Conflicting:
 		return behindAdvice(one, file, at, named)
 	case LocalChange:
-		if file.isOwn {
-			return "'Revert Local Changes' on " + at + file.say(" deletes the file", " deletes the files") + noOther
-		}
-		if one.Due != nil && one.Due.Deleted {
-			it := file.say("it", "them")
-			return "'Revert Local Changes' on " + at + " deletes " + it + ", since the other devices have deleted " + it + ": copy elsewhere first what is " +
-				"to stay. To have " + it + " everywhere, make the folder 'Send & Receive' there"
-		}
-		return "'Revert Local Changes' on " + at + " takes back what was changed there, for all such files of the folder: added files are " +
-			"deleted, so copy elsewhere what is to stay. To have " + file.say("the change", "the changes") + " everywhere, make the folder " +
-			"'Send & Receive' there"
+		return localChangeAdvice(one, file, at)
 	case LocalAddition:
 		return "'Revert Local Changes' on " + at + " deletes what was added there: copy elsewhere first what is to stay. To have it " +
 			file.spread("everywhere", "recorded as any other file") + ", make the folder 'Send & Receive' there"
 	case NotScanned:
-		if one.Kind == receiveOnly {
-			return "start Syncthing on " + at + " and 'Rescan': " + file.say("it stays there as a local addition", "they stay there as local additions") +
-				", which 'Revert Local Changes' would delete"
-		}
-		if late := lateAdvice(one, file, at); late != "" {
-			return late
-		}
-		return "start Syncthing on " + at + " and 'Rescan': " + file.spread(file.say("it then goes to all", "they then go to all"),
-			file.say("it is then recorded", "they are then recorded"))
+		return notScannedAdvice(one, file, at)
 	case OnlySeen, NewerKnown:
 		return "start Syncthing on all of these devices and let them connect: they then tell each other what they have"
 	case OtherTime:
-		if one.Kind == receiveOnly {
-			return "start Syncthing on " + at + " and 'Rescan': " + file.say("the time stays there as a local change", "the times stay there as local changes") +
-				file.revert(one)
-		}
-		return "start Syncthing on " + at + " and 'Rescan'"
+		return otherTimeAdvice(one, file, at)
 	case OtherBlocks:
 		return "nothing is lost: the bytes are the same. Once the devices connect, Syncthing takes one of the records" +
 			file.say("", " of each")
@@ -141,13 +126,77 @@ func spreads(one *Fault, file *File) string {
 	return file.spread(" and sends "+file.say("it", "them")+" to all", " and records "+file.say("it", "them"))
 }
 
+// localChangeAdvice says what becomes of a local change of a device that only receives, where it is reverted or sent.
+func localChangeAdvice(one *Fault, file *File, at string) string {
+	it := file.say("it", "them")
+	switch {
+	case file.isOwn:
+		return "'Revert Local Changes' on " + at + file.say(" deletes the file", " deletes the files") + noOther
+	case one.Due != nil && one.Due.Deleted:
+		return "'Revert Local Changes' on " + at + " deletes " + it + ", since the other devices have deleted " + it + ": copy elsewhere first what is " +
+			"to stay. To have " + it + " everywhere, make the folder 'Send & Receive' there"
+	}
+	told := "'Revert Local Changes' on " + at + " takes back what was changed there, for all such files of the folder: added files are " +
+		"deleted, so copy elsewhere what is to stay. To have " + file.say("the change", "the changes") + " everywhere, make the folder " +
+		"'Send & Receive' there"
+	if one.Deletion {
+		return told
+	}
+	return told + ": " + file.say("it is", "they are") + " then in conflict with what the others have. Syncthing " + file.conflicting()
+}
+
+// notScannedAdvice says what a scan does with what it hasn't seen yet.
+func notScannedAdvice(one *Fault, file *File, at string) string {
+	told := "start Syncthing on " + at + " and 'Rescan': "
+	late := lateAdvice(one, file, at)
+	switch {
+	case late != "":
+		return late
+	case file.isOdd:
+		return "rename " + file.say("it", "them") + " on " + at + ": " + file.say("its name isn't", "their names aren't") + " in Unicode's form NFC, in which " +
+			"Syncthing has names. A scan does that by itself only where nothing stands at the other name; else it passes over " + file.say("it", "them")
+	case one.Kind == receiveOnly && file.isOwn:
+		return "make the folder 'Send & Receive' on " + at + " and 'Rescan': " + file.say("it is then recorded", "they are then recorded") +
+			". While the folder only receives, a scan takes " + file.say("it for a local addition, which keeps", "them for local additions, which keep") +
+			" the folder from being in step, and which 'Revert Local Changes' would delete"
+	case one.Kind == receiveOnly:
+		return told + file.say("it stays there as a local addition", "they stay there as local additions") + ", which 'Revert Local Changes' would delete. " +
+			"To have " + file.say("it", "them") + " everywhere, make the folder 'Send & Receive' there"
+	}
+	return told + file.spread(file.say("it then goes to all", "they then go to all"), file.say("it is then recorded", "they are then recorded"))
+}
+
+// otherTimeAdvice says what a scan does with a file whose time alone isn't as recorded.
+func otherTimeAdvice(one *Fault, file *File, at string) string {
+	told := "start Syncthing on " + at + " and 'Rescan'"
+	late := lateAdvice(one, file, at)
+	switch {
+	case late != "":
+		return late
+	case one.Kind == receiveOnly:
+		return told + ": " + file.say("the time stays there as a local change", "the times stay there as local changes") + file.revert(one)
+	}
+	return told
+}
+
 func otherBytesAdvice(one *Fault, file *File, at string, named labels) string {
+	if late := lateAdvice(one, file, at); late != "" && (one.isSeen || one.mayShow()) {
+		return late
+	}
+	if isReplaced(one, file) {
+		return "once " + at + " takes what is newest, these bytes are gone, without a conflict copy: copy elsewhere first what is to stay"
+	}
 	mend := file.say("Syncthing won't repair it: ", "Syncthing won't repair them: ")
 	switch {
 	case one.isSeen && one.Kind == receiveOnly:
 		mend = "before Syncthing scans there (the scan takes these bytes for a local change), "
 	case one.isSeen:
 		mend = "before Syncthing scans there (the scan " + file.spread("sends these bytes to all", "records these bytes") + "), "
+	case one.Kind == sendOnly && file.lacks(one.Device):
+		mend = "before 'Override Changes' there (it " + file.spread("sends these bytes to all", "records these bytes") + "), "
+	case one.isAsked:
+		mend = "before Syncthing starts there (once a device asks it for " + file.say("the file, it hashes it anew and sends these bytes to all",
+			"one of the files, it hashes that anew and sends its bytes to all") + "), "
 	case one.mayShow():
 		mend = "before Syncthing scans there (the scan may " + file.spread("send these bytes to all", "record these bytes") + "), "
 	}
@@ -210,6 +259,9 @@ func missingAdvice(one *Fault, file *File, at string, named labels) string {
 		return "see that the folder's disk is mounted on " + at + ". 'Revert Local Changes' there doesn't bring " + it + " back: " +
 			copying(one, file, named, toNothing)
 	}
+	if one.late == lateChange {
+		return "see that the folder's disk is mounted on " + at + lateMissing(one, file, at)
+	}
 	if one.Kind == receiveOnly {
 		from := ""
 		if len(file.Have) == 0 {
@@ -227,39 +279,19 @@ func behindAdvice(one *Fault, file *File, at string, named labels) string {
 	case one.Kind == sendOnly:
 		return at + " only sends: it doesn't take what others change. 'Override Changes' there undoes their changes on all devices, and deletes " +
 			"what they added; to take the changes, make the folder 'Send & Receive' there"
+	case one.Cause == Conflicting && file.isMissingSomewhere():
+		return "then start Syncthing on all of these devices"
 	case one.Cause == Conflicting && one.Deletion:
 		return "start Syncthing on all of these devices: it keeps " + file.say("the file", "the files") + ", since a change goes before a deletion"
 	case one.Cause == Conflicting:
 		return "start Syncthing on all of these devices: it " + file.conflicting()
 	}
 	told := "let Syncthing run on " + at + " and on " + holders(file, named) + ", and let them finish. If it stays so, see whether a device " +
-		"or the folder is paused, whether they are connected, and whether a disk is full"
+		"or the folder is paused, whether they are connected, whether a disk is full, and whether Syncthing's page lists 'Failed Items'"
 	if one.Deletion {
 		told += "; or 'Ignore Delete' is set for the folder on " + at
 	}
 	return told
-}
-
-// conflicting says what Syncthing does with two changes of which neither is on top of the other.
-func (f *File) conflicting() string {
-	return "keeps one version" + f.say(", and the other one as a conflict copy", " of each, and the others as conflict copies") +
-		". Where the folder's 'Max Conflicts' is 0 it keeps no copy: save first what is to stay"
-}
-
-// lateAdvice says what a scan does with what changed on the disk of a device that is behind with the same name; nothing where it isn't.
-func lateAdvice(one *Fault, file *File, at string) string {
-	for _, other := range file.Faults {
-		if other.Device != one.Device || other.Cause != Behind || one.Kind == receiveOnly || one.Kind == sendOnly {
-			continue
-		}
-		told := "start Syncthing on " + at + " and 'Rescan': "
-		if other.Deletion {
-			return told + file.say("the change goes before the deletion, and then to all. If it isn't wanted, first delete the file there",
-				"the changes go before the deletions, and then to all. If they aren't wanted, first delete the files there") + " while Syncthing is stopped"
-		}
-		return told + "what stands there is then in conflict with what the others have. Syncthing " + file.conflicting()
-	}
-	return ""
 }
 
 // holders says on which devices that can be had which is due.

@@ -37,14 +37,27 @@ var ofMany = []struct {
 	{faultsOf("send-receive", Back), nil, "delete them on server"},
 	{faultsOf("send-receive", Changed), []string{laptop}, "the changes then go to all. If they aren't wanted, first copy them from laptop to server as they are"},
 	{faultsOf(receiveOnly, Changed), nil, "the changes stay there as local ones"},
-	{faultsOf("send-receive", Conflicting), nil, "one version of each, and the others as conflict copies"},
+	{faultsOf("send-receive", Conflicting), nil, "the one of each that was modified later, and the others as conflict copies"},
+	{lateFaults("send-receive", Missing, lateChange), nil, "takes them for deleted, and a change goes before a deletion: the other devices keep them"},
+	{lateFaults(sendOnly, Missing, lateChange), nil, "would then delete them on all devices"},
+	{lateFaults("send-receive", OtherTime, lateChange), nil, "the one of each that was modified later"},
+	{lateFaults("send-receive", OtherTime, lateDeletion), nil, "first delete the files there"},
+	{lateFaults(receiveOnly, Changed, lateChange), nil, "conflict copies, local additions"},
+	{append(faultsOf("send-receive", OtherBytes), Fault{Device: phone, Kind: "send-receive", Cause: Behind}), []string{laptop}, "one of the files, it hashes that anew"},
+}
+
+// lateFaults gives a fault at a device whose version lacks what others have, and recorded what no other one has.
+func lateFaults(kind string, cause Cause, late late) []Fault {
+	return []Fault{{Device: server, Kind: kind, Cause: cause, late: late, isAlone: true}}
 }
 
 // What is said of many names speaks of many, and what is said of one of one.
 func TestAdviceOfMany(t *testing.T) {
 	named := labels{laptop: "laptop", server: "server", phone: "phone"}
 	for _, one := range ofMany {
-		told := strings.Join(adviceOf(&File{Faults: one.faults, Have: one.have, isMany: true}, named), ". ")
+		many := &File{Faults: one.faults, Have: one.have, isMany: true}
+		many.markAsked()
+		told := strings.Join(adviceOf(many, named), ". ")
 		if !strings.Contains(told, one.has) || ofOne.MatchString(told) {
 			t.Errorf("%s of many: %s", one.faults[0].Cause, told)
 		}

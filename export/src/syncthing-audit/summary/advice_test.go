@@ -31,10 +31,11 @@ var advised = []struct {
 	{"changed on a device that only receives", faultsOf(receiveOnly, Changed), "stays there as a local one", "goes to all"},
 	{"changed", faultsOf("send-receive", Changed), "goes to all. If the change isn't wanted, first copy it from laptop", "Revert"},
 	{"not scanned", faultsOf("send-receive", NotScanned), "it then goes to all", "Revert"},
-	{"not scanned on a device that only receives", faultsOf(receiveOnly, NotScanned), "'Revert Local Changes' would delete", "goes to all"},
+	{"not scanned on a device that only receives", faultsOf(receiveOnly, NotScanned), "'Revert Local Changes' would delete. To have it everywhere", "goes to all"},
 	{"behind on a device that only sends", faultsOf(sendOnly, Behind), "'Override Changes' there undoes their changes on all devices", "let them finish"},
 	{"added on a device that only receives", faultsOf(receiveOnly, LocalAddition), "deletes what was added there: copy elsewhere first", "goes to all"},
-	{"changed locally", faultsOf(receiveOnly, LocalChange), "added files are deleted", "goes to all"},
+	{"changed locally", faultsOf(receiveOnly, LocalChange), "'Send & Receive' there: it is then in conflict with what the others have", "goes to all"},
+	{"deleted locally", []Fault{{Device: server, Kind: receiveOnly, Cause: LocalChange, Deletion: true}}, "added files are deleted", "conflict"},
 	{"back", faultsOf("send-receive", Back), "takes it for a new file and sends it to all", "Revert"},
 }
 
@@ -77,6 +78,7 @@ func TestAdviceOnRevertingWhatNoOtherDeviceHas(t *testing.T) {
 		{OtherTime, true, "Don't 'Revert Local Changes' then: that deletes the file: no other device has the folder", "that deletes the files"},
 		{LocalChange, true, "'Revert Local Changes' on server deletes the file: no other", "deletes the files"},
 		{LocalAddition, true, "To have it recorded", "To have it recorded"},
+		{NotScanned, true, "make the folder 'Send & Receive' on server and 'Rescan': it is then recorded", "they are then recorded"},
 		{Missing, true, "doesn't bring it back: look among old versions and backups for the recorded bytes", "doesn't bring them back"},
 		{Missing, false, "brings it back only from a device that has the recorded bytes, and no audited one has", "brings them back only from"},
 		{Changed, false, "takes back only from a device that has the recorded bytes: no audited one has", "takes back only from"},
@@ -96,9 +98,10 @@ func TestAdviceOnRevertingWhatNoOtherDeviceHas(t *testing.T) {
 func TestAdviceOnChangesOfADeviceThatIsBehind(t *testing.T) {
 	for _, cause := range []Cause{Changed, NotScanned} {
 		for _, isMany := range []bool{false, true} {
-			for isDeletion, has := range map[bool]string{false: "in conflict with what the others have. Syncthing keeps one version", true: "before the deletion"} {
+			for isDeletion, has := range map[bool]string{false: "in conflict with what the others have. Syncthing keeps the one ", true: "before the deletion"} {
 				faults := faultsOf("send-receive", Behind, cause)
 				faults[0].Deletion = isDeletion
+				faults[1].late = map[bool]late{false: lateChange, true: lateDeletion}[isDeletion]
 				told := strings.Join(adviceOf(&File{Faults: faults, Have: []string{laptop}, isMany: isMany}, labels{server: "server", laptop: "laptop"}), ". ")
 				if !strings.Contains(told, has) || strings.Contains(told, "copy it from") || strings.Contains(told, "copy them from") || strings.Contains(told, "then goes to all") {
 					t.Errorf("%s: %s", cause, told)

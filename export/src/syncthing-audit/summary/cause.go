@@ -44,6 +44,10 @@ type Fault struct {
 	Why      string   `json:"why,omitempty"` // of Damaged: the system's words
 	contents []part.Content
 	ends     ends
+	late     late // what others have and the device's own version lacks
+	isDue    bool // what stands on the disk is what is due, whatever the device recorded
+	isAlone  bool // of Missing: the device recorded a change that no other one has
+	isAsked  bool // another device will ask for the file there
 	isSeen   bool // by the next scan, since the mode isn't as recorded
 	isWide   bool // the device's scans look at owners or extended attributes, too
 }

@@ -1,6 +1,7 @@
 package summary
 
 import (
+	"golang.org/x/text/unicode/norm"
 	"syncthing-audit/finding"
 	"syncthing-audit/join"
 	"syncthing-audit/part"
@@ -22,6 +23,7 @@ type File struct {
 	RenamedFrom Text       `json:"renamed_from,omitempty"` // the name that goes where this one comes with the same bytes
 	RenamedTo   Text       `json:"renamed_to,omitempty"`   // and the other way round
 	hasDetails  bool
+	isOdd       bool            // whether the name isn't in Unicode's form NFC
 	isMany      bool            // whether it stands for many names, which are told as one
 	areWide     map[string]bool // the devices whose scans look at owners or extended attributes, too
 	isOwn       bool            // whether the folder's one device shares it with nobody
@@ -59,7 +61,7 @@ type Mode struct {
 // fileOf gives what is to be told of a name.
 func fileOf(folder *finding.Folder, told *finding.Told) *File {
 	made := &File{Name: Text(told.Name), Faults: []Fault{}, Have: []string{}, Follows: []Follow{}, Permissions: []Mode{}, areWide: areWide(folder),
-		isOwn: folder.Own != ""}
+		isOwn: folder.Own != "", isOdd: !norm.NFC.IsNormalString(told.Name)}
 	row := folder.Rows[told.Name]
 	switch {
 	case told.Unwon != nil:
@@ -258,6 +260,7 @@ func (r *reader) add(member int, cause Cause) {
 		if cause == OtherBytes || cause == Changed {
 			made.Blocks, made.contents = blocksOf(at), at.Disk.Contents
 		}
+		made.late, made.isAlone, made.isDue = r.lateAt(member), cause == Missing && r.isAlone(member), isSame(at.Disk, r.winner)
 	}
 	made.Deletion = cause == Behind && made.Due != nil && made.Due.Deleted ||
 		(cause == LocalChange || cause == Conflicting) && made.Recorded != nil && made.Recorded.Deleted

@@ -30,27 +30,23 @@ func (s *Summary) scanned() (loses, starts map[string]bool) {
 	loses, starts = map[string]bool{}, map[string]bool{}
 	for _, folder := range s.Folders {
 		for _, file := range folder.Files {
-			for place := range file.Faults {
-				one := &file.Faults[place]
-				note(one.Device, one.losesByScan(), one.Cause, loses, starts)
-			}
+			note(file.Faults, loses, starts)
 		}
 		for _, group := range folder.Groups {
-			for _, device := range group.Devices {
-				one := Fault{Cause: group.Cause, Kind: folder.kindOn(device)}
-				note(device, one.losesByScan(), one.Cause, loses, starts)
-			}
+			note(group.faults, loses, starts)
 		}
 	}
 	return loses, starts
 }
 
 // note notes whether a scan of a device may lose something, or starting Syncthing there is what to do.
-func note(device string, losesByScan bool, cause Cause, loses, starts map[string]bool) {
-	if losesByScan {
-		loses[device] = true
-	} else if isStarted[cause] {
-		starts[device] = true
+func note(faults []Fault, loses, starts map[string]bool) {
+	for place := range faults {
+		if one := &faults[place]; one.losesByScan() {
+			loses[one.Device] = true
+		} else if isStarted[one.Cause] {
+			starts[one.Device] = true
+		}
 	}
 }
 
@@ -58,20 +54,13 @@ func note(device string, losesByScan bool, cause Cause, loses, starts map[string
 var isStarted = map[Cause]bool{Changed: true, NotScanned: true, OtherTime: true, OnlySeen: true, NewerKnown: true, OtherBlocks: true, Behind: true,
 	Conflicting: true}
 
-// losesByScan says whether the next scan may send to all what is wrong on this device.
+// losesByScan says whether Syncthing may send to all what is wrong on this device, or lose what it alone recorded, once it scans or is asked.
 func (f *Fault) losesByScan() bool {
-	if f.Kind == receiveOnly {
+	switch {
+	case f.Kind == receiveOnly:
 		return false
+	case f.Cause == Missing:
+		return f.late != lateChange || f.isAlone
 	}
-	return f.Cause == Missing || f.Cause == Back || f.Cause == Damaged || f.Cause == OtherBytes && (f.isSeen || f.mayShow())
-}
-
-// kindOn gives the kind that a folder has on a device.
-func (f *Folder) kindOn(device string) string {
-	for _, one := range f.Devices {
-		if one.Device == device {
-			return one.Kind
-		}
-	}
-	return ""
+	return f.Cause == Back || f.Cause == Damaged || f.Cause == OtherBytes && (f.isSeen || f.isAsked || f.mayShow())
 }

@@ -26,6 +26,7 @@ type Group struct {
 	Have    []string `json:"have_recorded"` // devices that have what is due, of all of these names
 	Modes   []Mode   `json:"permissions,omitempty"`
 	Advice  []string `json:"advice"`
+	faults  []Fault  // of each name
 }
 
 // canFold are the causes that ask for the same everywhere. What else is wrong is to be looked at file by file.
@@ -44,6 +45,12 @@ func keyOf(file *File) string {
 		key += " " + one.Device
 		if one.Cause == Behind && one.Deletion {
 			key += " deletion"
+		}
+		if one.Cause == NotScanned && file.isOdd {
+			key += " odd"
+		}
+		if one.Cause != Behind {
+			key += fmt.Sprint(" ", one.late, one.isAlone)
 		}
 	}
 	return key + " of " + strings.Join(file.Have, " ")
@@ -85,6 +92,7 @@ func (f *folding) take(one *File) {
 	one.sortDevices(f.named)
 	one.Same = sameOtherBytes(one.Faults)
 	one.markSeen()
+	one.markAsked()
 	key := keyOf(one)
 	if !one.hasDetails && (key == "" || f.alike[key] == nil && len(f.alike) >= mostKinds) {
 		one.shorten()
@@ -136,7 +144,7 @@ func (f *folding) end() ([]*File, []*Group) {
 // groupOf tells names as one.
 func (a *alike) groupOf(named labels) *Group {
 	first := a.first[0]
-	same := &File{Faults: withoutDetails(first.Faults), Have: first.Have, Permissions: first.Permissions, isMany: true, areWide: first.areWide, isOwn: first.isOwn}
+	same := &File{Faults: withoutDetails(first.Faults), Have: first.Have, Permissions: first.Permissions, isMany: true, areWide: first.areWide, isOwn: first.isOwn, isOdd: first.isOdd}
 	made := a.group
 	made.Cause, made.Devices, made.First, made.Have, made.Modes = Permissions, []string{}, []Text{}, first.Have, first.Permissions
 	made.Advice = adviceOf(same, named)
@@ -144,6 +152,7 @@ func (a *alike) groupOf(named labels) *Group {
 		made.Cause = first.Faults[0].Cause
 		made.Deleted = made.Cause == Behind && first.Faults[0].Deletion
 	}
+	made.faults = same.Faults
 	for _, one := range first.Faults {
 		made.Devices = append(made.Devices, one.Device)
 	}
@@ -157,7 +166,8 @@ func (a *alike) groupOf(named labels) *Group {
 func withoutDetails(faults []Fault) []Fault {
 	made := []Fault{}
 	for _, one := range faults {
-		made = append(made, Fault{Device: one.Device, Cause: one.Cause, Kind: one.Kind, Deletion: one.Deletion, isWide: one.isWide})
+		made = append(made, Fault{Device: one.Device, Cause: one.Cause, Kind: one.Kind, Deletion: one.Deletion, isWide: one.isWide, late: one.late,
+			isAlone: one.isAlone})
 	}
 	return made
 }

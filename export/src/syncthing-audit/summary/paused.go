@@ -16,7 +16,7 @@ func (p *printer) paused(s *Summary) {
 		}
 	}
 	folders.each(p.named, func(folder, devices string) {
-		p.line("paused: folder %s on %s: nothing of it is taken or sent there until it is resumed", folder, devices)
+		p.line("paused: folder %s on %s: nothing of it is scanned, taken or sent there until it is resumed", folder, devices)
 	})
 	others.each(p.named, func(other, devices string) {
 		p.line("paused: device %s on %s: nothing is exchanged with it there until it is resumed", other, devices)

@@ -160,8 +160,9 @@ a  (in docs, 300.0 kB)
   server: behind: hasn't deleted it yet (since 2020-09-13 12:27:40 UTC)
   as recorded on: laptop
   to do: let Syncthing run on server and on laptop, and let them finish. If it stays so, see whether
-         a device or the folder is paused, whether they are connected, and whether a disk is full;
-         or 'Ignore Delete' is set for the folder on server.
+         a device or the folder is paused, whether they are connected, whether a disk is full, and
+         whether Syncthing's page lists 'Failed Items'; or 'Ignore Delete' is set for the folder on
+         server.
 ` + lastLine},
 	{"a missing file", 2, func(folder *finding.Folder) {
 		fails(folder, "a", []*part.Name{file(1, 1), with(file(1, 1), func(one *part.Name) { one.Disk = nil })}, "StoreDiffers 2")
@@ -180,9 +181,9 @@ a  (in docs, 300.0 kB)
 a  (in docs, 300.0 kB)
   server: in conflict: has one change of it, and lacks another
   as recorded on: laptop
-  to do: start Syncthing on all of these devices: it keeps one version, and the other one as a
-         conflict copy. Where the folder's 'Max Conflicts' is 0 it keeps no copy: save first what is
-         to stay.
+  to do: start Syncthing on all of these devices: it keeps the one that was modified later, and the
+         other one as a conflict copy. Where the folder's 'Max Conflicts' is 0 it keeps no copy:
+         save first what is to stay.
 ` + lastLine},
 	{"a device that is behind, and what others still see of it", 3, func(folder *finding.Folder) {
 		old := with(file(1, 2), func(one *part.Name) { one.Own.ModifiedS = started - 60; one.Disk.ModifiedS = started - 60 })
@@ -194,8 +195,8 @@ a  (in docs, 300.0 kB)
   as recorded on: laptop, phone
   so phone can still take another version of it, until that is mended
   to do: let Syncthing run on server and on one of laptop, phone, and let them finish. If it stays
-         so, see whether a device or the folder is paused, whether they are connected, and whether a
-         disk is full.
+         so, see whether a device or the folder is paused, whether they are connected, whether a
+         disk is full, and whether Syncthing's page lists 'Failed Items'.
 ` + lastLine},
 	{"a device that is behind as a whole", 2, func(folder *finding.Folder) {
 		for next := 0; next < 7; next++ {
@@ -212,7 +213,8 @@ a  (in docs, 300.0 kB)
   the first: 'photo 0' 'photo 1' 'photo 2', and 4 more (--lines has all)
   as recorded on: laptop
   to do: let Syncthing run on server and on laptop, and let them finish. If it stays so, see whether
-         a device or the folder is paused, whether they are connected, and whether a disk is full.
+         a device or the folder is paused, whether they are connected, whether a disk is full, and
+         whether Syncthing's page lists 'Failed Items'.
 ` + lastLine},
 	{"a file that was added on a receive-only device", 2, func(folder *finding.Folder) {
 		folder.Members[1].About.Kind = "receive-only"
@@ -342,7 +344,7 @@ not compared: owners, extended attributes, old versions
 		folder.Members[1].About.PausedDevices, folder.Members[2].About.PausedDevices = []string{laptop, phone}, []string{laptop}
 	}, `docs (Documents): in step and firm; 1,204 names (4 deleted), 335.2 MB hashed on laptop, phone, server
 
-paused: folder docs (Documents) on laptop, phone: nothing of it is taken or sent there until it is resumed
+paused: folder docs (Documents) on laptop, phone: nothing of it is scanned, taken or sent there until it is resumed
 paused: device laptop on phone, server: nothing is exchanged with it there until it is resumed
 paused: device phone on server: nothing is exchanged with it there until it is resumed
 not compared: owners, extended attributes, old versions

@@ -10,7 +10,7 @@ import (
 // readTogether are the causes of which a person reads of many names as one: a disk that rots has many, and so has a device on which
 // someone worked while Syncthing was off. Others may be behind with the same names. --json tells each.
 var readTogether = map[Cause]bool{OtherBytes: true, LocalChange: true, LocalAddition: true, Changed: true, Back: true, Conflicting: true, OnlySeen: true,
-	Behind: true}
+	Behind: true, Missing: true, NotScanned: true, OtherTime: true}
 
 // files prints the entries of names. Of many with the same fault on the same devices one entry tells the first ones and counts
 // the others.

@@ -142,8 +142,8 @@ func TestManyConflicts(t *testing.T) {
 40 names in docs: 12.0 MB
   phone: behind: hasn't taken what is newest
   server: in conflict: has one change of it, and lacks another
-  the first: c/00 c/01 c/02 c/03 c/04, and 35 more (--lines has all)`, `it keeps one version of each, and the others as
-         conflict copies. Where the folder's 'Max Conflicts' is 0`, `
+  the first: c/00 c/01 c/02 c/03 c/04, and 35 more (--lines has all)`, `it keeps the one of each that was modified later,
+         and the others as conflict copies. Where the folder's 'Max Conflicts' is 0`, `
 40 names in docs: 12.0 MB
   phone: behind: hasn't taken what is newest
   server: in conflict: deleted it, and lacks a change of it

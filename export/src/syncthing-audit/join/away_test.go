@@ -1,0 +1,49 @@
+package join
+
+import (
+	"strings"
+	"testing"
+
+	"syncthing-audit/part"
+)
+
+// A folder that is paused at a device, and whose directory isn't there, is left out there: it isn't refused, also where others share it with
+// that device. Who asks for other folders isn't told of it.
+func TestFoldersThatAreAway(t *testing.T) {
+	const why = "it is paused there, and there is no /media/docs: mount its disk, and audit again"
+	for _, one := range []struct {
+		why, with string
+		away      string
+		wanted    []string
+		told      string
+		folders   int
+	}{
+		{"others have it", "12", "there is no /media/docs", nil, "left-out:absent", 1},
+		{"others have it, and it is asked for", "12", "there is no /media/docs", []string{"docs"}, "left-out:absent", 1},
+		{"it is there and wasn't asked for", "12", "", nil, "unshared", 0},
+		{"no other device has it", "", "there is no /media/docs", nil, "left-out:absent", 0},
+	} {
+		devices := sharing(map[byte]string{1: one.with, 2: "12"}, unchanged)
+		devices[1].Head.Folders = nil
+		devices[1].Head.Others = []part.Other{{ID: "docs", Devices: []string{deviceID(1)}, Away: one.away}}
+		if one.with == "" {
+			devices[0].Head.Folders = nil
+		}
+		plan, err := NewPlan(devices, one.wanted)
+		if err != nil {
+			t.Fatal(one.why, err)
+		}
+		if told := refused(plan); told != one.told || len(plan.Folders) != one.folders {
+			t.Errorf("%s: %s, %d folders", one.why, told, len(plan.Folders))
+		}
+		if len(plan.LeftOut) > 0 && (plan.LeftOut[0].Why != why || !plan.IsLeftOut("docs", deviceID(2)) || plan.IsLeftOut("docs", deviceID(1))) {
+			t.Errorf("%s: %v", one.why, plan.LeftOut)
+		}
+	}
+	devices := sharing(map[byte]string{1: "1", 2: "2"}, unchanged)
+	devices[1].Head.Others = []part.Other{{ID: "music", Away: "there is no /media/music"}}
+	plan, err := NewPlan(devices, []string{"docs"})
+	if err != nil || strings.Contains(refused(plan), part.Absent) {
+		t.Errorf("another one is asked for: %v, %s", err, refused(plan))
+	}
+}

@@ -1,0 +1,111 @@
+package summary
+
+import (
+	"golang.org/x/exp/slices"
+	"syncthing-audit/part"
+)
+
+// late is what other devices have of a name that a device's own version lacks. Whatever a scan finds at that device is then in conflict with it.
+type late int
+
+const (
+	notLate      late = iota
+	lateDeletion      // others have deleted it
+	lateChange        // others have another version of it
+)
+
+// lateAt says what a member lacks of a name. Of a local change of a device that only receives that isn't known: it goes without its version.
+func (r *reader) lateAt(member int) late {
+	at, found := r.at(member), notLate
+	if at == nil || at.Own != nil && at.Own.Invalid {
+		return found
+	}
+	for _, one := range r.row.At {
+		switch {
+		case one == nil || one.Own == nil || one.Own.Invalid || at.Own != nil && part.IsAtMost(one.Own.Version, at.Own.Version):
+		case !one.Own.Deleted:
+			return lateChange
+		default:
+			found = lateDeletion
+		}
+	}
+	return found
+}
+
+// isAlone says whether a member recorded a change that no other device has.
+func (r *reader) isAlone(member int) bool {
+	at := r.at(member)
+	if at == nil || at.Own == nil || at.Own.Invalid {
+		return false
+	}
+	for other, one := range r.row.At {
+		if other != member && one != nil && one.Own != nil && !one.Own.Invalid && part.IsAtMost(at.Own.Version, one.Own.Version) {
+			return false
+		}
+	}
+	return true
+}
+
+// isSame says whether what stands on a disk is what a record says, whatever the times.
+func isSame(disk *part.Node, due *part.Record) bool {
+	if disk == nil || due == nil || due.Deleted || disk.Type != due.Type || disk.Target != due.Target {
+		return false
+	}
+	return due.Content == nil || slices.Contains(disk.Contents, *due.Content)
+}
+
+// conflicting says what Syncthing does with two changes of which neither is on top of the other.
+func (f *File) conflicting() string {
+	return "keeps the one " + f.say("that was modified later, and the other one as a conflict copy", "of each that was modified later, and the others as conflict copies") + noCopies
+}
+
+// noCopies says where Syncthing keeps no conflict copies.
+const noCopies = ". Where the folder's 'Max Conflicts' is 0 it keeps no copy: save first what is to stay"
+
+// lateAdvice says what a scan does with what stands on the disk of a device, where others have what its version lacks; nothing where they
+// have nothing of that kind. A device that only receives keeps its own where the others have deleted theirs.
+func lateAdvice(one *Fault, file *File, at string) string {
+	told := "start Syncthing on " + at + " and 'Rescan': "
+	switch {
+	case one.late == notLate || one.late == lateDeletion && (one.Kind == receiveOnly || one.Cause == Back):
+		return ""
+	case one.late == lateChange && one.isDue:
+		return told + "what stands there is what the others have, so nothing is copied, and no conflict copy is made"
+	case one.late == lateDeletion:
+		return told + file.say("the change goes before the deletion, and then to all. If it isn't wanted, first delete the file there",
+			"the changes go before the deletions, and then to all. If they aren't wanted, first delete the files there") + " while Syncthing is stopped"
+	case one.Kind == receiveOnly:
+		return told + "Syncthing then takes what the others have, and keeps what stands there as " +
+			file.say("a conflict copy, a local addition", "conflict copies, local additions") + noCopies
+	}
+	told += "what stands there is then in conflict with what the others have. Syncthing " + file.conflicting()
+	if one.Kind == sendOnly {
+		return told
+	}
+	return told + ". To have only what the others have, first delete what stands there while Syncthing is stopped"
+}
+
+// lateMissing says what becomes of a name that is missing on a disk, where others have what the device's version lacks.
+func lateMissing(one *Fault, file *File, at string) string {
+	it := file.say("it", "them")
+	told := ". A scan there takes " + it + " for deleted, and a change goes before a deletion: the other devices keep " + it
+	if one.Kind == sendOnly {
+		return told + ". 'Override Changes' there would then delete " + it + " on all devices"
+	}
+	told += ", and Syncthing brings what they have to " + at
+	if one.isAlone {
+		told += ". What " + at + " recorded last of " + it + " no other device has: to keep that, too, look for it among old versions and backups, " +
+			"and put it back there (cp -a, or rsync -a) before Syncthing starts"
+	}
+	return told
+}
+
+// isMissingSomewhere says whether the name is missing on a disk: what becomes of it in a conflict is told there.
+func (f *File) isMissingSomewhere() bool {
+	for place := range f.Faults {
+		if f.Faults[place].Cause == Missing {
+			return true
+		}
+	}
+	return false
+}
