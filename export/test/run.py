@@ -27,7 +27,9 @@ CLASSES = [("rot", "BlockSizes"), ("large_folders", "LargeFiles"), ("large_folde
            ("live_changes", "LiveWriter"), ("live_changes", "LiveReceiver"), ("live_devices", "LiveDevices"), ("live_run", "LiveRun"),
            ("firm_devices", "Firm"), ("unasked", "OtherFolders"), ("unasked", "OwnFolders"), ("damage", "Damage"), ("conflict", "Conflict"), ("two_devices", "TwoDevices"), ("one_way", "SendOnly"),
            ("one_way", "ReceiveOnly"), ("one_way", "OwnReceiveOnly"), ("one_way", "ReceiveOnlyOfWhatIsDeleted"), ("three_devices", "Chain"), ("three_devices", "ThreeDevices"),
-           ("rot", "RotInManyBlocks"), ("rot", "RotWithAnotherMode"), ("rot", "RotWhereAttributesAreScanned"), ("rot", "RotThatAScanDrops"), ("manners", "Manners"), ("nightly", "Nightly"), ("spread", "Spread")]
+           ("rot", "RotInManyBlocks"), ("rot", "RotWithAnotherMode"),
+           ("late_rot", "RotThatIsFetched"), ("late_rot", "RotThatAnOldChangeMeets"), ("attributes", "RotWithAttributesThatAnOldChangeMeets"),
+           ("attributes", "RotWhereAttributesAreScanned"), ("attributes", "RotThatAScanDrops"), ("manners", "Manners"), ("nightly", "Nightly"), ("spread", "Spread")]
 # The classes and Go's tests.
 ALL = len(CLASSES) + 1
 SIDE_BY_SIDE = 4

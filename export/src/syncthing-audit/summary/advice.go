@@ -28,14 +28,16 @@ func (l labels) all(ids []string) string {
 	return strings.Join(names, ", ")
 }
 
-// adviceOf says what to do about a name, each thing once.
+// adviceOf says what to do about a name, each thing once. To let Syncthing run comes last: other things are to be done before.
 func adviceOf(file *File, named labels) []string {
 	made := []string{}
-	for next := range file.Faults {
-		if isReplaced(&file.Faults[next], file) {
-			continue
+	for _, isLast := range []bool{false, true} {
+		for next := range file.Faults {
+			one := &file.Faults[next]
+			if (one.Cause == Behind) == isLast && !isReplaced(one, file) {
+				made = addOnce(made, adviceOfFault(one, file, named))
+			}
 		}
-		made = addOnce(made, adviceOfFault(&file.Faults[next], file, named))
 	}
 	if senders := file.sendersOfOtherBytes(); len(senders) > 1 {
 		made = append(made, touchAdvice(file, senders, named))
@@ -46,19 +48,6 @@ func adviceOf(file *File, named labels) []string {
 	return made
 }
 
-// isReplaced says whether a device's other bytes go away by themselves, once it takes what it is behind with.
-func isReplaced(one *Fault, file *File) bool {
-	if one.Cause != OtherBytes {
-		return false
-	}
-	for _, other := range file.Faults {
-		if other.Device == one.Device && other.Cause == Behind {
-			return true
-		}
-	}
-	return false
-}
-
 // addOnce adds a text that isn't there yet.
 func addOnce(all []string, text string) []string {
 	if slices.Contains(all, text) {
@@ -66,10 +55,6 @@ func addOnce(all []string, text string) []string {
 	}
 	return append(all, text)
 }
-
-// mayShow says whether a scan may take other bytes for a change: it hashes a file whose inode changed. In a folder that only
-// receives, Syncthing 1.29 then keeps the record that all others have, and tells no local change.
-func (f *Fault) mayShow() bool { return f.Cause == OtherBytes && f.isWide && f.Kind != receiveOnly }
 
 // adviceOfFault says what to do about one fault.
 func adviceOfFault(one *Fault, file *File, named labels) string {
@@ -139,24 +124,6 @@ func spreads(one *Fault, file *File) string {
 		return file.say(", a local addition", ", local additions")
 	}
 	return file.spread(" and sends "+file.say("it", "them")+" to all", " and records "+file.say("it", "them"))
-}
-
-func otherBytesAdvice(one *Fault, file *File, at string, named labels) string {
-	mend := file.say("Syncthing won't repair it: ", "Syncthing won't repair them: ")
-	switch {
-	case one.isSeen && one.Kind == receiveOnly:
-		mend = "before Syncthing scans there (the scan takes these bytes for a local change), "
-	case one.isSeen:
-		mend = "before Syncthing scans there (the scan " + file.spread("sends these bytes to all", "records these bytes") + "), "
-	case one.mayShow():
-		mend = "before Syncthing scans there (the scan may " + file.spread("send these bytes to all", "record these bytes") + "), "
-	}
-	mend += copying(one, file, named, overFile)
-	if one.Kind == receiveOnly || len(file.sendersOfOtherBytes()) > 1 {
-		return mend
-	}
-	return mend + ". If instead the bytes on " + at + " are the right ones, 'touch' the " + file.say("file", "files") +
-		" there and let Syncthing scan: it " + file.spread("sends them to all", "records them")
 }
 
 func changedAdvice(one *Fault, file *File, at string, named labels) string {
@@ -248,18 +215,26 @@ func (f *File) conflicting() string {
 
 // lateAdvice says what a scan does with what changed on the disk of a device that is behind with the same name; nothing where it isn't.
 func lateAdvice(one *Fault, file *File, at string) string {
-	for _, other := range file.Faults {
-		if other.Device != one.Device || other.Cause != Behind || one.Kind == receiveOnly || one.Kind == sendOnly {
-			continue
-		}
-		told := "start Syncthing on " + at + " and 'Rescan': "
-		if other.Deletion {
-			return told + file.say("the change goes before the deletion, and then to all. If it isn't wanted, first delete the file there",
-				"the changes go before the deletions, and then to all. If they aren't wanted, first delete the files there") + " while Syncthing is stopped"
-		}
-		return told + "what stands there is then in conflict with what the others have. Syncthing " + file.conflicting()
+	behind := file.behindOn(one.Device)
+	if behind == nil || one.Kind == receiveOnly || one.Kind == sendOnly {
+		return ""
 	}
-	return ""
+	told := "start Syncthing on " + at + " and 'Rescan': "
+	if behind.Deletion {
+		return told + file.say("the change goes before the deletion, and then to all. If it isn't wanted, first delete the file there",
+			"the changes go before the deletions, and then to all. If they aren't wanted, first delete the files there") + " while Syncthing is stopped"
+	}
+	return told + "what stands there is then in conflict with what the others have. Syncthing " + file.conflicting()
+}
+
+// behindOn gives that a device is behind with the name; nothing where it isn't.
+func (f *File) behindOn(device string) *Fault {
+	for place := range f.Faults {
+		if one := &f.Faults[place]; one.Device == device && one.Cause == Behind {
+			return one
+		}
+	}
+	return nil
 }
 
 // holders says on which devices that can be had which is due.

@@ -46,6 +46,8 @@ type Fault struct {
 	ends     ends
 	isSeen   bool // by the next scan, since the mode isn't as recorded
 	isWide   bool // the device's scans look at owners or extended attributes, too
+	// Another device is going to fetch the file from there.
+	isFetched bool
 }
 
 // State is what a record or a disk says of a name.

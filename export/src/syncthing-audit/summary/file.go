@@ -71,6 +71,7 @@ func fileOf(folder *finding.Folder, told *finding.Told) *File {
 	if told.Damaged != nil {
 		made.addDamage(folder, told.Damaged)
 	}
+	made.noteFetched()
 	if told.Permissions != nil {
 		made.Permissions = modesOf(folder, told.Permissions)
 	}

@@ -41,12 +41,12 @@ func note(device string, losesByScan bool, cause Cause, loses, starts map[string
 var isStarted = map[Cause]bool{Changed: true, NotScanned: true, OtherTime: true, OnlySeen: true, NewerKnown: true, OtherBlocks: true, Behind: true,
 	Conflicting: true}
 
-// losesByScan says whether the next scan may send to all what is wrong on this device.
+// losesByScan says whether what is wrong on this device may go to all once Syncthing starts there.
 func (f *Fault) losesByScan() bool {
 	if f.Kind == receiveOnly {
 		return false
 	}
-	return f.Cause == Missing || f.Cause == Back || f.Cause == Damaged || f.Cause == OtherBytes && (f.isSeen || f.mayShow())
+	return f.Cause == Missing || f.Cause == Back || f.Cause == Damaged || f.Cause == OtherBytes && (f.isSeen || f.mayShow() || f.isFetched)
 }
 
 // kindOn gives the kind that a folder has on a device.
