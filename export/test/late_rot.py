@@ -10,7 +10,7 @@ import subprocess
 
 from exporting import main
 from rot import Rotten, text_of
-from syncthing import FOLDER, wait_until
+from syncthing import wait_until
 
 KEPT, LOST = "kept", "lost"
 

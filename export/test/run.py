@@ -29,7 +29,7 @@ CLASSES = [("rot", "BlockSizes"), ("large_folders", "LargeFiles"), ("large_folde
            ("one_way", "ReceiveOnly"), ("one_way", "OwnReceiveOnly"), ("one_way", "ReceiveOnlyOfWhatIsDeleted"), ("three_devices", "Chain"), ("three_devices", "ThreeDevices"),
            ("rot", "RotInManyBlocks"), ("rot", "RotWithAnotherMode"),
            ("late_rot", "RotThatIsFetched"), ("late_rot", "RotThatAnOldChangeMeets"), ("attributes", "RotWithAttributesThatAnOldChangeMeets"),
-           ("attributes", "RotWhereAttributesAreScanned"), ("attributes", "RotThatAScanDrops"), ("manners", "Manners"), ("nightly", "Nightly"), ("spread", "Spread")]
+           ("attributes", "AttributesOfAMendedFile"), ("attributes", "AttributesThatNoScanHasSeen"), ("attributes", "RotWhereAttributesAreScanned"), ("attributes", "RotThatAScanDrops"), ("manners", "Manners"), ("nightly", "Nightly"), ("spread", "Spread")]
 # The classes and Go's tests.
 ALL = len(CLASSES) + 1
 SIDE_BY_SIDE = 4
