@@ -96,6 +96,9 @@ func adviceOfFault(one *Fault, file *File, named labels) string {
 		if late := lateAdvice(one, file, at); late != "" {
 			return late
 		}
+		if one.isRival {
+			return rivalsAdvice(file, named)
+		}
 		return "start Syncthing on " + at + " and 'Rescan': " + file.spread(file.say("it then goes to all", "they then go to all"),
 			file.say("it is then recorded", "they are then recorded"))
 	case OnlySeen, NewerKnown:
@@ -134,6 +137,9 @@ func changedAdvice(one *Fault, file *File, at string, named labels) string {
 	told := "start Syncthing on " + at + " and 'Rescan': "
 	if late := lateAdvice(one, file, at); late != "" {
 		return late
+	}
+	if one.isRival {
+		return rivalsAdvice(file, named)
 	}
 	if one.Kind == receiveOnly {
 		return told + file.say("the change stays there as a local one", "the changes stay there as local ones") + file.revert(one)

@@ -48,6 +48,8 @@ type Fault struct {
 	isWide   bool // the device's scans look at owners or extended attributes, too
 	// Another device is going to fetch the file from there.
 	isFetched bool
+	// A scan of another device finds other contents there, of which neither's record knows.
+	isRival bool
 }
 
 // State is what a record or a disk says of a name.

@@ -45,6 +45,9 @@ func keyOf(file *File) string {
 		if one.Cause == Behind && one.Deletion {
 			key += " deletion"
 		}
+		if one.isRival {
+			key += " in conflict"
+		}
 	}
 	return key + " of " + strings.Join(file.Have, " ")
 }
@@ -157,7 +160,7 @@ func (a *alike) groupOf(named labels) *Group {
 func withoutDetails(faults []Fault) []Fault {
 	made := []Fault{}
 	for _, one := range faults {
-		made = append(made, Fault{Device: one.Device, Cause: one.Cause, Kind: one.Kind, Deletion: one.Deletion, isWide: one.isWide})
+		made = append(made, Fault{Device: one.Device, Cause: one.Cause, Kind: one.Kind, Deletion: one.Deletion, isWide: one.isWide, isRival: one.isRival})
 	}
 	return made
 }
