@@ -154,6 +154,16 @@ a  (in docs, 300.0 kB)
   to do: if instead the bytes on phone, server are the right ones, which are the same, 'touch' the
          file on phone alone and let Syncthing scan: it sends them to all.
 ` + lastLine},
+	{"a symlink, whose record has no time, that a device lacks", 2, func(folder *finding.Folder) {
+		link := &part.Name{Own: &part.Record{Type: 4, Target: "a", ModifiedBy: 1, Version: [][2]uint64{{1, 1}}, Sequence: 1}, Disk: &part.Node{Type: 4, Target: "a"}}
+		fails(folder, "link", []*part.Name{link, nil}, "RecordMissing 2", "StoreDiffers 2")
+	}, lineOfFolder + `
+link  (in docs)
+  server: behind: doesn't have it yet
+  as recorded on: laptop
+  to do: let Syncthing run on server and on laptop, and let them finish. If it stays so, see whether
+         a device or the folder is paused, whether they are connected, and whether a disk is full.
+` + lastLine},
 	{"a deletion on its way", 2, func(folder *finding.Folder) {
 		folder.Deleting = 1
 		fails(folder, "a", []*part.Name{gone(), file(1, 1)}, "RecordDiffers 2", "StoreDiffers 2", "ViewAhead 2")
