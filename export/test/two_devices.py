@@ -100,7 +100,7 @@ class TwoDevices(Answers, Exporting):
         self.assertEqual(self.check_parts([path, self.part(self.two)]).stdout.splitlines()[0], "settled")
         ran = run([self.program, "part", "-o", path], env={**os.environ, "HOME": str(user)})
         self.assertEqual(ran.returncode, 3)
-        self.assertIn(f"no Syncthing home is at {user}/.config/syncthing or {user}/.local/state/syncthing: --home names it", ran.stderr)
+        self.assertIn(f"no Syncthing home is at {user}/.config/syncthing or {user}/.local/state/syncthing: give it as --home DIR", ran.stderr)
 
     def test_a_part_that_a_shell_writes_into_a_folder_is_refused(self):
         """It would be found there. That is so by another path of the folder, too, and not of a file beside the folder."""
