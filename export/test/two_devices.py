@@ -244,7 +244,8 @@ class TwoDevices(Answers, Exporting):
         self.one.configure([self.one, self.two], password="secret")
         try:
             self.assertIn("the folder is shared encrypted with it by device", self.refused())
-            self.assertIn("there is nothing to audit", self.refused("--leave-out", "encrypted"))
+            ran = self.check("--leave-out", "encrypted")
+            self.assertEqual((ran.returncode, ran.stdout.splitlines()[:2]), (6, ["settled as far as audited", f"folder {FOLDER}: 6 names, 1 deleted, 1 devices"]))
         finally:
             self.one.configure([self.one, self.two])
 
