@@ -10,7 +10,7 @@ import subprocess
 
 from exporting import main
 from rot import Rotten, text_of
-from syncthing import wait_until
+from syncthing import FOLDER, wait_until
 
 KEPT, LOST = "kept", "lost"
 
@@ -121,6 +121,33 @@ class RotThatAnOldChangeMeets(LateRot):
             self.assertEqual(text_of(device.files / KEPT), "changed " + KEPT)
             copies = [path.name for path in device.files.glob("*.sync-conflict-*")]
             self.assertEqual([name.partition(".")[0] for name in copies], [LOST])
+        self.stop()
+
+
+class RotThatIsOverridden(LateRot):
+    """A device that only sends has other bytes than it recorded, and is behind with a change of them."""
+
+    kinds = {"two": "sendonly"}
+
+    @classmethod
+    def synchronise(cls):
+        (cls.two.files / LOST).write_text("binary " + LOST)
+        cls.two.scan()
+        wait_until("the first device has the file", lambda: text_of(cls.one.files / LOST) and cls.two.is_in_step_with(cls.one))
+
+    def test_its_bytes_go_to_all(self):
+        self.rot(LOST)
+        (self.one.files / LOST).write_text("changed " + LOST)
+        self.one.start()
+        self.one.scan()
+        self.one.stop()
+        entry, _ = self.entry(LOST)
+        self.assertIn(f"to do: don't 'Override Changes' on {self.label(self.two)} before the bytes that it recorded are back there, from old versions or "
+                      "backups: it would send these other bytes to all.", entry)
+        self.start()
+        wait_until("the second device has heard of the change", lambda: self.two.knows_all_of(self.one))
+        self.two.api("POST", f"db/override?folder={FOLDER}")
+        wait_until("the rotten bytes are on the first device", lambda: text_of(self.one.files / LOST) == "rotten " + LOST)
         self.stop()
 
 

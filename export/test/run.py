@@ -28,7 +28,7 @@ CLASSES = [("rot", "BlockSizes"), ("large_folders", "LargeFiles"), ("large_folde
            ("firm_devices", "Firm"), ("unasked", "OtherFolders"), ("unasked", "OwnFolders"), ("damage", "Damage"), ("encrypted", "Encrypted"), ("conflict", "Conflict"), ("two_devices", "TwoDevices"), ("one_way", "SendOnly"),
            ("one_way", "ReceiveOnly"), ("one_way", "OwnReceiveOnly"), ("one_way", "ReceiveOnlyOfWhatIsDeleted"), ("three_devices", "Chain"), ("three_devices", "ThreeDevices"),
            ("rot", "RotInManyBlocks"), ("rot", "RotWithAnotherMode"),
-           ("late_rot", "RotThatIsFetched"), ("late_rot", "RotThatAnOldChangeMeets"), ("attributes", "RotWithAttributesThatAnOldChangeMeets"),
+           ("late_rot", "RotThatIsFetched"), ("late_rot", "RotThatAnOldChangeMeets"), ("late_rot", "RotThatIsOverridden"), ("attributes", "RotWithAttributesThatAnOldChangeMeets"),
            ("attributes", "AttributesOfAMendedFile"), ("attributes", "AttributesThatNoScanHasSeen"), ("attributes", "RotWhereAttributesAreScanned"), ("attributes", "RotThatAScanDrops"), ("manners", "Manners"), ("nightly", "Nightly"), ("spread", "Spread")]
 # The classes and Go's tests.
 ALL = len(CLASSES) + 1

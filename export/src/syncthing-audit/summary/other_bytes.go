@@ -19,7 +19,7 @@ func (f *File) noteFetched() {
 			continue
 		}
 		for _, other := range f.Faults {
-			one.isFetched = one.isFetched || other.Device != one.Device && other.Cause == Behind && !other.Deletion
+			one.isFetched = one.isFetched || other.Device != one.Device && other.Cause == Behind && !other.Deletion && other.Kind != sendOnly
 		}
 	}
 }
@@ -62,11 +62,10 @@ func lateBytesAdvice(one, behind *Fault, file *File, at string, named labels) st
 		return "don't 'Override Changes' on " + at + " before the bytes that it recorded are back there, from old versions or backups: it would " +
 			"send these other bytes to all"
 	}
-	told := "before Syncthing scans there (the scan "
-	if !one.isSeen {
-		told += "may "
+	told := "before Syncthing scans there (the scan may take these bytes for a "
+	if one.isSeen {
+		told = "before Syncthing scans there (the scan takes these bytes for a "
 	}
-	told += map[bool]string{true: "takes", false: "take"}[one.isSeen] + " these bytes for a "
 	switch {
 	case one.Kind == receiveOnly:
 		told += "local change), "

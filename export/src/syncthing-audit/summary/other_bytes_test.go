@@ -67,10 +67,12 @@ func TestAdviceOnOtherBytesThatOthersFetch(t *testing.T) {
 		kind                string
 		isOwn, other        bool
 		deletion, isLateToo bool
+		onlySends           bool
 		has                 string
 	}{
 		{kind: "send-receive", has: general}, {kind: sendOnly, has: general},
 		{kind: "send-receive", other: true, has: urgent}, {kind: sendOnly, other: true, has: urgent},
+		{kind: "send-receive", other: true, onlySends: true, has: general},
 		{kind: "send-receive", other: true, deletion: true, has: general}, {kind: "send-receive", other: true, isLateToo: true, has: "let Syncthing run"},
 		{kind: receiveOnly, has: "won't repair it: copy"}, {kind: receiveOnly, other: true, has: "won't repair it: copy"},
 		{kind: "send-receive", isOwn: true, has: "won't repair it: copy"},
@@ -78,6 +80,9 @@ func TestAdviceOnOtherBytesThatOthersFetch(t *testing.T) {
 		file := &File{Faults: faultsOf(one.kind, OtherBytes), Have: []string{laptop}, isOwn: one.isOwn}
 		if one.other {
 			file.Faults = append(file.Faults, Fault{Device: phone, Kind: "send-receive", Cause: Behind, Deletion: one.deletion})
+		}
+		if one.onlySends {
+			file.Faults[1].Kind = sendOnly
 		}
 		if one.isLateToo {
 			file.Faults = append(file.Faults, Fault{Device: server, Kind: "send-receive", Cause: Behind})
